@@ -1,0 +1,9 @@
+pub mod Order
+pub mod Ranges
+pub mod Machine
+pub mod RangeTests
+pub mod Sums
+pub mod Products
+pub mod Division
+pub mod Powers
+pub mod Starred

@@ -1,0 +1,10 @@
+-- `sets::difference` meets its contract. Assumes nothing.
+use Rattle.sets.proofs.Operators.{difference-is}
+use Rattle.sets.proofs.difference.Statement.{statement}
+use Rattle.sets.proofs.difference.Tie as tie
+
+returns : tie.Need-returns
+returns c = search difference-is
+
+pub difference-spec : {M : Type 1} → statement M
+difference-spec = tie.close (tie.spec returns)

@@ -1,0 +1,10 @@
+-- `sets::equal` meets its contract. Assumes nothing.
+use Rattle.sets.proofs.Operators.{equal-is}
+use Rattle.sets.proofs.equal.Statement.{statement}
+use Rattle.sets.proofs.equal.Tie as tie
+
+returns : tie.Need-returns
+returns c = search equal-is
+
+pub equal-spec : {M : Type 1} → statement M
+equal-spec = tie.close (tie.spec returns)
