@@ -1,0 +1,11 @@
+pub mod Letters
+pub mod Same
+pub mod Rows
+pub mod Places
+pub mod Naming
+pub mod Digits
+pub mod DecimalHex
+pub mod WordKinds
+pub mod Shapes
+pub mod Ranges
+pub mod Examples
