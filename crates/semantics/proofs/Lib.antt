@@ -1,0 +1,17 @@
+pub mod Inversion
+pub mod Spans
+pub mod Reading
+pub mod Balance
+pub mod BodiesAgree
+pub mod TextsAgree
+pub mod MoreBudget
+pub mod SpentOnly
+pub mod Programs
+pub mod StepDue
+pub mod ValuesInRange
+pub mod StoreInRange
+pub mod TypeTables
+pub mod LinesKeep
+pub mod Demand3
+pub mod FittingSheet
+pub mod Sticking

@@ -1,0 +1,68 @@
+-- Written by tools/open-names: to unfold `everything` is to unfold every definition of the meaning.
+use Rattle.arith.specs.Integers as ArithIntegers
+use Rattle.arith.specs.Powers as ArithPowers
+use Rattle.sets.specs.Sets as SetsSets
+use Rattle.lexis.specs.Bytes as LexisBytes
+use Rattle.lexis.specs.Names as LexisNames
+use Rattle.lexis.specs.Numbers as LexisNumbers
+use Rattle.lexis.specs.Table as LexisTable
+use Rattle.lexis.specs.Words as LexisWords
+use Rattle.semantics.specs.Base as Base
+use Rattle.semantics.specs.Lines as Lines
+use Rattle.semantics.specs.Trees as Trees
+use Rattle.semantics.specs.Words as Words
+use Rattle.semantics.specs.Forms as Forms
+use Rattle.semantics.specs.Types as Types
+use Rattle.semantics.specs.Operators as Operators
+use Rattle.semantics.specs.Environment as Environment
+use Rattle.semantics.specs.Names as Names
+use Rattle.semantics.specs.Elaborate as Elaborate
+use Rattle.semantics.specs.Rules as Rules
+use Rattle.semantics.specs.Ceilings as Ceilings
+use Rattle.semantics.specs.Verdict as Verdict
+use Rattle.semantics.specs.Calculate as Calculate
+use Rattle.semantics.specs.Machine as Machine
+use Rattle.semantics.specs.Chair as Chair
+use Rattle.semantics.specs.Marking as Marking
+use Rattle.semantics.specs.Store as Store
+use Rattle.semantics.specs.Whole as Whole
+use Rattle.semantics.specs.Print as Print
+
+unfoldable pub everything : Unit {0}
+unfolding
+    ArithIntegers.inside ArithIntegers.pick ArithIntegers.ranged ArithIntegers.exact ArithIntegers.isZero ArithIntegers.quotient
+    ArithIntegers.modℕ ArithIntegers.modulus ArithIntegers.isOdd ArithIntegers.next ArithIntegers.previous ArithPowers.signed
+    ArithPowers.powZ ArithPowers.small ArithPowers.power SetsSets.those SetsSets.bit SetsSets.members SetsSets.valueOf SetsSets.patternOf
+    SetsSets.membersOf SetsSets.has SetsSets.holds SetsSets.least SetsSets.greatest SetsSets.with SetsSets.unionOf SetsSets.differenceOf
+    SetsSets.intersectionOf SetsSets.all SetsSets.within SetsSets.equals SetsSets.allIn SetsSets.liesIn LexisBytes.bytes LexisBytes.same
+    LexisBytes.classOf LexisBytes.small LexisBytes.isLetter LexisBytes.isDigit LexisBytes.isAlnum LexisBytes.digitOf LexisNames.alnumFirst
+    LexisNames.partOk LexisNames.goesOn LexisNames.isName LexisNumbers.digits LexisNumbers.atMost LexisNumbers.numeral LexisNumbers.decimal
+    LexisNumbers.decimalOf LexisNumbers.signed LexisNumbers.hexadecimal LexisNumbers.hexOf LexisNumbers.numberOf LexisTable.reserved
+    LexisTable.operators LexisTable.fixed LexisTable.letter LexisTable.letters LexisTable.position LexisTable.isFixed LexisTable.placeOf
+    LexisWords.named LexisWords.placed LexisWords.wordOf Base.find Base._>>=_ Base.both Base.given Base.either Base.each Base.pick
+    Lines.refusedAt Lines.inFront Lines.linesOf Trees.list Trees.nodes Trees.nodesIn Trees.deeper Trees.opened Trees.closed Trees.spelled
+    Trees.past Trees.isAfter Trees.balanced Trees.withByte Trees.readBytes Trees.treesOf Trees.single Trees.formOf Trees.wordAt
+    Trees.restAt Trees.stackAt Words.wordBy Words.worded Words.wordedAll Forms.free Forms.keyOf Forms.isNumber Forms.first? Forms.headed
+    Forms.one Forms.two Forms.ending Forms.some? Forms.among Forms.typeName Forms.truths Forms.minusNumber Forms.constant Forms.heads
+    Forms.exprsOf Forms.atom Forms.atForm Forms.dotForm Forms.twoSided Forms.oneSided Forms.exprForm Forms.targetForm Forms.expr
+    Forms.target Forms.verbs Forms.stmts Forms.armHeads Forms.oneArm Forms.arms Forms.armsFirst Forms.elseOf Forms.ifForm Forms.forForm
+    Forms.caseForm Forms.stmtForm Forms.stmt Forms.handlerOf Forms.body Forms.field Forms.makers Forms.madeType Forms.typeForm
+    Forms.lineHeads Forms.lineBy Forms.lineForm Types.fieldOf Operators.operatorRule Operators.functionRule Environment.copies
+    Environment.layFields Environment.fieldCells Environment.typeInfoOf Environment.extendTypes Environment.enumNames Environment.declNames
+    Environment.declareLine Names.typeOf Names.varOf Names.constantOf Names.atomOf Names.elementOf Names.fieldIn Names.exprOf
+    Names.targetOf Names.exprsOf Names.stmtOf Names.stmtsOf Names.armsOf Names.bodyOf Names.isKnown Names.listedIn Names.distinct
+    Names.noneKnown Names.newNames Names.fieldNames Names.declOf Names.entryOf Elaborate.elabExpr Elaborate.elabTarget
+    Elaborate.elabMembers Elaborate.expects Elaborate.elabLabels Elaborate.elabStmt Elaborate.elabStmts Elaborate.elabArms
+    Elaborate.elabBody Rules.plain Rules.allPlain Rules.labelled Rules.differ Rules.labelsOf Rules.looping Rules.plainExpr
+    Rules.plainTarget Rules.plainExprs Rules.keptStmt Rules.keptStmts Rules.keptArms Rules.keptBody Rules.keptDecl Rules.keepsRules
+    Ceilings.fieldSizes Ceilings.typeBounded Ceilings.lineBounded Verdict._>>=_ Verdict.orBad Verdict.must Verdict.strictly Verdict.loosely
+    Verdict.judgeLine Verdict.onward Verdict.judgeLines Verdict.opening Verdict.judge Calculate.exceptionOf Calculate.integer
+    Calculate.tested Calculate.truth Calculate.setValue Calculate.joined Calculate.memberIn Calculate.compute Calculate.compute1
+    Machine.readCell Machine.readCells Machine.whileRounds Machine.forRounds Machine.countUp Machine.storeOrdinal Machine.storeWhole
+    Machine.passOn Machine.raiseNumber Machine.procedureAt Chair.evalCode Chair.placeCode Chair.gatherCodes Chair.condition Chair.matches
+    Chair.runAct Chair.runActs Chair.runCases Marking.markExpr Marking.markTarget Marking.markMembers Marking.markCondition
+    Marking.markLabels Marking.markBounds Marking.markStmt Marking.markStmts Marking.markArms Store.cellsOk Store.faultOf Store.storeFault
+    Whole.runBody Whole.markBody Whole.runAll Whole.markAll Whole.report Whole.lent Whole.onStore Whole.unless Whole.verdictOf Whole.runOf
+    Whole.markOf Whole.workAfter Whole.refusalWords Whole.refusalWord Print.decimal Print.decimalOf Print.signedOf Print.row Print.outcome
+    Print.cellValue Print.cells Print.show Print.scripted Print.runscript Print.markscript
+everything = tt
