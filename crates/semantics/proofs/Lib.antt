@@ -2,8 +2,12 @@ pub mod Inversion
 pub mod Spans
 pub mod Reading
 pub mod Balance
+pub mod Staging
+pub mod OnePassExprs
+pub mod OnePassStmts
 pub mod BodiesAgree
 pub mod TextsAgree
+pub mod OnePassLines
 pub mod MoreBudget
 pub mod SpentOnly
 pub mod Programs

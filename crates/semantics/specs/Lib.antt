@@ -11,7 +11,9 @@ pub mod Environment
 pub mod Names
 pub mod Code
 pub mod Elaborate
+pub mod Layout
 pub mod Rules
+pub mod Stages
 pub mod Ceilings
 pub mod Verdict
 pub mod Calculate
