@@ -1,6 +1,10 @@
 pub mod Inversion
 pub mod Spans
 pub mod Reading
+pub mod LayoutRegions
+pub mod LayoutCode
+pub mod LayoutActs
+pub mod LayoutBodies
 pub mod Balance
 pub mod Staging
 pub mod OnePassExprs

@@ -6,7 +6,7 @@ use native.Mathlib.Omega.{arith}
 use lib.ListN.{length, getD, drop, drop-of-length-le}
 use lib.Seq.{drop-cons}
 use Rattle.lexis.specs.declared.bytes.Class.{Class}
-use Rattle.lexis.specs.declared.bytes.Class.the-variants.{Feed, Space, Open, Close, Visible}
+use Rattle.lexis.specs.declared.bytes.Class.the-variants.{Feed, Space, Open, Close, Visible, Refused}
 use Rattle.lexis.specs.Bytes.{classOf}
 use Rattle.semantics.specs.Trees.{word, form, end, Reading, reading, first, later, push, ended, withByte, readBytes, wordAt, restAt, stackAt}
 
@@ -85,3 +85,11 @@ module _ (s : List ℕ) (p : ℕ) where
     pub feed-word : k ≡ Feed → wordAt s p ≡ []
     unfolding wordAt withByte
     feed-word c = ap (λ (r : Reading). r .begun) (as-class Feed c)
+
+    pub refused-stack : k ≡ Refused → stackAt s p ≡ []
+    unfolding stackAt wordAt restAt withByte
+    refused-stack c = ap (λ (r : Reading). ended (r .begun) (r .stack)) (as-class Refused c)
+
+    pub refused-word : k ≡ Refused → wordAt s p ≡ []
+    unfolding wordAt withByte
+    refused-word c = ap (λ (r : Reading). r .begun) (as-class Refused c)

@@ -12,6 +12,8 @@ pub mod Names
 pub mod Code
 pub mod Elaborate
 pub mod Layout
+pub mod LayoutSize
+pub mod Readback
 pub mod Rules
 pub mod Stages
 pub mod Ceilings
