@@ -11,6 +11,9 @@ pub mod OnePassExprs
 pub mod OnePassStmts
 pub mod BodiesAgree
 pub mod TextsAgree
+pub mod Weights
+pub mod CodeRoom
+pub mod TextRoom
 pub mod OnePassLines
 pub mod MoreBudget
 pub mod SpentOnly

@@ -1,12 +1,15 @@
--- How many numbers the layout of code takes (Layout), and which code its numbers can hold.
+-- How many numbers the layout of code takes (Layout), which code its numbers can hold, and how many numbers symbol entries take.
 use mathlib.Core.Bool.{Bool, true}
 use mathlib.Core.List.{List, [], _∷_}
 use mathlib.Core.Path.{_≡_}
-use Prim.Native.Nat.{ℕ, _+_, _<_}
+use Prim.Native.Nat.{ℕ, suc, _+_, _*_, _<_}
 use lib.IntN.{ℤ}
-use lib.ListN.{length, getD}
+use lib.ListN.{length, getD, drop}
 use Rattle.arith.specs.Integers.{least, most, inside}
 use Rattle.semantics.specs.Operators.{Operation, Operation1, intNegate, boolNot, intAbs, intSqr, intOdd, ordinalOf, predIn, succIn, setCard, setLeast, setGreatest}
+use Rattle.semantics.specs.Types.{Types}
+use Rattle.semantics.specs.Script.{Decl, Entry, alias, arrayOf, enum, newMain, newProc, newType, newVar, range, recordOf, setOf}
+use Rattle.semantics.specs.Environment.{Environment}
 use Rattle.semantics.specs.Code.{Code, literal, load, lastNumber, makeSet, calculate, shortCut, calculate1, Place, cell, index, shift, Codes, noCodes, _with_, Act, assignOrdinal, assignWhole, sequence, branchOn, whileLoop, forLoop, caseOf, callTo, raiseWith, noAct, Acts, stop, _also_, Cases, elseCase, noCase, oneCase, BodyCode}
 
 -- ---- sizes
@@ -157,3 +160,35 @@ pub record BodyFits (bodies : ℕ) (b : BodyCode) : Type 0 where
 -- the list has at each of the places the node of a body of that number
 pub record Named (bodies l : List ℕ) : Type 0 where
   pub number : (p : ℕ) → p < length bodies → getD l (getD bodies p 0) 0 ≡ p
+
+-- ---- symbol entries: 4 numbers for each name, 8 for each type's description, 4 for each field of a record
+
+-- of a `type` line; an alias is a name alone
+unfoldable pub sizeDecl : Decl → ℕ
+sizeDecl (alias t) = 4
+sizeDecl (enum v vs) = 4 + 8 + 4 * suc (length vs)
+sizeDecl (range a b) = 4 + 8
+sizeDecl (arrayOf i e) = 4 + 8
+sizeDecl (recordOf fs) = 4 + 8 + 4 * length fs
+sizeDecl (setOf b) = 4 + 8
+
+-- of a line
+unfoldable pub symbolSize : Entry → ℕ
+symbolSize (newType w d) = sizeDecl d
+symbolSize (newVar w t) = 4
+symbolSize (newProc w b) = 4
+symbolSize (newMain b) = 0
+
+unfoldable pub sizeTypes : Types → ℕ
+sizeTypes [] = 0
+sizeTypes (t ∷ ts) = 8 + 4 * length (t .fields) + sizeTypes ts
+
+-- of all that the lines so far declared; the two built-in types take none
+unfoldable pub sizeSymbols : Environment → ℕ
+sizeSymbols σ = 4 * length (σ .names) + sizeTypes (drop 2 (σ .types))
+
+-- ---- all bodies
+
+unfoldable pub sizeBodies : List BodyCode → ℕ
+sizeBodies [] = 0
+sizeBodies (b ∷ bs) = sizeBody b + sizeBodies bs
