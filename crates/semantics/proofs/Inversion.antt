@@ -4,7 +4,7 @@ use mathlib.Core.Bool.{Bool, true, false, _&&_, and-eq-true-iff}
 use mathlib.Core.Option.{Option, none, some}
 use Prim.Native.Nat.{ℕ}
 use native.Mathlib.Omega.{arith}
-use Rattle.semantics.specs.Base.{_>>=_, both, given}
+use Rattle.semantics.specs.Base.{_>>=_, both, either, given}
 
 pub none-some {ℓ} : {A : Type 0} {X : Type ℓ} {a : A} → none ≡ some a → X
 none-some {a} h = absurd (let z : _≡_ {A = ℕ} 0 1 = cc in omega arith)
@@ -31,6 +31,11 @@ module _ {A : Type 0} where
   unfolding given
   given-some {t = true} {a} {b} h k = k refl (some-inj h)
   given-some {t = false} h k = none-some h
+
+  pub either-some : {P : Type 0} {x y : Option A} {q : A} → either x y ≡ some q → (x ≡ some q → P) → (y ≡ some q → P) → P
+  unfolding either
+  either-some {x = some a} h k l = k h
+  either-some {x = none} h k l = l h
 
 pub and-true : (a b : Bool) → (a && b) ≡ true → (a ≡ true) × (b ≡ true)
 and-true a b h = and-eq-true-iff a b .0 h

@@ -8,7 +8,7 @@ use Prim.Native.Nat.{ℕ, zero, suc, _+_, _≤_, _<_}
 use native.Mathlib.Omega.{arith}
 use lib.IntN.{ℤ, pos, negℤ}
 use borrow.Author.Tests.{eqb-true}
-use lib.Dec.{eqb, eqb→eq, leb}
+use lib.Dec.{eqb, leb}
 use lib.ListN.{getD, length, length-append, List·getD-append}
 use lib.Seq.{getD-append-add}
 use lib.Signed.{leZ}
@@ -22,7 +22,7 @@ use Rattle.semantics.specs.Code.{BodyCode}
 use Rattle.semantics.specs.Elaborate.{inKind}
 use Rattle.semantics.specs.Environment.{Declared, Environment, NameSort, PlacedBody, aProc, aType, aValue, aVar, declNames, declareLine, enumNames, extendTypes, nothingDeclared, typeInfoOf, withBody}
 use Rattle.semantics.specs.Lines.{Line, linesOf}
-use Rattle.semantics.specs.Names.{asType, asValue, constantOf, declOf, entryOf, typeOf}
+use Rattle.semantics.specs.Names.{asProc, asType, asValue, constantOf, declOf, entryOf, typeOf}
 use Rattle.semantics.specs.Rules.{keepsRules, keptDecl, plain}
 use Rattle.semantics.specs.Script.{Body, Const, Decl, Entry, alias, arrayOf, enum, newMain, newProc, newType, newVar, range, recordOf, setOf}
 use Rattle.semantics.specs.Store.{cellFits}
@@ -76,6 +76,7 @@ formed-more : {Γ : Types} {Δ : Vars} {xs : List Test} (ys : List Test) → For
 formed-more ys f = record {
   vars = λ i v h. here-more ys (f .vars i v h);
   elements = f .elements;
+  indexes = f .indexes;
   fields = f .fields;
   hosts = f .hosts;
   wider = f .wider;
@@ -121,39 +122,39 @@ module _ {Γ Γ′ : Types} (x : Extends Γ Γ′) where
   here-same : {xs : List Test} {a : ℕ} {ts : List ℕ} → AllIn (length Γ) ts → Here Γ xs a ts → Here Γ′ xs a ts
   here-same {ts} k h = record { short = h .short; each = λ j l z. h .each j l z ∙ sym (same-fits (getD ts j 0) (all-get k j l) z) }
 
--- ---- names that lead into the table
+-- ---- names that lead into the table, or to one of k bodies
 
-pub data Fair (Γ : Types) : NameSort → Type 0 where
-  type : {t : ℕ} → t < length Γ → Fair Γ (aType t)
-  var : {i : ℕ} → Fair Γ (aVar i)
-  proc : {p : ℕ} → Fair Γ (aProc p)
-  value : {c : Const} → c .kind < length Γ → inKind Γ c ≡ true → Fair Γ (aValue c)
+pub data Fair (Γ : Types) (k : ℕ) : NameSort → Type 0 where
+  type : {t : ℕ} → t < length Γ → Fair Γ k (aType t)
+  var : {i : ℕ} → Fair Γ k (aVar i)
+  proc : {p : ℕ} → p < k → Fair Γ k (aProc p)
+  value : {c : Const} → c .kind < length Γ → inKind Γ c ≡ true → Fair Γ k (aValue c)
 
-pub data AllFair (Γ : Types) : List (Name × NameSort) → Type 0 where
-  no-names : AllFair Γ []
-  name : {w : Name} {m : NameSort} {ns : List (Name × NameSort)} → Fair Γ m → AllFair Γ ns → AllFair Γ ((w, m) ∷ ns)
+pub data AllFair (Γ : Types) (k : ℕ) : List (Name × NameSort) → Type 0 where
+  no-names : AllFair Γ k []
+  name : {w : Name} {m : NameSort} {ns : List (Name × NameSort)} → Fair Γ k m → AllFair Γ k ns → AllFair Γ k ((w, m) ∷ ns)
 
-fair-append : {Γ : Types} {xs ys : List (Name × NameSort)} → AllFair Γ xs → AllFair Γ ys → AllFair Γ (xs ++ ys)
+fair-append : {Γ : Types} {k : ℕ} {xs ys : List (Name × NameSort)} → AllFair Γ k xs → AllFair Γ k ys → AllFair Γ k (xs ++ ys)
 fair-append no-names b = b
 fair-append (name f a) b = name f (fair-append a b)
 
-module _ {Γ Γ′ : Types} (x : Extends Γ Γ′) where
-  fair-more : {m : NameSort} → Fair Γ m → Fair Γ′ m
+module _ {Γ Γ′ : Types} (x : Extends Γ Γ′) {k k′ : ℕ} (b : k ≤ k′) where
+  fair-more : {m : NameSort} → Fair Γ k m → Fair Γ′ k′ m
   fair-more (type {t} l) = type {t = t} (omega (arith, x .longer))
   fair-more var = var
-  fair-more proc = proc
+  fair-more (proc {p} l) = proc {p = p} (omega arith)
   fair-more (value {c} l h) = value {c = c} (omega (arith, x .longer)) (rw (x .keeps (c .kind) l) h)
 
-  all-fair-more : {ns : List (Name × NameSort)} → AllFair Γ ns → AllFair Γ′ ns
+  all-fair-more : {ns : List (Name × NameSort)} → AllFair Γ k ns → AllFair Γ′ k′ ns
   all-fair-more no-names = no-names
   all-fair-more (name f a) = name (fair-more f) (all-fair-more a)
 
-find-fair : {Γ : Types} {ns : List (Name × NameSort)} → AllFair Γ ns → (w : Name) (m : NameSort) → find ns w ≡ some m → Fair Γ m
+find-fair : {Γ : Types} {k : ℕ} {ns : List (Name × NameSort)} → AllFair Γ k ns → (w : Name) (m : NameSort) → find ns w ≡ some m → Fair Γ k m
 unfolding find
 find-fair no-names w m h = absurd (none-some h)
-find-fair {Γ} (name {w = v} {m = n} {ns = ns} f a) w m h = go (same v w) refl (λ k. find-fair a w m k)
+find-fair {Γ} {k} (name {w = v} {m = n} {ns = ns} f a) w m h = go (same v w) refl (λ e. find-fair a w m e)
   where
-    go : (b : Bool) → same v w ≡ b → (find ns w ≡ some m → Fair Γ m) → Fair Γ m
+    go : (b : Bool) → same v w ≡ b → (find ns w ≡ some m → Fair Γ k m) → Fair Γ k m
     go true e k = let q : n ≡ m = some-inj (rw (e, find) at h) in rw (← q) f
     go false e k = k (rw (e, find) at h)
 
@@ -165,19 +166,28 @@ no-type h = absurd (none-some h)
 no-value : {X : Type 0} {n : Const} → O.none ≡ some n → X
 no-value h = absurd (none-some h)
 
-type-fair : {Γ : Types} {m : NameSort} (n : ℕ) → Fair Γ m → asType m ≡ some n → n < length Γ
+type-fair : {Γ : Types} {k : ℕ} {m : NameSort} (n : ℕ) → Fair Γ k m → asType m ≡ some n → n < length Γ
 type-fair n (type l) e = rw (← some-inj e) l
 type-fair n var e = no-type e
-type-fair n proc e = no-type e
+type-fair n (proc l) e = no-type e
 type-fair n (value l h) e = no-type e
 
-value-fair : {Γ : Types} {m : NameSort} (c : Const) → Fair Γ m → asValue m ≡ some c → Fair Γ (aValue c)
+value-fair : {Γ : Types} {k : ℕ} {m : NameSort} (c : Const) → Fair Γ k m → asValue m ≡ some c → Fair Γ k (aValue c)
 value-fair c (type l) e = no-value e
 value-fair c var e = no-value e
-value-fair c proc e = no-value e
+value-fair c (proc l) e = no-value e
 value-fair c (value l h) e = rw (← some-inj e) (value l h)
 
-module _ (σ : Environment) (𝓣 : Table (σ .types)) (ns : AllFair (σ .types) (σ .names)) where
+proc-fair : {Γ : Types} {k : ℕ} {m : NameSort} (p : ℕ) → Fair Γ k m → asProc m ≡ some p → p < k
+proc-fair p (type l) e = no-type e
+proc-fair p var e = no-type e
+proc-fair p (proc l) e = rw (← some-inj e) l
+proc-fair p (value l h) e = no-type e
+
+pub proc-in : (σ : Environment) {k : ℕ} → AllFair (σ .types) k (σ .names) → (w : Name) (p : ℕ) → (find (σ .names) w >>= asProc) ≡ some p → p < k
+proc-in σ ns w p h = bind-some h λ m hm e. proc-fair p (find-fair ns w m hm) e
+
+module _ (σ : Environment) (𝓣 : Table (σ .types)) {k : ℕ} (ns : AllFair (σ .types) k (σ .names)) where
   abbrev Γσ : Types
   Γσ = σ .types
 
@@ -187,15 +197,15 @@ module _ (σ : Environment) (𝓣 : Table (σ .types)) (ns : AllFair (σ .types)
   type-in boolean n h = rw (← some-inj h) (omega (arith, 𝓣 .two))
   type-in (declared w) n h = bind-some h λ m hm e. type-fair n (find-fair ns w m hm) e
 
-  integer-fair : (z : ℤ) → inside least most z ≡ true → Fair (σ .types) (aValue (record { kind = 0; value = z }))
+  integer-fair : (z : ℤ) → inside least most z ≡ true → Fair (σ .types) k (aValue (record { kind = 0; value = z }))
   integer-fair z p = value {c = record { kind = 0; value = z }} (omega (arith, 𝓣 .two)) (rw (𝓣 .integers .0, 𝓣 .integers .1, 𝓣 .integers .2) p)
 
-  truth-fair : (b : Bool) → Fair (σ .types) (aValue (record { kind = 1; value = Calculate.truth b }))
+  truth-fair : (b : Bool) → Fair (σ .types) k (aValue (record { kind = 1; value = Calculate.truth b }))
   unfolding Calculate.truth inside
   truth-fair true = value {c = record { kind = 1; value = pos 1 }} (omega (arith, 𝓣 .two)) (rw (𝓣 .booleans .0, 𝓣 .booleans .1, 𝓣 .booleans .2))
   truth-fair false = value {c = record { kind = 1; value = pos 0 }} (omega (arith, 𝓣 .two)) (rw (𝓣 .booleans .0, 𝓣 .booleans .1, 𝓣 .booleans .2))
 
-  const-in : (c : Constant) (x : Const) → constantOf σ c ≡ some x → plain x ≡ true → Fair (σ .types) (aValue x)
+  const-in : (c : Constant) (x : Const) → constantOf σ c ≡ some x → plain x ≡ true → Fair (σ .types) k (aValue x)
   unfolding constantOf plain
   const-in (number z) x h p = rw (← some-inj h) (integer-fair z (rw (← some-inj h) at p))
   const-in (minus z) x h p = rw (← some-inj h) (integer-fair (negℤ z) (rw (← some-inj h) at p))
@@ -203,7 +213,7 @@ module _ (σ : Environment) (𝓣 : Table (σ .types)) (ns : AllFair (σ .types)
   const-in (named w) x h p = bind-some h λ m hm e. value-fair x (find-fair ns w m hm) e
 
   -- a range of two such constants of one kind
-  range-valid : (a b : Const) → Fair Γσ (aValue a) → Fair Γσ (aValue b) → plain a ≡ true → plain b ≡ true → a .kind ≡ b .kind → leZ (a .value) (b .value) ≡ true → Valid Γσ (range a b)
+  range-valid : (a b : Const) → Fair Γσ k (aValue a) → Fair Γσ k (aValue b) → plain a ≡ true → plain b ≡ true → a .kind ≡ b .kind → leZ (a .value) (b .value) ≡ true → Valid Γσ (range a b)
   unfolding plain inside
   range-valid a b (value la ha) (value lb hb) pa pb e l =
       let ka = and-true (ordinal? Γσ (a .kind)) _ ha in let kb = and-true (ordinal? Γσ (b .kind)) _ hb in (
@@ -231,7 +241,7 @@ module _ (σ : Environment) (𝓣 : Table (σ .types)) (ns : AllFair (σ .types)
       let k′ : (((plain a && plain c) && eqb (a .kind) (c .kind)) && leZ (a .value) (c .value)) ≡ true = rw (← v) at k in
       let k₁ = and-true _ (leZ (a .value) (c .value)) k′ in let k₂ = and-true _ (eqb (a .kind) (c .kind)) (k₁ .0) in let k₃ = and-true (plain a) (plain c) (k₂ .0) in
       rw (← v) (range-valid a c (const-in x a ha (k₃ .0)) (const-in y c hc (k₃ .1)) (k₃ .0) (k₃ .1) (eqb-true (a .kind) (c .kind) ((k₂ .1))) (k₁ .1))
-  decl-valid w (Syntax.arrayOf i e) d h k b = bind-some h λ x hx h′. bind-some h′ λ y hy q. given-some q λ _ v. rw (← v) (type-in e y hy)
+  decl-valid w (Syntax.arrayOf i e) d h k b = bind-some h λ x hx h′. bind-some h′ λ y hy q. given-some q λ _ v. rw (← v) (type-in e y hy, type-in i x hx, rw (← v) at k)
   decl-valid w (Syntax.recordOf fs) d h k b = bind-some h λ gs hgs q. given-some q λ _ v. rw (← v) (fields-in fs gs hgs)
   decl-valid w (Syntax.setOf s) d h k b = bind-some h λ x hx q. given-some q λ _ v.
       rw (← v) (type-in s x hx, rw (← v) at k, and-true (leZ (pos 0) (infoAt Γσ x .low)) _ (rw (← v) at b) .0)
@@ -242,17 +252,17 @@ inside-from : (n top : ℕ) → n ≤ top → inside (pos 0) (pos top) (pos n) �
 unfolding inside
 inside-from n top l = and-both _ _ (le-leb 0 n (omega arith)) (le-leb n top l)
 
-enum-fair : (Γ : Types) (t n : ℕ) (vs : List Name) (top : ℕ) → t < length Γ → ordinal? Γ t ≡ true → infoAt Γ t .low ≡ pos 0 → infoAt Γ t .high ≡ pos top → n + length vs ≤ suc top → AllFair Γ (enumNames t n vs)
+enum-fair : (Γ : Types) (t n : ℕ) (vs : List Name) (top : ℕ) → t < length Γ → ordinal? Γ t ≡ true → infoAt Γ t .low ≡ pos 0 → infoAt Γ t .high ≡ pos top → n + length vs ≤ suc top → {k : ℕ} → AllFair Γ k (enumNames t n vs)
 unfolding enumNames
 enum-fair Γ t n [] top l o lo hi b = no-names
 enum-fair Γ t n (v ∷ vs) top l o lo hi b =
     name (value {c = record { kind = t; value = pos n }} l (rw (o, lo, hi) (inside-from n top (omega arith)))) (enum-fair Γ t (suc n) vs top l o lo hi (omega arith))
 
 -- the next entry's number
-new-in : (Γ : Types) (i : TypeInfo) → Fair (Γ ++ (i ∷ [])) (aType (length Γ))
+new-in : (Γ : Types) (i : TypeInfo) {k : ℕ} → Fair (Γ ++ (i ∷ [])) k (aType (length Γ))
 new-in Γ i = type {t = length Γ} (rw length-append (omega arith))
 
-decl-fair : (σ : Environment) → Table (σ .types) → AllFair (σ .types) (σ .names) → (w : Name) (t : TypeForm) (d : Decl) → declOf σ w t ≡ some d → AllFair (extendTypes (σ .types) d) (declNames (σ .types) w d)
+decl-fair : (σ : Environment) → Table (σ .types) → {k : ℕ} → AllFair (σ .types) k (σ .names) → (w : Name) (t : TypeForm) (d : Decl) → declOf σ w t ≡ some d → AllFair (extendTypes (σ .types) d) k (declNames (σ .types) w d)
 unfolding declOf extendTypes declNames typeInfoOf
 decl-fair σ 𝓣 ns w (Syntax.alias t) d h = bind-some h λ n hn e. given-some e λ _ v. rw (← v) (name (type (type-in σ 𝓣 ns t n hn)) no-names)
 decl-fair σ 𝓣 ns w (Syntax.enum v vs) d h = given-some h λ _ q. rw (← q) (name (new-in (σ .types) _)
@@ -281,7 +291,7 @@ pub record Keeps (k : Declared) : Type 0 where
   pub laid : Laid (k .env .types) (k .env .vars) (tests (k .env .types) (k .cells))
   pub cells : AllIn (length (k .env .types)) (k .cells)
   pub typed : (i : ℕ) (v : Var) → variable (k .env .vars) i ≡ some v → v .type < length (k .env .types)
-  pub names : AllFair (k .env .types) (k .env .names)
+  pub names : AllFair (k .env .types) (length (k .bodies)) (k .env .names)
   pub bodies : AllFormed (tests (k .env .types) (k .cells)) (k .bodies)
 
 pub keeps-formed : (k : Declared) → Keeps k → Formed (k .env .types) (k .env .vars) (tests (k .env .types) (k .cells))
@@ -301,7 +311,7 @@ type-keeps k h w t d e v s n =
       laid = record { found = λ i u hu. rw (same-tests x (h .cells), same-cells x (u .type) (h .typed i u hu)) (here-same x (h .table .each (u .type) .inner (h .typed i u hu)) (h .laid .found i u hu)) };
       cells = all-more (x .longer) (h .cells);
       typed = λ i u hu. let l = h .typed i u hu in omega (arith, x .longer);
-      names = fair-append (decl-fair (k .env) (h .table) (h .names) w t d e) (all-fair-more x (h .names));
+      names = fair-append (decl-fair (k .env) (h .table) (h .names) w t d e) (all-fair-more x (omega arith) (h .names));
       bodies = rw (same-tests x (h .cells)) (h .bodies);
     }
 
@@ -328,13 +338,17 @@ var-keeps k h w t l s n =
       bodies = rw (tests-append (k .env .types) (k .cells) (cellsOf (k .env .types) t)) (bodies-more _ (h .bodies));
     }
 
+-- a body more
+more-bodies : (k : Declared) → Keeps k → (b : PlacedBody) → AllFair (k .env .types) (length (k .bodies ++ (b ∷ []))) (k .env .names)
+more-bodies k h b = all-fair-more (record { keeps = λ t l. refl; longer = omega arith }) (rw length-append (omega arith)) (h .names)
+
 proc-keeps : (k : Declared) → Keeps k → (w : Name) (b : Body) (s n : ℕ) → Keeps (declareLine k (newProc w b) s n)
 unfolding declareLine
-proc-keeps k h w b s n = record { table = h .table; laid = h .laid; cells = h .cells; typed = h .typed; names = name proc (h .names); bodies = bodies-last (withBody (k .env) b) (keeps-formed k h) (h .bodies) }
+proc-keeps k h w b s n = record { table = h .table; laid = h .laid; cells = h .cells; typed = h .typed; names = name (proc {p = length (k .bodies)} (rw length-append (omega arith))) (more-bodies k h (withBody (k .env) b)); bodies = bodies-last (withBody (k .env) b) (keeps-formed k h) (h .bodies) }
 
 main-keeps : (k : Declared) → Keeps k → (b : Body) (s n : ℕ) → Keeps (declareLine k (newMain b) s n)
 unfolding declareLine
-main-keeps k h b s n = record { table = h .table; laid = h .laid; cells = h .cells; typed = h .typed; names = h .names; bodies = bodies-last (withBody (k .env) b) (keeps-formed k h) (h .bodies) }
+main-keeps k h b s n = record { table = h .table; laid = h .laid; cells = h .cells; typed = h .typed; names = more-bodies k h (withBody (k .env) b); bodies = bodies-last (withBody (k .env) b) (keeps-formed k h) (h .bodies) }
 
 -- any line
 pub line-keeps : (k : Declared) → Keeps k → (f : LineForm) (e : Entry) → entryOf (k .env) f ≡ some e → keepsRules (k .env .types) e ≡ true → lineBounded k e ≡ true → (s n : ℕ) → Keeps (declareLine k e s n)

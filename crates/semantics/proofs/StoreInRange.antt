@@ -58,7 +58,7 @@ module _ {tests : List Test} where
   onto-s h s outOfSteps g = fine outOfSteps g
   onto-s h s byException g = fine byException g
 
-  then-s : {f g : State → Answer} → Safely tests f → Safely tests g → Safely tests (λ s. andThen (f s) g)
+  pub then-s : {f g : State → Answer} → Safely tests f → Safely tests g → Safely tests (λ s. andThen (f s) g)
   then-s {f} hf hg = record { at = λ s g. let a = hf .at s g in onto-s hg ((f s) .state) (a .moved) (a .sound) }
 
   branch-s : (b : Bool) {f g : State → Answer} → (b ≡ true → Safely tests f) → (b ≡ false → Safely tests g) → Safely tests (branch b f g)
@@ -89,7 +89,7 @@ module _ {tests : List Test} where
 
 module _ (Γ : Types) (Δ : Vars) (tests : List Test) (𝓕 : Formed Γ Δ tests) where
   -- the value of an expression that was expected to have a kind
-  expected : (e : Expr) (k : ℕ) (c : Code) → expects Γ Δ k e ≡ some c → (m : Store) → Sound tests m → Good (Value-of Γ Δ tests 𝓕 k) (evalCode c m)
+  pub expected : (e : Expr) (k : ℕ) (c : Code) → expects Γ Δ k e ≡ some c → (m : Store) → Sound tests m → Good (Value-of Γ Δ tests 𝓕 k) (evalCode c m)
   unfolding expects
   expected e k c h m s = bind-some h λ x hx e′. given-some e′ λ p v.
       rw (← v, eqb-true k (x .kind) p) (good-e Γ Δ tests 𝓕 e x hx s)
@@ -104,7 +104,7 @@ module _ (Γ : Types) (Δ : Vars) (tests : List Test) (𝓕 : Formed Γ Δ tests
   copy-s a zs ts h f = record { at = λ s g. fine normally (stored-all Γ Δ tests 𝓕 ts zs a h f g) }
 
   -- a cell that is an ordinal's
-  cell-fits : (t a : ℕ) → ordinal? Γ t ≡ true → Here Γ tests a (cellsOf Γ t) → (z : ℤ) → inside (infoAt Γ t .low) (infoAt Γ t .high) z ≡ true → Fits Γ Δ tests 𝓕 (cellsOf Γ t) (z ∷ [])
+  pub cell-fits : (t a : ℕ) → ordinal? Γ t ≡ true → Here Γ tests a (cellsOf Γ t) → (z : ℤ) → inside (infoAt Γ t .low) (infoAt Γ t .high) z ≡ true → Fits Γ Δ tests 𝓕 (cellsOf Γ t) (z ∷ [])
   cell-fits t a o h z p = rw (ord-layout _ t _ o) (fits-cons Γ Δ tests 𝓕 (rw o p) (fits-none Γ Δ tests 𝓕))
 
   keep-s : (n t a : ℕ) → ordinal? Γ t ≡ true → Here Γ tests a (cellsOf Γ t) → (z : ℤ) → Safely tests (storeOrdinal n a (infoAt Γ t .low) (infoAt Γ t .high) z)

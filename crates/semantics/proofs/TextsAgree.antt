@@ -91,7 +91,7 @@ paired-last : {bs : List PlacedBody} {cs : List BodyCode} (b : PlacedBody) (c : 
 paired-last b c h empty = more h empty
 paired-last b c h (more e p) = more e (paired-last b c h p)
 
-append-none : {A : Type 0} (xs : List A) → xs ++ [] ≡ xs
+pub append-none : {A : Type 0} (xs : List A) → xs ++ [] ≡ xs
 append-none [] = refl
 append-none (x ∷ xs) = ap (λ ys. x ∷ ys) (append-none xs)
 

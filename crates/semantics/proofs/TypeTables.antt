@@ -104,6 +104,7 @@ placed-type P Γ (g ∷ fs) a n f h ps = go (same (g .0) n) refl (λ k. placed-t
 
 pub record Sane (Γ : Types) (t : ℕ) (j : TypeInfo) : Type 0 where
   pub element : isArray (j .shape) ≡ true → j .element < length Γ
+  pub index : isArray (j .shape) ≡ true → (j .index < length Γ) × (ordinal? Γ (j .index) ≡ true)
   pub base : isSet (j .shape) ≡ true → (j .element < length Γ) × (ordinal? Γ (j .element) ≡ true)
   pub host : isOrdinal (j .shape) ≡ true → (j .host < length Γ) × (ordinal? Γ (j .host) ≡ true)
   pub bounds : isSet (j .shape) ≡ true → (j .low ≡ infoAt Γ (j .element) .low) × (j .high ≡ infoAt Γ (j .element) .high)
@@ -128,7 +129,7 @@ unfolding fieldOf
 no-field n f h = absurd (none-some h)
 
 none-entry : (Γ : Types) (t : ℕ) → Sane Γ t undeclared
-none-entry Γ t = record { inner = λ _. empty; element = λ h. wrong h; base = λ h. wrong h; host = λ h. wrong h; bounds = λ h. wrong h; lowest = λ h. wrong h; wider = λ h. wrong h; small = λ h. wrong h; filled = λ h. wrong h; fieldTypes = λ m g k. no-field m g k; elements = λ h. wrong h; places = λ m g k. no-field m g k }
+none-entry Γ t = record { inner = λ _. empty; element = λ h. wrong h; index = λ h. wrong h; base = λ h. wrong h; host = λ h. wrong h; bounds = λ h. wrong h; lowest = λ h. wrong h; wider = λ h. wrong h; small = λ h. wrong h; filled = λ h. wrong h; fieldTypes = λ m g k. no-field m g k; elements = λ h. wrong h; places = λ m g k. no-field m g k }
 
 module _ (Γ : Types) (i : TypeInfo) where
   abbrev Γ′ : Types
@@ -157,6 +158,7 @@ module _ (Γ : Types) (i : TypeInfo) where
     filled = k .filled;
     inner = λ _. all-more (rw length-append (omega arith)) (k .inner l);
     element = λ p. longer (j .element) (k .element p);
+    index = λ p. (longer (j .index) (k .index p .0), ord-old (j .index) (k .index p .0) (k .index p .1));
     base = λ p. (longer (j .element) (k .base p .0), ord-old (j .element) (k .base p .0) (k .base p .1));
     host = λ p. (longer (j .host) (k .host p .0), ord-old (j .host) (k .host p .0) (k .host p .1));
     bounds = λ p. rw (old (j .element) (k .base p .0)) (k .bounds p);
@@ -188,7 +190,7 @@ Valid Γ (alias t) = Unit {0}
 Valid Γ (enum v vs) = leZ (pos (length vs)) most ≡ true
 Valid Γ (range a b) = (a .kind < length Γ) × (ordinal? Γ (a .kind) ≡ true) × (leZ (infoAt Γ (a .kind) .low) (a .value) ≡ true) × (leZ (b .value) (infoAt Γ (a .kind) .high) ≡ true)
     × (leZ least (a .value) ≡ true) × (leZ (b .value) most ≡ true) × (leZ (a .value) (b .value) ≡ true)
-Valid Γ (arrayOf i e) = e < length Γ
+Valid Γ (arrayOf i e) = (e < length Γ) × (i < length Γ) × (ordinal? Γ i ≡ true)
 Valid Γ (recordOf fs) = All (λ t. t < length Γ) fs
 Valid Γ (setOf b) = (b < length Γ) × (ordinal? Γ b ≡ true) × (leZ (pos 0) (infoAt Γ b .low) ≡ true)
 
@@ -201,6 +203,7 @@ pub enum-declared : (Γ : Types) (v : Name) (vs : List Name) → Valid Γ (enum 
 unfolding extendTypes typeInfoOf
 enum-declared Γ v vs p 𝓣 = extended Γ _ 𝓣 (record {
   element = λ h. wrong h;
+  index = λ h. wrong h;
   base = λ h. wrong h;
   host = λ h. (rw length-append (omega arith), rw new refl);
   bounds = λ h. wrong h;
@@ -218,6 +221,7 @@ pub range-declared : (Γ : Types) (a b : Const) → Valid Γ (range a b) → Tab
 unfolding extendTypes typeInfoOf
 range-declared Γ a b v 𝓣 = extended Γ _ 𝓣 (record {
   element = λ h. wrong h;
+  index = λ h. wrong h;
   base = λ h. wrong h;
   host = λ p. (longer Γ _ (a .kind) (v .0), ord-old Γ _ (a .kind) (v .0) (v .1));
   bounds = λ h. wrong h;
@@ -234,7 +238,8 @@ range-declared Γ a b v 𝓣 = extended Γ _ 𝓣 (record {
 pub array-declared : (Γ : Types) (i e : ℕ) → Valid Γ (arrayOf i e) → Table Γ → Table (extendTypes Γ (arrayOf i e))
 unfolding extendTypes typeInfoOf
 array-declared Γ i e v 𝓣 = extended Γ _ 𝓣 (record {
-  element = λ p. longer Γ _ e v;
+  element = λ p. longer Γ _ e (v .0);
+  index = λ p. (longer Γ _ i (v .1), ord-old Γ _ i (v .1) (v .2));
   base = λ h. wrong h;
   host = λ h. wrong h;
   bounds = λ h. wrong h;
@@ -242,9 +247,9 @@ array-declared Γ i e v 𝓣 = extended Γ _ 𝓣 (record {
   wider = λ h. wrong h;
   small = λ h. wrong h;
   filled = λ h. wrong h;
-  inner = λ l. all-copies _ (all-more (rw length-append (omega arith)) (𝓣 .each e .inner v));
+  inner = λ l. all-copies _ (all-more (rw length-append (omega arith)) (𝓣 .each e .inner (v .0)));
   fieldTypes = λ m g k. no-field m g k;
-  elements = λ p z q. rw (cells-old Γ _ e v) (copies-at _ _ (cellsOf Γ e) (inside-span _ _ z q));
+  elements = λ p z q. rw (cells-old Γ _ e (v .0)) (copies-at _ _ (cellsOf Γ e) (inside-span _ _ z q));
   places = λ m g k. no-field m g k;
 })
 
@@ -252,6 +257,7 @@ pub record-declared : (Γ : Types) (fs : List (Name × ℕ)) → Valid Γ (recor
 unfolding extendTypes typeInfoOf
 record-declared Γ fs v 𝓣 = extended Γ _ 𝓣 (record {
   element = λ h. wrong h;
+  index = λ h. wrong h;
   base = λ h. wrong h;
   host = λ h. wrong h;
   bounds = λ h. wrong h;
@@ -269,6 +275,7 @@ pub set-declared : (Γ : Types) (b : ℕ) → Valid Γ (setOf b) → Table Γ �
 unfolding extendTypes typeInfoOf
 set-declared Γ b v 𝓣 = extended Γ _ 𝓣 (record {
   element = λ h. wrong h;
+  index = λ h. wrong h;
   base = λ p. (longer Γ _ b (v .0), ord-old Γ _ b (v .0) (v .1));
   host = λ h. wrong h;
   bounds = λ p. rw (old Γ _ b (v .0)) (refl, refl);
@@ -299,6 +306,7 @@ started = record { each = go; integers = (refl, refl, refl); booleans = (refl, r
       filled = λ _. r;
       inner = λ k. more k empty;
       element = λ h. wrong h;
+      index = λ h. wrong h;
       base = λ h. wrong h;
       host = λ h. (l, o);
       bounds = λ h. wrong h;
@@ -332,6 +340,7 @@ pub formed : (Γ : Types) (Δ : Vars) (tests : List Test) → Table Γ → Laid 
 formed Γ Δ tests 𝓣 𝓛 = record {
   vars = 𝓛 .found;
   elements = λ t p z q. 𝓣 .each t .elements p z q;
+  indexes = λ t p. 𝓣 .each t .index p .1;
   fields = λ t n f h. 𝓣 .each t .places n f h;
   hosts = λ t p. rw (host-is _ t _ p) (𝓣 .each t .host p .1);
   wider = λ t p. rw (host-is _ t _ p) (𝓣 .each t .wider p);

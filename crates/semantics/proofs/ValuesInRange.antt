@@ -41,8 +41,7 @@ use Rattle.semantics.specs.Store.{cellFits}
 use Rattle.semantics.specs.Types.{Field, Shape, Types, Var, Vars, array?, arrayShape, baseOf, cellsBy, cellsOf, fieldOf, hostBy, hostOf, infoAt, isOrdinal, isSet, ordinal?, ordinalShape, recordShape, setShape, set?, sizeOf, variable}
 use borrow.Author.Tests.{le-leb}
 use Rattle.arith.proofs.Order.{leZ-trans}
-use Rattle.semantics.proofs.Inversion.{and-both}
-use Rattle.semantics.proofs.Inversion.{and-true, some-inj, both-some, bind-some, given-some}
+use Rattle.semantics.proofs.Inversion.{and-both, and-true, some-inj, both-some, bind-some, given-some, either-some}
 
 pub none-some : {A : Type 0} {a : A} → O.none ≡ some a → ⊥
 none-some {a} h = let z : _≡_ {A = ℕ} 0 1 = cc in omega arith
@@ -143,7 +142,7 @@ previous-g : (lo hi a : ℤ) → Good (λ z. inside lo hi z ≡ true) (compute1 
 unfolding compute1 previous
 previous-g lo hi a = num-g (previous lo hi a) λ v e. ranged-value Bound lo hi (a -ℤ pos 1) v e .0
 
-int-pos : (n : ℕ) → n ≤ 2147483647 → InInt (pos n)
+pub int-pos : (n : ℕ) → n ≤ 2147483647 → InInt (pos n)
 unfolding inside
 int-pos n l = record { ok = le-leb n 2147483647 l }
 
@@ -203,6 +202,7 @@ pub record Formed (Γ : Types) (Δ : Vars) (tests : List Test) : Type 0 where
   pub vars : (i : ℕ) (v : Var) → variable Δ i ≡ some v → Here Γ tests (v .base) (cellsOf Γ (v .type))
   pub elements : (t : ℕ) → array? Γ t ≡ true → (z : ℤ) → inside (infoAt Γ t .low) (infoAt Γ t .high) z ≡ true
       → At (cellsOf Γ t) (natOf (z -ℤ infoAt Γ t .low) * sizeOf Γ (infoAt Γ t .element)) (cellsOf Γ (infoAt Γ t .element))
+  pub indexes : (t : ℕ) → array? Γ t ≡ true → ordinal? Γ (infoAt Γ t .index) ≡ true
   pub fields : (t : ℕ) (n : Name) (f : Field) → fieldOf (infoAt Γ t .fields) n ≡ some f → At (cellsOf Γ t) (f .offset) (cellsOf Γ (f .type))
   pub hosts : (t : ℕ) → ordinal? Γ t ≡ true → ordinal? Γ (hostOf Γ t) ≡ true
   pub wider : (t : ℕ) → ordinal? Γ t ≡ true → (leZ (infoAt Γ (hostOf Γ t) .low) (infoAt Γ t .low) ≡ true) × (leZ (infoAt Γ t .high) (infoAt Γ (hostOf Γ t) .high) ≡ true)
@@ -239,8 +239,9 @@ module _ (Γ : Types) (Δ : Vars) (tests : List Test) (𝓕 : Formed Γ Δ tests
     pub long : length zs ≡ length ts
     pub each : (j : ℕ) → j < length ts → cellFits Γ (getD ts j 0) (getD zs j (pos 0)) ≡ true
 
-  -- a value of kind k that is no ordinal has cells of k's types; an ordinal's value is tested where it is stored
+  -- a value of kind k has k's cells. One that is no ordinal has cells of k's types; an ordinal's value is tested where it is stored
   pub record Value-of (k : ℕ) (zs : List ℤ) : Type 0 where
+    pub long : length zs ≡ sizeOf Γ k
     pub fits : ordinal? Γ k ≡ false → Fits (cellsOf Γ k) zs
     pub ranged : ordinal? Γ k ≡ true → inside (infoAt Γ k .low) (infoAt Γ k .high) (sole zs) ≡ true
 
@@ -303,23 +304,18 @@ module _ (Γ : Types) (Δ : Vars) (tests : List Test) (𝓕 : Formed Γ Δ tests
   given-if true h k = k refl (some-inj h)
   given-if false h k = absurd (none-some h)
 
-  either-some : {A P : Type 0} {x y : Option A} {q : A} → either x y ≡ some q → (x ≡ some q → P) → (y ≡ some q → P) → P
-  unfolding either
-  either-some {x = some a} h k l = k h
-  either-some {x = O.none} h k l = l h
-
   clash {ℓ} : {X : Type ℓ} (b : Bool) → b ≡ true → b ≡ false → X
   clash b p q = absurd (let z : _≡_ {A = ℕ} 0 1 = cc in omega arith)
 
   -- an ordinal's value
-  value-ordinal : {k : ℕ} {zs : List ℤ} → ordinal? Γ k ≡ true → inside (infoAt Γ k .low) (infoAt Γ k .high) (sole zs) ≡ true → Value-of k zs
-  value-ordinal {k} h p = record { fits = λ n. clash (ordinal? Γ k) h n; ranged = λ _. p }
+  value-ordinal : {k : ℕ} {zs : List ℤ} → length zs ≡ 1 → ordinal? Γ k ≡ true → inside (infoAt Γ k .low) (infoAt Γ k .high) (sole zs) ≡ true → Value-of k zs
+  value-ordinal {k} l h p = record { long = rw (ord-layout _ k _ h) l; fits = λ n. clash (ordinal? Γ k) h n; ranged = λ _. p }
 
-  value-int : {zs : List ℤ} → InInt (sole zs) → Value-of 0 zs
-  value-int p = value-ordinal (𝓕 .integers .0) (rw (𝓕 .integers .1, 𝓕 .integers .2) (p .ok))
+  value-int : {z : ℤ} → InInt z → Value-of 0 (z ∷ [])
+  value-int p = value-ordinal refl (𝓕 .integers .0) (rw (𝓕 .integers .1, 𝓕 .integers .2) (p .ok))
 
-  value-bool : {zs : List ℤ} → InBool (sole zs) → Value-of 1 zs
-  value-bool p = value-ordinal (𝓕 .booleans .0) (rw (𝓕 .booleans .1, 𝓕 .booleans .2) (p .ok))
+  value-bool : {z : ℤ} → InBool z → Value-of 1 (z ∷ [])
+  value-bool p = value-ordinal refl (𝓕 .booleans .0) (rw (𝓕 .booleans .1, 𝓕 .booleans .2) (p .ok))
 
   pub int-value : {zs : List ℤ} → Value-of 0 zs → InInt (sole zs)
   int-value v = record { ok = rw (𝓕 .integers .1, 𝓕 .integers .2) at (v .ranged (𝓕 .integers .0)) }
@@ -341,9 +337,9 @@ module _ (Γ : Types) (Δ : Vars) (tests : List Test) (𝓕 : Formed Γ Δ tests
   SetOf k z = liesIn (infoAt Γ k .low) (infoAt Γ k .high) z ≡ true
 
   value-set : {k : ℕ} → set? Γ k ≡ true → (z : ℤ) → SetOf k z → Value-of k (z ∷ [])
-  value-set {k} h z p = record { fits = λ n. rw (set-layout _ k _ h) (fits-cons (rw n p) fits-none); ranged = λ o. clash (ordinal? Γ k) o (set-no-ordinal k h) }
+  value-set {k} h z p = record { long = rw (set-layout _ k _ h); fits = λ n. rw (set-layout _ k _ h) (fits-cons (rw n p) fits-none); ranged = λ o. clash (ordinal? Γ k) o (set-no-ordinal k h) }
 
-  set-value : {k : ℕ} → set? Γ k ≡ true → {zs : List ℤ} → Value-of k zs → SetOf k (sole zs)
+  pub set-value : {k : ℕ} → set? Γ k ≡ true → {zs : List ℤ} → Value-of k zs → SetOf k (sole zs)
   set-value {k} h {zs} v =
       let f : Fits (k ∷ []) zs = rw (set-layout _ k _ h) at (v .fits (set-no-ordinal k h)) in
       rw (set-no-ordinal k h) at (f .each 0 (omega arith))
@@ -392,7 +388,7 @@ module _ (Γ : Types) (Δ : Vars) (tests : List Test) (𝓕 : Formed Γ Δ tests
 
   -- ---- and of the functions
 
-  inside-wide : (a b c d z : ℤ) → leZ a c ≡ true → leZ d b ≡ true → inside c d z ≡ true → inside a b z ≡ true
+  pub inside-wide : (a b c d z : ℤ) → leZ a c ≡ true → leZ d b ≡ true → inside c d z ≡ true → inside a b z ≡ true
   unfolding inside
   inside-wide a b c d z p q h = and-both (leZ a z) (leZ z b)
       (leZ-trans a c z p (and-true (leZ c z) (leZ z d) h .0)) (leZ-trans z d b (and-true (leZ c z) (leZ z d) h .1) q)
@@ -406,7 +402,7 @@ module _ (Γ : Types) (Δ : Vars) (tests : List Test) (𝓕 : Formed Γ Δ tests
   member-value k h z i =
       let o = 𝓕 .bases k h in
       let w = 𝓕 .wider (infoAt Γ k .element) o in
-      value-ordinal (𝓕 .hosts (infoAt Γ k .element) o) (inside-wide _ _ _ _ z (w .0) (w .1) (rw (𝓕 .bounds k h .0, 𝓕 .bounds k h .1) at i))
+      value-ordinal refl (𝓕 .hosts (infoAt Γ k .element) o) (inside-wide _ _ _ _ z (w .0) (w .1) (rw (𝓕 .bounds k h .0, 𝓕 .bounds k h .1) at i))
 
   fun-good : (f : Fun) (k : ℕ) {q : Rule1} → functionRule Γ f k ≡ some q → (u : List ℤ) → Value-of k u → Good (Value-of (q .kind)) (oneCell (compute1 (q .operation) (sole u)))
   unfolding functionRule compute1
@@ -416,8 +412,8 @@ module _ (Γ : Types) (Δ : Vars) (tests : List Test) (𝓕 : Formed Γ Δ tests
   fun-good sqr k h u v = given-if _ h λ p e. rw (← e) (one-g (λ z i. value-int i) (exact-g _))
   fun-good odd k h u v = given-if _ h λ p e. rw (← e) (value (value-bool (truth-in _)))
   fun-good ord k h u v = given-if _ h λ p e. rw (← e) (value (value-int (record { ok = inside-wide _ _ _ _ (sole u) (𝓕 .small k p .0) (𝓕 .small k p .1) (v .ranged p) })))
-  fun-good pred k h u v = given-if _ h λ p e. rw (← e) (one-g (λ z i. value-ordinal p i) (previous-g _ _ _))
-  fun-good succ k h u v = given-if _ h λ p e. rw (← e) (one-g (λ z i. value-ordinal p i) (next-g _ _ _))
+  fun-good pred k h u v = given-if _ h λ p e. rw (← e) (one-g (λ z i. value-ordinal refl p i) (previous-g _ _ _))
+  fun-good succ k h u v = given-if _ h λ p e. rw (← e) (one-g (λ z i. value-ordinal refl p i) (next-g _ _ _))
   fun-good card k h u v = given-if _ h λ p e. rw (← e) (value (value-int (card-in (sole u))))
   fun-good setmin k h u v = given-if _ h λ p e. rw (← e) (bind-g (member-g _ _ _ (λ x f. least-lies _ _ (sole u) x (set-value p v) f)) λ z i. value (member-value k p z i))
   fun-good setmax k h u v = given-if _ h λ p e. rw (← e) (bind-g (member-g _ _ _ (λ x f. greatest-lies _ _ (sole u) x (set-value p v) f)) λ z i. value (member-value k p z i))
@@ -429,8 +425,8 @@ module _ (Γ : Types) (Δ : Vars) (tests : List Test) (𝓕 : Formed Γ Δ tests
   value-host true t e zs f =
       let g : Fits (t ∷ []) zs = rw (ord-layout _ t _ e) at f in
       let i : inside (infoAt Γ t .low) (infoAt Γ t .high) (sole zs) ≡ true = rw e at (g .each 0 (omega arith)) in
-      value-ordinal (𝓕 .hosts t e) (inside-wide _ _ _ _ (sole zs) (𝓕 .wider t e .0) (𝓕 .wider t e .1) i)
-  value-host false t e zs f = record { fits = λ n. rw (own-host _ t _ e) f; ranged = λ o. clash (ordinal? Γ (hostOf Γ t)) o (rw (own-host _ t _ e) e) }
+      value-ordinal (g .long) (𝓕 .hosts t e) (inside-wide _ _ _ _ (sole zs) (𝓕 .wider t e .0) (𝓕 .wider t e .1) i)
+  value-host false t e zs f = record { long = rw (own-host _ t _ e) (f .long); fits = λ n. rw (own-host _ t _ e) f; ranged = λ o. clash (ordinal? Γ (hostOf Γ t)) o (rw (own-host _ t _ e) e) }
 
   false-in : Value-of 1 (pos 0 ∷ [])
   unfolding truth
@@ -447,20 +443,20 @@ module _ (Γ : Types) (Δ : Vars) (tests : List Test) (𝓕 : Formed Γ Δ tests
   shortly-g false false g = g
 
   -- the ends of an ordinal type, whose first is not above its last, are values of its host
-  ends-in : (a b c d : ℤ) → leZ a c ≡ true → leZ d b ≡ true → leZ c d ≡ true → (inside a b c ≡ true) × (inside a b d ≡ true)
+  pub ends-in : (a b c d : ℤ) → leZ a c ≡ true → leZ d b ≡ true → leZ c d ≡ true → (inside a b c ≡ true) × (inside a b d ≡ true)
   unfolding inside
   ends-in a b c d p q r = (and-both (leZ a c) (leZ c b) p (leZ-trans c d b r q), and-both (leZ a d) (leZ d b) (leZ-trans a c d p r) q)
 
   bound-value : (q : Bool) (t : ℕ) → ordinal? Γ t ≡ true → Value-of (hostOf Γ t) (pick q (infoAt Γ t .high) (infoAt Γ t .low) ∷ [])
   unfolding pick
-  bound-value true t o = value-ordinal (𝓕 .hosts t o) (ends-in (infoAt Γ (hostOf Γ t) .low) (infoAt Γ (hostOf Γ t) .high) (infoAt Γ t .low) (infoAt Γ t .high) (𝓕 .wider t o .0) (𝓕 .wider t o .1) (𝓕 .filled t o) .1)
-  bound-value false t o = value-ordinal (𝓕 .hosts t o) (ends-in (infoAt Γ (hostOf Γ t) .low) (infoAt Γ (hostOf Γ t) .high) (infoAt Γ t .low) (infoAt Γ t .high) (𝓕 .wider t o .0) (𝓕 .wider t o .1) (𝓕 .filled t o) .0)
+  bound-value true t o = value-ordinal refl (𝓕 .hosts t o) (ends-in (infoAt Γ (hostOf Γ t) .low) (infoAt Γ (hostOf Γ t) .high) (infoAt Γ t .low) (infoAt Γ t .high) (𝓕 .wider t o .0) (𝓕 .wider t o .1) (𝓕 .filled t o) .1)
+  bound-value false t o = value-ordinal refl (𝓕 .hosts t o) (ends-in (infoAt Γ (hostOf Γ t) .low) (infoAt Γ (hostOf Γ t) .high) (infoAt Γ t .low) (infoAt Γ t .high) (𝓕 .wider t o .0) (𝓕 .wider t o .1) (𝓕 .filled t o) .0)
 
   mutual
     unfolding elabExpr evalCode
 
     pub good-e : (e : Expr) (r : Elaborated) → elabExpr Γ Δ e ≡ some r → {m : Store} → Sound tests m → Good (Value-of (r .kind)) (evalCode (r .code) m)
-    good-e (const c) r h s = given-some h λ p v. rw (← v) (value (value-ordinal (and-true (ordinal? Γ (c .kind)) _ p .0) (and-true (ordinal? Γ (c .kind)) _ p .1)))
+    good-e (const c) r h s = given-some h λ p v. rw (← v) (value (value-ordinal refl (and-true (ordinal? Γ (c .kind)) _ p .0) (and-true (ordinal? Γ (c .kind)) _ p .1)))
     good-e (read g) r h {m} s = bind-some h λ w hw e.
         rw (← some-inj e) (bind-g (good-t g w hw s) λ a p. weaken (λ zs f. value-host _ (w .type) refl zs f) (loads-g s a (cellsOf Γ (w .type)) p))
     good-e errorNumber r h s = rw (← some-inj h) (value (value-int (s .number)))

@@ -1,0 +1,96 @@
+-- Demand 3's hypotheses can be met: two scripts that are accepted, each with a store that is accepted, and the theorems for them.
+use mathlib.Core.Path.{_≡_, refl}
+use mathlib.Core.List.{List, []}
+use mathlib.Core.Option.{none}
+use Prim.Native.Nat.{ℕ, _+_, _≤_}
+use lib.IntN.{ℤ, pos}
+use lib.ListN.{length, replicate}
+use Rattle.lexis.specs.Bytes.{bytes}
+use Rattle.semantics.specs.Environment.{nothingDeclared}
+use Rattle.semantics.specs.Machine.{Outcome, normal, spent, sticks, undefined}
+use Rattle.semantics.specs.Open.{everything}
+use Rattle.semantics.specs.Verdict.{Read, Verdict, accepted, has, refused}
+use Rattle.semantics.specs.Whole.{Report, markOf, ran, runOf, verdictOf}
+use Rattle.semantics.proofs.Demand3 as Demand3
+use Rattle.semantics.proofs.Demand3.{faultIn}
+
+-- what an accepted text gave, and of any other text nothing
+unfoldable pub readOf : Verdict Read → Read
+readOf (accepted r) = r
+readOf (refused n l) = has nothingDeclared []
+
+-- a text with a working list of 16,384 numbers and a store of undefined cells
+module _ (text : List ℕ) where
+  unfoldable pub read : Read
+  read = readOf (verdictOf text 16384)
+
+  unfoldable pub values : List ℤ
+  values = replicate (length (read .known .cells)) (pos 0)
+
+  unfoldable pub marks : List ℕ
+  marks = replicate (length (read .known .cells)) undefined
+
+  abbrev pub run : ℕ → Report
+  run budget = runOf text 16384 values marks budget
+
+  abbrev pub marking : ℕ → Report
+  marking budget = markOf text 16384 values marks budget
+
+  -- the hypotheses: both are accepted
+  pub record Met : Type 0 where
+    pub accept : verdictOf text 16384 ≡ accepted read
+    pub sane : faultIn read values marks ≡ none
+
+  -- the theorems
+  pub record Holds : Type 0 where
+    pub agreement : (budget : ℕ) → marking budget ≡ run budget
+    pub never-stuck : (budget n : ℕ) → marking budget .ending ≡ ran sticks n → ⊥
+    pub in-range : (budget : ℕ) → faultIn read (run budget .values) (run budget .marks) ≡ none
+    pub steps-within : (budget n : ℕ) (o : Outcome) → run budget .ending ≡ ran o n → n ≤ budget
+    pub spent-after : (budget n : ℕ) → run budget .ending ≡ ran spent n → n ≡ budget
+    pub one-more-due : (budget n m : ℕ) (o : Outcome) → run budget .ending ≡ ran spent n → run (budget + 1) .ending ≡ ran o m → m ≡ budget + 1
+    pub larger-budget : (budget k n : ℕ) (o : Outcome) → run budget .ending ≡ ran o n → (o ≡ spent → ⊥) → run (budget + k) ≡ run budget
+
+  holds : Met → Holds
+  holds m = record {
+    agreement = Demand3.agreement text 16384 read (m .accept) values marks (m .sane);
+    never-stuck = Demand3.never-stuck text 16384 read (m .accept) values marks (m .sane);
+    in-range = Demand3.in-range text 16384 read (m .accept) values marks (m .sane);
+    steps-within = Demand3.steps-within text 16384 read (m .accept) values marks (m .sane);
+    spent-after = Demand3.spent-after text 16384 read (m .accept) values marks (m .sane);
+    one-more-due = Demand3.one-more-due text 16384 read (m .accept) values marks (m .sane);
+    larger-budget = Demand3.larger-budget text 16384 read (m .accept) values marks (m .sane);
+  }
+
+-- ---- the fitting sheet's sample
+
+unfoldable pub sample : List ℕ
+sample = bytes "(type slot (range 1 4))\n(var at_slot slot)\n(var sum integer)\n(main (:= at_slot 3) (:= sum (** 2 (+ at_slot 1))))\n"
+
+pub sample-met : Met sample
+unfolding sample read values marks readOf everything
+sample-met = record { accept = refl; sane = refl }
+
+pub sample-holds : Holds sample
+sample-holds = holds sample sample-met
+
+-- it is neither empty nor idle: 2 steps to its normal end
+pub sample-runs : run sample 10000 .ending ≡ ran normal 2
+unfolding sample read values marks readOf everything
+sample-runs = refl
+
+-- ---- an array, a record, a set, a procedure with a handler, both loops
+
+unfoldable pub mixed : List ℕ
+mixed = bytes "(type color (enum red green blue))\n(type hues (setof color))\n(type row (array color integer))\n(type spot (record (x integer) (seen hues)))\n(var c color)\n(var totals row)\n(var s spot)\n(var t spot)\n(proc count (for c red blue (:= (at totals c) (ord c))) (:= (dot s x) (div (at totals blue) 0)) (exception (:= (dot s x) (- error_number 99))))\n(main (:= (dot s seen) (members hues red blue)) (call count) (while (< (dot s x) (- 100)) (:= (dot s x) (+ (dot s x) 50))) (:= t s) (if (in blue (dot t seen)) (case c (arm red (raise 7)) (else (begin)))))\n"
+
+pub mixed-met : Met mixed
+unfolding mixed read values marks readOf everything
+mixed-met = record { accept = refl; sane = refl }
+
+pub mixed-holds : Holds mixed
+mixed-holds = holds mixed mixed-met
+
+pub mixed-runs : run mixed 10000 .ending ≡ ran normal 20
+unfolding mixed read values marks readOf everything
+mixed-runs = refl
