@@ -165,11 +165,13 @@ types =
     case "(main (raise (card 3)))\n" 100 "refused 8 1\n" ∷  -- card of an integer
     case "(type e (enum a))\n(main (if (= a 0) (begin)))\n" 100 "refused 8 2\n" ∷  -- an enum name and a number
     case "(type e (enum a))\n(type f (enum b))\n(main (if (= a b) (begin)))\n" 100 "refused 8 3\n" ∷  -- two enumerations
+    case "(var i integer)\n(main (exception (for i 1 2 (:= i 1))))\n" 100 "refused 8 2\n" ∷  -- loop variable assigned in a handler
+    case "(main (case 1 (arm (- #80000000) (begin))))\n" 100 "refused 8 1\n" ∷  -- a label past the integers
     []
 
 pub types-hold : Print types
 unfolding types everything
-types-hold = refl & refl & refl & refl & refl & refl & refl & refl & refl & refl & refl & refl & refl & refl & refl & refl & refl & refl & refl & refl & refl & refl & refl & refl & refl & refl & refl & refl & refl & refl & refl & refl & refl & refl & refl & all
+types-hold = refl & refl & refl & refl & refl & refl & refl & refl & refl & refl & refl & refl & refl & refl & refl & refl & refl & refl & refl & refl & refl & refl & refl & refl & refl & refl & refl & refl & refl & refl & refl & refl & refl & refl & refl & refl & refl & all
 
 -- Row 9, where short scripts do; `ceilings` has the others
 unfoldable pub limits : List Case
@@ -182,11 +184,12 @@ limits =
     case "(type r (record (f0 integer) (f1 integer) (f2 integer) (f3 integer) (f4 integer) (f5 integer) (f6 integer) (f7 integer) (f8 integer) (f9 integer) (f10 integer) (f11 integer) (f12 integer) (f13 integer) (f14 integer) (f15 integer) (f16 integer)))\n(main)\n" 100 "refused 9 1\n" ∷  -- 17 fields
     case "(type i (range 1 256))\n(type a (array i integer))\n(type j (range 1 9))\n(type b (array j a))\n(main)\n" 100 "refused 9 4\n" ∷  -- 2304 cells in a type
     case "(type i (range 1 256))\n(type a (array i integer))\n(type j (range 1 8))\n(type b (array j a))\n(var x b)\n(var y boolean)\n(main)\n" 100 "refused 9 6\n" ∷  -- 2049 cells
+    case "(type r (range 1 256))\n(type a (array r integer))\n(type p (record (b a) (c a) (d a) (e a) (f a) (g a) (h a) (i a) (j boolean)))\n(main)\n" 100 "refused 9 3\n" ∷  -- 2,049 cells in a record
     []
 
 pub limits-hold : Print limits
 unfolding limits everything
-limits-hold = refl & refl & refl & refl & refl & refl & refl & refl & all
+limits-hold = refl & refl & refl & refl & refl & refl & refl & refl & refl & all
 
 -- Order: the lowest number on the first faulty line
 unfoldable pub order : List Case

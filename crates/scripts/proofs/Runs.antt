@@ -88,8 +88,16 @@ second =
     case "(main (begin) (begin))\n" 1 "spent 1\n" ∷  -- one step short
     case "(main (begin) (begin))\n" 2 "normal 2\n" ∷  -- the last step is the budget's last
     case "(main (raise 0))\n" 0 "spent 0\n" ∷  -- spent before raise
+    case "(var x integer)\n(main (raise (+ (div 1 0) x)))\n" 100 "exception -101 1 1\n1 x -\n" ∷  -- left before right
+    case "(type r (range 1 1))\n(type a (array r integer))\n(type m (array r a))\n(var x m)\n(main (raise (at (at x 9) (div 1 0))))\n" 100 "exception -103 1 1\n1 x -\n" ∷  -- an index is tested before the next
+    case "(var i integer)\n(main (for i (succ 2147483647) (div 1 0) (begin)))\n" 100 "exception -103 1 1\n1 i -\n" ∷  -- the first bound first
+    case "(type r (range 1 3))\n(type s (setof r))\n(main (raise (card (members s 9 (div 1 0)))))\n" 100 "exception -103 1 1\n" ∷  -- a member is tested before the next
+    case "(var i integer)\n(main (for i 1 3 (begin)))\n" 1 "spent 1\n1 i -\n" ∷  -- the control variable is set after the round's step
+    case "(type a (array boolean integer))\n(type b a)\n(var x a)\n(var y b)\n(main (:= (at x false) 1) (:= (at x true) 2) (:= y x))\n" 100 "normal 3\n1 x 1\n2 x 2\n3 y 1\n4 y 2\n" ∷  -- an alias is the same type
+    case "(var f integer)\n(type r (record (f integer) (r boolean)))\n(main)\n" 100 "normal 0\n1 f -\n" ∷  -- fields have a space of their own
+    case "(var i integer)\n(var j integer)\n(main (for i 1 2 (for j i i (begin))))\n" 100 "normal 9\n1 i 2\n2 j 2\n" ∷  -- a control variable may be read
     []
 
 pub second-hold : Print second
 unfolding second everything
-second-hold = refl & refl & refl & refl & refl & refl & refl & refl & refl & refl & refl & refl & refl & refl & refl & refl & refl & refl & refl & refl & refl & refl & refl & refl & refl & refl & refl & refl & refl & refl & refl & refl & refl & refl & refl & refl & refl & refl & refl & refl & all
+second-hold = refl & refl & refl & refl & refl & refl & refl & refl & refl & refl & refl & refl & refl & refl & refl & refl & refl & refl & refl & refl & refl & refl & refl & refl & refl & refl & refl & refl & refl & refl & refl & refl & refl & refl & refl & refl & refl & refl & refl & refl & refl & refl & refl & refl & refl & refl & refl & refl & all

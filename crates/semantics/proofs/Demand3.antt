@@ -1,19 +1,51 @@
 -- Demand 3 for whole texts, in document 01's words: "a text, working list or store is accepted when no numbered refusal applies to it".
--- The hypotheses are that `verdictOf` and `storeFault` find no fault; each theorem is for every budget.
-use mathlib.Core.Path.{_≡_}
-use mathlib.Core.List.{List}
-use mathlib.Core.Option.{Option, none}
-use Prim.Native.Nat.{ℕ, _+_, _≤_}
+-- The hypotheses are that `verdictOf` and `storeFault` find no fault; each theorem on runs is for every budget.
+-- Then what the code that reads and runs a text needs: facts about the code of an accepted text, its layout, and one pass over a body.
+use mathlib.Core.Path.{_≡_, refl}
+use mathlib.Core.Bool.{false, true}
+use mathlib.Core.List.{List, [], _∷_}
+use mathlib.Core.Option.{Option, none, some}
+use Prim.Native.Nat.{ℕ, _+_, _*_, _<_, _≤_}
+use native.Mathlib.Omega.{arith}
 use lib.IntN.{ℤ}
+use lib.ListN.{length, getD}
+use Rattle.semantics.specs.Base.{Name}
+use Rattle.semantics.specs.Lines.{Line}
+use Rattle.semantics.specs.Trees.{Tree, Run, formOf}
+use Rattle.semantics.specs.Words.{Word, worded}
+use Rattle.semantics.specs.Syntax as Syntax
+use Rattle.semantics.specs.Forms.{lineForm}
+use Rattle.semantics.specs.Script.{Body, Entry, newMain, newProc}
+use Rattle.semantics.specs.Environment.{Declared, PlacedBody}
+use Rattle.semantics.specs.Names.{bodyOf, newNames}
+use Rattle.semantics.specs.Code.{BodyCode}
+use Rattle.semantics.specs.Layout.{Laid, layBodies}
+use Rattle.semantics.specs.LayoutSize.{sizeBody, sizeBodies, sizeSymbols}
+use Rattle.semantics.specs.Readback.{readBody}
+use Rattle.semantics.specs.Stages.{bodyStaged}
 use Rattle.semantics.specs.Machine.{Outcome, spent, state, sticks}
 use Rattle.semantics.specs.Store.{storeFault}
-use Rattle.semantics.specs.Verdict.{Read, accepted}
+use Rattle.semantics.specs.Verdict.{Judged, Read, accepted, judgeLine, strictly}
 use Rattle.semantics.specs.Whole.{Report, fresh, lent, markOf, onStore, ran, report, runOf, verdictOf}
 use Rattle.semantics.proofs.TextsAgree as Texts
+use Rattle.semantics.proofs.TextsAgree.{Paired, empty, more, judged-agree}
 use Rattle.semantics.proofs.StoreInRange.{Fine}
-use Rattle.semantics.proofs.LinesKeep.{tests}
+use Rattle.semantics.proofs.ValuesInRange.{Sound, Test}
+use Rattle.semantics.proofs.LinesKeep.{AllFormed, body as formed, tests, text-keeps}
 use Rattle.semantics.proofs.BodiesInRange.{store-sound, sound-store, text-safely}
 use Rattle.semantics.proofs.Reports.{ended, moved-on, at-most, all-spent, next-taken, same-report}
+use Rattle.semantics.proofs.Bodies as Numbered
+use Rattle.semantics.proofs.Bodies.{Bodies}
+use Rattle.semantics.proofs.CodeSafe.{SafeBody}
+use Rattle.semantics.proofs.CodeCalls.{CallsBody}
+use Rattle.semantics.proofs.CodeSized.{SizedBody}
+use Rattle.semantics.proofs.ElaboratedSafe.{body-safe}
+use Rattle.semantics.proofs.LinesMeasured.{text-measured}
+use Rattle.semantics.proofs.TextRoom.{text-within, text-room}
+use Rattle.semantics.proofs.LayoutBodies.{no-bodies}
+use Rattle.semantics.proofs.LayoutFits.{all-laid, bodies-fit}
+use Rattle.semantics.proofs.OnePassLines as OnePass
+use Rattle.semantics.proofs.OnePassLines.{judgedBy}
 
 -- what rows 10 and 11 find in a store for a script
 abbrev pub faultIn : Read → List ℤ → List ℕ → Option ℕ
@@ -70,3 +102,73 @@ module _ (text : List ℕ) (work : ℕ) (r : Read) (accept : verdictOf text work
   -- a run that ended otherwise ends so with any larger budget: with the same outcome, steps and store
   pub larger-budget : (budget k n : ℕ) (o : Outcome) → run budget .ending ≡ ran o n → (o ≡ spent → ⊥) → run (budget + k) ≡ run budget
   larger-budget budget k n o h e = rw (run-is budget, run-is (budget + k)) (same-report (r .codes) (fresh vs ms) budget k n o (rw (run-is budget) at h) e)
+
+-- ---- the code of an accepted text, for those who lay it down and run it. The predicates are in CodeSafe, CodeCalls and CodeSized; bodies are
+-- counted from 0, main's is the last
+
+all-safe : {xs : List Test} {k : ℕ} {bs : List PlacedBody} {cs : List BodyCode} → Paired bs cs → AllFormed xs bs → Bodies (λ _. SafeBody xs) k cs
+all-safe empty a = Numbered.none
+all-safe {xs} (more {b} {c} h p) (formed 𝓕 a) = Numbered.body (body-safe (b .types) (b .vars) xs 𝓕 (b .body) c h) (all-safe p a)
+
+module _ (text : List ℕ) (work : ℕ) (r : Read) (accept : verdictOf text work ≡ accepted r) where
+  -- a test for each cell: what it may hold when it is defined
+  abbrev pub cellTests : List Test
+  cellTests = tests (r .known .env .types) (r .known .cells)
+
+  -- in every sound store, each expression's value is of its kind, each place lies in the store, each statement leaves a sound store
+  pub code-safe : Bodies (λ _. SafeBody cellTests) 0 (r .codes)
+  code-safe = judged-agree text work r accept λ es _ p. all-safe p (text-keeps text work r accept .bodies)
+
+  -- an accepted store is sound
+  pub store-is-sound : (vs : List ℤ) (ms : List ℕ) → storeFault (r .known .env .types) (r .known .cells) vs ms ≡ none → Sound cellTests (fresh vs ms)
+  store-is-sound vs ms h = store-sound (r .known .env .types) (r .known .cells) vs ms h
+
+  -- body number k calls only bodies below k
+  pub code-calls : Bodies CallsBody 0 (r .codes)
+  code-calls = text-measured text work r accept .0 .calls
+
+  -- the numbers in the code are small
+  pub code-sized : Bodies (λ _. SizedBody) 0 (r .codes)
+  code-sized = text-measured text work r accept .0 .sized
+
+  -- how many cells, and how many bodies
+  pub cell-count : length (r .known .cells) ≤ 2048
+  cell-count = text-measured text work r accept .0 .cells
+
+  pub body-count : (1 ≤ length (r .codes)) × (length (r .codes) ≤ 33)
+  body-count = let m = text-measured text work r accept in (m .0 .main (m .1), m .0 .most)
+
+  -- ---- the layout, symbol entries included
+
+  -- 4 numbers for each bracket and word are enough, place 0 left free
+  pub four-each : 1 + sizeSymbols (r .known .env) + sizeBodies (r .codes) ≤ 4 * r .known .nodes
+  four-each = text-within text work r accept
+
+  -- so the 16,384 that the working list must have are
+  pub room-enough : 1 + sizeSymbols (r .known .env) + sizeBodies (r .codes) ≤ 16384
+  room-enough = text-room text work r accept
+
+  -- all bodies, laid from t on where there is room, are read back; `other` is the body past the last, of which nothing is said
+  pub laid-back : (t : ℕ) (l : List ℕ) → 1 ≤ t → t + sizeBodies (r .codes) ≤ 16384 → 16384 ≤ length l
+      → (o : Laid) → layBodies [] (r .codes) t l ≡ o → (other : BodyCode) (k d : ℕ) → k < length (r .codes) → sizeBody (getD (r .codes) k other) ≤ d
+      → readBody d (o .list) (getD (o .places) k 0) ≡ getD (r .codes) k other
+  laid-back t l h g i o e other k d j m =
+      let B = all-laid other t t l [] [] (r .codes) (omega arith) (record { start = h; fits = g; long = i }) (bodies-fit code-sized code-calls) (no-bodies other t t l) in
+      rw (← e) (B .held (layBodies [] (r .codes) t l .list) (record { at = λ _ _ _. refl }) .read k j d m)
+
+-- ---- one pass over a body. Rows 6 to 8 of the line with it are what the pass answers: `bodyStaged` is 6, 7 or 8 where that stage is the
+-- first to give nothing, else the code (Stages); how it follows from the body's parts is said in OnePassExprs and OnePassStmts
+
+-- a line whose form (row 4) and words (row 5) are t and v, before `main`, with statements numbered up to s
+module _ (k : Declared) (l : Line) (t : Tree Run) (v : Tree Word) (s : ℕ) (h4 : formOf l ≡ some t) (h5 : worded t ≡ some v) (h6 : k .ended ≡ false) where
+  -- what follows in the verdict on the line: row 9, and what the line declares
+  abbrev pub rest : Entry → List BodyCode → Judged (Declared × List BodyCode)
+  rest = OnePass.rest k l t v s h4 h5 h6
+
+  pub main-judged : (b : Syntax.Body) → lineForm (k .stmts) v ≡ some (Syntax.mainLine b, s) → (x : Body) → bodyOf (k .env) b ≡ some x
+      → judgeLine strictly k l ≡ judgedBy (bodyStaged (k .env) (some b)) (λ c. rest (newMain x) (c ∷ []))
+  main-judged b hf x h = OnePass.main-judged k l t v s h4 h5 h6 b hf x h
+
+  pub proc-judged : (w : Name) (b : Syntax.Body) → lineForm (k .stmts) v ≡ some (Syntax.procLine w b, s) → (x : Body) → bodyOf (k .env) b ≡ some x
+      → newNames (k .env) (w ∷ []) ≡ true → judgeLine strictly k l ≡ judgedBy (bodyStaged (k .env) (some b)) (λ c. rest (newProc w x) (c ∷ []))
+  proc-judged w b hf x h q = OnePass.proc-judged k l t v s h4 h5 h6 w b hf x h q

@@ -3,6 +3,7 @@ pub mod Spans
 pub mod Reading
 pub mod LayoutRegions
 pub mod LayoutCode
+pub mod LayoutFits
 pub mod LayoutActs
 pub mod LayoutBodies
 pub mod Balance
@@ -34,7 +35,6 @@ pub mod CodeSafe
 pub mod Bodies
 pub mod LinesMeasured
 pub mod ElaboratedSafe
-pub mod CodeFacts
 pub mod Demand3
 pub mod Instance
 pub mod FittingSheet

@@ -1,7 +1,7 @@
 -- What accepted lines keep of the ceilings, and of the code of their bodies: its calls and the sizes of its numbers.
 use mathlib.Core.Path.{_≡_, refl, sym, ap, _∙_}
 use mathlib.Core.Bool.{Bool, true, false, not}
-use mathlib.Core.List.{List, [], _∷_, _++_}
+use mathlib.Core.List.{List, [], _∷_, _++_, append-nil}
 use mathlib.Core.Option.{some}
 use Prim.Native.Nat.{ℕ, suc, _+_, _≤_}
 use native.Mathlib.Nat.{zero-add}
@@ -26,7 +26,7 @@ use Rattle.semantics.specs.Verdict.{Read, accepted, good, has, judge, ju
 use Rattle.semantics.specs.Whole.{verdictOf}
 use Rattle.semantics.proofs.StatementNumbers as Counted
 use Rattle.semantics.proofs.Inversion.{some-inj, bind-some, given-some, and-true}
-use Rattle.semantics.proofs.TextsAgree.{accepted-inj, append-none, bad-good, good-inj, musted, onward-is, opening-is, stage}
+use Rattle.semantics.proofs.TextsAgree.{accepted-inj, bad-good, good-inj, musted, onward-is, opening-is, stage}
 use Rattle.semantics.proofs.ValuesInRange.{wrong}
 use Rattle.semantics.proofs.TypeSizes.{SmallTypes, small-declared, small-start}
 use Rattle.semantics.proofs.LinesKeep.{Keeps, keeps-formed, keeps-start, line-keeps, tests, tests-length}
@@ -90,7 +90,7 @@ line-parts k l p h c =
 
 -- the code of a line without a body
 no-code : (cs ds : List BodyCode) → some [] ≡ some ds → cs ++ ds ≡ cs
-no-code cs ds e = rw (← some-inj e) (append-none cs)
+no-code cs ds e = rw (← some-inj e) (append-nil cs)
 
 module _ (k : Declared) (cs : List BodyCode) (h : Measured k cs) (going : k .ended ≡ false) (s n : ℕ) (low : s ≤ n) (high : n ≤ 4096) where
   type-measured : (w : Name) (d : Decl) → Keeps (declareLine k (newType w d) s n) → keptDecl (k .env .types) d ≡ true → typeBounded (k .env .types) d ≡ true → Measured (declareLine k (newType w d) s n) cs

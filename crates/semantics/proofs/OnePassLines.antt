@@ -46,11 +46,11 @@ rows-8 k e x next hk hs = rw (hk, hs) (go (keptBody x) (elabBody (k .env .types)
 
 module _ (k : Declared) (l : Line) (t : Tree Run) (v : Tree Word) (s : ℕ) (h4 : formOf l ≡ some t) (h5 : worded t ≡ some v) (h6 : k .ended ≡ false) where
   -- row 9 and what the line declares
-  abbrev last : Entry → List BodyCode → Judged (Declared × List BodyCode)
-  last e cs = must 9 (lineBounded k e && leb (k .nodes + nodes t) 4096) >>= λ _. good (declareLine k e s (k .nodes + nodes t), cs)
+  abbrev pub rest : Entry → List BodyCode → Judged (Declared × List BodyCode)
+  rest e cs = must 9 (lineBounded k e && leb (k .nodes + nodes t) 4096) >>= λ _. good (declareLine k e s (k .nodes + nodes t), cs)
 
   module _ (f : Syntax.LineForm) (hf : lineForm (k .stmts) v ≡ some (f, s)) where
-    opened : judgeLine strictly k l ≡ (orBad 7 (entryOf (k .env) f) >>= λ e. must 8 (keepsRules (k .env .types) e) >>= λ _. orBad 8 (strictly (k .env) e) >>= λ cs. last e cs)
+    opened : judgeLine strictly k l ≡ (orBad 7 (entryOf (k .env) f) >>= λ e. must 8 (keepsRules (k .env .types) e) >>= λ _. orBad 8 (strictly (k .env) e) >>= λ cs. rest e cs)
     unfolding judgeLine
     opened = rw (h4, stage-on, h5, stage-on, h6, must-on, hf, stage-on)
 
@@ -60,9 +60,9 @@ module _ (k : Declared) (l : Line) (t : Tree Run) (v : Tree Word) (s : ℕ) (h4 
     unfolding entryOf Base._>>=_ orBad _>>=_
     main-unnamed h = opened (Syntax.mainLine b) hf ∙ rw h
 
-    pub main-judged : (x : Body) → bodyOf (k .env) b ≡ some x → judgeLine strictly k l ≡ judgedBy (bodyStaged (k .env) (some b)) (λ c. last (newMain x) (c ∷ []))
+    pub main-judged : (x : Body) → bodyOf (k .env) b ≡ some x → judgeLine strictly k l ≡ judgedBy (bodyStaged (k .env) (some b)) (λ c. rest (newMain x) (c ∷ []))
     unfolding entryOf bodyStaged staged named Base._>>=_ keepsRules strictly
-    main-judged x h = opened (Syntax.mainLine b) hf ∙ rw (h, stage-on) (rows-8 k newMain x (last (newMain x)) refl refl)
+    main-judged x h = opened (Syntax.mainLine b) hf ∙ rw (h, stage-on) (rows-8 k newMain x (rest (newMain x)) refl refl)
 
   -- `(proc N BODY)`: its own name is new
   module _ (w : Name) (b : Syntax.Body) (hf : lineForm (k .stmts) v ≡ some (Syntax.procLine w b, s)) where
@@ -75,6 +75,6 @@ module _ (k : Declared) (l : Line) (t : Tree Run) (v : Tree Word) (s : ℕ) (h4 
     proc-known x h q = opened (Syntax.procLine w b) hf ∙ rw (h, q)
 
     pub proc-judged : (x : Body) → bodyOf (k .env) b ≡ some x → newNames (k .env) (w ∷ []) ≡ true
-        → judgeLine strictly k l ≡ judgedBy (bodyStaged (k .env) (some b)) (λ c. last (newProc w x) (c ∷ []))
+        → judgeLine strictly k l ≡ judgedBy (bodyStaged (k .env) (some b)) (λ c. rest (newProc w x) (c ∷ []))
     unfolding entryOf bodyStaged staged named given Base._>>=_ keepsRules strictly
-    proc-judged x h q = opened (Syntax.procLine w b) hf ∙ rw (h, q, stage-on) (rows-8 k (newProc w) x (last (newProc w x)) refl refl)
+    proc-judged x h q = opened (Syntax.procLine w b) hf ∙ rw (h, q, stage-on) (rows-8 k (newProc w) x (rest (newProc w x)) refl refl)

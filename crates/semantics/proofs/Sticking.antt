@@ -54,11 +54,14 @@ places =
     mark "(main (raise (+ true (div 1 0))))\n" "exception -101 1 1\n" ∷  -- both sides first
     mark "(var x boolean)\n(main (:= x (+ x 1)))\n" "exception -104 1 1\n1 x -\n" ∷  -- it is read first
     mark "(var i integer)\n(main (for i true (div 1 0) (begin)))\n" "exception -101 1 1\n1 i -\n" ∷  -- both bounds first
+    mark "(type a (array boolean integer))\n(var x a)\n(main (:= (at x false) 1) (:= (at x true) 2) (for x x x (begin)) (exception))\n" "stuck 3\n1 x 1\n2 x 2\n" ∷  -- bounds of the control variable's type, which is no ordinal
+    mark "(main (raise (card (members integer (div 1 0)))) (exception))\n" "stuck 1\n" ∷  -- before any member
+    mark "(type r (range 1 1))\n(type a (array r integer))\n(var x a)\n(main (:= (at x 9) true))\n" "exception -103 1 1\n1 x -\n" ∷  -- value and indices first
     []
 
 pub places-stick : Marks places
 unfolding places everything
-places-stick = refl & refl & refl & refl & refl & refl & refl & refl & refl & refl & refl & refl & refl & refl & refl & refl & refl & refl & refl & refl & refl & refl & refl & refl & refl & refl & refl & all
+places-stick = refl & refl & refl & refl & refl & refl & refl & refl & refl & refl & refl & refl & refl & refl & refl & refl & refl & refl & refl & refl & refl & refl & refl & refl & refl & refl & refl & refl & refl & refl & all
 
 -- outside its domain it gives the refusal that the other rules give, never "stuck"
 unfoldable pub outside : List Mark
@@ -70,11 +73,12 @@ outside =
     mark "(proc p (raise true))\n(type r (range 2 1))\n(main)\n" "refused 8 2\n" ∷
     mark "(proc p (raise true))\n(main (call q))\n" "refused 7 2\n" ∷
     mark "(type s (setof integer))\n(main)\n" "refused 9 1\n" ∷
+    mark "(type s (setof boolean))\n(main (raise (card (members s (- #80000000)))))\n" "refused 8 2\n" ∷
     []
 
 pub outside-refused : Marks outside
 unfolding outside everything
-outside-refused = refl & refl & refl & refl & refl & refl & refl & all
+outside-refused = refl & refl & refl & refl & refl & refl & refl & refl & all
 
 -- ---- rows 1, 10 and 11: the store is left as lent
 

@@ -186,14 +186,17 @@ main-came n [] q r h = onward-is n h λ _ hm e. rw (← accepted-inj e) (ended-i
     ended-is false e = bad-good e
 main-came n (l ∷ ls) q r h = onward-is n h λ p hp h. main-came (suc n) ls _ r h
 
--- 16,384 numbers are enough, place 0 left free
-pub text-room : (text : List ℕ) (work : ℕ) (r : Read) → verdictOf text work ≡ accepted r → 1 + sizeSymbols (r .known .env) + sizeBodies (r .codes) ≤ 16384
+-- 4 numbers for each bracket and word are enough, place 0 left free
+pub text-within : (text : List ℕ) (work : ℕ) (r : Read) → verdictOf text work ≡ accepted r → 1 + sizeSymbols (r .known .env) + sizeBodies (r .codes) ≤ 4 * r .known .nodes
 unfolding verdictOf judge
-text-room text work r h =
-    let R = room-text text work r h in
+text-within text work r h =
     let m : r .known .ended ≡ true = opening-is _ _ _ _ _ h λ h _. main-came 1 (linesOf text) _ r h in
-    let w : sizeSymbols (r .known .env) + sizeBodies (r .codes) + 2 ≤ 4 * r .known .nodes = rw m at (R .within) in
-    omega (arith, R .bounded)
+    let w : sizeSymbols (r .known .env) + sizeBodies (r .codes) + 2 ≤ 4 * r .known .nodes = rw m at (room-text text work r h .within) in
+    omega arith
+
+-- so 16,384 are
+pub text-room : (text : List ℕ) (work : ℕ) (r : Read) → verdictOf text work ≡ accepted r → 1 + sizeSymbols (r .known .env) + sizeBodies (r .codes) ≤ 16384
+text-room text work r h = omega (arith, text-within text work r h, room-text text work r h .bounded)
 
 -- and the working list of an accepted text has as many
 long-enough : {A : Type 0} (b c : Bool) (o : Option ℕ) (f : List Line → Verdict A) (ls : List Line) {a : A} → opening b c o f ls ≡ accepted a → b ≡ true

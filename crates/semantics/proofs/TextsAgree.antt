@@ -1,7 +1,7 @@
 -- Demand 3, agreement: of an accepted text, the marking machine gives what the run gives, on every store and at every budget.
 use mathlib.Core.Path.{_≡_, refl, ap, _∙_, fun-ext}
 use mathlib.Core.Bool.{Bool, true, false, not}
-use mathlib.Core.List.{List, [], _∷_, _++_}
+use mathlib.Core.List.{List, [], _∷_, _++_, append-nil}
 use mathlib.Core.Option.{Option, none, some}
 use Prim.Native.Nat.{ℕ, suc, _+_}
 use native.Mathlib.Omega.{arith}
@@ -91,12 +91,8 @@ paired-last : {bs : List PlacedBody} {cs : List BodyCode} (b : PlacedBody) (c : 
 paired-last b c h empty = more h empty
 paired-last b c h (more e p) = more e (paired-last b c h p)
 
-pub append-none : {A : Type 0} (xs : List A) → xs ++ [] ≡ xs
-append-none [] = refl
-append-none (x ∷ xs) = ap (λ ys. x ∷ ys) (append-none xs)
-
 paired-same : {bs : List PlacedBody} {cs : List BodyCode} → Paired bs cs → Paired bs (cs ++ [])
-paired-same {bs} {cs} p = rw (append-none cs) p
+paired-same {bs} {cs} p = rw (append-nil cs) p
 
 -- a line that fits: the bodies after it have the code after it
 entry-paired : (k : Declared) (e : Entry) (s n : ℕ) (cs ds : List BodyCode) → strictly (k .env) e ≡ some ds → Paired (k .bodies) cs → Paired (declareLine k e s n .bodies) (cs ++ ds)

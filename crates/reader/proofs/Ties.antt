@@ -1,0 +1,163 @@
+-- What the passes say of a line at an offset, in the definitions' own words: its place among the lines, its one form (row 4), its words (row 5),
+-- its count (row 9).
+use mathlib.Core.Path.{_≡_, refl, sym, ap, _∙_}
+use mathlib.Core.Bool.{Bool, true, false, cond, _&&_}
+use mathlib.Core.List.{List, [], _∷_}
+use mathlib.Core.Option.{Option, none, some}
+use Prim.Native.Nat.{ℕ, zero, suc, _+_, _<_}
+use native.Mathlib.Nat.{add-zero}
+use native.Mathlib.Omega.{arith}
+use borrow.Author.Tests.{eqb-true, eq-eqb}
+use lib.Dec.{eqb}
+use lib.ListN.{length, getD, drop}
+use lib.Seq.{drop-cons}
+use Rattle.lexis.specs.declared.words.Word as Kind
+use Rattle.lexis.specs.declared.words.Word.the-variants.{Number, Name, Reserved, Operator, Unknown}
+use Rattle.lexis.specs.Bytes.{classOf}
+use Rattle.lexis.specs.Words.{wordOf}
+use Rattle.semantics.specs.Base.{_>>=_, given}
+use Rattle.semantics.specs.Lines.{Line, line, inFront, linesOf}
+use Rattle.semantics.specs.Trees.{Tree, word, form, Trees, end, _then_, nodes, nodesIn, Run, Place, before, isAfter, past, balanced, Reading, reading, first, ended, withByte, readBytes, treesOf, single, formOf, wordAt, restAt, stackAt}
+use Rattle.semantics.specs.Words.{Word, wordBy, worded, wordedAll}
+use Rattle.semantics.proofs.Balance.{Reads, one, reads}
+use Rattle.reader.specs.Passes.{lineAt, afterLine, balancedFrom, isKnown, knownTree, knownIn, knownAll, nodesAll}
+
+-- ---- the lines from an offset on: its own, and those after it
+
+cut : (b : ℕ) (s : List ℕ) (t : Bool) → linesOf s ≡ lineAt s ∷ linesOf (afterLine s) → (ls : List Line) → ls ≡ linesOf s
+    → elim t [ true ↦ line [] true ∷ ls | false ↦ inFront b ls ] ≡ cond t (line [] true) (line (b ∷ lineAt s .bytes) (lineAt s .fed)) ∷ linesOf (cond t s (afterLine s))
+unfolding inFront
+cut b s true h ls e = rw e
+cut b s false h ls e = rw (e, h)
+
+pub lines-cons : (b : ℕ) (s : List ℕ) → linesOf (b ∷ s) ≡ lineAt (b ∷ s) ∷ linesOf (afterLine (b ∷ s))
+unfolding linesOf lineAt afterLine inFront
+lines-cons b [] = go (eqb b 10)
+  where
+    go : (t : Bool) → elim t [ true ↦ line [] true ∷ [] | false ↦ inFront b [] ] ≡ cond t (line [] true) (line (b ∷ []) false) ∷ linesOf (cond t [] [])
+    go true = refl
+    go false = refl
+lines-cons b (c ∷ s) = cut b (c ∷ s) (eqb b 10) (lines-cons c s) (linesOf (c ∷ s)) refl
+
+pub lines-at : (s : List ℕ) (p q : ℕ) → p < length s → drop q s ≡ afterLine (drop p s) → linesOf (drop p s) ≡ lineAt (drop p s) ∷ linesOf (drop q s)
+lines-at s p q h e = let f : drop p s ≡ getD s p 0 ∷ drop (suc p) s = drop-cons s p 0 h in rw (e, f) (lines-cons (getD s p 0) (drop (suc p) s))
+
+-- ---- row 4
+
+pub balanced-line : (s : List ℕ) (p : Place) → (lineAt s .fed && balanced (lineAt s .bytes) p) ≡ balancedFrom s p
+unfolding lineAt balanced balancedFrom
+balanced-line [] p = refl
+balanced-line (b ∷ s) p = go (eqb b 10) (balanced-line s (past (classOf b) p))
+  where
+    go : (t : Bool) → (lineAt s .fed && balanced (lineAt s .bytes) (past (classOf b) p)) ≡ balancedFrom s (past (classOf b) p)
+        → (cond t (line [] true) (line (b ∷ lineAt s .bytes) (lineAt s .fed)) .fed && balanced (cond t (line [] true) (line (b ∷ lineAt s .bytes) (lineAt s .fed)) .bytes) p)
+        ≡ cond t (isAfter p) (balancedFrom s (past (classOf b) p))
+    go true h = refl
+    go false h = h
+
+-- a line reads as the text does from its beginning on
+pub read-line : (s : List ℕ) → readBytes (lineAt s .bytes) ≡ readBytes s
+unfolding lineAt readBytes withByte classOf
+read-line [] = refl
+read-line (b ∷ s) = go (eqb b 10) refl (read-line s)
+  where
+    feed : (r : Reading) → reading [] [] ≡ withByte (classOf 10) 10 r
+    feed r = refl
+
+    go : (t : Bool) → eqb b 10 ≡ t → readBytes (lineAt s .bytes) ≡ readBytes s
+        → readBytes (cond t (line [] true) (line (b ∷ lineAt s .bytes) (lineAt s .fed)) .bytes) ≡ withByte (classOf b) b (readBytes s)
+    go true e h = rw (eqb-true b 10 e) (feed (readBytes s))
+    go false e h = ap (withByte (classOf b) b) h
+
+module _ (s : List ℕ) (p : ℕ) where
+  abbrev here : Line
+  here = lineAt (drop p s)
+
+  -- the line's one form is all that stands there
+  pub formed : balancedFrom (drop p s) before ≡ true → (f : Trees Run) × (formOf here ≡ some (form f)) × (stackAt s p ≡ (form f then end) ∷ [])
+  unfolding formOf treesOf single given _>>=_ stackAt wordAt restAt
+  formed h = go (here .fed) (balanced (here .bytes) before) refl refl (balanced-line (drop p s) before ∙ h)
+    where
+      read : (r : Reading) → readBytes (here .bytes) ≡ r → Reads before r
+          → (f : Trees Run) × (single (first (ended (r .begun) (r .stack))) ≡ some (form f)) × (ended (readBytes (drop p s) .begun) (readBytes (drop p s) .stack) ≡ (form f then end) ∷ [])
+      read r e (one f g) = (f, rw g, rw (← read-line (drop p s), e, g))
+
+      go : (a b : Bool) → here .fed ≡ a → balanced (here .bytes) before ≡ b → (here .fed && balanced (here .bytes) before) ≡ true
+          → (f : Trees Run) × (formOf here ≡ some (form f)) × (ended (readBytes (drop p s) .begun) (readBytes (drop p s) .stack) ≡ (form f then end) ∷ [])
+      go true true e g k = rw (e, g) (read (readBytes (here .bytes)) refl (reads (here .bytes) before g))
+      go true false e g k = absurd (let z : false ≡ true = rw (e, g) at k in let y : _≡_ {A = ℕ} 0 1 = cc in omega arith)
+      go false b e g k = absurd (let z : false ≡ true = rw e at k in let y : _≡_ {A = ℕ} 0 1 = cc in omega arith)
+
+  pub unformed : balancedFrom (drop p s) before ≡ false → formOf here ≡ none
+  unfolding formOf given _>>=_
+  unformed h = go (here .fed) (balanced (here .bytes) before) refl refl (balanced-line (drop p s) before ∙ h)
+    where
+      go : (a b : Bool) → here .fed ≡ a → balanced (here .bytes) before ≡ b → (here .fed && balanced (here .bytes) before) ≡ false → formOf here ≡ none
+      go true true e g k = absurd (let z : true ≡ false = rw (e, g) at k in let y : _≡_ {A = ℕ} 0 1 = cc in omega arith)
+      go true false e g k = rw (e, g)
+      go false b e g k = rw e
+
+-- ---- row 5
+
+word-is : (k : Kind.Word) (w : Run) → isKnown k ≡ true → (v : Word) × (wordBy k w ≡ some v)
+unfolding wordBy
+word-is (Number z) w h = (_, refl)
+word-is Name w h = (_, refl)
+word-is (Reserved n) w h = (_, refl)
+word-is (Operator n) w h = (_, refl)
+word-is Unknown w h = absurd (let y : _≡_ {A = ℕ} 0 1 = cc in omega arith)
+
+word-none : (k : Kind.Word) (w : Run) → isKnown k ≡ false → wordBy k w ≡ none
+unfolding wordBy
+word-none (Number z) w h = absurd (let y : _≡_ {A = ℕ} 0 1 = cc in omega arith)
+word-none Name w h = absurd (let y : _≡_ {A = ℕ} 0 1 = cc in omega arith)
+word-none (Reserved n) w h = absurd (let y : _≡_ {A = ℕ} 0 1 = cc in omega arith)
+word-none (Operator n) w h = absurd (let y : _≡_ {A = ℕ} 0 1 = cc in omega arith)
+word-none Unknown w h = refl
+
+and-true : (a b : Bool) → (a && b) ≡ true → (a ≡ true) × (b ≡ true)
+and-true true b h = (refl, h)
+and-true false b h = absurd (let y : _≡_ {A = ℕ} 0 1 = cc in omega arith)
+
+mutual
+  unfolding knownTree worded _>>=_
+
+  pub worded-some : (t : Tree Run) → knownTree t ≡ true → (v : Tree Word) × (worded t ≡ some v)
+  worded-some (word w) h = let v = word-is (wordOf w) w h in (word (v .0), rw (v .1))
+  worded-some (form ts) h = let v = all-some ts h in (form (v .0), rw (v .1))
+
+  all-some : (ts : Trees Run) → knownIn ts ≡ true → (vs : Trees Word) × (wordedAll ts ≡ some vs)
+  all-some end h = (end, refl)
+  all-some (t then ts) h =
+      let p = and-true (knownTree t) (knownIn ts) h in
+      let v = worded-some t (p .0) in let vs = all-some ts (p .1) in (v .0 then vs .0, rw (v .1, vs .1))
+
+mutual
+  unfolding knownTree worded _>>=_
+
+  pub worded-none : (t : Tree Run) → knownTree t ≡ false → worded t ≡ none
+  worded-none (word w) h = rw (word-none (wordOf w) w h)
+  worded-none (form ts) h = rw (all-none ts h)
+
+  all-none : (ts : Trees Run) → knownIn ts ≡ false → wordedAll ts ≡ none
+  all-none end h = absurd (let y : _≡_ {A = ℕ} 0 1 = cc in omega arith)
+  all-none (t then ts) h = go (knownTree t) refl (λ e. worded-none t e) (λ e. all-none ts e)
+    where
+      go : (b : Bool) → knownTree t ≡ b → (knownTree t ≡ false → worded t ≡ none) → (knownIn ts ≡ false → wordedAll ts ≡ none)
+          → (worded t >>= λ v. wordedAll ts >>= λ vs. some (v then vs)) ≡ none
+      go false e f g = rw (f e)
+      go true e f g = let v = worded-some t e in rw (v .1, g (rw e at h))
+
+-- ---- a balanced line by itself: its words and its count
+
+pub line-known : (f : Trees Run) → knownAll ((form f then end) ∷ []) ≡ knownTree (form f)
+unfolding knownAll knownIn
+line-known f = go (knownIn f)
+  where
+    go : (b : Bool) → ((b && true) && true) ≡ b
+    go true = refl
+    go false = refl
+
+pub line-nodes : (f : Trees Run) → nodesAll ((form f then end) ∷ []) ≡ nodes (form f)
+unfolding nodesAll nodesIn
+line-nodes f = omega arith
