@@ -1,0 +1,4 @@
+pub mod Laws
+pub mod TwoSided
+pub mod OneSided
+pub mod Tables

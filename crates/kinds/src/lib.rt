@@ -1,0 +1,279 @@
+// The kinds that the operators and functions take, as constant tables.
+ghost use mathlib.Core.Path.{_≡_};
+ghost use Rattle.kinds.specs.Kinds.{rowOf, nodeAt, partnerOf, resultOf, ruling2};
+ghost use Rattle.kinds.specs.Functions.{nodeAt1, resultOf1, ruling1};
+
+// What a kind is to an operator: one of the two built-in kinds, another ordinal, a set, or an array or record.
+pub enum Class {
+    Integer,
+    Boolean,
+    Enum,
+    Set,
+    Whole,
+}
+
+// One side of an operator: its kind, that kind's class, and of a set the kind of its members.
+pub struct Side {
+    pub class: Class,
+    pub kind: u32,
+    pub base: u32,
+}
+
+// What an operator comes to: nothing, or the number of its node in the code and the kind of its result.
+pub enum Ruling {
+    Misfit,
+    Fits(u32, u32),
+}
+
+// The number of `in`, whose left side is compared with the members of its right side.
+const MEMBER: usize = 12;
+
+// By operator, left class and right class: the number of the node, or 0 for a misfit.
+const TWO_SIDED: [[[u32; 5]; 5]; 15] = [
+    // +
+    [
+        [9, 0, 0, 0, 0],
+        [0, 0, 0, 0, 0],
+        [0, 0, 0, 0, 0],
+        [0, 0, 0, 15, 0],
+        [0, 0, 0, 0, 0],
+    ],
+    // -
+    [
+        [10, 0, 0, 0, 0],
+        [0, 0, 0, 0, 0],
+        [0, 0, 0, 0, 0],
+        [0, 0, 0, 16, 0],
+        [0, 0, 0, 0, 0],
+    ],
+    // *
+    [
+        [11, 0, 0, 0, 0],
+        [0, 0, 0, 0, 0],
+        [0, 0, 0, 0, 0],
+        [0, 0, 0, 17, 0],
+        [0, 0, 0, 0, 0],
+    ],
+    // **
+    [
+        [12, 0, 0, 0, 0],
+        [0, 0, 0, 0, 0],
+        [0, 0, 0, 0, 0],
+        [0, 0, 0, 0, 0],
+        [0, 0, 0, 0, 0],
+    ],
+    // div
+    [
+        [13, 0, 0, 0, 0],
+        [0, 0, 0, 0, 0],
+        [0, 0, 0, 0, 0],
+        [0, 0, 0, 0, 0],
+        [0, 0, 0, 0, 0],
+    ],
+    // mod
+    [
+        [14, 0, 0, 0, 0],
+        [0, 0, 0, 0, 0],
+        [0, 0, 0, 0, 0],
+        [0, 0, 0, 0, 0],
+        [0, 0, 0, 0, 0],
+    ],
+    // =
+    [
+        [18, 0, 0, 0, 0],
+        [0, 18, 0, 0, 0],
+        [0, 0, 18, 0, 0],
+        [0, 0, 0, 18, 0],
+        [0, 0, 0, 0, 0],
+    ],
+    // <>
+    [
+        [19, 0, 0, 0, 0],
+        [0, 19, 0, 0, 0],
+        [0, 0, 19, 0, 0],
+        [0, 0, 0, 19, 0],
+        [0, 0, 0, 0, 0],
+    ],
+    // <
+    [
+        [20, 0, 0, 0, 0],
+        [0, 20, 0, 0, 0],
+        [0, 0, 20, 0, 0],
+        [0, 0, 0, 0, 0],
+        [0, 0, 0, 0, 0],
+    ],
+    // <=
+    [
+        [21, 0, 0, 0, 0],
+        [0, 21, 0, 0, 0],
+        [0, 0, 21, 0, 0],
+        [0, 0, 0, 24, 0],
+        [0, 0, 0, 0, 0],
+    ],
+    // >
+    [
+        [22, 0, 0, 0, 0],
+        [0, 22, 0, 0, 0],
+        [0, 0, 22, 0, 0],
+        [0, 0, 0, 0, 0],
+        [0, 0, 0, 0, 0],
+    ],
+    // >=
+    [
+        [23, 0, 0, 0, 0],
+        [0, 23, 0, 0, 0],
+        [0, 0, 23, 0, 0],
+        [0, 0, 0, 25, 0],
+        [0, 0, 0, 0, 0],
+    ],
+    // in
+    [
+        [0, 0, 0, 26, 0],
+        [0, 0, 0, 26, 0],
+        [0, 0, 0, 26, 0],
+        [0, 0, 0, 0, 0],
+        [0, 0, 0, 0, 0],
+    ],
+    // and
+    [
+        [0, 0, 0, 0, 0],
+        [0, 27, 0, 0, 0],
+        [0, 0, 0, 0, 0],
+        [0, 0, 0, 0, 0],
+        [0, 0, 0, 0, 0],
+    ],
+    // or
+    [
+        [0, 0, 0, 0, 0],
+        [0, 28, 0, 0, 0],
+        [0, 0, 0, 0, 0],
+        [0, 0, 0, 0, 0],
+        [0, 0, 0, 0, 0],
+    ],
+];
+
+// By function and class: the number of the node, or 0 for a misfit.
+const ONE_SIDED: [[u32; 5]; 11] = [
+    [29, 0, 0, 0, 0], // - of one side
+    [0, 30, 0, 0, 0], // not
+    [31, 0, 0, 0, 0], // abs
+    [32, 0, 0, 0, 0], // sqr
+    [33, 0, 0, 0, 0], // odd
+    [34, 34, 34, 0, 0], // ord
+    [38, 38, 38, 0, 0], // pred
+    [39, 39, 39, 0, 0], // succ
+    [0, 0, 0, 35, 0], // card
+    [0, 0, 0, 36, 0], // setmin
+    [0, 0, 0, 37, 0], // setmax
+];
+
+// The place of a class in the tables.
+fn row_of(c: Class) -> usize
+    ensures { λ r. ⌜ r ≡ rowOf c ⌝ }
+{
+    match c {
+        Class::Integer => 0,
+        Class::Boolean => 1,
+        Class::Enum => 2,
+        Class::Set => 3,
+        Class::Whole => 4,
+    }
+}
+
+// The entry of the first table, or 0 where it has none.
+fn node_at(op: usize, left: usize, right: usize) -> u32
+    ensures { λ r. ⌜ r ≡ nodeAt op left right ⌝ }
+{
+    if op >= 15 {
+        return 0;
+    }
+    if left >= 5 {
+        return 0;
+    }
+    if right >= 5 {
+        return 0;
+    }
+    TWO_SIDED[op][left][right]
+}
+
+// The kind that the left side must have.
+fn partner(op: usize, right: u32, base: u32) -> u32
+    ensures { λ r. ⌜ r ≡ partnerOf op right base ⌝ }
+{
+    if op == MEMBER {
+        return base;
+    }
+    right
+}
+
+// The kind of the result of node n: integer of arithmetic, the sides' own of sets, else boolean.
+fn result_of(n: u32, kind: u32) -> u32
+    ensures { λ r. ⌜ r ≡ resultOf n kind ⌝ }
+{
+    if n < 15 {
+        return 0;
+    }
+    if n < 18 {
+        return kind;
+    }
+    1
+}
+
+// What a two-sided operator comes to at its sides: their kinds must agree, and the table must have an entry for their classes.
+pub fn two_sided(op: usize, left: Side, right: Side) -> Ruling
+    ensures { λ r. ⌜ r ≡ ruling2 op left right ⌝ }
+{
+    let other = partner(op, right.kind, right.base);
+    if left.kind != other {
+        return Ruling::Misfit;
+    }
+    let c = left.class;
+    let d = right.class;
+    let n = node_at(op, row_of(c), row_of(d));
+    if n == 0 {
+        return Ruling::Misfit;
+    }
+    let kind = result_of(n, left.kind);
+    Ruling::Fits(n, kind)
+}
+
+// The entry of the second table, or 0 where it has none.
+fn node_at_one(f: usize, c: usize) -> u32
+    ensures { λ r. ⌜ r ≡ nodeAt1 f c ⌝ }
+{
+    if f >= 11 {
+        return 0;
+    }
+    if c >= 5 {
+        return 0;
+    }
+    ONE_SIDED[f][c]
+}
+
+// The kind of the result of node n: boolean of two, the members' of two, the side's own of two, else integer.
+fn result_of_one(n: u32, kind: u32, base: u32) -> u32
+    ensures { λ r. ⌜ r ≡ resultOf1 n kind base ⌝ }
+{
+    match n {
+        30 => 1,
+        33 => 1,
+        36 => base,
+        37 => base,
+        38 => kind,
+        39 => kind,
+        _ => 0,
+    }
+}
+
+// What a one-sided operator or function comes to at its side.
+pub fn one_sided(f: usize, side: Side) -> Ruling
+    ensures { λ r. ⌜ r ≡ ruling1 f side ⌝ }
+{
+    let c = side.class;
+    let n = node_at_one(f, row_of(c));
+    if n == 0 {
+        return Ruling::Misfit;
+    }
+    let kind = result_of_one(n, side.kind, side.base);
+    Ruling::Fits(n, kind)
+}
