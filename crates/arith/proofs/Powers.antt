@@ -1,7 +1,7 @@
 -- Powers: that `powZ` is the repeated product, that `power` is its exact result, and the laws of `halved` and `raise`. A half
 -- power, or its square, that is out of range means that the whole power is. Assumes nothing.
 use mathlib.Core.Path.{_≡_, refl, sym, ap, subst, _∙_}
-use mathlib.Core.Bool.{Bool, true, false, _&&_, _||_, and-false, true≢false}
+use mathlib.Core.Bool.{Bool, true, false, _&&_, _||_, and-false}
 use mathlib.Core.Logic.{_⊎_, inl, inr, ⊎-elim}
 use Prim.Native.Nat.{ℕ, zero, suc, _+_, _*_, _/_, _%_, _≤_, _^_}
 use native.Mathlib.Nat.{pow-zero, pow-suc, pow-le-pow-left, pow-le-pow-right, mul-le-mul, le-trans, le-of-eq, mul-one, zero-mul, not-suc-le-zero}
@@ -24,7 +24,7 @@ use Rattle.arith.specs.declared.Num.the-variants.{Value, Failed}
 use Rattle.arith.proofs.Order.{le-or-lt}
 use Rattle.arith.proofs.Ranges.{Narrow, pick-yes, pick-no, pick-value, value-fault, is-zero, not-zero, exact-in, exact-out, exact-value, exact-narrow, exact-fault}
 use Rattle.arith.proofs.Machine.{wire, fits-mag, zero-bits}
-use Rattle.arith.proofs.Products.{abs-neg, abs-below, large-out}
+use Rattle.arith.proofs.Products.{abs-neg, abs-below, large-out, size-other}
 
 -- ---- `powZ` is the repeated product
 
@@ -219,10 +219,6 @@ module _ (x : ℤ) (n : ℕ) (p : SFits w64 x) (r : Num) (hr : r ≡ exact (powZ
 
 -- ---- the laws of `raise`
 
-natural : (n : ℤ) → ltZ n (pos 0) ≡ false → n ≡ pos (natAbs n)
-natural (pos n) h = refl
-natural (negsuc n) h = absurd (true≢false h)
-
 module _ (x n : ℤ) (p : SFits w64 x) (q : SFits w64 n) where
   pub raise-negative : ltZ (wire n) (pos 0) ≡ true → Failed Exponent ≡ power x n
   raise-negative h = sym (power-negative x n (rw (toZ-ofZ q) at h))
@@ -235,11 +231,11 @@ module _ (x n : ℤ) (p : SFits w64 x) (q : SFits w64 n) where
 
   pub raise-is : (r : Num) → ltZ (wire n) (pos 0) ≡ false → (ofZ w64 n ≡ 0 → ⊥) → r ≡ exact (powZ (wire x) (natAbs (wire n))) → r ≡ power x n
   raise-is r h f e =
-      let k = natural n (rw (toZ-ofZ q) at h) in
+      let k = size-other n (rw (toZ-ofZ q) at h) in
       rw (toZ-ofZ p, toZ-ofZ q) at e ∙ sym (power-is x (natAbs n) (λ z w. f (ap (ofZ w64) (k ∙ ap pos w)))) ∙ ap (power x) (sym k)
 
 pub raise-cast : (n : ℤ) → SFits w64 n → ltZ (wire n) (pos 0) ≡ false → T (nonNeg (wire n)) × Fits w64 (natAbs (wire n))
-raise-cast n q h = rw (toZ-ofZ q) (subst (λ (z : ℤ). T (nonNeg z)) (sym (natural n (rw (toZ-ofZ q) at h))) tt, fits-natAbs tt q)
+raise-cast n q h = rw (toZ-ofZ q) (subst (λ (z : ℤ). T (nonNeg z)) (sym (size-other n (rw (toZ-ofZ q) at h))) tt, fits-natAbs tt q)
 
 pub ruleset halved-laws = (halved-none, half-fault, square-fault, even-done, odd-done)
 

@@ -102,7 +102,7 @@ size-negative : (x : ℤ) → ltZ x (pos 0) ≡ true → negℤ x ≡ pos (natAb
 size-negative (pos a) h = absurd (not-suc-le-zero (ltb-true a 0 h))
 size-negative (negsuc a) h = refl
 
-size-other : (x : ℤ) → ltZ x (pos 0) ≡ false → x ≡ pos (natAbs x)
+pub size-other : (x : ℤ) → ltZ x (pos 0) ≡ false → x ≡ pos (natAbs x)
 size-other (pos a) h = refl
 size-other (negsuc a) h = absurd (true≢false h)
 

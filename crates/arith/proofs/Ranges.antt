@@ -1,7 +1,7 @@
 -- What `ranged`, `exact` and `inside` give, and what an answer of theirs tells. The laws of the functions
 -- use only these, and never open the definitions. Assumes nothing.
 use mathlib.Core.Path.{_≡_, refl, sym, ap, _∙_}
-use mathlib.Core.Bool.{Bool, true, false, _&&_, and-true, and-false, false≢true}
+use mathlib.Core.Bool.{Bool, true, false, _&&_, and-true, and-false, and-eq-true-iff}
 use Prim.Native.Nat.{ℕ, suc, _≤_, _<_}
 use native.Mathlib.Omega.{arith}
 use borrow.Author.Tests.{le-leb, lt-leb, leb-true, leb-false, ne-eqb}
@@ -35,13 +35,9 @@ pub inside-above : (lo hi z : ℤ) → leZ z hi ≡ false → inside lo hi z ≡
 unfolding inside
 inside-above lo hi z h = ap (_&&_ (leZ lo z)) h ∙ and-false (leZ lo z)
 
-both : (s t : Bool) → (s && t) ≡ true → (s ≡ true) × (t ≡ true)
-both true t h = (refl, h)
-both false t h = absurd (false≢true h)
-
 pub inside-is : (lo hi z : ℤ) → inside lo hi z ≡ true → (leZ lo z ≡ true) × (leZ z hi ≡ true)
 unfolding inside
-inside-is lo hi z h = both (leZ lo z) (leZ z hi) h
+inside-is lo hi z h = and-eq-true-iff (leZ lo z) (leZ z hi) .0 h
 
 -- -(n + 1) to n, and -(n + 1) to n + 1
 pub inside-mag : (n : ℕ) (z : ℤ) → inside (negsuc n) (pos n) z ≡ leb (mag z) n

@@ -1,7 +1,7 @@
 -- Rows 1, 2 and 9 where they want long texts: each ceiling at its edge and just past it. The line of a refusal says that the lines before it passed.
 use mathlib.Core.Path.{_≡_, refl}
 use mathlib.Core.Bool.{Bool, true, false}
-use mathlib.Core.List.{List, [], _∷_, _++_}
+use mathlib.Core.List.{List, [], _++_}
 use Prim.Native.Nat.{ℕ, zero, suc}
 use lib.ListN.{replicate}
 use Rattle.lexis.specs.Bytes.{bytes}

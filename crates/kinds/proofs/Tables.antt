@@ -1,21 +1,14 @@
 -- The tables of types that the declarations build have what the theorems on kinds ask of them.
-use mathlib.Core.Path.{_≡_, refl}
+use mathlib.Core.Path.{_≡_}
 use mathlib.Core.Bool.{true}
 use mathlib.Core.List.{List}
 use Prim.Native.Nat.{ℕ}
-use Rattle.semantics.specs.Types.{Types, Shape, ordinalShape, setShape, arrayShape, recordShape, infoAt, ordinal?, set?, baseOf, hostBy, isOrdinal}
+use Rattle.semantics.specs.Types.{Types, infoAt, ordinal?, set?, baseOf}
 use Rattle.semantics.specs.Verdict.{Read, accepted}
 use Rattle.semantics.specs.Whole.{verdictOf}
-use Rattle.semantics.proofs.ValuesInRange.{wrong}
-use Rattle.semantics.proofs.TypeTables.{Table}
+use Rattle.semantics.proofs.TypeTables.{Table, host-is}
 use Rattle.semantics.proofs.LinesKeep.{text-keeps}
 use Rattle.kinds.specs.Kinds.{Kinded}
-
-host-of : (s : Shape) (t h : ℕ) → isOrdinal s ≡ true → hostBy s t h ≡ h
-host-of ordinalShape t h e = refl
-host-of setShape t h e = wrong e
-host-of arrayShape t h e = wrong e
-host-of recordShape t h e = wrong e
 
 pub table-kinded : (Γ : Types) → Table Γ → Kinded Γ
 table-kinded Γ T = record { integers = T .integers .0; booleans = T .booleans .0; bases = λ k h. base k h }
@@ -24,7 +17,7 @@ table-kinded Γ T = record { integers = T .integers .0; booleans = T .booleans .
     base k h =
         let t = infoAt Γ k .element in
         let o : ordinal? Γ t ≡ true = T .each k .base h .1 in
-        rw (host-of (infoAt Γ t .shape) t (infoAt Γ t .host) o) (T .each t .host o .1)
+        rw (host-is (infoAt Γ t .shape) t (infoAt Γ t .host) o) (T .each t .host o .1)
 
 -- so it is of every accepted text
 pub text-kinded : (text : List ℕ) (work : ℕ) (r : Read) → verdictOf text work ≡ accepted r → Kinded (r .known .env .types)

@@ -1,20 +1,19 @@
 -- The loops over bytes: refused bytes (row 3), balance (row 4), the next line.
 use mathlib.Core.Path.{_≡_, refl, sym, ap, _∙_}
 use mathlib.Core.Bool.{Bool, true, false}
-use mathlib.Core.List.{List, [], _∷_}
-use mathlib.Core.Option.{Option, none, some}
-use Prim.Native.Nat.{ℕ, zero, suc, _+_, _-_, _<_, _≤_}
+use mathlib.Core.List.{List, _∷_}
+use mathlib.Core.Option.{some}
+use Prim.Native.Nat.{ℕ, _+_, _-_, _<_, _≤_}
 use native.Mathlib.Numerals.{add-one}
 use native.Mathlib.Omega.{arith}
 use borrow.Author.Tests.{eq-eqb, ne-eqb}
-use lib.Dec.{eqb}
 use lib.ListN.{length, getD, drop, drop-of-length-le}
 use lib.Seq.{drop-cons}
 use Rattle.lexis.specs.declared.bytes.Class.{Class}
 use Rattle.lexis.specs.declared.bytes.Class.the-variants.{Feed, Space, Open, Close, Visible, Refused}
 use Rattle.lexis.specs.Bytes.{classOf}
 use Rattle.semantics.specs.Lines.{refusedAt}
-use Rattle.semantics.specs.Trees.{Place, before, past, isAfter}
+use Rattle.semantics.specs.Trees.{before, past}
 use Rattle.reader.specs.declared.lines.Standing.{Standing}
 use Rattle.reader.specs.declared.lines.Standing.the-variants as standing
 use Rattle.reader.specs.Passes.{lineOr, isRefused, feeds, placeOf, isAfterNow, balancedFrom, afterLine}

@@ -1,12 +1,11 @@
 -- Row 4, one byte: where the code's walk stands is where the definition's does.
-use mathlib.Core.Path.{_≡_, refl, sym, ap, _∙_}
-use mathlib.Core.Bool.{Bool, true, false}
+use mathlib.Core.Path.{_≡_, refl}
 use Prim.Native.Nat.{ℕ, zero, suc, _+_, _-_, _<_, _≤_}
 use native.Mathlib.Numerals.{add-one, sub-one}
 use borrow.Author.Tests.{lt-ltb, le-ltb}
 use Rattle.lexis.specs.declared.bytes.Class.{Class}
 use Rattle.lexis.specs.declared.bytes.Class.the-variants.{Feed, Space, Open, Close, Visible, Refused}
-use Rattle.semantics.specs.Trees.{Place, before, after, faulty, inside, deeper, opened, closed, spelled, past, isAfter}
+use Rattle.semantics.specs.Trees.{after, faulty, inside, deeper, opened, closed, spelled, past, isAfter}
 use Rattle.reader.specs.declared.lines.Standing.{Standing}
 use Rattle.reader.specs.declared.lines.Standing.the-variants as standing
 use Rattle.reader.specs.Passes.{placeOf, isAfterNow}

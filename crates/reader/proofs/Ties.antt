@@ -1,13 +1,12 @@
 -- What the passes say of a line at an offset, in the definitions' own words: its place among the lines, its one form (row 4), its words (row 5),
 -- its count (row 9).
-use mathlib.Core.Path.{_≡_, refl, sym, ap, _∙_}
-use mathlib.Core.Bool.{Bool, true, false, cond, _&&_}
+use mathlib.Core.Path.{_≡_, refl, ap, _∙_}
+use mathlib.Core.Bool.{Bool, true, false, cond, _&&_, and-eq-true-iff}
 use mathlib.Core.List.{List, [], _∷_}
-use mathlib.Core.Option.{Option, none, some}
-use Prim.Native.Nat.{ℕ, zero, suc, _+_, _<_}
-use native.Mathlib.Nat.{add-zero}
+use mathlib.Core.Option.{none, some}
+use Prim.Native.Nat.{ℕ, suc, _<_}
 use native.Mathlib.Omega.{arith}
-use borrow.Author.Tests.{eqb-true, eq-eqb}
+use borrow.Author.Tests.{eqb-true}
 use lib.Dec.{eqb}
 use lib.ListN.{length, getD, drop}
 use lib.Seq.{drop-cons}
@@ -115,10 +114,6 @@ word-none (Reserved n) w h = absurd (let y : _≡_ {A = ℕ} 0 1 = cc in omega a
 word-none (Operator n) w h = absurd (let y : _≡_ {A = ℕ} 0 1 = cc in omega arith)
 word-none Unknown w h = refl
 
-and-true : (a b : Bool) → (a && b) ≡ true → (a ≡ true) × (b ≡ true)
-and-true true b h = (refl, h)
-and-true false b h = absurd (let y : _≡_ {A = ℕ} 0 1 = cc in omega arith)
-
 mutual
   unfolding knownTree worded _>>=_
 
@@ -129,7 +124,7 @@ mutual
   all-some : (ts : Trees Run) → knownIn ts ≡ true → (vs : Trees Word) × (wordedAll ts ≡ some vs)
   all-some end h = (end, refl)
   all-some (t then ts) h =
-      let p = and-true (knownTree t) (knownIn ts) h in
+      let p = and-eq-true-iff (knownTree t) (knownIn ts) .0 h in
       let v = worded-some t (p .0) in let vs = all-some ts (p .1) in (v .0 then vs .0, rw (v .1, vs .1))
 
 mutual

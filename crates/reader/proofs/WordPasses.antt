@@ -1,8 +1,8 @@
 -- The passes over words and brackets: row 5, and the count of row 9.
 use mathlib.Core.Path.{_≡_, refl, sym, ap, _∙_}
-use mathlib.Core.Bool.{Bool, true, false, _&&_}
+use mathlib.Core.Bool.{Bool, true, false, _&&_, and-assoc}
 use mathlib.Core.List.{List, [], _∷_}
-use Prim.Native.Nat.{ℕ, zero, suc, _+_, _-_, _<_, _≤_}
+use Prim.Native.Nat.{ℕ, _+_, _-_, _<_, _≤_}
 use native.Mathlib.Nat.{zero-add}
 use native.Mathlib.Omega.{arith}
 use lib.ListN.{length, getD}
@@ -10,7 +10,7 @@ use Rattle.lexis.specs.declared.bytes.Class.{Class}
 use Rattle.lexis.specs.declared.bytes.Class.the-variants.{Feed, Space, Open, Close, Visible, Refused}
 use Rattle.lexis.specs.Bytes.{classOf}
 use Rattle.lexis.specs.Words.{wordOf}
-use Rattle.semantics.specs.Trees.{Tree, word, form, Trees, end, _then_, nodes, nodesIn, Run, first, later, push, wordAt, restAt, stackAt}
+use Rattle.semantics.specs.Trees.{Tree, word, form, Trees, end, nodes, nodesIn, Run, first, later, push, wordAt, restAt, stackAt}
 use Rattle.semantics.proofs.Reading.{none-stack, space-stack, open-stack, close-stack, feed-stack, refused-stack, word-stack, word-word}
 use Rattle.reader.specs.declared.sight.Seen.{Seen}
 use Rattle.reader.specs.declared.lines.Hop.{Hop}
@@ -31,10 +31,6 @@ nodes-level (ts ∷ k) = refl
 nodes-push : (t : Tree Run) (k : List (Trees Run)) → nodesAll (push t k) ≡ nodes t + nodesAll k
 unfolding nodesAll nodesIn
 nodes-push t k = omega (arith, nodes-level k)
-
-and-assoc : (a b c : Bool) → ((a && b) && c) ≡ (a && (b && c))
-and-assoc true b c = refl
-and-assoc false b c = refl
 
 known-level : (k : List (Trees Run)) → (knownIn (first k) && knownAll (later k)) ≡ knownAll k
 unfolding knownAll knownIn

@@ -1,9 +1,9 @@
 -- What a reader at an offset of the text is told, in terms of the trees from there on (semantics, Trees).
 use mathlib.Core.Path.{_≡_}
-use mathlib.Core.List.{List, [], _∷_}
+use mathlib.Core.List.{List, []}
 use Prim.Native.Nat.{ℕ, _-_, _<_, _≤_}
 use lib.ListN.{length, take, drop}
-use Rattle.semantics.specs.Trees.{Tree, word, form, Trees, end, Run, first, later, push, wordAt, restAt, stackAt}
+use Rattle.semantics.specs.Trees.{word, form, Trees, end, Run, first, later, push, wordAt, restAt, stackAt}
 use Rattle.lexis.specs.Words.{wordOf}
 use Rattle.reader.specs.declared.sight.Seen.{Seen}
 use Rattle.reader.specs.declared.sight.Sight as sight

@@ -1,7 +1,6 @@
 -- Short scripts that are refused, at least one for each rule of the refusal table's rows 3 to 9, each from its bytes to what is printed.
 use mathlib.Core.Path.{_≡_, refl}
 use mathlib.Core.List.{List, [], _∷_}
-use Prim.Native.Nat.{ℕ}
 use Rattle.semantics.specs.Open.{everything}
 use Rattle.semantics.proofs.FittingSheet.{Case, case, Print, all, _&_}
 use Rattle.lexis.specs.Bytes.{bytes}

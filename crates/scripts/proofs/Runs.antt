@@ -1,7 +1,6 @@
 -- Short scripts that run: each form, operator, function and exception, the order of work, steps; each from its bytes to what is printed.
-use mathlib.Core.Path.{_≡_, refl}
+use mathlib.Core.Path.{refl}
 use mathlib.Core.List.{List, [], _∷_}
-use Prim.Native.Nat.{ℕ}
 use Rattle.semantics.specs.Open.{everything}
 use Rattle.semantics.proofs.FittingSheet.{Case, case, Print, all, _&_}
 

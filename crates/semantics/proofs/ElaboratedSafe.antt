@@ -17,7 +17,7 @@ use Rattle.semantics.specs.Operators.{Fun, Op, Operation, Operation1, Ru
 use Rattle.semantics.specs.Elaborate.{Elaborated, Located, elabArms, elabBody, elabExpr, elabMembers, elabStmt, elabStmts, elabTarget, elaborated, expects}
 use Rattle.semantics.specs.Script.{Arms, Body, Expr, Exprs, Stmt, Stmts, Target, _and_, _next_, arm, assign, at, begin, binary, call, case, const, done, dot, elseArm, endOf, errorNumber, for, ifElse, members, nil, noElse, raise, read, shortCircuit, skip, unary, var, while}
 use Rattle.semantics.specs.Types.{Shape, Types, Var, Vars, variable, array?, arrayShape, baseOf, cellsBy, cellsOf, hostBy, hostOf, sizeOf, infoAt, isOrdinal, isSet, ordinal?, ordinalShape, recordShape, setShape, set?}
-use Rattle.semantics.proofs.ValuesInRange.{wrong, Test, Formed, Value-of, inside-wide, set-value, own-host, ord-layout, weaken, good-e, good-t, Here, stored-all}
+use Rattle.semantics.proofs.ValuesInRange.{wrong, Test, Formed, Value-of, inside-wide, set-value, own-host, ord-layout, weaken, good-e, good-t, Here, stored-all, no-ordinal}
 use Rattle.semantics.proofs.StoreInRange.{cell-fits, run-s}
 use Rattle.semantics.proofs.CodeSafe.{Kind, ordinals, sets, integers, booleans, Works, intAdd, intSub, intMul, intPower, intDiv, intMod, setUnion, setDifference, setIntersection, numEqual, numUnequal, numLess, numAtMost, numGreater, numAtLeast, setWithin, setHolds, memberOf, boolAnd, boolOr, Works1, intNegate, boolNot, intAbs, intSqr, intOdd, ordinalOf, predIn, succIn, setCard, setLeast, setGreatest, Has, ordinal, set, Gives, Reaches, Leaves, Controls, SafeCode, literal, load, lastNumber, makeSet, calculate, shortCut, calculate1, SafePlace, cell, index, shift, SafeCodes, noCodes, _with_, SafeAct, assignOrdinal, assignSet, copyCells, sequence, branchOn, whileLoop, forLoop, caseOf, callTo, raiseWith, noAct, SafeActs, stop, _also_, SafeCases, elseCase, noCase, oneCase, SafeBody}
 use Rattle.semantics.proofs.Inversion.{and-true, some-inj, both-some, bind-some, given-some, either-some}
@@ -63,12 +63,6 @@ kind-set ordinalShape lo hi h = wrong (sym h)
 kind-set setShape lo hi h = refl
 kind-set arrayShape lo hi h = refl
 kind-set recordShape lo hi h = refl
-
-no-ordinal : (s : Shape) → isSet s ≡ true → isOrdinal s ≡ false
-no-ordinal ordinalShape h = wrong h
-no-ordinal setShape h = refl
-no-ordinal arrayShape h = refl
-no-ordinal recordShape h = refl
 
 one-cell : (zs : List ℤ) → length zs ≡ 1 → zs ≡ sole zs ∷ []
 one-cell [] l = absurd (omega arith)

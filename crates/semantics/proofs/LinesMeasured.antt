@@ -30,7 +30,8 @@ use Rattle.semantics.proofs.TextsAgree.{accepted-inj, bad-good, good-in
 use Rattle.semantics.proofs.ValuesInRange.{wrong}
 use Rattle.semantics.proofs.TypeSizes.{SmallTypes, small-declared, small-start}
 use Rattle.semantics.proofs.LinesKeep.{Keeps, keeps-formed, keeps-start, line-keeps, tests, tests-length}
-use Rattle.semantics.proofs.StatementNumbers.{CountedBody, CountedLine, line-counts, worded-nodes}
+use Rattle.semantics.proofs.StatementNumbers.{CountedBody, CountedLine, line-counts}
+use Rattle.semantics.proofs.Weights.{worded-nodes}
 use Rattle.semantics.proofs.ScriptNumbers.{WithinBody, body-within}
 use Rattle.semantics.proofs.CodeCalls.{CallsBody, body-calls}
 use Rattle.semantics.proofs.CodeSized.{SizedBody, body-sized, limits}

@@ -1,24 +1,22 @@
 -- One pass over an expression or a target: its answer for rows 6 to 8 from the answers for its parts.
 use mathlib.Core.Path.{_≡_, refl, sym, ap, _∙_}
 use mathlib.Core.Bool.{Bool, true, false, _&&_}
-use mathlib.Core.List.{List, [], _∷_}
+use mathlib.Core.List.{[]}
 use mathlib.Core.Option.{Option, none, some}
 use Prim.Native.Nat.{ℕ}
-use lib.IntN.{ℤ, negℤ}
 use lib.Dec.{eqb}
-use Rattle.arith.specs.Integers.{inside}
-use Rattle.semantics.specs.Base.{Name, _>>=_, both, given, find, pick}
+use Rattle.semantics.specs.Base.{Name, _>>=_, given}
 use Rattle.semantics.specs.Calculate as Calculate
 use Rattle.semantics.specs.Syntax as Syntax
-use Rattle.semantics.specs.Types.{Types, infoAt, Vars, Var, variable, Field, hostOf, sizeOf, ordinal?, set?, array?, record?, baseOf, fieldOf}
-use Rattle.semantics.specs.Operators.{Op, Fun, Rule, Rule1, bothBooleans, operatorRule, functionRule}
-use Rattle.semantics.specs.Script.{Const, Expr, const, read, errorNumber, members, endOf, binary, shortCircuit, unary, Target, var, at, dot, Exprs, nil, _and_}
-use Rattle.semantics.specs.Environment.{Environment, NameSort}
-use Rattle.semantics.specs.Names.{Reached, reached, typeOf, varOf, asVar, asExpr, constOf, constantOf, atomOf, elementOf, fieldIn, exprOf, targetOf, exprsOf}
-use Rattle.semantics.specs.Code.{Code, literal, load, lastNumber, makeSet, calculate, shortCut, calculate1, Codes, noCodes, _with_, cell, index, shift}
-use Rattle.semantics.specs.Elaborate.{Elaborated, elaborated, Located, located, inKind, elabExpr, elabTarget, elabMembers, expects}
-use Rattle.semantics.specs.Rules.{plain, plainExpr, plainTarget, plainExprs}
-use Rattle.semantics.specs.Stages.{Staged, wrong, unnamed, unfit, fits, ruled, named, staged, join, orUnfit, onFits, unknown, dotted, exprStaged, targetName, typeBy, targetType, targetStaged, membersStaged, wantedStaged}
+use Rattle.semantics.specs.Types.{Types, infoAt, Vars, Var, Field, hostOf, sizeOf, set?, array?, record?, baseOf, fieldOf}
+use Rattle.semantics.specs.Operators.{Op, Fun, bothBooleans, operatorRule, functionRule}
+use Rattle.semantics.specs.Script.{Expr, read, members, binary, shortCircuit, unary, Target, var, at, dot, Exprs, _and_}
+use Rattle.semantics.specs.Environment.{Environment}
+use Rattle.semantics.specs.Names.{Reached, reached, typeOf, elementOf, fieldIn, exprOf, targetOf, exprsOf}
+use Rattle.semantics.specs.Code.{load, makeSet, calculate, shortCut, calculate1, _with_, index, shift}
+use Rattle.semantics.specs.Elaborate.{elaborated, Located, located, elabExpr, elabTarget, elabMembers, expects}
+use Rattle.semantics.specs.Rules.{plainExpr, plainTarget, plainExprs}
+use Rattle.semantics.specs.Stages.{unnamed, ruled, named, staged, join, orUnfit, onFits, unknown, dotted, exprStaged, targetName, typeBy, targetType, targetStaged, membersStaged, wantedStaged}
 use Rattle.semantics.proofs.Staging.{bind-map, staged-unknown, staged-two, staged-one, staged-then, one-ruled}
 use Rattle.semantics.proofs.Inversion.{none-some, some-inj, bind-some, both-some, given-some, and-true}
 

@@ -1,21 +1,20 @@
 -- One pass over a statement or a body: its answer for rows 6 to 8 from the answers for its parts.
-use mathlib.Core.Path.{_≡_, refl, sym, ap, _∙_}
-use mathlib.Core.Bool.{Bool, true, false, not, _&&_}
+use mathlib.Core.Path.{_≡_, refl, ap, _∙_}
+use mathlib.Core.Bool.{Bool, true, false, not, _&&_, and-assoc}
 use mathlib.Core.List.{List, [], _∷_}
 use mathlib.Core.Option.{Option, none, some}
 use Prim.Native.Nat.{ℕ}
-use lib.IntN.{ℤ}
 use lib.Dec.{eqb}
 use Rattle.semantics.specs.Base.{Name, _>>=_, both, given, each}
 use Rattle.semantics.specs.Syntax as Syntax
 use Rattle.semantics.specs.Types.{Types, infoAt, Vars, Var, variable, hostOf, ordinal?}
-use Rattle.semantics.specs.Script.{Const, Expr, Target, var, Stmt, assign, begin, ifElse, while, for, case, call, raise, skip, Stmts, done, _next_, Arms, elseArm, noElse, arm, Body}
+use Rattle.semantics.specs.Script.{Expr, Target, var, Stmt, assign, begin, ifElse, while, for, case, raise, Stmts, _next_, Arms, elseArm, arm}
 use Rattle.semantics.specs.Environment.{Environment}
 use Rattle.semantics.specs.Names.{varOf, constantOf, exprOf, targetOf, stmtOf, stmtsOf, armsOf, bodyOf}
-use Rattle.semantics.specs.Code.{Code, Act, sequence, branchOn, whileLoop, forLoop, caseOf, callTo, raiseWith, noAct, Acts, stop, _also_, Cases, elseCase, noCase, oneCase, BodyCode}
+use Rattle.semantics.specs.Code.{Act, sequence, branchOn, whileLoop, forLoop, caseOf, raiseWith, _also_, elseCase, oneCase}
 use Rattle.semantics.specs.Elaborate.{Elaborated, Located, elabExpr, elabTarget, expects, assigning, elabLabels, elabStmt, elabStmts, elabArms, elabBody}
 use Rattle.semantics.specs.Rules.{plainExpr, plainTarget, allPlain, steers, looping, differ, labelsOf, keptStmt, keptStmts, keptArms, keptBody}
-use Rattle.semantics.specs.Stages.{Staged, wrong, unnamed, unfit, fits, ruled, named, staged, join, orUnfit, onFits, selected, keptIf, unknown, exprStaged, targetName, targetStaged, wantedStaged, assignedStaged, stmtStaged, stmtsStaged, labelsStaged, armsStaged, casesStaged, bodyStaged}
+use Rattle.semantics.specs.Stages.{Staged, named, staged, join, orUnfit, onFits, selected, keptIf, exprStaged, targetName, targetStaged, wantedStaged, assignedStaged, stmtStaged, stmtsStaged, labelsStaged, armsStaged, casesStaged, bodyStaged}
 use Rattle.semantics.proofs.Staging.{bind-map, pair, staged-two, staged-three, staged-one, staged-kept, kept-ruled, staged-selected}
 
 -- ---- tests in another order
@@ -29,10 +28,6 @@ swap true true c = and-true c
 swap true false true = refl
 swap true false false = refl
 swap false b c = refl
-
-assoc : (a b c : Bool) → ((a && b) && c) ≡ (a && (b && c))
-assoc true b c = refl
-assoc false b c = refl
 
 module _ (σ : Environment) (js : List ℕ) where
   abbrev Γ : Types
@@ -202,7 +197,7 @@ module _ (σ : Environment) (js : List ℕ) where
   unfolding stmtStaged exprStaged casesStaged stmtOf keptStmt elabStmt
   case-staged n e bs =
       staged-selected (exprOf σ) plainExpr (elabExpr Γ Δ) (armsOf σ) (λ bs. differ (labelsOf bs) && keptArms bs js) (elabArms Γ Δ)
-      (stmtOf σ) (λ s. keptStmt s js) (elabStmt Γ Δ) (Syntax.case n) (case n) _ (λ x y. refl) (λ x y. assoc (plainExpr x) (differ (labelsOf y)) (keptArms y js)) (λ x y. refl) e bs
+      (stmtOf σ) (λ s. keptStmt s js) (elabStmt Γ Δ) (Syntax.case n) (case n) _ (λ x y. refl) (λ x y. and-assoc (plainExpr x) (differ (labelsOf y)) (keptArms y js)) (λ x y. refl) e bs
 
 -- ---- bodies
 

@@ -1,6 +1,6 @@
 -- "Statements count from 1 over the text by opening bracket": the numbers of a line's statements are from 1 to the count at its end, and a line
 -- counts at most its brackets and words.
-use mathlib.Core.Path.{_≡_, refl, ap}
+use mathlib.Core.Path.{_≡_, refl}
 use mathlib.Core.List.{List, [], _∷_}
 use mathlib.Core.Option.{Option, none, some}
 use Prim.Native.Nat.{ℕ, zero, suc, _+_, _≤_}
@@ -8,8 +8,8 @@ use native.Mathlib.Omega.{arith}
 use Rattle.semantics.specs.Base.{Name, _>>=_}
 use Rattle.semantics.specs.Forms.{ArmHead, Item, LineHead, Reader, Verb, arms, armsFirst, body, caseForm, elseOf, ending, first?, forForm, handlerOf, headed, ifForm, isArm, isElse, isMain, isProc, isType, isVar, lineBy, lineForm, one, oneArm, stmt, stmtForm, stmts, two, vAssign, vBegin, vCall, vCase, vFor, vIf, vRaise, vWhile}
 use Rattle.semantics.specs.Syntax as S
-use Rattle.semantics.specs.Trees.{Run, Tree, Trees, end, form, list, nodes, nodesIn, word, _then_}
-use Rattle.semantics.specs.Words.{Word, worded, wordedAll}
+use Rattle.semantics.specs.Trees.{Trees, end, form, list, nodes, nodesIn, word, _then_}
+use Rattle.semantics.specs.Words.{Word}
 use Rattle.semantics.proofs.Inversion.{none-some, some-inj, bind-some, given-some}
 
 -- ---- every statement number is from 1 to l
@@ -236,15 +236,3 @@ unfolding lineForm
 line-counts n t p h = bind-some h λ q hq h. bind-some h λ d hd h.
     let i = by-counts d n (q .1) p h in let w = weigh-headed t hq in
     record { up = i .up; most = omega (arith, i .most); each = i .each }
-
--- reading words changes neither brackets nor words
-mutual
-  unfolding worded nodes
-
-  pub worded-nodes : (t : Tree Run) (v : Item) → worded t ≡ some v → nodes v ≡ nodes t
-  worded-nodes (word w) v h = bind-some h λ u hu e. rw (← some-inj e)
-  worded-nodes (form ts) v h = bind-some h λ us hus e. rw (← some-inj e) (ap suc (all-nodes ts us hus))
-
-  all-nodes : (ts : Trees Run) (vs : Trees Word) → wordedAll ts ≡ some vs → nodesIn vs ≡ nodesIn ts
-  all-nodes end vs h = rw (← some-inj h)
-  all-nodes (t then ts) vs h = bind-some h λ u hu h′. bind-some h′ λ us hus e. rw (← some-inj e, worded-nodes t u hu, all-nodes ts us hus)

@@ -8,7 +8,6 @@ use native.Mathlib.Omega.{arith}
 use lib.IntN.{ℤ, pos, sucℤ, _+ℤ_, +ℤ-idr, sucℤ-+ℤ, +ℤ-sucℤ}
 use lib.Signed.{leZ}
 use borrow.Author.Tests.{eqb-true}
-use lib.Dec.{eqb, eqb→eq}
 use Rattle.arith.specs.Integers.{inside, isZero}
 use Rattle.semantics.specs.Calculate.{Result, caseError, isTrue, systemError}
 use Rattle.semantics.specs.Chair.{condition, evalCode, matches, placeCode, runAct, runActs, runCases}

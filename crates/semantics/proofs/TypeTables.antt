@@ -330,7 +330,7 @@ pub record Laid (Γ : Types) (Δ : Vars) (tests : List Test) : Type 0 where
 
 -- ---- a table and its variables are formed
 
-host-is : (s : Shape) (t h : ℕ) → isOrdinal s ≡ true → hostBy s t h ≡ h
+pub host-is : (s : Shape) (t h : ℕ) → isOrdinal s ≡ true → hostBy s t h ≡ h
 host-is ordinalShape t h p = refl
 host-is setShape t h p = wrong p
 host-is arrayShape t h p = wrong p

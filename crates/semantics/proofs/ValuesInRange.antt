@@ -3,7 +3,7 @@ use mathlib.Core.Option as O
 use mathlib.Core.Path.{_≡_, refl, sym, ap, _∙_}
 use mathlib.Core.Bool.{Bool, true, false, cond, _&&_}
 use mathlib.Core.List.{List, [], _∷_}
-use mathlib.Core.Option.{Option, some}
+use mathlib.Core.Option.{some}
 use Prim.Native.Nat.{ℕ, zero, suc, _+_, _*_, _-_, _≤_, _<_}
 use native.Mathlib.Decide.{ℕ-discrete, decLt}
 use native.Mathlib.Omega.{arith}
@@ -11,7 +11,7 @@ use native.Mathlib.Nat.{add-assoc, add-zero, add-suc, suc-add}
 use lib.IntN.{ℤ, pos, _+ℤ_, _-ℤ_}
 use lib.Signed.{leZ}
 use borrow.Author.Tests.{eqb-true}
-use lib.Dec.{eqb, eqb→eq}
+use lib.Dec.{eqb}
 use lib.ListN.{getD, set, length, length-set}
 use lib.Seq.{getD-set-same, getD-set-other, set-out}
 use Rattle.arith.specs.Powers as Powers
@@ -29,7 +29,7 @@ use Rattle.sets.specs.declared.Member.the-variants.{Ordinal, Empty}
 use Rattle.sets.specs.Sets.{liesIn, membersOf, patternOf}
 use Rattle.sets.proofs.Digits.{members-length}
 use Rattle.sets.proofs.Base.{empty-lies, union-lies, difference-lies, intersection-lies, with-lies, least-lies, greatest-lies}
-use Rattle.semantics.specs.Base.{Name, either, given, pick}
+use Rattle.semantics.specs.Base.{Name, given, pick}
 use Rattle.semantics.specs.Calculate.{Result, is, fails, _>>=_, natOf, numericError, rangeError, undefinedError, exceptionOf, integer, truth, tested, isTrue, setValue, joined, memberIn, compute, compute1}
 use Rattle.semantics.specs.Chair.{evalCode, gatherCodes, placeCode}
 use Rattle.semantics.specs.Code.{Codes}
@@ -48,6 +48,13 @@ none-some {a} h = let z : _≡_ {A = ℕ} 0 1 = cc in omega arith
 
 pub wrong {ℓ} : {X : Type ℓ} → false ≡ true → X
 wrong h = absurd (let z : _≡_ {A = ℕ} 0 1 = cc in omega arith)
+
+-- a set is no ordinal
+pub no-ordinal : (s : Shape) → isSet s ≡ true → isOrdinal s ≡ false
+no-ordinal ordinalShape h = wrong h
+no-ordinal setShape h = refl
+no-ordinal arrayShape h = refl
+no-ordinal recordShape h = refl
 
 -- ---- a value with a property, or an exception: never stuck
 
@@ -325,13 +332,7 @@ module _ (Γ : Types) (Δ : Vars) (tests : List Test) (𝓕 : Formed Γ Δ tests
 
   -- a set's value
   set-no-ordinal : (k : ℕ) → set? Γ k ≡ true → ordinal? Γ k ≡ false
-  set-no-ordinal k h = go (infoAt Γ k .shape) h
-    where
-      go : (s : Shape) → isSet s ≡ true → isOrdinal s ≡ false
-      go ordinalShape p = cc
-      go setShape p = refl
-      go arrayShape p = refl
-      go recordShape p = refl
+  set-no-ordinal k h = no-ordinal (infoAt Γ k .shape) h
 
   abbrev SetOf : ℕ → ℤ → Type 0
   SetOf k z = liesIn (infoAt Γ k .low) (infoAt Γ k .high) z ≡ true

@@ -7,7 +7,6 @@ use Prim.Native.Nat.{ℕ}
 use lib.IntN.{ℤ}
 use Rattle.semantics.specs.Base.{_>>=_, each}
 use Rattle.semantics.specs.Syntax as Syntax
-use Rattle.semantics.specs.Types.{Types, Vars}
 use Rattle.semantics.specs.Script.{Expr, Target, Exprs, Stmt, Stmts, Arms, Body}
 use Rattle.semantics.specs.Environment.{Environment}
 use Rattle.semantics.specs.Names.{Reached, exprOf, targetOf, exprsOf, constantOf, stmtOf, stmtsOf, armsOf, bodyOf}

@@ -1,16 +1,16 @@
 -- A chain of entries stands for the names of an environment: what a lookup tells of them, and what a new entry adds.
-use mathlib.Core.Path.{_≡_, refl, sym, ap, _∙_}
+use mathlib.Core.Path.{_≡_, refl, ap, _∙_}
 use mathlib.Core.Bool.{Bool, true, false, cond}
 use mathlib.Core.List.{List, [], _∷_, map}
-use mathlib.Core.Option.{Option, none, some}
-use Prim.Native.Nat.{ℕ, zero, suc, _+_, _<_, _≤_}
+use mathlib.Core.Option.{none, some}
+use Prim.Native.Nat.{ℕ, suc, _+_, _≤_}
 use native.Mathlib.Omega.{arith}
-use lib.ListN.{length, getD}
+use lib.ListN.{getD}
 use Rattle.lexis.specs.Bytes.{small, same}
 use Rattle.semantics.specs.Base.{Name, find}
 use Rattle.semantics.specs.Trees.{wordAt}
 use Rattle.semantics.specs.Layout.{lay}
-use Rattle.semantics.proofs.LayoutRegions.{Lays, Room, Has, lay-l}
+use Rattle.semantics.proofs.LayoutRegions.{Same, Room, Has, lay-l}
 use Rattle.symbols.specs.Chain.{entries, nameAt, placeIn}
 
 -- entries and names in the same order; R says what an entry tells of the meaning of its name
@@ -40,26 +40,22 @@ pub data Below (l : List ℕ) (t : ℕ) : ℕ → ℕ → Type 0 where
   no-entry : {p : ℕ} → Below l t 0 p
   one-entry : {n p : ℕ} → p + 4 ≤ t → Below l t n (getD l (p + 3) 0) → Below l t (suc n) p
 
--- two lists agree below t
-pub record Agree (t : ℕ) (a b : List ℕ) : Type 0 where
-  pub at : (i : ℕ) → i < t → getD a i 0 ≡ getD b i 0
-
-module _ {l l′ : List ℕ} {t : ℕ} (E : Agree t l′ l) where
+module _ {l l′ : List ℕ} {t : ℕ} (E : Same 0 t l′ l) where
   pub entries-kept : {n p : ℕ} → Below l t n p → entries n l′ p ≡ entries n l p
   unfolding entries
   entries-kept no-entry = refl
-  entries-kept {p = p} (one-entry {n} h B) = ap (λ ps. p ∷ ps) (ap (λ q. entries n l′ q) (E .at (p + 3) (omega arith)) ∙ entries-kept B)
+  entries-kept {p = p} (one-entry {n} h B) = ap (λ ps. p ∷ ps) (ap (λ q. entries n l′ q) (E .at (p + 3) (omega arith) (omega arith)) ∙ entries-kept B)
 
   pub below-kept : {n p : ℕ} → Below l t n p → Below l′ t n p
   below-kept no-entry = no-entry
-  below-kept {p = p} (one-entry {n} h B) = one-entry {n = n} h (rw (E .at (p + 3) (omega arith)) (below-kept B))
+  below-kept {p = p} (one-entry {n} h B) = one-entry {n = n} h (rw (E .at (p + 3) (omega arith) (omega arith)) (below-kept B))
 
   -- names stay, where what the entries tell of them does
   pub names-kept : {A : Type 0} {s : List ℕ} {R R′ : ℕ → A → Type 0} → ((p : ℕ) (a : A) → p + 4 ≤ t → R p a → R′ p a)
       → {n p : ℕ} {ns : List (Name × A)} → Below l t n p → Names s l R (entries n l p) ns → Names s l′ R′ (entries n l p) ns
   unfolding entries nameAt
   names-kept k no-entry no-names = no-names
-  names-kept k {p = p} (one-entry h B) (one-name {w = w} i e r N) = one-name {w = w} i (rw (E .at p (omega arith)) e) (k p _ h r) (names-kept k B N)
+  names-kept k {p = p} (one-entry h B) (one-name {w = w} i e r N) = one-name {w = w} i (rw (E .at p (omega arith) (omega arith)) e) (k p _ h r) (names-kept k B N)
 
 -- ---- a new entry
 
@@ -69,7 +65,7 @@ below-higher h (one-entry {n} {p} g B) = one-entry {n = n} {p = p} (omega arith)
 
 -- what the list l′ holds after a new entry at t, laid on l before the n entries from `newest` on
 pub record Added (s l l′ : List ℕ) (t n name sort more newest : ℕ) : Type 0 where
-  pub kept : Agree t l′ l
+  pub kept : Same 0 t l′ l
   pub places : entries (suc n) l′ t ≡ t ∷ entries n l newest
   pub below : Below l′ (t + 4) (suc n) t
   pub called : nameAt s l′ t ≡ map small (wordAt s name)
@@ -82,7 +78,7 @@ unfolding entries nameAt
 added s l t n name sort more newest r B =
     let L = lay-l (name ∷ sort ∷ more ∷ newest ∷ []) t l in
     let H : Has (name ∷ sort ∷ more ∷ newest ∷ []) t (lay (name ∷ sort ∷ more ∷ newest ∷ []) t l .list) = L .held r _ (record { at = λ _ _ _. refl }) in
-    let E : Agree t (lay (name ∷ sort ∷ more ∷ newest ∷ []) t l .list) l = record { at = λ i h. L .grows .below i h } in
+    let E : Same 0 t (lay (name ∷ sort ∷ more ∷ newest ∷ []) t l .list) l = record { at = λ i _ h. L .grows .below i h } in
     let b : getD (lay (name ∷ sort ∷ more ∷ newest ∷ []) t l .list) (t + 3) 0 ≡ newest = H .at 3 (omega arith) in
     let z : t + 0 ≡ t = omega arith in
     record {

@@ -1,24 +1,22 @@
 -- Numbers written one after another, and a list that is zeroed.
 use mathlib.Core.Path.{_≡_, refl, sym, ap, _∙_}
 use mathlib.Core.Bool.{Bool, true, false, cond}
-use mathlib.Core.List.{List, [], _∷_, _++_}
+use mathlib.Core.List.{List, [], _∷_}
 use Prim.Native.Nat.{ℕ, zero, suc, _+_, _<_, _≤_, min}
 use native.Mathlib.Omega.{arith}
 use native.Mathlib.Nat.{min-eq-left, min-eq-right}
 use borrow.Author.Fill.{fill-none, fill-more}
 use borrow.Author.Tests.{le-leb, leb-true}
 use lib.Dec.{leb}
-use lib.ListN.{length, getD, set, take, length-set, drop-of-length-le}
+use lib.ListN.{length, getD, set, take, length-set, drop-of-length-le, List·getD-eq-default}
 use lib.Seq as Seq
-use Rattle.semantics.specs.Layout.{room, Out, out, lay}
+use Rattle.semantics.specs.Layout.{room, out, lay}
 use Rattle.semantics.specs.Whole.{workAfter}
 use Rattle.worklist.specs.Laid.{Laid, zeroed}
 
 -- past the end there is 0, and nothing is set
 pub at-past : (l : List ℕ) (p : ℕ) → length l ≤ p → 0 ≡ getD l p 0
-at-past [] p h = refl
-at-past (x ∷ l) zero h = absurd (omega arith)
-at-past (x ∷ l) (suc p) h = at-past l p (omega arith)
+at-past l p h = sym (List·getD-eq-default l 0 h)
 
 pub put-past : (l : List ℕ) (p n : ℕ) → length l ≤ p → l ≡ set l p n
 put-past [] p n h = refl
@@ -53,17 +51,11 @@ lay-more l₀ ns t l i L h x e l′ g =
       few = omega arith;
     }
 
-take-all : (ns : List ℕ) (i : ℕ) → length ns ≤ i → take i ns ≡ ns
-take-all [] zero h = refl
-take-all [] (suc i) h = refl
-take-all (n ∷ ns) zero h = absurd (omega arith)
-take-all (n ∷ ns) (suc i) h = ap (λ l. n ∷ l) (take-all ns i (omega arith))
-
 -- all are written
 pub lay-done : (l₀ ns : List ℕ) (t : ℕ) (l : List ℕ) (i : ℕ) → Laying l₀ ns t l i → length ns ≤ i → t + length ns ≤ 16384
     → (r : ℕ) → r ≡ t + length ns → Laid (lay ns t l₀) r l
 unfolding lay
-lay-done l₀ ns t l i L h g r e = rw (le-leb (t + length ns) room g) (record { free = e; left = L .list ∙ ap (λ ns. Seq.sets l₀ t ns) (take-all ns i h) })
+lay-done l₀ ns t l i L h g r e = rw (le-leb (t + length ns) room g) (record { free = e; left = L .list ∙ ap (λ ns. Seq.sets l₀ t ns) (Seq.take-all i ns h) })
 
 -- there is no room
 pub lay-full : (ns : List ℕ) (t : ℕ) (l : List ℕ) → 16384 < t + length ns → Laid (lay ns t l) t l
