@@ -10,10 +10,14 @@ use Rattle.reader.specs.declared.sight.Sight as sight
 use Rattle.reader.specs.declared.sight.Sight.{Sight}
 
 -- k is what stands from the offset on
-abbrev pub Looks : List ℕ → List (Trees Run) → Sight → Type 0
-Looks s k (sight.the-variants.Form p) = k ≡ push (form (first (stackAt s p))) (later (stackAt s p))
-Looks s k (sight.the-variants.Leaf p) = (k ≡ push (word (wordAt s p)) (restAt s p)) × (p < length s)
-Looks s k (sight.the-variants.Shut p) = (first k ≡ end) × (later k ≡ stackAt s p)
+abbrev pub LooksBy : List ℕ → List (Trees Run) → Sight → Type 0
+LooksBy s k (sight.the-variants.Form p) = k ≡ push (form (first (stackAt s p))) (later (stackAt s p))
+LooksBy s k (sight.the-variants.Leaf p) = (k ≡ push (word (wordAt s p)) (restAt s p)) × (p < length s)
+LooksBy s k (sight.the-variants.Shut p) = (first k ≡ end) × (later k ≡ stackAt s p)
+
+-- as a record, so that a proof finds its arguments
+pub record Looks (s : List ℕ) (k : List (Trees Run)) (r : Sight) : Type 0 where
+  pub says : LooksBy s k r
 
 -- the word that goes on at p ends at q: its bytes, and what stands from there on
 pub record Ends (s : List ℕ) (p q : ℕ) : Type 0 where

@@ -149,7 +149,7 @@ module _ {Γ Γ′ : Types} (x : Extends Γ Γ′) {k k′ : ℕ} (b : k ≤ k�
   all-fair-more no-names = no-names
   all-fair-more (name f a) = name (fair-more f) (all-fair-more a)
 
-find-fair : {Γ : Types} {k : ℕ} {ns : List (Name × NameSort)} → AllFair Γ k ns → (w : Name) (m : NameSort) → find ns w ≡ some m → Fair Γ k m
+pub find-fair : {Γ : Types} {k : ℕ} {ns : List (Name × NameSort)} → AllFair Γ k ns → (w : Name) (m : NameSort) → find ns w ≡ some m → Fair Γ k m
 unfolding find
 find-fair no-names w m h = absurd (none-some h)
 find-fair {Γ} {k} (name {w = v} {m = n} {ns = ns} f a) w m h = go (same v w) refl (λ e. find-fair a w m e)

@@ -59,7 +59,7 @@ module _ {l l′ : List ℕ} {t : ℕ} (E : Same 0 t l′ l) where
 
 -- ---- a new entry
 
-below-higher : {l : List ℕ} {t u n p : ℕ} → t ≤ u → Below l t n p → Below l u n p
+pub below-higher : {l : List ℕ} {t u n p : ℕ} → t ≤ u → Below l t n p → Below l u n p
 below-higher h no-entry = no-entry
 below-higher h (one-entry {n} {p} g B) = one-entry {n = n} {p = p} (omega arith) (below-higher h B)
 

@@ -1,0 +1,16 @@
+-- The second of two sides of an operator, and the node of both.
+use mathlib.Core.List.{List}
+use Prim.Native.Nat.{ℕ}
+use Rattle.parts.specs.declared.Got.{Got}
+use Rattle.parts.specs.Parts.{Closes}
+use Rattle.expressions.specs.Nodes.{Makes, paired}
+use Rattle.expressions.specs.Walks.{GivesExpr}
+
+-- a is the first side
+pub record GivesSecond (s l ts : List ℕ) (count newest op d : ℕ) (a r : Got) (l′ : List ℕ) : Type 0 where
+  pub side : Got
+  pub list : List ℕ
+  pub past : Got
+  pub gives : GivesExpr s l ts count newest d (a .next) (a .top) side list
+  pub closes : Closes s side past
+  pub makes : Makes (paired list ts op a past) r l′

@@ -1,0 +1,490 @@
+// The walk over expressions and targets: a part at an offset, at most `depth` deep, laid from the free place `top` on.
+use crate::fields::Sole;
+use crate::fields::sole_name;
+use crate::members::base_of;
+use crate::members::link_to;
+use crate::members::member_fault;
+use crate::members::set_of;
+use crate::members::slot_after;
+use crate::nodes::apply;
+use crate::nodes::index;
+use crate::nodes::load;
+use crate::nodes::pair;
+use crate::nodes::select;
+use crate::nodes::short_pair;
+use crate::words::Alone;
+use crate::words::bound;
+use crate::words::negative;
+use crate::words::number_alone;
+use crate::words::variable;
+use crate::words::word;
+use atoms::type_name;
+use parts::End;
+use parts::Got;
+use parts::Part;
+use parts::closing;
+use parts::end_at;
+use parts::failed;
+use parts::is_form;
+use parts::lowest;
+use parts::part_at;
+use shapes::ExprHead;
+use shapes::expr_head;
+use tables::Fault;
+use worklist::slot;
+ghost use Rattle.shapes.specs.declared.ExprHead.the-variants.{At, Dot, Members, Minus, Bound, Short, Two, One};
+ghost use Rattle.expressions.specs.Walks.{GivesExpr, GivesTarget, GivesForm, GivesPlace, GivesInner, GivesInnerPlace};
+ghost use Rattle.expressions.specs.Members.{GivesMembers};
+ghost use Rattle.expressions.specs.MinusForm.{GivesMinus};
+ghost use Rattle.expressions.specs.Sides.{GivesSecond};
+
+// An expression.
+pub fn expr(
+    text: &[u8],
+    work: &mut [u32],
+    types: &[u32],
+    count: u32,
+    newest: u32,
+    depth: usize,
+    at: usize,
+    top: u32,
+) -> Got
+    ensures { λ r. ⌜ GivesExpr (now (text .entry)) (now (work .entry)) (now (types .entry)) count newest depth at top r (now (work .exit)) ⌝ }
+{
+    if depth == 0 {
+        return failed(Fault::Form, 0, at, top);
+    }
+    let p = part_at(text, at);
+    match p {
+        Part::Leaf(w, p, q) => word(text, work, types, count, newest, w, p, q, top),
+        Part::Form(p) => inner(text, work, types, count, newest, depth - 1, p, top),
+        Part::Shut(q) => failed(Fault::Form, 0, q, top),
+    }
+}
+
+// All parts of a form that is an expression.
+fn inner(
+    text: &[u8],
+    work: &mut [u32],
+    types: &[u32],
+    count: u32,
+    newest: u32,
+    depth: usize,
+    at: usize,
+    top: u32,
+) -> Got
+    ensures { λ r. ⌜ GivesInner (now (text .entry)) (now (work .entry)) (now (types .entry)) count newest depth at top r (now (work .exit)) ⌝ }
+{
+    let p = part_at(text, at);
+    match p {
+        Part::Leaf(w, _, q) => headed(
+            text,
+            work,
+            types,
+            count,
+            newest,
+            expr_head(w),
+            depth,
+            q,
+            top,
+        ),
+        Part::Form(p) => failed(Fault::Form, 0, p, top),
+        Part::Shut(q) => failed(Fault::Form, 0, q, top),
+    }
+}
+
+// The parts after the head word.
+fn headed(
+    text: &[u8],
+    work: &mut [u32],
+    types: &[u32],
+    count: u32,
+    newest: u32,
+    head: ExprHead,
+    depth: usize,
+    at: usize,
+    top: u32,
+) -> Got
+    ensures { λ r. ⌜ GivesForm (now (text .entry)) (now (work .entry)) (now (types .entry)) count newest head depth at top r (now (work .exit)) ⌝ }
+{
+    match head {
+        ExprHead::At => load_at(text, work, types, count, newest, depth, at, top),
+        ExprHead::Dot => load_dot(text, work, types, count, newest, depth, at, top),
+        ExprHead::Members => set_form(text, work, types, count, newest, depth, at, top),
+        ExprHead::Minus => minus(text, work, types, count, newest, depth, at, top),
+        ExprHead::Bound(last) => bound(text, work, types, count, newest, last, depth, at, top),
+        ExprHead::Short(every) => short(text, work, types, count, newest, every, depth, at, top),
+        ExprHead::Two(op) => two(text, work, types, count, newest, op, depth, at, top),
+        ExprHead::One(f) => one(text, work, types, count, newest, f, depth, at, top),
+        ExprHead::Nothing => failed(Fault::Form, 0, at, top),
+    }
+}
+
+// Two sides.
+fn two(
+    text: &[u8],
+    work: &mut [u32],
+    types: &[u32],
+    count: u32,
+    newest: u32,
+    op: usize,
+    depth: usize,
+    at: usize,
+    top: u32,
+) -> Got
+    ensures { λ r. ⌜ GivesForm (now (text .entry)) (now (work .entry)) (now (types .entry)) count newest (Two op) depth at top r (now (work .exit)) ⌝ }
+{
+    if op >= 15 {
+        return failed(Fault::Form, 0, at, top);
+    }
+    let a = expr(text, work, types, count, newest, depth, at, top);
+    let f = a.fault;
+    if is_form(f) {
+        return a;
+    }
+    second(text, work, types, count, newest, op, depth, a)
+}
+
+// The second of two sides, and the node.
+fn second(
+    text: &[u8],
+    work: &mut [u32],
+    types: &[u32],
+    count: u32,
+    newest: u32,
+    op: usize,
+    depth: usize,
+    a: Got,
+) -> Got
+    ensures { λ r. ⌜ GivesSecond (now (text .entry)) (now (work .entry)) (now (types .entry)) count newest op depth a r (now (work .exit)) ⌝ }
+{
+    let b = expr(text, work, types, count, newest, depth, a.next, a.top);
+    pair(work, types, op, a, closing(text, b))
+}
+
+// Two sides, the second of which may be left alone.
+fn short(
+    text: &[u8],
+    work: &mut [u32],
+    types: &[u32],
+    count: u32,
+    newest: u32,
+    every: bool,
+    depth: usize,
+    at: usize,
+    top: u32,
+) -> Got
+    ensures { λ r. ⌜ GivesForm (now (text .entry)) (now (work .entry)) (now (types .entry)) count newest (Short every) depth at top r (now (work .exit)) ⌝ }
+{
+    let a = expr(text, work, types, count, newest, depth, at, top);
+    let f = a.fault;
+    if is_form(f) {
+        return a;
+    }
+    let b = expr(text, work, types, count, newest, depth, a.next, a.top);
+    short_pair(work, every, a, closing(text, b))
+}
+
+// One side.
+fn one(
+    text: &[u8],
+    work: &mut [u32],
+    types: &[u32],
+    count: u32,
+    newest: u32,
+    f: usize,
+    depth: usize,
+    at: usize,
+    top: u32,
+) -> Got
+    ensures { λ r. ⌜ GivesForm (now (text .entry)) (now (work .entry)) (now (types .entry)) count newest (One f) depth at top r (now (work .exit)) ⌝ }
+{
+    if f >= 11 {
+        return failed(Fault::Form, 0, at, top);
+    }
+    let a = expr(text, work, types, count, newest, depth, at, top);
+    apply(work, types, f, closing(text, a))
+}
+
+// A negative number, one side, or two.
+fn minus(
+    text: &[u8],
+    work: &mut [u32],
+    types: &[u32],
+    count: u32,
+    newest: u32,
+    depth: usize,
+    at: usize,
+    top: u32,
+) -> Got
+    ensures { λ r. ⌜ GivesForm (now (text .entry)) (now (work .entry)) (now (types .entry)) count newest Minus depth at top r (now (work .exit)) ⌝ }
+{
+    let n = number_alone(text, at);
+    match n {
+        Alone::Number(z, q) => negative(work, z, q, top),
+        Alone::No => minus_parts(text, work, types, count, newest, depth, at, top),
+    }
+}
+
+// One side, or two, where there is no number alone.
+fn minus_parts(
+    text: &[u8],
+    work: &mut [u32],
+    types: &[u32],
+    count: u32,
+    newest: u32,
+    depth: usize,
+    at: usize,
+    top: u32,
+) -> Got
+    ensures { λ r. ⌜ GivesMinus (now (text .entry)) (now (work .entry)) (now (types .entry)) count newest depth at top r (now (work .exit)) ⌝ }
+{
+    let a = expr(text, work, types, count, newest, depth, at, top);
+    let f = a.fault;
+    if is_form(f) {
+        return a;
+    }
+    let e = end_at(text, a.next);
+    match e {
+        End::Past(_) => apply(work, types, 0, closing(text, a)),
+        End::More => second(text, work, types, count, newest, 1, depth, a),
+    }
+}
+
+// A set's type and its members.
+fn set_form(
+    text: &[u8],
+    work: &mut [u32],
+    types: &[u32],
+    count: u32,
+    newest: u32,
+    depth: usize,
+    at: usize,
+    top: u32,
+) -> Got
+    ensures { λ r. ⌜ GivesForm (now (text .entry)) (now (work .entry)) (now (types .entry)) count newest Members depth at top r (now (work .exit)) ⌝ }
+{
+    let t = type_name(text, work, count, newest, at);
+    let f = t.fault;
+    if is_form(f) {
+        return failed(Fault::Form, 0, t.next, top);
+    }
+    let base = base_of(work, types, t.kind);
+    let first = slot(work, top);
+    let m = member_list(
+        text,
+        work,
+        types,
+        count,
+        newest,
+        base,
+        depth,
+        t.next,
+        top,
+        first,
+    );
+    let g = t.fault;
+    set_of(work, types, g, t.kind, top, m)
+}
+
+// The members up to the closing bracket, in a chain from a slot on.
+fn member_list(
+    text: &[u8],
+    work: &mut [u32],
+    types: &[u32],
+    count: u32,
+    newest: u32,
+    base: u32,
+    depth: usize,
+    at: usize,
+    chain: u32,
+    top: u32,
+) -> Got
+    ensures { λ r. ⌜ GivesMembers (now (text .entry)) (now (work .entry)) (now (types .entry)) count newest base depth at chain top r (now (work .exit)) ⌝ }
+{
+    let mut next = at;
+    let mut link = chain as usize;
+    let mut free = top;
+    let mut fault = Fault::Clear;
+    loop {
+        let e = end_at(text, next);
+        match e {
+            End::Past(q) => {
+                return failed(fault, 0, q, free);
+            }
+            End::More => {}
+        }
+        let x = expr(text, work, types, count, newest, depth, next, free);
+        let f = x.fault;
+        if is_form(f) {
+            return x;
+        }
+        fault = lowest(fault, member_fault(f, x.kind, base));
+        free = link_to(work, link, x.place, x.top);
+        link = slot_after(x.top);
+        next = x.next;
+    }
+}
+
+// The cells of an element.
+fn load_at(
+    text: &[u8],
+    work: &mut [u32],
+    types: &[u32],
+    count: u32,
+    newest: u32,
+    depth: usize,
+    at: usize,
+    top: u32,
+) -> Got
+    ensures { λ r. ⌜ GivesForm (now (text .entry)) (now (work .entry)) (now (types .entry)) count newest At depth at top r (now (work .exit)) ⌝ }
+{
+    let g = element(text, work, types, count, newest, depth, at, top);
+    load(work, types, g)
+}
+
+// The cells of a field.
+fn load_dot(
+    text: &[u8],
+    work: &mut [u32],
+    types: &[u32],
+    count: u32,
+    newest: u32,
+    depth: usize,
+    at: usize,
+    top: u32,
+) -> Got
+    ensures { λ r. ⌜ GivesForm (now (text .entry)) (now (work .entry)) (now (types .entry)) count newest Dot depth at top r (now (work .exit)) ⌝ }
+{
+    let g = field(text, work, types, count, newest, depth, at, top);
+    load(work, types, g)
+}
+
+// A target.
+pub fn target(
+    text: &[u8],
+    work: &mut [u32],
+    types: &[u32],
+    count: u32,
+    newest: u32,
+    depth: usize,
+    at: usize,
+    top: u32,
+) -> Got
+    ensures { λ r. ⌜ GivesTarget (now (text .entry)) (now (work .entry)) (now (types .entry)) count newest depth at top r (now (work .exit)) ⌝ }
+{
+    if depth == 0 {
+        return failed(Fault::Form, 0, at, top);
+    }
+    let p = part_at(text, at);
+    match p {
+        Part::Leaf(w, p, q) => variable(text, work, types, count, newest, w, p, q, top),
+        Part::Form(p) => place(text, work, types, count, newest, depth - 1, p, top),
+        Part::Shut(q) => failed(Fault::Form, 0, q, top),
+    }
+}
+
+// All parts of a form that is a target.
+fn place(
+    text: &[u8],
+    work: &mut [u32],
+    types: &[u32],
+    count: u32,
+    newest: u32,
+    depth: usize,
+    at: usize,
+    top: u32,
+) -> Got
+    ensures { λ r. ⌜ GivesInnerPlace (now (text .entry)) (now (work .entry)) (now (types .entry)) count newest depth at top r (now (work .exit)) ⌝ }
+{
+    let p = part_at(text, at);
+    match p {
+        Part::Leaf(w, _, q) => place_headed(
+            text,
+            work,
+            types,
+            count,
+            newest,
+            expr_head(w),
+            depth,
+            q,
+            top,
+        ),
+        Part::Form(p) => failed(Fault::Form, 0, p, top),
+        Part::Shut(q) => failed(Fault::Form, 0, q, top),
+    }
+}
+
+// The parts after the head word.
+fn place_headed(
+    text: &[u8],
+    work: &mut [u32],
+    types: &[u32],
+    count: u32,
+    newest: u32,
+    head: ExprHead,
+    depth: usize,
+    at: usize,
+    top: u32,
+) -> Got
+    ensures { λ r. ⌜ GivesPlace (now (text .entry)) (now (work .entry)) (now (types .entry)) count newest head depth at top r (now (work .exit)) ⌝ }
+{
+    match head {
+        ExprHead::At => element(text, work, types, count, newest, depth, at, top),
+        ExprHead::Dot => field(text, work, types, count, newest, depth, at, top),
+        ExprHead::Members => failed(Fault::Form, 0, at, top),
+        ExprHead::Minus => failed(Fault::Form, 0, at, top),
+        ExprHead::Bound(_) => failed(Fault::Form, 0, at, top),
+        ExprHead::Short(_) => failed(Fault::Form, 0, at, top),
+        ExprHead::Two(_) => failed(Fault::Form, 0, at, top),
+        ExprHead::One(_) => failed(Fault::Form, 0, at, top),
+        ExprHead::Nothing => failed(Fault::Form, 0, at, top),
+    }
+}
+
+// An element of an array.
+fn element(
+    text: &[u8],
+    work: &mut [u32],
+    types: &[u32],
+    count: u32,
+    newest: u32,
+    depth: usize,
+    at: usize,
+    top: u32,
+) -> Got
+    ensures { λ r. ⌜ GivesPlace (now (text .entry)) (now (work .entry)) (now (types .entry)) count newest At depth at top r (now (work .exit)) ⌝ }
+{
+    let g = target(text, work, types, count, newest, depth, at, top);
+    let f = g.fault;
+    if is_form(f) {
+        return g;
+    }
+    let e = expr(text, work, types, count, newest, depth, g.next, g.top);
+    index(work, types, g, closing(text, e))
+}
+
+// A field of a record.
+fn field(
+    text: &[u8],
+    work: &mut [u32],
+    types: &[u32],
+    count: u32,
+    newest: u32,
+    depth: usize,
+    at: usize,
+    top: u32,
+) -> Got
+    ensures { λ r. ⌜ GivesPlace (now (text .entry)) (now (work .entry)) (now (types .entry)) count newest Dot depth at top r (now (work .exit)) ⌝ }
+{
+    let g = target(text, work, types, count, newest, depth, at, top);
+    let f = g.fault;
+    if is_form(f) {
+        return g;
+    }
+    let n = sole_name(text, g.next);
+    match n {
+        Sole::Name(p, q) => select(text, work, types, g, p, q),
+        Sole::Nothing => failed(Fault::Form, 0, g.next, g.top),
+    }
+}

@@ -1,0 +1,5 @@
+pub mod Ways
+pub mod Kept
+pub mod Telling
+pub mod Fields
+pub mod Looping

@@ -1,0 +1,28 @@
+use Rattle.tables.proofs.Ways.{side-is}
+use borrow.Author.Needs.{needs}
+use Rattle.tables.proofs.side_of.Statement.{statement}
+use Rattle.tables.proofs.side_of.Tie as tie
+use Rattle.tables.proofs.side_of.Reads as reads
+use Rattle.tables.proofs.side_of.Lts as lts
+use Rattle.tables.proofs.class_by.Reads as class-by-reads
+use Rattle.tables.proofs.describe.Reads as describe-reads
+use Rattle.tables.proofs.host_of.Reads as host-of-reads
+
+-- src/lib.rt:200:9
+describe-requires : tie.Need-describe-requires
+describe-requires c κs = search needs
+
+-- src/lib.rt:201:9
+class-by-requires : tie.Need-class-by-requires
+class-by-requires c κs = search needs
+
+-- src/lib.rt:202:9
+host-of-requires : tie.Need-host-of-requires
+host-of-requires c κs = search needs
+
+-- src/lib.rt:197:1
+returns : tie.Need-returns
+returns c = search side-is
+
+pub side-of-spec : {M : Type 1} → statement M
+side-of-spec = tie.close (tie.spec describe-requires class-by-requires host-of-requires returns)

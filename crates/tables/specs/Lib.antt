@@ -1,0 +1,4 @@
+pub mod Descriptions
+pub mod Scene
+pub mod Sides
+pub mod Loops
