@@ -1,8 +1,8 @@
 -- What the answers by atom and meaning tell of the stages.
-use mathlib.Core.Path.{_≡_, refl, sym, ap, _∙_}
+use mathlib.Core.Path.{_≡_, refl, ap}
 use mathlib.Core.Bool.{Bool, true, false, cond}
-use mathlib.Core.List.{List, map}
-use mathlib.Core.Option.{Option, none, some}
+use mathlib.Core.List.{List}
+use mathlib.Core.Option.{Option, some}
 use Prim.Native.Nat.{ℕ, zero, suc, _<_}
 use native.Mathlib.Omega.{arith}
 use lib.Dec.{eqb}
@@ -10,7 +10,6 @@ use lib.IntN.{ℤ, pos}
 use Rattle.arith.specs.Integers.{inside, least, most, pick, ranged, exact}
 use Rattle.arith.specs.declared.Fault.the-variants.{Overflow}
 use Rattle.arith.specs.declared.Num.the-variants.{Value, Failed}
-use Rattle.lexis.specs.Words.{wordOf}
 use Rattle.lexis.specs.declared.words.Word as Word
 use Rattle.lexis.specs.declared.words.Word.the-variants as W
 use Rattle.semantics.specs.Base.{Name, _>>=_, find}
@@ -18,15 +17,14 @@ use Rattle.semantics.specs.Calculate.{truth}
 use Rattle.semantics.specs.Environment.{Environment, NameSort}
 use Rattle.semantics.specs.Names.{typeOf, constantOf, constOf, asType, asValue}
 use Rattle.semantics.specs.Rules.{plain}
-use Rattle.semantics.specs.Script.{Const}
-use Rattle.semantics.specs.Stages.{Staged, wrong, unnamed, unfit, fits, ruled, named, staged}
+use Rattle.semantics.specs.Stages.{wrong, unnamed, unfit, fits, ruled, named, staged}
 use Rattle.tables.specs.declared.Fault.the-variants as fault
 use Rattle.tables.specs.declared.Meaning.{Meaning}
-use Rattle.tables.specs.Scene.{Told, unknown, known, Means, a-type, a-var, a-proc, a-value}
+use Rattle.tables.specs.Scene.{Told, unknown, known, a-type, a-var, a-proc, a-value}
 use Rattle.shapes.specs.Heads.{atomOf, reservedAtom, atomType, atomConstant}
 use Rattle.shapes.specs.declared.Atom.{Atom}
 use Rattle.shapes.specs.declared.Atom.the-variants as AT
-use Rattle.atoms.specs.Answers.{typed, typeMeant, typeBy, valued, numValued, valueMeant, valueBy}
+use Rattle.atoms.specs.Answers.{typeMeant, typeBy, valued, numValued, valueMeant, valueBy}
 use Rattle.atoms.specs.Contracts.{TypeTold, ValueTold}
 
 -- ---- stages

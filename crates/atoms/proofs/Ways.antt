@@ -1,12 +1,12 @@
 -- The ways through the functions of the crate.
-use mathlib.Core.Path.{_≡_, refl, sym, ap, _∙_, subst}
+use mathlib.Core.Path.{_≡_, refl, sym, ap, _∙_}
 use mathlib.Core.Bool.{Bool, true, false, cond, false≢true}
 use mathlib.Core.List.{List, map}
 use mathlib.Core.Option.{Option, none, some}
 use Prim.Native.Nat.{ℕ, _<_}
 use native.Mathlib.Omega.{arith}
 use lib.IntN.{ℤ, pos, negℤ}
-use mir.Val.{SFits, toZ, ofZ}
+use mir.Val.{SFits, toZ}
 use mir.Facts.{toZ-ofZ}
 use mir.Syntax.{w64}
 use Rattle.arith.specs.Integers.{exact}
@@ -24,35 +24,32 @@ use Rattle.semantics.specs.Forms.{typeName, free, keyOf, isNumber}
 use Rattle.semantics.specs.Words as Words
 use Rattle.semantics.specs.Words.{worded, wordedAll}
 use Rattle.semantics.specs.Names.{typeOf, constantOf}
-use Rattle.semantics.specs.Rules.{plain}
-use Rattle.semantics.specs.Stages.{Staged, staged, named}
+use Rattle.semantics.specs.Stages.{staged}
 use Rattle.semantics.specs.Syntax.{Constant, minus}
-use Rattle.semantics.specs.Trees.{Tree, word, form, Trees, end, _then_, Run, first, later, wordAt, stackAt}
+use Rattle.semantics.specs.Trees.{word, form, Trees, end, _then_, Run, first, later, wordAt, stackAt}
 use Rattle.tables.specs.declared.Fault.the-variants.{Clear, Kind, Name, Form}
 use Rattle.tables.specs.declared.Meaning.{Meaning}
 use Rattle.tables.specs.declared.Meaning.the-variants as meaning
 use Rattle.symbols.specs.Chain.{entries, placeIn}
-use Rattle.tables.specs.Scene.{Scene, meaningAt}
+use Rattle.tables.specs.Scene.{meaningAt}
 use Rattle.tables.proofs.Telling.{meant}
-use Rattle.parts.specs.Got.{isForm}
 use Rattle.parts.specs.Parts.{Before, LeafAt, FormAt, ShutAt, Stands, Shuts}
 use Rattle.parts.specs.declared.Part.{Part}
 use Rattle.parts.specs.declared.Part.the-variants as part
 use Rattle.parts.specs.declared.End.{End}
 use Rattle.parts.specs.declared.End.the-variants as ending
-use Rattle.shapes.specs.Heads.{atomOf, exprHeadOf, atomType, atomConstant, atomNumber, minusPick}
-use Rattle.shapes.specs.Parts.{partOf, rest, closed, numberIn, typeNameIn, constantIn, constantBy}
+use Rattle.shapes.specs.Heads.{atomOf, exprHeadOf, atomNumber, minusPick}
+use Rattle.shapes.specs.Parts.{partOf, closed, numberIn, typeNameIn, constantIn, constantBy}
 use Rattle.shapes.specs.declared.Atom.{Atom}
 use Rattle.shapes.specs.declared.Atom.the-variants as AT
 use Rattle.shapes.specs.declared.ExprHead.{ExprHead}
 use Rattle.shapes.specs.declared.ExprHead.the-variants as EH
 use Rattle.shapes.proofs.Heads.{type-word, constant-word, number-word}
 use Rattle.shapes.proofs.Expressions.{constant-form, constant-empty, constant-headless}
-use Rattle.shapes.proofs.Walks.{bind-none}
 use Rattle.atoms.specs.declared.Typed.{Typed}
 use Rattle.atoms.specs.declared.Valued.{Valued}
 use Rattle.atoms.specs.Answers.{meaningHere, typed, typeMeant, typeBy, valued, numValued, valueMeant, valueBy, isMinus}
-use Rattle.atoms.specs.Contracts.{TypeTold, GivesType, ValueTold, GivesConstant, GivesMinus, minusForm, minusNumber, minusEnd, minusBy}
+use Rattle.atoms.specs.Contracts.{TypeTold, GivesType, GivesConstant, GivesMinus, minusForm, minusNumber, minusEnd, minusBy}
 use Rattle.atoms.proofs.Telling.{base-two, type-told, value-told, num-told, wrong-told, wrong-fits}
 
 -- ---- by meaning

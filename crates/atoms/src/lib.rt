@@ -19,7 +19,6 @@ ghost use lib.IntN.{pos};
 ghost use Rattle.semantics.specs.Calculate.{truth as truthOf};
 ghost use Rattle.semantics.specs.Trees.{first, stackAt};
 ghost use Rattle.shapes.specs.Heads.{atomOf, exprHeadOf};
-ghost use Rattle.tables.specs.declared.Fault.the-variants.{Form};
 ghost use Rattle.atoms.specs.Answers.{meaningHere, typed as typedBy, typeMeant, typeBy, valued as valuedBy, numValued, valueMeant, valueBy, isMinus};
 ghost use Rattle.atoms.specs.Contracts.{GivesType, GivesConstant, GivesMinus, minusForm, minusNumber, minusEnd, minusBy};
 

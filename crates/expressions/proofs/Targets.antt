@@ -388,7 +388,7 @@ data Computed : Place → Type 0 where
   at-index : {p : Place} {c : Code} {lo hi : ℤ} {k : ℕ} → Computed (index p c lo hi k)
   at-shift : {p : Place} {k : ℕ} → Computed (shift p k)
 
-fits-inv : {A B C : Type 0} (n : A → Option B) (r : B → Bool) (k : B → Option C) (o : Option A) (c : C) → staged o n r k ≡ fits c → (a : A) × (b : B) × (o ≡ some a) × (n a ≡ some b) × (k b ≡ some c)
+pub fits-inv : {A B C : Type 0} (n : A → Option B) (r : B → Bool) (k : B → Option C) (o : Option A) (c : C) → staged o n r k ≡ fits c → (a : A) × (b : B) × (o ≡ some a) × (n a ≡ some b) × (k b ≡ some c)
 unfolding staged named ruled
 fits-inv n r k none c h = absurd (wrong-fits h)
 fits-inv {B = B} {C = C} n r k (some a) c h = go (n a) refl h

@@ -3,3 +3,4 @@ pub mod Kept
 pub mod Telling
 pub mod Fields
 pub mod Looping
+pub mod Cells

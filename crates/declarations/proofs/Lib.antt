@@ -1,0 +1,14 @@
+pub mod FreeNames
+pub mod Growing
+pub mod VarLines
+pub mod Starting
+pub mod TypeScenes
+pub mod Aliases
+pub mod SimpleLines
+pub mod SetTypes
+pub mod TwoParts
+pub mod ArrayTypes
+pub mod RangeTypes
+pub mod TypeShapes
+pub mod EnumNames
+pub mod EnumStages

@@ -1,0 +1,123 @@
+-- `type` lines part by part, and what the forms of types say by their head words.
+use mathlib.Core.Path.{_≡_, refl, sym, ap, _∙_}
+use mathlib.Core.List.{List, map}
+use mathlib.Core.Option.{Option, none, some}
+use Prim.Native.Nat.{ℕ, _<_}
+use lib.ListN.{length}
+use Rattle.lexis.specs.Bytes.{small}
+use Rattle.lexis.specs.Words.{wordOf}
+use Rattle.lexis.specs.declared.words.Word as Kind
+use Rattle.semantics.specs.Base.{Name, _>>=_}
+use Rattle.semantics.specs.Forms.{Item, free, typeName, constant, typeForm, madeType, among, makers, lineBy, isType}
+use Rattle.semantics.specs.Forms as Forms
+use Rattle.semantics.specs.Syntax.{LineForm, TypeForm, TypeName, Constant, typeLine, alias, setOf, arrayOf, range}
+use Rattle.semantics.specs.Trees.{word, form, Trees, end, _then_, Run, first, later, wordAt, stackAt, list}
+use Rattle.semantics.specs.Words.{Word, worded, wordedAll, wordBy}
+use Rattle.parts.specs.Parts.{LeafAt, FormAt, Stands}
+use Rattle.parts.specs.declared.Part.{Part}
+use Rattle.parts.specs.declared.Part.the-variants as part
+use Rattle.shapes.specs.Heads.{makerOf, makerMeant}
+use Rattle.shapes.specs.Parts.{partOf, rest, closed, keyIn, nameIn, typeNameIn, constantIn}
+use Rattle.shapes.specs.declared.Maker.{Maker}
+use Rattle.shapes.specs.declared.Maker.the-variants as MK
+use Rattle.shapes.proofs.Heads.{maker-is}
+use Rattle.shapes.proofs.Walks.{bind-cong, bind-assoc, bind-swap, one-then, two-then, headed-form, empty-form, headless-form}
+use Rattle.declarations.specs.Lines.{lineOf, GivesLine}
+use Rattle.declarations.specs.TypeLines.{typeIn, typeAfter, madeAfter, aliasAfter, GivesAlias, GivesShape, GivesShaped, GivesMade}
+use Rattle.declarations.specs.Simple.{setIn, arrayIn, rangeIn}
+use Rattle.declarations.specs.Shapes.{enumIn, recordIn, makerBy}
+use Rattle.declarations.specs.declared.State.{State}
+use Rattle.declarations.specs.declared.Lined.{Lined}
+use Rattle.declarations.specs.declared.types.Shaped.{Shaped}
+use Rattle.declarations.proofs.VarLines.{closed-map}
+
+-- ---- a line
+
+pub type-parts : (n : ℕ) (us : Trees Run) → lineOf isType n us ≡ (nameIn us >>= λ (w : Name). typeAfter w (rest us))
+unfolding lineOf lineBy typeAfter typeIn nameIn
+type-parts n us =
+    sym (bind-assoc (wordedAll us) (λ (vs : Trees Word). lineBy isType n (list vs)) (λ (p : LineForm × ℕ). some (p .0)))
+    ∙ ap (λ (o : Option (LineForm × ℕ)). o >>= λ (p : LineForm × ℕ). some (p .0)) (two-then free typeForm (λ (w : Name) (t : TypeForm). (typeLine w t, n)) us)
+    ∙ bind-assoc (partOf us >>= free) (λ (w : Name). (partOf (rest us) >>= typeForm) >>= λ (t : TypeForm). closed (rest (rest us)) (typeLine w t, n)) (λ (p : LineForm × ℕ). some (p .0))
+    ∙ bind-cong (partOf us >>= free) (λ (w : Name).
+    bind-assoc (partOf (rest us) >>= typeForm) (λ (t : TypeForm). closed (rest (rest us)) (typeLine w t, n)) (λ (p : LineForm × ℕ). some (p .0))
+    ∙ bind-cong (partOf (rest us) >>= typeForm) (λ (t : TypeForm). closed-map (λ (p : LineForm × ℕ). p .0) (rest (rest us)) (typeLine w t, n)))
+
+-- ---- the type
+
+word-type : (x : Run) (ts : Trees Run) → typeIn (word x then ts) ≡ (typeNameIn (word x then ts) >>= λ (t : TypeName). some (alias t))
+unfolding typeIn typeNameIn partOf worded typeForm _>>=_
+word-type x ts = go (wordBy (wordOf x) x)
+  where
+    go : (o : Option Word) → ((o >>= λ (v : Word). some (word v)) >>= typeForm) ≡ (((o >>= λ (v : Word). some (word v)) >>= typeName) >>= λ (t : TypeName). some (alias t))
+    go none = refl
+    go (some v) = refl
+
+pub after-word : (w : Name) (x : Run) (ts : Trees Run) → typeAfter w (word x then ts) ≡ aliasAfter w (word x then ts)
+unfolding typeAfter aliasAfter _>>=_
+after-word w x ts = ap (λ (o : Option TypeForm). o >>= λ (t : TypeForm). closed ts (typeLine w t)) (word-type x ts)
+    ∙ bind-assoc (typeNameIn (word x then ts)) (λ (t : TypeName). some (alias t)) (λ (t : TypeForm). closed ts (typeLine w t))
+
+-- by its head word
+by-maker : (h : Maker) (us : Trees Run) → (makerMeant h >>= λ (m : Forms.Maker). wordedAll us >>= λ (vs : Trees Word). madeType m (list vs)) ≡ makerBy h us
+unfolding _>>=_ madeType setIn arrayIn rangeIn enumIn recordIn typeNameIn constantIn
+by-maker MK.Enum us = refl
+by-maker MK.Range us = two-then constant constant (λ (a b : Constant). range a b) us
+by-maker MK.Array us = two-then typeName typeName (λ (i e : TypeName). arrayOf i e) us
+by-maker MK.Record us = refl
+by-maker MK.Set us = one-then typeName (λ (b : TypeName). setOf b) us
+by-maker MK.Nothing us = refl
+
+pub type-form : (x : Run) (us ts : Trees Run) → typeIn (form (word x then us) then ts) ≡ makerBy (makerOf (wordOf x)) us
+unfolding typeIn partOf typeForm
+type-form x us ts =
+    headed-form typeForm (λ (k : Name) (vs : List Item). among makers k >>= λ (m : Forms.Maker). madeType m vs) (λ vs. refl) x us
+    ∙ bind-swap (keyIn x) (wordedAll us) (among makers) (λ (m : Forms.Maker) (vs : Trees Word). madeType m (list vs))
+    ∙ ap (λ (o : Option Forms.Maker). o >>= λ (m : Forms.Maker). wordedAll us >>= λ (vs : Trees Word). madeType m (list vs)) (maker-is x)
+    ∙ by-maker (makerOf (wordOf x)) us
+
+pub type-end : typeIn end ≡ none
+unfolding typeIn partOf _>>=_
+type-end = refl
+
+pub type-empty : (ts : Trees Run) → typeIn (form end then ts) ≡ none
+unfolding typeIn partOf typeForm
+type-empty ts = empty-form typeForm (λ (k : Name) (vs : List Item). among makers k >>= λ (m : Forms.Maker). madeType m vs) (λ vs. refl)
+
+pub type-headless : (us vs ts : Trees Run) → typeIn (form (form us then vs) then ts) ≡ none
+unfolding typeIn partOf typeForm
+type-headless us vs ts = headless-form typeForm (λ (k : Name) (xs : List Item). among makers k >>= λ (m : Forms.Maker). madeType m xs) (λ xs. refl) us vs
+
+-- a form by its head word, and the parts after it
+pub after-form : (w : Name) (x : Run) (us ts : Trees Run) → typeAfter w (form (word x then us) then ts) ≡ madeAfter w (makerBy (makerOf (wordOf x)) us) ts
+unfolding typeAfter madeAfter
+after-form w x us ts = ap (λ (o : Option TypeForm). o >>= λ (t : TypeForm). closed ts (typeLine w t)) (type-form x us ts)
+
+-- ---- the ways through a line, from the answers for its parts
+
+pub made-is : (s l ts : List ℕ) (st : State) (p at : ℕ) (o : Option TypeForm) (g : Shaped) → GivesShape s l ts st at o g → (r : Lined) (l′ ts′ : List ℕ)
+    → GivesShaped s l ts st p g r l′ ts′ → GivesMade s l ts st p at o r l′ ts′
+made-is s l ts st p at o g G r l′ ts′ S = record { gives = λ hp. S .gives at o G hp }
+
+-- a type that is a word at `at`
+pub line-alias : (s l ts : List ℕ) (st : State) (p at : ℕ) (x : Part) → Stands s at x → (w : Kind.Word) (a b : ℕ) → x ≡ part.Leaf w a b → (r : Lined) (l′ : List ℕ)
+    → GivesAlias s l st p at r l′ → p < length s → GivesLine s l ts st (typeAfter (map small (wordAt s p)) (first (stackAt s at))) r l′ ts
+line-alias s l ts st p at x h w a b e r l′ G hp =
+    let g : LeafAt s at a b × (w ≡ wordOf (wordAt s a)) = rw e at (h .says) in
+    let z : typeAfter (map small (wordAt s p)) (first (stackAt s at)) ≡ aliasAfter (map small (wordAt s p)) (first (stackAt s at)) =
+    ap (typeAfter (map small (wordAt s p))) (g .0 .leaf .here) ∙ after-word (map small (wordAt s p)) (wordAt s a) (first (stackAt s b)) ∙ sym (ap (aliasAfter (map small (wordAt s p))) (g .0 .leaf .here)) in
+    rw z (G .gives ts hp)
+
+-- a type that is a form at `at`, whose parts begin at u and whose head word ends at v
+pub line-made : (s l ts : List ℕ) (st : State) (p at u : ℕ) → FormAt s at u → (y : Part) → Stands s u y → (w : Kind.Word) (a v : ℕ) → y ≡ part.Leaf w a v
+    → (r : Lined) (l′ ts′ : List ℕ) → GivesMade s l ts st p v (makerBy (makerOf w) (first (stackAt s v))) r l′ ts′ → p < length s
+    → GivesLine s l ts st (typeAfter (map small (wordAt s p)) (first (stackAt s at))) r l′ ts′
+line-made s l ts st p at u F y h w a v e r l′ ts′ G hp =
+    let g : LeafAt s u a v × (w ≡ wordOf (wordAt s a)) = rw e at (h .says) in
+    let n : Name = map small (wordAt s p) in
+    let z : typeAfter n (first (stackAt s at)) ≡ madeAfter n (makerBy (makerOf w) (first (stackAt s v))) (first (later (stackAt s v))) =
+    ap (typeAfter n) (F .here ∙ ap (λ (us : Trees Run). form us then first (later (stackAt s u))) (g .0 .leaf .here))
+    ∙ after-form n (wordAt s a) (first (stackAt s v)) (first (later (stackAt s u)))
+    ∙ ap (λ (k : Kind.Word). madeAfter n (makerBy (makerOf k) (first (stackAt s v))) (first (later (stackAt s u)))) (sym (g .1))
+    ∙ ap (λ (q : List (Trees Run)). madeAfter n (makerBy (makerOf w) (first (stackAt s v))) (first q)) (g .0 .leaf .around) in
+    rw z (G .gives hp)

@@ -1,0 +1,61 @@
+use Rattle.declarations.proofs.VarLines.{after-laws}
+use borrow.Author.Needs.{needs}
+use Rattle.declarations.proofs.var_after.Statement.{statement}
+use Rattle.declarations.proofs.var_after.Tie as tie
+use Rattle.declarations.proofs.var_after.Reads as reads
+use Rattle.declarations.proofs.var_after.Lts as lts
+use Rattle.declarations.proofs.add_var.Reads as add-var-reads
+use Rattle.declarations.proofs.answered.Reads as answered-reads
+use Rattle.declarations.proofs.last_type.Reads as last-type-reads
+use Rattle.declarations.proofs.named_fault.Reads as named-fault-reads
+use Rattle.parts.proofs.is_clear.Reads as is-clear-reads
+
+-- src/lib.rt:209:9
+last-type-requires : tie.Need-last-type-requires
+last-type-requires c κs = search needs
+
+-- src/lib.rt:211:9
+named-fault-requires : tie.Need-named-fault-requires
+named-fault-requires c κs = search needs
+
+-- src/lib.rt:212:8
+is-clear-requires : tie.Need-is-clear-requires
+is-clear-requires c κs = search needs
+
+-- src/lib.rt:213:9
+add-var-requires : tie.Need-add-var-requires
+add-var-requires c κs = search needs
+
+-- src/lib.rt:213:9
+same-length : tie.Need-same-length
+same-length c = search needs
+
+-- src/lib.rt:213:9
+returns : tie.Need-returns
+returns c = search after-laws
+
+-- src/lib.rt:215:5
+answered-requires : tie.Need-answered-requires
+answered-requires c κs = search needs
+
+-- src/lib.rt:206:1
+same-length-2 : tie.Need-same-length-2
+same-length-2 c = search needs
+
+-- src/lib.rt:206:1
+returns-2 : tie.Need-returns-2
+returns-2 c = search after-laws
+
+pub var-after-spec : {M : Type 1} → statement M
+var-after-spec =
+    tie.close
+    (tie.spec
+    last-type-requires
+    named-fault-requires
+    is-clear-requires
+    add-var-requires
+    same-length
+    returns
+    answered-requires
+    same-length-2
+    returns-2)

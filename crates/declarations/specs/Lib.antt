@@ -1,0 +1,9 @@
+pub mod State
+pub mod Names
+pub mod Lines
+pub mod Vars
+pub mod TypeLines
+pub mod Simple
+pub mod Ranges
+pub mod Shapes
+pub mod Enums

@@ -1,0 +1,74 @@
+-- A line's parts that are read alike in several forms: a free name, and a type's name or constant that is the last part.
+use mathlib.Core.Bool.{true, false}
+use mathlib.Core.List.{List, map}
+use mathlib.Core.Option.{Option, none, some}
+use mathlib.Core.Path.{_≡_}
+use Prim.Native.Nat.{ℕ, _<_}
+use lib.ListN.{length}
+use Rattle.lexis.specs.Bytes.{small}
+use Rattle.semantics.specs.Base.{_>>=_}
+use Rattle.semantics.specs.Environment.{Environment}
+use Rattle.semantics.specs.Names.{typeOf, constantOf}
+use Rattle.semantics.specs.Rules.{plain}
+use Rattle.semantics.specs.Stages.{staged}
+use Rattle.semantics.specs.Syntax.{TypeName, Constant}
+use Rattle.semantics.specs.Trees.{Trees, Run, first, later, wordAt, stackAt}
+use Rattle.tables.specs.declared.Fault.{Fault}
+use Rattle.tables.specs.declared.Fault.the-variants.{Name}
+use Rattle.tables.specs.declared.Meaning.{Meaning}
+use Rattle.tables.specs.declared.Meaning.the-variants as meaning
+use Rattle.tables.specs.Scene.{Scene}
+use Rattle.parts.specs.Got.{isForm, lowest}
+use Rattle.parts.specs.Parts.{LeafAt}
+use Rattle.shapes.specs.Parts.{rest, closed, nameIn, typeNameIn, constantIn}
+use Rattle.shapes.specs.declared.Atom.{Atom}
+use Rattle.shapes.specs.declared.Atom.the-variants as AT
+use Rattle.atoms.specs.declared.Typed.{Typed}
+use Rattle.atoms.specs.declared.Valued.{Valued}
+use Rattle.atoms.specs.Contracts.{TypeTold, ValueTold}
+use Rattle.declarations.specs.declared.Naming as naming
+use Rattle.declarations.specs.declared.Naming.{Naming}
+
+-- ---- a free name
+
+-- a word at p that ends at q
+abbrev pub namedBy : Atom → ℕ → ℕ → Naming
+namedBy (AT.Number z) p q = naming.the-variants.Nothing
+namedBy AT.Named p q = naming.the-variants.Called p q
+namedBy (AT.Truth b) p q = naming.the-variants.Nothing
+namedBy AT.ErrorNumber p q = naming.the-variants.Nothing
+namedBy (AT.Base k) p q = naming.the-variants.Nothing
+namedBy AT.Nothing p q = naming.the-variants.Nothing
+
+abbrev pub NamesBy : List ℕ → ℕ → Naming → Type 0
+NamesBy s at (naming.the-variants.Called p q) = LeafAt s at p q × (p < length s) × (nameIn (first (stackAt s at)) ≡ some (map small (wordAt s p)))
+NamesBy s at naming.the-variants.Nothing = nameIn (first (stackAt s at)) ≡ none
+
+pub record GivesName (s : List ℕ) (at : ℕ) (r : Naming) : Type 0 where
+  pub says : NamesBy s at r
+
+-- row 7 where a new name has a meaning already
+abbrev pub newFault : Fault → Meaning → Fault
+newFault f meaning.Unknown = f
+newFault f (meaning.Type t) = lowest f Name
+newFault f (meaning.Var i t a) = lowest f Name
+newFault f (meaning.Proc p) = lowest f Name
+newFault f (meaning.Value k n) = lowest f Name
+
+-- ---- last parts
+
+unfoldable pub lastType : Trees Run → Option TypeName
+lastType us = typeNameIn us >>= λ t. closed (rest us) t
+
+unfoldable pub lastConstant : Trees Run → Option Constant
+lastConstant us = constantIn us >>= λ c. closed (rest us) c
+
+pub record GivesLastType (s l : List ℕ) (count newest at : ℕ) (r : Typed) : Type 0 where
+  pub goes : isForm (r .fault) ≡ false → later (stackAt s at) ≡ stackAt s (r .next)
+  pub says : (ts : List ℕ) (top : ℕ) (σ : Environment) (bs : List ℕ) → Scene s l ts count newest top σ bs
+      → TypeTold (staged (lastType (first (stackAt s at))) (typeOf σ) (λ _. true) some) r
+
+pub record GivesLastConstant (s l : List ℕ) (count newest at : ℕ) (r : Valued) : Type 0 where
+  pub goes : isForm (r .fault) ≡ false → later (stackAt s at) ≡ stackAt s (r .next)
+  pub says : (ts : List ℕ) (top : ℕ) (σ : Environment) (bs : List ℕ) → Scene s l ts count newest top σ bs
+      → ValueTold (staged (lastConstant (first (stackAt s at))) (constantOf σ) plain some) r

@@ -1,0 +1,53 @@
+-- A variable's entry and the counts after it. Numbers that are small wherever the lines so far are held are taken modulo a power of two, so
+-- that no sum overflows.
+use mathlib.Core.Bool.{Bool, true, false, _&&_}
+use mathlib.Core.List.{List, [], _∷_, map}
+use mathlib.Core.Option.{Option}
+use mathlib.Core.Path.{_≡_}
+use Prim.Native.Nat.{ℕ, _+_, _*_, _%_, _<_}
+use lib.Dec.{leb}
+use lib.ListN.{length}
+use Rattle.lexis.specs.Bytes.{small}
+use Rattle.semantics.specs.Base.{Name, _>>=_}
+use Rattle.semantics.specs.Layout.{lay}
+use Rattle.semantics.specs.Syntax.{LineForm, varLine}
+use Rattle.semantics.specs.Trees.{Trees, Run, first, wordAt, stackAt}
+use Rattle.tables.specs.Descriptions.{infoOf}
+use Rattle.tables.specs.declared.Fault.the-variants.{Clear}
+use Rattle.shapes.specs.Parts.{rest, closed, typeNameIn}
+use Rattle.declarations.specs.Lines.{linedBy, GivesLine}
+use Rattle.declarations.specs.declared.State.{State}
+use Rattle.declarations.specs.declared.Lined.{Lined}
+
+-- the parts after a variable's name w
+unfoldable pub varAfter : Name → Trees Run → Option LineForm
+varAfter w us = typeNameIn us >>= λ t. closed (rest us) (varLine w t)
+
+-- row 9
+unfoldable pub varFits : ℕ → ℕ → ℕ → Bool
+varFits vars cells size = leb (vars + 1) 128 && leb (cells + size) 2048
+
+unfoldable pub varEntry : State → ℕ → ℕ → List ℕ
+varEntry st p kind = (p % 32768) ∷ (1 + 4 * (st .vars % 128)) ∷ (kind % 128 + 128 * (st .cells % 4096)) ∷ st .newest ∷ []
+
+unfoldable pub varState : State → ℕ → ℕ → State
+varState st size top = record {
+  count = st .count % 65536 + 1;
+  newest = st .top;
+  top = top;
+  types = st .types;
+  lines = st .lines;
+  vars = st .vars % 128 + 1;
+  cells = st .cells % 4096 + size % 4096;
+  procs = st .procs;
+}
+
+-- a variable of type `kind` whose name is at p, if it is within its ceilings
+pub data AddsVar (l ts : List ℕ) (st : State) (p kind : ℕ) : Lined → List ℕ → Type 0 where
+  var-fits : varFits (st .vars) (st .cells) (infoOf l ts kind .size) ≡ true
+      → AddsVar l ts st p kind (linedBy Clear true (varState st (infoOf l ts kind .size) (lay (varEntry st p kind) (st .top) l .top))) (lay (varEntry st p kind) (st .top) l .list)
+  var-past : varFits (st .vars) (st .cells) (infoOf l ts kind .size) ≡ false → AddsVar l ts st p kind (linedBy Clear false st) l
+
+-- a line from its variable's type on; its name is at p
+pub record GivesVar (s l ts : List ℕ) (st : State) (p at : ℕ) (r : Lined) (l′ : List ℕ) : Type 0 where
+  pub gives : p < length s → GivesLine s l ts st (varAfter (map small (wordAt s p)) (first (stackAt s at))) r l′ ts

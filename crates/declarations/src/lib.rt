@@ -1,0 +1,230 @@
+// The lines that declare variables and types.
+pub mod enums;
+pub mod made;
+pub mod ranges;
+pub mod simple;
+pub mod types;
+
+use atoms::Typed;
+use atoms::type_name;
+use lexis::words::Word;
+use parts::End;
+use parts::Part;
+use parts::end_at;
+use parts::is_clear;
+use parts::is_form;
+use parts::lowest;
+use parts::part_at;
+use shapes::Atom;
+use shapes::atom_of;
+use symbols::declare;
+use tables::Fault;
+use tables::Meaning;
+use tables::describe;
+use tables::meaning_of;
+ghost use mathlib.Core.Path.{_≡_};
+ghost use Prim.Native.Nat.{_+_, _*_, _%_};
+ghost use Rattle.semantics.specs.Forms.{isVar};
+ghost use Rattle.semantics.specs.Layout.{lay as laid};
+ghost use Rattle.semantics.specs.Trees.{first, stackAt};
+ghost use Rattle.shapes.specs.Heads.{atomOf};
+ghost use Rattle.atoms.specs.Answers.{meaningHere, typed as typedBy};
+ghost use Rattle.declarations.specs.Names.{namedBy, GivesName, newFault, GivesLastType};
+ghost use Rattle.declarations.specs.Lines.{linedBy, lineOf, GivesLine};
+ghost use Rattle.worklist.specs.Laid.{Laid};
+ghost use Rattle.declarations.specs.Vars.{varFits, varEntry, varState, AddsVar, GivesVar};
+
+// What is held of the lines so far: how many entries of names, the newest of them, the free place of the working list, how many types (the
+// two built-in ones too), `type` lines, variables, cells and bodies.
+pub struct State {
+    pub count: u32,
+    pub newest: u32,
+    pub top: u32,
+    pub types: u32,
+    pub lines: u32,
+    pub vars: u32,
+    pub cells: u32,
+    pub procs: u32,
+}
+
+// The answer for a line: its fault of rows 6 to 8; with no fault whether it is within the ceilings of row 9, and then what is held after it.
+pub struct Lined {
+    pub fault: Fault,
+    pub within: bool,
+    pub state: State,
+}
+
+// A free name, with its offset and its end, or another part or none.
+pub enum Naming {
+    Called(usize, usize),
+    Nothing,
+}
+
+// The word at p that ends at q, if it is a free name.
+fn name_word(w: Word, p: usize, q: usize) -> Naming
+    ensures { λ r. ⌜ r ≡ namedBy (atomOf w) p q ⌝ }
+{
+    let a = atom_of(w);
+    match a {
+        Atom::Number(_) => Naming::Nothing,
+        Atom::Named => Naming::Called(p, q),
+        Atom::Truth(_) => Naming::Nothing,
+        Atom::ErrorNumber => Naming::Nothing,
+        Atom::Base(_) => Naming::Nothing,
+        Atom::Nothing => Naming::Nothing,
+    }
+}
+
+// The free name at an offset.
+pub fn name_at(text: &[u8], at: usize) -> Naming
+    ensures { λ r. ⌜ GivesName (now (text .entry)) at r ⌝ }
+{
+    let part = part_at(text, at);
+    match part {
+        Part::Leaf(w, p, q) => name_word(w, p, q),
+        Part::Form(_) => Naming::Nothing,
+        Part::Shut(_) => Naming::Nothing,
+    }
+}
+
+// A fault, or row 7 where a name that a line declares has a meaning already.
+fn new_fault(f: Fault, m: Meaning) -> Fault
+    ensures { λ r. ⌜ r ≡ newFault f m ⌝ }
+{
+    match m {
+        Meaning::Unknown => f,
+        Meaning::Type(_) => lowest(f, Fault::Name),
+        Meaning::Var(_, _, _) => lowest(f, Fault::Name),
+        Meaning::Proc(_) => lowest(f, Fault::Name),
+        Meaning::Value(_, _) => lowest(f, Fault::Name),
+    }
+}
+
+// The fault of a line that declares the name at p, f being that of its other parts.
+pub fn named_fault(text: &[u8], work: &[u32], count: u32, newest: u32, p: usize, f: Fault) -> Fault
+    ensures { λ r. ⌜ r ≡ newFault f (meaningHere (now (text .entry)) (now (work .entry)) count newest p) ⌝ }
+{
+    let m = meaning_of(text, work, count, newest, p);
+    new_fault(f, m)
+}
+
+// An answer for a type's name from its parts.
+fn type_answer(fault: Fault, kind: u32, next: usize) -> Typed
+    ensures { λ r. ⌜ r ≡ typedBy fault kind next ⌝ }
+{
+    Typed {
+        fault: fault,
+        kind: kind,
+        next: next,
+    }
+}
+
+// The type that the last part of a form names; the next part stands past the form.
+pub fn last_type(text: &[u8], work: &[u32], count: u32, newest: u32, at: usize) -> Typed
+    ensures { λ r. ⌜ GivesLastType (now (text .entry)) (now (work .entry)) count newest at r ⌝ }
+{
+    let t = type_name(text, work, count, newest, at);
+    let f = t.fault;
+    if is_form(f) {
+        return type_answer(Fault::Form, 0, at);
+    }
+    let e = end_at(text, t.next);
+    match e {
+        End::Past(q) => type_answer(f, t.kind, q),
+        End::More => type_answer(Fault::Form, 0, at),
+    }
+}
+
+// An answer for a line from its parts.
+pub fn answered(fault: Fault, within: bool, state: State) -> Lined
+    ensures { λ r. ⌜ r ≡ linedBy fault within state ⌝ }
+{
+    Lined {
+        fault: fault,
+        within: within,
+        state: state,
+    }
+}
+
+// Whether a variable of so many cells is within the ceilings of row 9.
+fn var_fits(vars: u32, cells: u32, size: u32) -> bool
+    ensures { λ r. ⌜ r ≡ varFits vars cells size ⌝ }
+{
+    if vars >= 128 {
+        return false;
+    }
+    if size > 2048 {
+        return false;
+    }
+    cells <= 2048 - size
+}
+
+// An offset in 32 bits.
+pub fn narrow(p: usize) -> u32
+    ensures { λ r. ⌜ r ≡ p % 32768 ⌝ }
+{
+    (p % 32768) as u32
+}
+
+// What is held after a variable of so many cells, with the free place then.
+fn var_state(st: State, size: u32, top: u32) -> State
+    ensures { λ r. ⌜ r ≡ varState st size top ⌝ }
+{
+    State {
+        count: st.count % 65536 + 1,
+        newest: st.top,
+        top: top,
+        types: st.types,
+        lines: st.lines,
+        vars: st.vars % 128 + 1,
+        cells: st.cells % 4096 + size % 4096,
+        procs: st.procs,
+    }
+}
+
+// Lays the entry of a variable whose name is at p; the free place then.
+fn lay_var(work: &mut [u32], st: State, p: usize, kind: u32) -> u32
+    ensures { λ r. ⌜ Laid (laid (varEntry st p kind) (st .top) (now (work .entry))) r (now (work .exit)) ⌝ }
+{
+    let name = narrow(p);
+    let sort = 1 + 4 * (st.vars % 128);
+    let more = kind % 128 + 128 * (st.cells % 4096);
+    declare(work, st.top, name, sort, more, st.newest)
+}
+
+// A line that declares a variable, with no fault of rows 6 to 8: its name is at p.
+fn add_var(work: &mut [u32], types: &[u32], st: State, p: usize, kind: u32) -> Lined
+    ensures { λ r. ⌜ AddsVar (now (work .entry)) (now (types .entry)) st p kind r (now (work .exit)) ⌝ }
+{
+    let x = describe(work, types, kind);
+    if var_fits(st.vars, st.cells, x.size) {
+        let top = lay_var(work, st, p, kind);
+        let after = var_state(st, x.size, top);
+        return answered(Fault::Clear, true, after);
+    }
+    answered(Fault::Clear, false, st)
+}
+
+// A `var` line from its type's name on; its name is at p.
+fn var_after(text: &[u8], work: &mut [u32], types: &[u32], st: State, p: usize, at: usize) -> Lined
+    ensures { λ r. ⌜ GivesVar (now (text .entry)) (now (work .entry)) (now (types .entry)) st p at r (now (work .exit)) ⌝ }
+{
+    let t = last_type(text, work, st.count, st.newest, at);
+    let g = t.fault;
+    let f = named_fault(text, work, st.count, st.newest, p, g);
+    if is_clear(f) {
+        return add_var(work, types, st, p, t.kind);
+    }
+    answered(f, false, st)
+}
+
+// A `var` line, past its head word.
+pub fn var_line(text: &[u8], work: &mut [u32], types: &[u32], st: State, at: usize) -> Lined
+    ensures { λ r. ⌜ GivesLine (now (text .entry)) (now (work .entry)) (now (types .entry)) st (lineOf isVar 0 (first (stackAt (now (text .entry)) at))) r (now (work .exit)) (now (types .entry)) ⌝ }
+{
+    let n = name_at(text, at);
+    match n {
+        Naming::Called(p, q) => var_after(text, work, types, st, p, q),
+        Naming::Nothing => answered(Fault::Form, false, st),
+    }
+}

@@ -1,0 +1,53 @@
+-- What the answer for a line's parts tells.
+use mathlib.Core.Bool.{Bool, true}
+use mathlib.Core.List.{List, _++_}
+use mathlib.Core.Option as Option
+use mathlib.Core.Option.{Option}
+use mathlib.Core.Path.{_≡_}
+use Prim.Native.Nat.{ℕ, _+_, _-_, _≤_}
+use lib.ListN.{length, getD}
+use Rattle.semantics.specs.Base.{_>>=_}
+use Rattle.semantics.specs.Ceilings.{lineBounded}
+use Rattle.semantics.specs.Code.{BodyCode}
+use Rattle.semantics.specs.Environment.{declareLine}
+use Rattle.semantics.specs.LayoutSize.{symbolSize, sizeBodies}
+use Rattle.semantics.specs.Script.{Entry}
+use Rattle.semantics.specs.Stages.{fits}
+use Rattle.semantics.specs.Syntax.{LineForm}
+use Rattle.semantics.specs.Trees.{nodesIn, first, stackAt}
+use Rattle.semantics.specs.Verdict.{Read}
+use Rattle.semantics.proofs.LayoutBodies.{Bodies}
+use Rattle.parts.specs.Got.{faultOf}
+use Rattle.shapes.specs.declared.LineHead.{LineHead}
+use Rattle.shapes.specs.Heads.{lineHeadMeant}
+use Rattle.declarations.specs.State.{Holds}
+use Rattle.lines.specs.declared.Known.{Known}
+use Rattle.lines.specs.declared.Entered.{Entered}
+use Rattle.lines.specs.Judging.{Standing}
+use Rattle.lines.specs.Whole.{headIn, wholeStaged}
+
+-- what stands after a line that declares e, with the code cs; its last statement has the number n, and the free place was top
+pub record EntryStands (s l ts : List ℕ) (top : ℕ) (g : Entered) (r : Read) (e : Entry) (cs : List BodyCode) (n : ℕ) : Type 0 where
+  pub places : List ℕ
+  pub holds : (nn : ℕ) → Holds s l ts (g .state) (declareLine (r .known) e n nn) places
+  pub top-is : g .state .top ≡ top + symbolSize e + sizeBodies cs
+  pub bodies : (other : BodyCode) → Bodies other 1 (g .state .top) l places (r .codes ++ cs)
+  pub stmts-are : g .stmts ≡ n
+  pub ended-is : (nn : ℕ) → g .ended ≡ declareLine (r .known) e n nn .ended
+  pub main-is : (nn : ℕ) → declareLine (r .known) e n nn .ended ≡ true → g .main ≡ getD places (length places - 1) 0
+
+-- the number of the last statement
+abbrev pub lastOf : Option (LineForm × ℕ) → ℕ
+lastOf Option.none = 0
+lastOf (Option.some p) = p .1
+
+pub record EntryTold (s l ts : List ℕ) (top : ℕ) (r : Read) (o : Option (LineForm × ℕ)) (g : Entered) : Type 0 where
+  pub fault-is : g .fault ≡ faultOf (wholeStaged (r .known) o)
+  pub within-is : (e : Entry) (cs : List BodyCode) → wholeStaged (r .known) o ≡ fits (e, cs) → g .within ≡ lineBounded (r .known) e
+  pub stands : (e : Entry) (cs : List BodyCode) → wholeStaged (r .known) o ≡ fits (e, cs) → lineBounded (r .known) e ≡ true → top + symbolSize e + sizeBodies cs ≤ 16384
+      → EntryStands s l ts top g r e cs (lastOf o)
+
+-- the parts after the head word h, at an offset
+pub record Enters (s l ts : List ℕ) (kn : Known) (h : LineHead) (at : ℕ) (g : Entered) (l′ ts′ : List ℕ) : Type 0 where
+  pub says : (r : Read) (bs : List ℕ) → Standing s l ts kn r bs → r .known .stmts + nodesIn (first (stackAt s at)) ≤ 65535
+      → EntryTold s l′ ts′ (kn .state .top) r (lineHeadMeant h >>= λ k. headIn k (r .known .stmts) (first (stackAt s at))) g

@@ -1,0 +1,4 @@
+pub mod Judging
+pub mod Whole
+pub mod Answers
+pub mod Entering
