@@ -1,3 +1,6 @@
 pub mod Lines
 pub mod Rows
 pub mod Stepping
+pub mod Declaring
+pub mod Bodies
+pub mod BodyStands

@@ -49,6 +49,7 @@ module _ (kn : Known) (g : Entered) (n : ℕ) (r : Judgement) where
   judge-fault v e h q = q ∙ rw (e, ne-eqb (rowOf (g .fault)) 0 (λ z. h (e ∙ z))) refl
 
 pub ruleset ninth-laws = (ninth-good, ninth-nodes, ninth-bounds)
+
 pub ruleset judge-laws = (judge-clear, judge-fault)
 
 -- ---- what the answer says

@@ -25,6 +25,7 @@ use Rattle.semantics.specs.Verdict.{Judged, good, bad, _>>=_, must, Read, has, 
 use Rattle.semantics.specs.Words.{Word, worded}
 use Rattle.semantics.proofs.Inversion.{bind-some, some-inj, and-true}
 use Rattle.semantics.proofs.OnePassLines.{judgedBy}
+use Rattle.semantics.proofs.LinesMeasured.{measured-line}
 use Rattle.semantics.proofs.StatementNumbers.{line-counts}
 use Rattle.semantics.proofs.TextRoom.{Room, room-line, entry-room, line-symbols, bodies-append}
 use Rattle.semantics.proofs.Weights.{line-weighs, worded-nodes}
@@ -96,19 +97,22 @@ module _ (s l ts : List ℕ) (kn : Known) (r : Read) (bs : List ℕ) (S : Standi
       let R = S .room in
       let w = R .within in
       let c : kn .state .top + symbolSize e + sizeBodies cs ≤ 16384 = let u = S .top-is in let x = X .size in omega arith in
-      let E = T .stands e cs q b c in
       let N = r .known .nodes + nodes t in
-      (E .places, record {
-        holds = E .holds N;
-        stmts-are = E .stmts-are ∙ sym (declared-stmts (r .known) e (lastOf (lineIn (r .known .stmts) t)) N);
-        nodes-are = rw (S .nodes-are) (good-nodes (r .known .nodes) (nodes t) n) ∙ sym (declared-count (r .known) e (lastOf (lineIn (r .known .stmts) t)) N);
-        ended-is = E .ended-is N;
-        counted = rw (declared-stmts (r .known) e (lastOf (lineIn (r .known .stmts) t)) N, declared-count (r .known) e (lastOf (lineIn (r .known .stmts) t)) N) (let y = S .counted in let x = X .last in omega arith);
-        room = room-line R ln (declareLine (r .known) e (lastOf (lineIn (r .known .stmts) t)) N, cs) h;
-        top-is = E .top-is ∙ (let a = line-symbols (r .known) e (lastOf (lineIn (r .known .stmts) t)) N (R .two) in let d = bodies-append (r .codes) cs in let u = S .top-is in omega arith);
-        bodies = E .bodies;
-        main-is = E .main-is N;
-      })
+      let M = measured-line (r .known) (r .codes) ln (declareLine (r .known) e (lastOf (lineIn (r .known .stmts) t)) N, cs) h (S .measured) in
+      let E = T .stands e cs q b c N M in (
+        E .places,
+        record {
+          holds = E .holds;
+          stmts-are = E .stmts-are ∙ sym (declared-stmts (r .known) e (lastOf (lineIn (r .known .stmts) t)) N);
+          nodes-are = rw (S .nodes-are) (good-nodes (r .known .nodes) (nodes t) n) ∙ sym (declared-count (r .known) e (lastOf (lineIn (r .known .stmts) t)) N);
+          ended-is = E .ended-is;
+          measured = M;
+          room = room-line R ln (declareLine (r .known) e (lastOf (lineIn (r .known .stmts) t)) N, cs) h;
+          top-is = E .top-is ∙ (let a = line-symbols (r .known) e (lastOf (lineIn (r .known .stmts) t)) N (R .two) in let d = bodies-append (r .codes) cs in let u = S .top-is in omega arith);
+          bodies = E .bodies;
+          main-is = E .main-is;
+        },
+      )
 
   pub line-answer : (j : Judgement) → j ≡ judgement kn g (nodes t) → JudgedBy s l′ ts′ r (judgeLine strictly (r .known) ln) j
   unfolding judgement ninthJudgement judgedBy must _>>=_

@@ -4,6 +4,7 @@ use Prim.Native.Nat.{ℕ, _+_, _%_}
 use lib.Dec.{eqb, leb}
 use Rattle.tables.specs.declared.Fault.{Fault}
 use Rattle.tables.specs.declared.Fault.the-variants.{Clear, Kind, Name, Form}
+use Rattle.declarations.specs.declared.Lined.{Lined}
 use Rattle.lines.specs.declared.Known.{Known}
 use Rattle.lines.specs.declared.Judgement.{Judgement}
 use Rattle.lines.specs.declared.Entered.{Entered}
@@ -30,3 +31,7 @@ ninthJudgement kn g n = cond (g .within) (cond (nodesFit (kn .nodes) n) (goodJud
 
 unfoldable pub judgement : Known → Entered → ℕ → Judgement
 judgement kn g n = cond (eqb (rowOf (g .fault)) 0) (ninthJudgement kn g n) (refusedJudgement (rowOf (g .fault)) kn)
+
+-- the parts of a line that declares a variable or a type
+abbrev pub declaredEntry : Known → Lined → Entered
+declaredEntry kn r = record { fault = r .fault; within = r .within; state = r .state; stmts = kn .stmts; ended = false; main = 0 }

@@ -17,6 +17,7 @@ use Rattle.semantics.specs.Syntax.{LineForm}
 use Rattle.semantics.specs.Trees.{nodesIn, first, stackAt}
 use Rattle.semantics.specs.Verdict.{Read}
 use Rattle.semantics.proofs.LayoutBodies.{Bodies}
+use Rattle.semantics.proofs.LinesMeasured.{Measured}
 use Rattle.parts.specs.Got.{faultOf}
 use Rattle.shapes.specs.declared.LineHead.{LineHead}
 use Rattle.shapes.specs.Heads.{lineHeadMeant}
@@ -26,15 +27,16 @@ use Rattle.lines.specs.declared.Entered.{Entered}
 use Rattle.lines.specs.Judging.{Standing}
 use Rattle.lines.specs.Whole.{headIn, wholeStaged}
 
--- what stands after a line that declares e, with the code cs; its last statement has the number n, and the free place was top
-pub record EntryStands (s l ts : List ℕ) (top : ℕ) (g : Entered) (r : Read) (e : Entry) (cs : List BodyCode) (n : ℕ) : Type 0 where
+-- what stands after a line that declares e, with the code cs; its last statement has the number n, nn brackets and words came up to its end,
+-- and the free place was top
+pub record EntryStands (s l ts : List ℕ) (top : ℕ) (g : Entered) (r : Read) (e : Entry) (cs : List BodyCode) (n nn : ℕ) : Type 0 where
   pub places : List ℕ
-  pub holds : (nn : ℕ) → Holds s l ts (g .state) (declareLine (r .known) e n nn) places
+  pub holds : Holds s l ts (g .state) (declareLine (r .known) e n nn) places
   pub top-is : g .state .top ≡ top + symbolSize e + sizeBodies cs
   pub bodies : (other : BodyCode) → Bodies other 1 (g .state .top) l places (r .codes ++ cs)
   pub stmts-are : g .stmts ≡ n
-  pub ended-is : (nn : ℕ) → g .ended ≡ declareLine (r .known) e n nn .ended
-  pub main-is : (nn : ℕ) → declareLine (r .known) e n nn .ended ≡ true → g .main ≡ getD places (length places - 1) 0
+  pub ended-is : g .ended ≡ declareLine (r .known) e n nn .ended
+  pub main-is : declareLine (r .known) e n nn .ended ≡ true → g .main ≡ getD places (length places - 1) 0
 
 -- the number of the last statement
 abbrev pub lastOf : Option (LineForm × ℕ) → ℕ
@@ -45,7 +47,7 @@ pub record EntryTold (s l ts : List ℕ) (top : ℕ) (r : Read) (o : Option (Lin
   pub fault-is : g .fault ≡ faultOf (wholeStaged (r .known) o)
   pub within-is : (e : Entry) (cs : List BodyCode) → wholeStaged (r .known) o ≡ fits (e, cs) → g .within ≡ lineBounded (r .known) e
   pub stands : (e : Entry) (cs : List BodyCode) → wholeStaged (r .known) o ≡ fits (e, cs) → lineBounded (r .known) e ≡ true → top + symbolSize e + sizeBodies cs ≤ 16384
-      → EntryStands s l ts top g r e cs (lastOf o)
+      → (nn : ℕ) → Measured (declareLine (r .known) e (lastOf o) nn) (r .codes ++ cs) → EntryStands s l ts top g r e cs (lastOf o) nn
 
 -- the parts after the head word h, at an offset
 pub record Enters (s l ts : List ℕ) (kn : Known) (h : LineHead) (at : ℕ) (g : Entered) (l′ ts′ : List ℕ) : Type 0 where

@@ -9,6 +9,7 @@ use Rattle.semantics.specs.Environment.{Declared}
 use Rattle.semantics.specs.LayoutSize.{sizeSymbols, sizeBodies}
 use Rattle.semantics.specs.Verdict.{Judged, good, bad, Read, has, strictly, judgeLine}
 use Rattle.semantics.proofs.LayoutBodies.{Bodies}
+use Rattle.semantics.proofs.LinesMeasured.{Measured}
 use Rattle.semantics.proofs.TextRoom.{Room}
 use Rattle.reader.specs.Passes.{lineAt}
 use Rattle.declarations.specs.State.{Holds}
@@ -21,7 +22,7 @@ pub record Standing (s l ts : List ℕ) (kn : Known) (r : Read) (bs : List ℕ) 
   pub stmts-are : kn .stmts ≡ r .known .stmts
   pub nodes-are : kn .nodes ≡ r .known .nodes
   pub ended-is : kn .ended ≡ r .known .ended
-  pub counted : r .known .stmts ≤ r .known .nodes
+  pub measured : Measured (r .known) (r .codes)
   pub room : Room (r .known) (r .codes)
   pub top-is : kn .state .top ≡ 1 + sizeSymbols (r .known .env) + sizeBodies (r .codes)
   pub bodies : (other : BodyCode) → Bodies other 1 (kn .state .top) l bs (r .codes)

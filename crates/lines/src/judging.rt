@@ -2,9 +2,10 @@
 use crate::Entered;
 use crate::Judgement;
 use crate::Known;
+use declarations::Lined;
 use tables::Fault;
 ghost use mathlib.Core.Path.{_≡_};
-ghost use Rattle.lines.specs.Answers.{refusedJudgement, rowOf, nodesFit, goodJudgement, ninthJudgement, judgement};
+ghost use Rattle.lines.specs.Answers.{refusedJudgement, rowOf, nodesFit, goodJudgement, ninthJudgement, judgement, declaredEntry};
 
 // A line that is refused.
 pub fn refused(number: u32, kn: Known) -> Judgement
@@ -79,4 +80,20 @@ pub fn judge(kn: Known, g: Entered, n: usize) -> Judgement
         return ninth(kn, g, n);
     }
     refused(row, kn)
+}
+
+// A line that declares a variable or a type.
+pub fn declared(kn: Known, r: Lined) -> Entered
+    ensures { λ x. ⌜ x ≡ declaredEntry kn r ⌝ }
+{
+    let fault = r.fault;
+    let state = r.state;
+    Entered {
+        fault: fault,
+        within: r.within,
+        state: state,
+        stmts: kn.stmts,
+        ended: false,
+        main: 0,
+    }
 }

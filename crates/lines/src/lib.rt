@@ -1,5 +1,6 @@
 // A line of a script: rows 4 to 9, and what is known after it.
 pub mod judging;
+
 use declarations::State;
 use tables::Fault;
 

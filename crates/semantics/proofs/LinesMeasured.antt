@@ -52,7 +52,7 @@ pub record Measured (k : Declared) (cs : List BodyCode) : Type 0 where
   pub calls : Bodies CallsBody 0 cs
   pub sized : Bodies (λ _. SizedBody) 0 cs
 
-measured-start : Measured nothingDeclared []
+pub measured-start : Measured nothingDeclared []
 measured-start = record {
   keeps = keeps-start;
   small = small-start;
@@ -189,16 +189,18 @@ module _ (k : Declared) (cs : List BodyCode) (h : Measured k cs) (going : k .end
   line-measured (Counted.mainLine {b = f} u) e p ds = bind-some p λ x hx v. rw (← some-inj v) λ r b c q.
       bind-some c λ d hd y. rw (← some-inj y) (main-measured f x hx u r d hd q)
 
+pub measured-line : (k : Declared) (cs : List BodyCode) (l : Line) (q : Declared × List BodyCode) → judgeLine strictly k l ≡ good q → Measured k cs → Measured (q .0) (cs ++ q .1)
+measured-line k cs l q hq p = line-parts k l q hq λ v f e m going h₆ h₇ h₈ c b em lm d.
+    let i = line-counts (k .stmts) v f h₆ in
+    let low : f .1 ≤ m = omega (arith, i .most, p .stmts) in
+    rw (← d) (line-measured k cs p going (f .1) m low lm (i .each 4096 (omega arith)) e h₇ (q .1) h₈ b c (line-keeps k (p .keeps) (f .0) e h₇ h₈ b (f .1) m))
+
 -- ---- all lines
 
 pub lines-measured : (n : ℕ) (ls : List Line) (k : Declared) (cs : List BodyCode) (r : Read) → judgeLines strictly n ls (has k cs) ≡ accepted r → Measured k cs → Measured (r .known) (r .codes) × (r .known .ended ≡ true)
 unfolding judgeLines
 lines-measured n [] k cs r h p = onward-is n h λ u hu e. rw (← accepted-inj e) (p, must-good 6 (k .ended) hu)
-lines-measured n (l ∷ ls) k cs r h p = onward-is n h λ q hq h′. line-parts k l q hq λ v f e m going h₆ h₇ h₈ c b em lm d.
-    let i = line-counts (k .stmts) v f h₆ in
-    let low : f .1 ≤ m = omega (arith, i .most, p .stmts) in
-    lines-measured (suc n) ls (q .0) (cs ++ q .1) r h′
-    (rw (← d) (line-measured k cs p going (f .1) m low lm (i .each 4096 (omega arith)) e h₇ (q .1) h₈ b c (line-keeps k (p .keeps) (f .0) e h₇ h₈ b (f .1) m)))
+lines-measured n (l ∷ ls) k cs r h p = onward-is n h λ q hq h′. lines-measured (suc n) ls (q .0) (cs ++ q .1) r h′ (measured-line k cs l q hq p)
 
 -- an accepted text
 pub text-measured : (text : List ℕ) (work : ℕ) (r : Read) → verdictOf text work ≡ accepted r → Measured (r .known) (r .codes) × (r .known .ended ≡ true)

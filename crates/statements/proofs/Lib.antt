@@ -1,0 +1,13 @@
+pub mod Making
+pub mod Faults
+pub mod Acts
+pub mod Stores
+pub mod Shapes
+pub mod Chains
+pub mod Ways
+pub mod Storing
+pub mod Repeats
+pub mod Fronts
+pub mod Bodies
+pub mod Following
+pub mod Cases

@@ -1,0 +1,3 @@
+pub mod last;
+pub mod nodes;
+pub mod simple;

@@ -1,0 +1,154 @@
+// The statements that have no statements in them, from past the head word on.
+use crate::nodes::assign_node;
+use crate::nodes::call_node;
+use crate::nodes::is_named;
+use crate::nodes::raise_node;
+use crate::nodes::steer;
+use crate::nodes::wanted;
+use expressions::walk::expr;
+use expressions::walk::target;
+use parts::End;
+use parts::Got;
+use parts::Part;
+use parts::closing;
+use parts::end_at;
+use parts::failed;
+use parts::is_form;
+use parts::part_at;
+use tables::Fault;
+use tables::Mask;
+use tables::meaning_of;
+ghost use Rattle.statements.specs.Walks.{GivesAssign, GivesStore, GivesRaise, GivesCall, GivesCallEnd, GivesWanted};
+
+// A target that is assigned.
+fn store_at(
+    text: &[u8],
+    work: &mut [u32],
+    types: &[u32],
+    count: u32,
+    newest: u32,
+    loops: Mask,
+    at: usize,
+    top: u32,
+) -> Got
+    ensures { λ r. ⌜ GivesStore (now (text .entry)) (now (work .entry)) (now (types .entry)) count newest loops at top r (now (work .exit)) ⌝ }
+{
+    let part = part_at(text, at);
+    match part {
+        Part::Leaf(_, p, _) => {
+            let m = meaning_of(text, work, count, newest, p);
+            let g = target(text, work, types, count, newest, 33, at, top);
+            steer(loops, m, g)
+        }
+        Part::Form(_) => target(text, work, types, count, newest, 33, at, top),
+        Part::Shut(q) => failed(Fault::Form, 0, q, top),
+    }
+}
+
+// An assignment.
+pub fn assign(
+    text: &[u8],
+    work: &mut [u32],
+    types: &[u32],
+    count: u32,
+    newest: u32,
+    loops: Mask,
+    number: u32,
+    at: usize,
+    top: u32,
+) -> Got
+    ensures { λ r. ⌜ GivesAssign (now (text .entry)) (now (work .entry)) (now (types .entry)) count newest loops number at top r (now (work .exit)) ⌝ }
+{
+    let g = store_at(text, work, types, count, newest, loops, at, top);
+    let f = g.fault;
+    if is_form(f) {
+        return g;
+    }
+    let a = expr(text, work, types, count, newest, 33, g.next, g.top);
+    let e = closing(text, a);
+    assign_node(work, types, number, g, e)
+}
+
+// An expression of kind k.
+pub fn wanted_expr(
+    text: &[u8],
+    work: &mut [u32],
+    types: &[u32],
+    count: u32,
+    newest: u32,
+    k: u32,
+    at: usize,
+    top: u32,
+) -> Got
+    ensures { λ r. ⌜ GivesWanted (now (text .entry)) (now (work .entry)) (now (types .entry)) count newest k at top r (now (work .exit)) ⌝ }
+{
+    let a = expr(text, work, types, count, newest, 33, at, top);
+    wanted(k, a)
+}
+
+// A `raise`.
+pub fn raise(
+    text: &[u8],
+    work: &mut [u32],
+    types: &[u32],
+    count: u32,
+    newest: u32,
+    number: u32,
+    at: usize,
+    top: u32,
+) -> Got
+    ensures { λ r. ⌜ GivesRaise (now (text .entry)) (now (work .entry)) (now (types .entry)) count newest number at top r (now (work .exit)) ⌝ }
+{
+    let a = expr(text, work, types, count, newest, 33, at, top);
+    let c = closing(text, a);
+    let w = wanted(0, c);
+    raise_node(work, number, w)
+}
+
+// A `call` after its name, which stands at p.
+fn call_end(
+    text: &[u8],
+    work: &mut [u32],
+    count: u32,
+    newest: u32,
+    number: u32,
+    p: usize,
+    at: usize,
+    top: u32,
+) -> Got
+    ensures { λ r. ⌜ GivesCallEnd (now (text .entry)) (now (work .entry)) count newest number p at top r (now (work .exit)) ⌝ }
+{
+    let e = end_at(text, at);
+    match e {
+        End::Past(q) => {
+            let m = meaning_of(text, work, count, newest, p);
+            call_node(work, number, m, q, top)
+        }
+        End::More => failed(Fault::Form, 0, at, top),
+    }
+}
+
+// A `call`.
+pub fn call(
+    text: &[u8],
+    work: &mut [u32],
+    count: u32,
+    newest: u32,
+    number: u32,
+    at: usize,
+    top: u32,
+) -> Got
+    ensures { λ r. ⌜ GivesCall (now (text .entry)) (now (work .entry)) count newest number at top r (now (work .exit)) ⌝ }
+{
+    let part = part_at(text, at);
+    match part {
+        Part::Leaf(w, p, q) => {
+            if is_named(w) {
+                return call_end(text, work, count, newest, number, p, q, top);
+            }
+            failed(Fault::Form, 0, q, top)
+        }
+        Part::Form(p) => failed(Fault::Form, 0, p, top),
+        Part::Shut(q) => failed(Fault::Form, 0, q, top),
+    }
+}
