@@ -31,10 +31,10 @@ use Rattle.lines.specs.Whole.{headIn, wholeStaged}
 
 -- ---- shapes
 
-abbrev mainOf : Syntax.Body × ℕ → LineForm × ℕ
+abbrev pub mainOf : Syntax.Body × ℕ → LineForm × ℕ
 mainOf p = (mainLine (p .0), p .1)
 
-abbrev procOf : Name → Syntax.Body × ℕ → LineForm × ℕ
+abbrev pub procOf : Name → Syntax.Body × ℕ → LineForm × ℕ
 procOf w p = (procLine w (p .0), p .1)
 
 pub main-shape : (n : ℕ) (us : Trees Run) → headIn isMain n us ≡ (bodyIn n us >>= λ p. some (mainOf p))

@@ -24,6 +24,7 @@ use Rattle.tables.specs.declared.Meaning.the-variants as meaning
 use Rattle.tables.specs.Scene.{meaningBy, Means, a-type, a-var, a-proc, a-value, Meant, Scene}
 use Rattle.tables.proofs.Kept.{scene-kept}
 use Rattle.declarations.specs.declared.State.{State}
+use Rattle.lines.specs.Answers.{bodyState}
 use Rattle.declarations.specs.State.{Holds}
 use Rattle.declarations.proofs.Growing.{Chained, scene-chained, chained-env, chained-more, laid-same}
 use Rattle.declarations.proofs.VarLines.{value-find}
@@ -58,10 +59,6 @@ body-scene {top′ = top′} {σ = σ} {bs = bs} S E h p F =
     }
 
 -- ---- `main`
-
--- the state with a body more; the free place is t
-abbrev pub bodyState : State → ℕ → State
-bodyState st t = record { count = st .count; newest = st .newest; top = t; types = st .types; lines = st .lines; vars = st .vars; cells = st .cells; procs = st .procs % 16384 + 1 }
 
 module _ {s l ts : List ℕ} {st : State} {k : Declared} {bs : List ℕ} (H : Holds s l ts st k bs) (few : st .procs < 16384) (x : Body) (n nn : ℕ) {l′ : List ℕ} (E : Same 0 (st .top) l′ l) (long : length l′ ≡ length l)
     (t : ℕ) (up : st .top ≤ t) (low : t ≤ 16384) (p : ℕ) where

@@ -4,3 +4,4 @@ pub mod Stepping
 pub mod Declaring
 pub mod Bodies
 pub mod BodyStands
+pub mod BodyEnters

@@ -1,9 +1,11 @@
 -- The answer for a line, as the code makes it from that for its parts.
-use mathlib.Core.Bool.{Bool, false, cond}
+use mathlib.Core.Bool.{Bool, true, false, cond}
 use Prim.Native.Nat.{ℕ, _+_, _%_}
 use lib.Dec.{eqb, leb}
 use Rattle.tables.specs.declared.Fault.{Fault}
 use Rattle.tables.specs.declared.Fault.the-variants.{Clear, Kind, Name, Form}
+use Rattle.parts.specs.declared.Got.{Got}
+use Rattle.declarations.specs.declared.State.{State}
 use Rattle.declarations.specs.declared.Lined.{Lined}
 use Rattle.lines.specs.declared.Known.{Known}
 use Rattle.lines.specs.declared.Judgement.{Judgement}
@@ -35,3 +37,11 @@ judgement kn g n = cond (eqb (rowOf (g .fault)) 0) (ninthJudgement kn g n) (refu
 -- the parts of a line that declares a variable or a type
 abbrev pub declaredEntry : Known → Lined → Entered
 declaredEntry kn r = record { fault = r .fault; within = r .within; state = r .state; stmts = kn .stmts; ended = false; main = 0 }
+
+-- the state with a body more, where the free place is t
+abbrev pub bodyState : State → ℕ → State
+bodyState st t = record { count = st .count; newest = st .newest; top = t; types = st .types; lines = st .lines; vars = st .vars; cells = st .cells; procs = st .procs % 16384 + 1 }
+
+-- of `main`, whose body's answer is g
+unfoldable pub mainEntry : Known → Got → Entered
+mainEntry kn g = record { fault = g .fault; within = true; state = bodyState (kn .state) (g .top); stmts = g .kind; ended = true; main = g .place }
