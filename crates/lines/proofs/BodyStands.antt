@@ -24,7 +24,7 @@ use Rattle.tables.specs.declared.Meaning.the-variants as meaning
 use Rattle.tables.specs.Scene.{meaningBy, Means, a-type, a-var, a-proc, a-value, Meant, Scene}
 use Rattle.tables.proofs.Kept.{scene-kept}
 use Rattle.declarations.specs.declared.State.{State}
-use Rattle.lines.specs.Answers.{bodyState}
+use Rattle.lines.specs.Answers.{bodyState, procState}
 use Rattle.declarations.specs.State.{Holds}
 use Rattle.declarations.proofs.Growing.{Chained, scene-chained, chained-env, chained-more, laid-same}
 use Rattle.declarations.proofs.VarLines.{value-find}
@@ -107,10 +107,6 @@ means-env σ σ′ bs h x m a-type = a-type
 means-env σ σ′ bs h x m (a-var {i} v e) = a-var v (ap (λ (Δ : Vars). variable Δ i) h ∙ e)
 means-env σ σ′ bs h x m a-proc = a-proc
 means-env σ σ′ bs h x m a-value = a-value
-
--- the state then; the entry is laid at t
-abbrev pub procState : State → ℕ → ℕ → State
-procState st t u = record { count = st .count % 65536 + 1; newest = t; top = u; types = st .types; lines = st .lines; vars = st .vars; cells = st .cells; procs = st .procs % 16384 + 1 }
 
 module _ {s l ts : List ℕ} {st : State} {k : Declared} {bs : List ℕ} (H : Holds s l ts st k bs) (few : st .procs < 16384) (x : Body) (n nn : ℕ) {l′ : List ℕ} (E : Same 0 (st .top) l′ l) (long : length l′ ≡ length l)
     (t : ℕ) (up : st .top ≤ t) (low : t + 4 ≤ 16384) (p name : ℕ) (K : Keeps (declareLine k (newProc (map small (wordAt s name)) x) n nn)) where

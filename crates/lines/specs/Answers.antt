@@ -1,7 +1,8 @@
 -- The answer for a line, as the code makes it from that for its parts.
 use mathlib.Core.Bool.{Bool, true, false, cond}
-use Prim.Native.Nat.{ℕ, _+_, _%_}
-use lib.Dec.{eqb, leb}
+use mathlib.Core.List.{List, [], _∷_}
+use Prim.Native.Nat.{ℕ, _+_, _*_, _%_}
+use lib.Dec.{eqb, leb, ltb}
 use Rattle.tables.specs.declared.Fault.{Fault}
 use Rattle.tables.specs.declared.Fault.the-variants.{Clear, Kind, Name, Form}
 use Rattle.parts.specs.declared.Got.{Got}
@@ -45,3 +46,15 @@ bodyState st t = record { count = st .count; newest = st .newest; top = t; types
 -- of `main`, whose body's answer is g
 unfoldable pub mainEntry : Known → Got → Entered
 mainEntry kn g = record { fault = g .fault; within = true; state = bodyState (kn .state) (g .top); stmts = g .kind; ended = true; main = g .place }
+
+-- the state after a procedure, whose name's entry is laid at t; the free place then is u
+abbrev pub procState : State → ℕ → ℕ → State
+procState st t u = record { count = st .count % 65536 + 1; newest = t; top = u; types = st .types; lines = st .lines; vars = st .vars; cells = st .cells; procs = st .procs % 16384 + 1 }
+
+-- its name's entry: the name at p, the body at `place`
+unfoldable pub procNumbers : State → ℕ → ℕ → List ℕ
+procNumbers st p place = p % 32768 ∷ (2 + 4 * (st .procs % 16384)) ∷ place ∷ st .newest ∷ []
+
+-- of `proc`: f is the fault of its name and body, whose answer is g; the free place after its entry is u
+abbrev pub procEntry : Known → Fault → Got → ℕ → Entered
+procEntry kn f g u = record { fault = f; within = ltb (kn .state .procs) 32; state = procState (kn .state) (g .top) u; stmts = g .kind; ended = false; main = 0 }
