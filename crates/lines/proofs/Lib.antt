@@ -5,3 +5,4 @@ pub mod Declaring
 pub mod Bodies
 pub mod BodyStands
 pub mod BodyEnters
+pub mod Dispatch

@@ -1,0 +1,120 @@
+-- From a line's head word to its judgement.
+use mathlib.Core.Path.{_≡_, refl, sym, ap, _∙_}
+use mathlib.Core.List.{List, map}
+use mathlib.Core.Option.{Option, none, some}
+use Prim.Native.Nat.{ℕ, _+_, _<_, _≤_}
+use native.Mathlib.Omega.{arith}
+use Rattle.lexis.specs.declared.words.Word as Kind
+use Rattle.lexis.specs.Bytes.{small}
+use Rattle.lexis.specs.Words.{wordOf}
+use Rattle.semantics.specs.Base.{_>>=_}
+use Rattle.semantics.specs.Forms as Forms
+use Rattle.semantics.specs.Forms.{isProc, isMain}
+use Rattle.semantics.specs.Lines.{Line}
+use Rattle.semantics.specs.Stages.{wrong, staged}
+use Rattle.semantics.specs.Syntax as Syntax
+use Rattle.semantics.specs.Trees.{word, form, Trees, end, _then_, Run, nodes, nodesIn, first, later, wordAt, stackAt}
+use Rattle.semantics.specs.Verdict.{Read, bad, strictly, judgeLine}
+use Rattle.semantics.proofs.OnePassLines.{judgedBy}
+use Rattle.tables.specs.declared.Fault.{Fault}
+use Rattle.tables.specs.declared.Fault.the-variants.{Clear, Form}
+use Rattle.tables.specs.declared.Meaning.{Meaning}
+use Rattle.parts.specs.declared.Got.{Got}
+use Rattle.parts.specs.declared.Part.{Part}
+use Rattle.parts.specs.declared.Part.the-variants as part
+use Rattle.parts.specs.Got.{lowest}
+use Rattle.parts.specs.Parts.{Stands}
+use Rattle.shapes.specs.declared.LineHead.{LineHead}
+use Rattle.shapes.specs.declared.LineHead.the-variants as LH
+use Rattle.shapes.specs.Heads.{lineHeadOf, lineHeadMeant}
+use Rattle.shapes.specs.Parts.{nameIn}
+use Rattle.atoms.specs.Answers.{meaningHere}
+use Rattle.statements.specs.Walks.{GivesBody}
+use Rattle.declarations.specs.declared.Naming.{Naming}
+use Rattle.declarations.specs.declared.Naming.the-variants as naming
+use Rattle.declarations.specs.Names.{GivesName, newFault}
+use Rattle.expressions.proofs.Joining.{wrong-fits}
+use Rattle.lines.specs.declared.Known.{Known}
+use Rattle.lines.specs.declared.Judgement.{Judgement}
+use Rattle.lines.specs.declared.Entered.{Entered}
+use Rattle.lines.specs.Answers.{refusedJudgement, judgement, mainEntry, procEntry}
+use Rattle.lines.specs.Entering.{EntryTold, Enters}
+use Rattle.lines.specs.Forms.{LineIs, JudgesForm}
+use Rattle.lines.specs.Judging.{Standing}
+use Rattle.lines.specs.Whole.{lineIn, headIn, wholeStaged}
+use Rattle.lines.proofs.Bodies.{procOf, proc-shape}
+use Rattle.lines.proofs.BodyEnters.{main-told, proc-told, ProcLaid}
+use Rattle.lines.proofs.Lines.{line-judged, line-headed, line-empty, line-headless}
+use Rattle.lines.proofs.Stepping.{line-answer}
+
+-- ---- counts
+
+less-nodes : (us vs : Trees Run) (w : Run) → us ≡ (word w then vs) → (m : ℕ) → m + nodesIn us ≤ 65535 → m + nodesIn vs ≤ 65535
+unfolding nodes
+less-nodes us vs w h m i = let j : nodesIn us ≡ nodesIn (word w then vs) = ap (λ (ts : Trees Run). nodesIn ts) h in omega arith
+
+line-nodes : (us vs : Trees Run) (w : Run) → us ≡ (word w then vs) → (n : ℕ) → n ≡ nodes (form us) → nodesIn vs ≤ n
+unfolding nodes
+line-nodes us vs w h n e = let j : n ≡ nodes (form (word w then vs)) = e ∙ ap (λ (ts : Trees Run). nodes (form ts)) h in omega arith
+
+-- ---- the parts after the head word
+
+some-first : {A B : Type 0} (a : A) (f : A → Option B) → (some a >>= f) ≡ f a
+unfolding _>>=_
+some-first a f = refl
+
+none-first : {A B : Type 0} (f : A → Option B) → (none >>= f) ≡ none
+unfolding _>>=_
+none-first f = refl
+
+-- no form: a fault of row 6
+wrong-told : (s l ts : List ℕ) (top : ℕ) (r : Read) (o : Option (Syntax.LineForm × ℕ)) (g : Entered) → o ≡ none → g .fault ≡ Form → EntryTold s l ts top r o g
+unfolding wholeStaged staged _>>=_
+wrong-told s l ts top r o g h e = rw h (record { fault-is = e; within-is = λ x cs q. absurd (wrong-fits q); stands = λ x cs q. absurd (wrong-fits q) })
+
+module _ (s l ts : List ℕ) (kn : Known) (at : ℕ) (g : Entered) where
+  pub enters-nothing : (k : LineHead) → k ≡ LH.Nothing → g .fault ≡ Form → Enters s l ts kn k at g l ts
+  enters-nothing k h e = rw h (record { says = λ r bs S n. wrong-told s l ts (kn .state .top) r _ g (none-first _) e })
+
+  pub enters-main : (k : LineHead) (b : Got) (l′ : List ℕ) → k ≡ LH.Main → GivesBody s l ts (kn .state .count) (kn .state .newest) (kn .state .procs) (kn .stmts) at (kn .state .top) b l′ → g ≡ mainEntry kn b → Enters s l ts kn k at g l′ ts
+  enters-main k b l′ h B e = rw (h, e) (record { says = λ r bs S n. rw (some-first isMain (λ k. headIn k (r .known .stmts) (first (stackAt s at)))) (main-told s l ts kn r bs S at n b l′ B) })
+
+  module _ (n : Naming) (N : GivesName s at n) where
+    pub enters-nameless : n ≡ naming.Nothing → g .fault ≡ Form → Enters s l ts kn LH.Proc at g l ts
+    enters-nameless h e = record { says = λ r bs S i. wrong-told s l ts (kn .state .top) r _ g
+        (some-first isProc (λ k. headIn k (r .known .stmts) (first (stackAt s at))) ∙ proc-shape (r .known .stmts) (first (stackAt s at)) ∙ rw (rw h at (N .says)) (none-first _)) e }
+
+    pub enters-proc : (p q : ℕ) (b : Got) (l′ : List ℕ) (x : Meaning) (f : Fault) (u : ℕ) (l″ : List ℕ) → n ≡ naming.Called p q → x ≡ meaningHere s l (kn .state .count) (kn .state .newest) p
+        → GivesBody s l ts (kn .state .count) (kn .state .newest) (kn .state .procs) (kn .stmts) q (kn .state .top) b l′ → f ≡ lowest (b .fault) (newFault Clear x) → ProcLaid (kn .state) f p b l′ u l″ → g ≡ procEntry kn f b u
+        → Enters s l ts kn LH.Proc at g l″ ts
+    enters-proc p q b l′ x f u l″ h X B F P e = rw e (record { says = λ r bs S i.
+        let Z = rw h at (N .says) in
+        rw (some-first isProc (λ k. headIn k (r .known .stmts) (first (stackAt s at))))
+        (proc-told s l ts kn r bs S at p q (Z .0) (Z .1) (Z .2) (less-nodes (first (stackAt s at)) (first (stackAt s q)) (wordAt s p) (Z .0 .leaf .here) (r .known .stmts) i) b l′ B x X f F u l″ P) })
+
+-- ---- the line's form
+
+module _ (s l ts : List ℕ) (kn : Known) (at n : ℕ) (x : Part) (c : Stands s at x) (j : Judgement) where
+  -- no head word: row 6
+  no-head : (r : Read) (bs : List ℕ) → Standing s l ts kn r bs → (ln : Line) → LineIs s ln at n (r .known) → lineIn (r .known .stmts) (form (first (stackAt s at))) ≡ none → judgeLine strictly (r .known) ln ≡ bad 6
+  unfolding judgedBy wholeStaged staged _>>=_
+  no-head r bs S ln L h = line-judged (r .known) (form (first (stackAt s at))) ln (L .form-is) (L .read) (L .worded-is) (L .going) ∙ rw h refl
+
+  pub form-shut : (q : ℕ) → x ≡ part.Shut q → j ≡ refusedJudgement 6 kn → JudgesForm s l ts kn at n j l ts
+  form-shut q h e = rw e (record { says = λ r bs S ln L.
+      rw (no-head r bs S ln L (rw ((rw h at (c .says)) .here) (line-empty (r .known .stmts)))) (refl, omega arith) })
+
+  pub form-form : (p : ℕ) → x ≡ part.Form p → j ≡ refusedJudgement 6 kn → JudgesForm s l ts kn at n j l ts
+  form-form p h e = rw e (record { says = λ r bs S ln L.
+      rw (no-head r bs S ln L (rw ((rw h at (c .says)) .here) (line-headless (r .known .stmts) (first (stackAt s p)) (first (later (stackAt s p)))))) (refl, omega arith) })
+
+  pub form-headed : (w : Kind.Word) (p q : ℕ) (k : LineHead) (g : Entered) (l′ ts′ : List ℕ) → x ≡ part.Leaf w p q → k ≡ lineHeadOf w → Enters s l ts kn k q g l′ ts′ → j ≡ judgement kn g n → JudgesForm s l ts kn at n j l′ ts′
+  form-headed w p q k g l′ ts′ h i E e = record { says = λ r bs S ln L.
+      let Z = rw h at (c .says) in
+      let y : k ≡ lineHeadOf (wordOf (wordAt s p)) = i ∙ ap lineHeadOf (Z .1) in
+      let v : lineIn (r .known .stmts) (form (first (stackAt s at))) ≡ (lineHeadMeant k >>= λ k. headIn k (r .known .stmts) (first (stackAt s q))) = ap (λ (us : Trees Run). lineIn (r .known .stmts) (form us)) (Z .0 .leaf .here) ∙ line-headed (r .known .stmts) (wordAt s p) (first (stackAt s q)) ∙ rw y refl in
+      line-answer s l ts kn r bs S (form (first (stackAt s at))) (L .read) (L .worded-is) ln (L .form-is) (L .going) g l′ ts′
+      (rw v (E .says r bs S (let a = line-nodes (first (stackAt s at)) (first (stackAt s q)) (wordAt s p) (Z .0 .leaf .here) n (L .count-is) in omega (arith, L .short, S .measured .stmts, S .measured .nodes)))) j (e ∙ ap (judgement kn g) (L .count-is)) }
+
+pub ruleset form-laws = (form-shut, form-form, form-headed)
+pub ruleset proc-laws = (enters-nameless, enters-proc)
