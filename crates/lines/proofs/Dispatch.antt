@@ -9,7 +9,7 @@ use Rattle.lexis.specs.Bytes.{small}
 use Rattle.lexis.specs.Words.{wordOf}
 use Rattle.semantics.specs.Base.{_>>=_}
 use Rattle.semantics.specs.Forms as Forms
-use Rattle.semantics.specs.Forms.{isProc, isMain}
+use Rattle.semantics.specs.Forms.{isType, isVar, isProc, isMain}
 use Rattle.semantics.specs.Lines.{Line}
 use Rattle.semantics.specs.Stages.{wrong, staged}
 use Rattle.semantics.specs.Syntax as Syntax
@@ -30,6 +30,8 @@ use Rattle.shapes.specs.Heads.{lineHeadOf, lineHeadMeant}
 use Rattle.shapes.specs.Parts.{nameIn}
 use Rattle.atoms.specs.Answers.{meaningHere}
 use Rattle.statements.specs.Walks.{GivesBody}
+use Rattle.declarations.specs.declared.Lined.{Lined}
+use Rattle.declarations.specs.Lines.{lineOf, GivesLine}
 use Rattle.declarations.specs.declared.Naming.{Naming}
 use Rattle.declarations.specs.declared.Naming.the-variants as naming
 use Rattle.declarations.specs.Names.{GivesName, newFault}
@@ -37,13 +39,14 @@ use Rattle.expressions.proofs.Joining.{wrong-fits}
 use Rattle.lines.specs.declared.Known.{Known}
 use Rattle.lines.specs.declared.Judgement.{Judgement}
 use Rattle.lines.specs.declared.Entered.{Entered}
-use Rattle.lines.specs.Answers.{refusedJudgement, judgement, mainEntry, procEntry}
+use Rattle.lines.specs.Answers.{refusedJudgement, judgement, declaredEntry, mainEntry, procEntry}
 use Rattle.lines.specs.Entering.{EntryTold, Enters}
 use Rattle.lines.specs.Forms.{LineIs, JudgesForm}
 use Rattle.lines.specs.Judging.{Standing}
 use Rattle.lines.specs.Whole.{lineIn, headIn, wholeStaged}
 use Rattle.lines.proofs.Bodies.{procOf, proc-shape}
 use Rattle.lines.proofs.BodyEnters.{main-told, proc-told, ProcLaid}
+use Rattle.lines.proofs.Declaring.{declared-enters, type-fixed, var-fixed}
 use Rattle.lines.proofs.Lines.{line-judged, line-headed, line-empty, line-headless}
 use Rattle.lines.proofs.Stepping.{line-answer}
 
@@ -91,6 +94,19 @@ module _ (s l ts : List ℕ) (kn : Known) (at : ℕ) (g : Entered) where
         let Z = rw h at (N .says) in
         rw (some-first isProc (λ k. headIn k (r .known .stmts) (first (stackAt s at))))
         (proc-told s l ts kn r bs S at p q (Z .0) (Z .1) (Z .2) (less-nodes (first (stackAt s at)) (first (stackAt s q)) (wordAt s p) (Z .0 .leaf .here) (r .known .stmts) i) b l′ B x X f F u l″ P) })
+
+-- by the head word
+module _ (s l ts : List ℕ) (kn : Known) (k : LineHead) (at : ℕ) (g : Entered) (l′ ts′ : List ℕ) where
+  pub enters-type : (x : Lined) → k ≡ LH.Type → GivesLine s l ts (kn .state) (lineOf isType 0 (first (stackAt s at))) x l′ ts′ → g ≡ declaredEntry kn x → Enters s l ts kn k at g l′ ts′
+  enters-type x h G e = rw h (declared-enters s l ts kn LH.Type isType refl type-fixed at x l′ ts′ G g e)
+
+  pub enters-var : (x : Lined) → k ≡ LH.Var → GivesLine s l ts (kn .state) (lineOf isVar 0 (first (stackAt s at))) x l′ ts′ → g ≡ declaredEntry kn x → Enters s l ts kn k at g l′ ts′
+  enters-var x h G e = rw h (declared-enters s l ts kn LH.Var isVar refl var-fixed at x l′ ts′ G g e)
+
+  pub enters-by : (h : LineHead) → k ≡ h → Enters s l ts kn h at g l′ ts′ → Enters s l ts kn k at g l′ ts′
+  enters-by h e E = rw e E
+
+pub ruleset enter-laws = (enters-type, enters-var, enters-by, enters-nothing)
 
 -- ---- the line's form
 
