@@ -195,16 +195,16 @@ pub record Counting (s l : List ℕ) (count newest at p n : ℕ) (ok : Bool) : T
   pub left : (ms : List Name) → namesIn (first (stackAt s p)) ≡ some ms → (ns : List Name) × (namesIn (first (stackAt s at)) ≡ some ns) × (length ns ≡ c + length ms)
       × ((ts : List ℕ) (top : ℕ) (σ : Environment) (bs : List ℕ) → Scene s l ts count newest top σ bs → fresh σ ns ≡ (ok && fresh σ ms))
 
-and-assoc : (a b c : Bool) → (a && (b && c)) ≡ ((a && b) && c)
+pub and-assoc : (a b c : Bool) → (a && (b && c)) ≡ ((a && b) && c)
 and-assoc true b c = refl
 and-assoc false b c = refl
 
-and-true-right : (a : Bool) → (a && true) ≡ a
+pub and-true-right : (a : Bool) → (a && true) ≡ a
 and-true-right true = refl
 and-true-right false = refl
 
 -- the count of one more
-counted-few : (n c : ℕ) → (c ≤ 1000 → n ≡ c) → (1000 < c → n ≡ 1000) → (suc c ≤ 1000 → counted n ≡ suc c) × (1000 < suc c → counted n ≡ 1000)
+pub counted-few : (n c : ℕ) → (c ≤ 1000 → n ≡ c) → (1000 < c → n ≡ 1000) → (suc c ≤ 1000 → counted n ≡ suc c) × (1000 < suc c → counted n ≡ 1000)
 unfolding counted
 counted-few n c h g = (
   λ i. let e : n ≡ c = h (omega arith) in rw (lt-ltb n 1000 (omega arith)) (omega arith),

@@ -12,3 +12,8 @@ pub mod RangeTypes
 pub mod TypeShapes
 pub mod EnumNames
 pub mod EnumStages
+pub mod EnumValues
+pub mod EnumLines
+pub mod FieldParts
+pub mod FieldLaying
+pub mod RecordLines

@@ -287,7 +287,7 @@ form-new (meaning.Var i t a) = refl
 form-new (meaning.Proc p) = refl
 form-new (meaning.Value k n) = refl
 
-form-clear : {X : Type 0} → Form ≡ Clear → X
+pub form-clear : {X : Type 0} → Form ≡ Clear → X
 form-clear e = absurd (let z : _≡_ {A = ℕ} 0 1 = cc in omega arith)
 
 bound-back : {A B : Type 0} (o : Option A) (f : A → B) → (o >>= λ (a : A). some (f a)) ≡ none → o ≡ none

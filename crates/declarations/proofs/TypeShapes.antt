@@ -1,5 +1,6 @@
 -- `type` lines part by part, and what the forms of types say by their head words.
 use mathlib.Core.Path.{_≡_, refl, sym, ap, _∙_}
+use mathlib.Core.Bool.{false}
 use mathlib.Core.List.{List, map}
 use mathlib.Core.Option.{Option, none, some}
 use Prim.Native.Nat.{ℕ, _<_}
@@ -13,7 +14,7 @@ use Rattle.semantics.specs.Forms as Forms
 use Rattle.semantics.specs.Syntax.{LineForm, TypeForm, TypeName, Constant, typeLine, alias, setOf, arrayOf, range}
 use Rattle.semantics.specs.Trees.{word, form, Trees, end, _then_, Run, first, later, wordAt, stackAt, list}
 use Rattle.semantics.specs.Words.{Word, worded, wordedAll, wordBy}
-use Rattle.parts.specs.Parts.{LeafAt, FormAt, Stands}
+use Rattle.parts.specs.Parts.{LeafAt, FormAt, ShutAt, Stands}
 use Rattle.parts.specs.declared.Part.{Part}
 use Rattle.parts.specs.declared.Part.the-variants as part
 use Rattle.shapes.specs.Heads.{makerOf, makerMeant}
@@ -22,14 +23,19 @@ use Rattle.shapes.specs.declared.Maker.{Maker}
 use Rattle.shapes.specs.declared.Maker.the-variants as MK
 use Rattle.shapes.proofs.Heads.{maker-is}
 use Rattle.shapes.proofs.Walks.{bind-cong, bind-assoc, bind-swap, one-then, two-then, headed-form, empty-form, headless-form}
-use Rattle.declarations.specs.Lines.{lineOf, GivesLine}
+use Rattle.tables.specs.declared.Fault.the-variants.{Form}
+use Rattle.semantics.specs.Stages.{wrong, staged}
+use Rattle.declarations.specs.Names.{GivesName}
+use Rattle.declarations.specs.Lines.{lineOf, entryStaged, linedBy, GivesLine}
 use Rattle.declarations.specs.TypeLines.{typeIn, typeAfter, madeAfter, aliasAfter, GivesAlias, GivesShape, GivesShaped, GivesMade}
 use Rattle.declarations.specs.Simple.{setIn, arrayIn, rangeIn}
-use Rattle.declarations.specs.Shapes.{enumIn, recordIn, makerBy}
+use Rattle.declarations.specs.Shapes.{enumIn, recordIn, makerBy, GivesAfter, GivesForm}
 use Rattle.declarations.specs.declared.State.{State}
 use Rattle.declarations.specs.declared.Lined.{Lined}
 use Rattle.declarations.specs.declared.types.Shaped.{Shaped}
-use Rattle.declarations.proofs.VarLines.{closed-map}
+use Rattle.declarations.specs.declared.Naming.{Naming}
+use Rattle.declarations.specs.declared.Naming.the-variants as naming
+use Rattle.declarations.proofs.VarLines.{closed-map, failed-told}
 
 -- ---- a line
 
@@ -121,3 +127,96 @@ line-made s l ts st p at u F y h w a v e r l′ ts′ G hp =
     ∙ ap (λ (k : Kind.Word). madeAfter n (makerBy (makerOf k) (first (stackAt s v))) (first (later (stackAt s u)))) (sym (g .1))
     ∙ ap (λ (q : List (Trees Run)). madeAfter n (makerBy (makerOf w) (first (stackAt s v))) (first q)) (g .0 .leaf .around) in
     rw z (G .gives hp)
+
+-- a line that says nothing
+no-line : (s l ts : List ℕ) (st : State) (o : Option LineForm) → o ≡ none → (r : Lined) → r ≡ linedBy Form false st → GivesLine s l ts st o r l ts
+unfolding entryStaged staged
+no-line s l ts st o z r f = rw (f, z) (record { below = record { at = λ _ _ _. refl }; told = λ k bs H. failed-told s l ts st k bs wrong Form refl refl })
+
+-- `made_line`
+module _ (s l ts : List ℕ) (st : State) (p at : ℕ) (m : Maker) (r : Lined) where
+  module _ (l′ ts′ : List ℕ) where
+    pub by-enum : m ≡ MK.Enum → GivesMade s l ts st p at (enumIn (first (stackAt s at))) r l′ ts′ → GivesMade s l ts st p at (makerBy m (first (stackAt s at))) r l′ ts′
+    by-enum e G = rw e G
+
+    pub by-range : m ≡ MK.Range → GivesMade s l ts st p at (rangeIn (first (stackAt s at))) r l′ ts′ → GivesMade s l ts st p at (makerBy m (first (stackAt s at))) r l′ ts′
+    by-range e G = rw e G
+
+    pub by-array : m ≡ MK.Array → GivesMade s l ts st p at (arrayIn (first (stackAt s at))) r l′ ts′ → GivesMade s l ts st p at (makerBy m (first (stackAt s at))) r l′ ts′
+    by-array e G = rw e G
+
+    pub by-record : m ≡ MK.Record → GivesMade s l ts st p at (recordIn (first (stackAt s at))) r l′ ts′ → GivesMade s l ts st p at (makerBy m (first (stackAt s at))) r l′ ts′
+    by-record e G = rw e G
+
+    pub by-set : m ≡ MK.Set → GivesMade s l ts st p at (setIn (first (stackAt s at))) r l′ ts′ → GivesMade s l ts st p at (makerBy m (first (stackAt s at))) r l′ ts′
+    by-set e G = rw e G
+
+  pub by-nothing : m ≡ MK.Nothing → r ≡ linedBy Form false st → GivesMade s l ts st p at (makerBy m (first (stackAt s at))) r l ts
+  unfolding madeAfter _>>=_
+  by-nothing e f = record { gives = λ hp. no-line s l ts st (madeAfter (map small (wordAt s p)) (makerBy m (first (stackAt s at))) (first (later (stackAt s at)))) (rw e refl) r f }
+
+pub ruleset made-laws = (by-enum, by-range, by-array, by-record, by-set, by-nothing)
+
+-- `form_line`: u is past the bracket
+module _ (s l ts : List ℕ) (st : State) (p u : ℕ) (y : Part) (h : Stands s u y) (r : Lined) where
+  pub form-headed : (w : Kind.Word) (a v : ℕ) → y ≡ part.Leaf w a v → (m : Maker) → m ≡ makerOf w → (l′ ts′ : List ℕ)
+      → GivesMade s l ts st p v (makerBy m (first (stackAt s v))) r l′ ts′ → GivesForm s l ts st p u r l′ ts′
+  form-headed w a v e m g l′ ts′ G = record { gives = λ at F hp. line-made s l ts st p at u F y h w a v e r l′ ts′ (rw g at G) hp }
+
+  pub form-headless : (q : ℕ) → y ≡ part.Form q → r ≡ linedBy Form false st → GivesForm s l ts st p u r l ts
+  unfolding typeAfter _>>=_
+  form-headless q e f = record {
+    gives = λ at F hp.
+        let g : FormAt s u q = rw e at (h .says) in
+        let z : typeIn (first (stackAt s at)) ≡ none = ap typeIn (F .here ∙ ap (λ (us : Trees Run). form us then first (later (stackAt s u))) (g .here)) ∙ type-headless (first (stackAt s q)) (first (later (stackAt s q))) (first (later (stackAt s u))) in
+        no-line s l ts st (typeAfter (map small (wordAt s p)) (first (stackAt s at))) (rw z refl) r f;
+  }
+
+  pub form-empty : (q : ℕ) → y ≡ part.Shut q → r ≡ linedBy Form false st → GivesForm s l ts st p u r l ts
+  unfolding typeAfter _>>=_
+  form-empty q e f = record {
+    gives = λ at F hp.
+        let g : ShutAt s u q = rw e at (h .says) in
+        let z : typeIn (first (stackAt s at)) ≡ none = ap typeIn (F .here ∙ ap (λ (us : Trees Run). form us then first (later (stackAt s u))) (g .here)) ∙ type-empty (first (later (stackAt s u))) in
+        no-line s l ts st (typeAfter (map small (wordAt s p)) (first (stackAt s at))) (rw z refl) r f;
+  }
+
+pub ruleset form-laws = (form-headed, form-headless, form-empty)
+
+-- `type_after`
+module _ (s l ts : List ℕ) (st : State) (p at : ℕ) (x : Part) (h : Stands s at x) (r : Lined) where
+  pub after-alias : (w : Kind.Word) (a b : ℕ) → x ≡ part.Leaf w a b → (l′ : List ℕ) → GivesAlias s l st p at r l′ → GivesAfter s l ts st p at r l′ ts
+  after-alias w a b e l′ G = record { gives = λ hp. line-alias s l ts st p at x h w a b e r l′ G hp }
+
+  pub after-made : (q : ℕ) → x ≡ part.Form q → (l′ ts′ : List ℕ) → GivesForm s l ts st p q r l′ ts′ → GivesAfter s l ts st p at r l′ ts′
+  after-made q e l′ ts′ G = record { gives = λ hp. G .gives at (rw e at (h .says)) hp }
+
+  pub after-end : (q : ℕ) → x ≡ part.Shut q → r ≡ linedBy Form false st → GivesAfter s l ts st p at r l ts
+  unfolding typeAfter _>>=_
+  after-end q e f = record {
+    gives = λ hp.
+        let g : ShutAt s at q = rw e at (h .says) in
+        let z : typeIn (first (stackAt s at)) ≡ none = ap typeIn (g .here) ∙ type-end in
+        no-line s l ts st (typeAfter (map small (wordAt s p)) (first (stackAt s at))) (rw z refl) r f;
+  }
+
+pub ruleset after-laws = (after-alias, after-made, after-end)
+
+-- `type_line`
+module _ (s l ts : List ℕ) (st : State) (at : ℕ) (n : Naming) (N : GivesName s at n) (r : Lined) where
+  pub type-called : (p q : ℕ) → n ≡ naming.Called p q → (l′ ts′ : List ℕ) → GivesAfter s l ts st p q r l′ ts′ → GivesLine s l ts st (lineOf isType 0 (first (stackAt s at))) r l′ ts′
+  unfolding _>>=_
+  type-called p q e l′ ts′ G =
+      let g = rw e at (N .says) in
+      let z : lineOf isType 0 (first (stackAt s at)) ≡ typeAfter (map small (wordAt s p)) (first (stackAt s q)) =
+      type-parts 0 (first (stackAt s at)) ∙ ap (λ (o : Option Name). o >>= λ (w : Name). typeAfter w (rest (first (stackAt s at)))) (g .2)
+      ∙ ap (λ (us : Trees Run). typeAfter (map small (wordAt s p)) (rest us)) (g .0 .leaf .here) in
+      rw z (G .gives (g .1))
+
+  pub type-nothing : n ≡ naming.Nothing → r ≡ linedBy Form false st → GivesLine s l ts st (lineOf isType 0 (first (stackAt s at))) r l ts
+  unfolding _>>=_
+  type-nothing e f =
+      let g : nameIn (first (stackAt s at)) ≡ none = rw e at (N .says) in
+      no-line s l ts st (lineOf isType 0 (first (stackAt s at))) (type-parts 0 (first (stackAt s at)) ∙ ap (λ (o : Option Name). o >>= λ (w : Name). typeAfter w (rest (first (stackAt s at)))) g) r f
+
+pub ruleset type-line-laws = (type-called, type-nothing)

@@ -7,3 +7,5 @@ pub mod Simple
 pub mod Ranges
 pub mod Shapes
 pub mod Enums
+pub mod Values
+pub mod Records

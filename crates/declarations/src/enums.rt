@@ -54,7 +54,7 @@ fn is_unknown(m: Meaning) -> bool
 }
 
 // Whether the name at y is new, and none of those from q on.
-fn is_fresh(text: &[u8], work: &[u32], count: u32, newest: u32, y: usize, q: usize) -> bool
+pub fn is_fresh(text: &[u8], work: &[u32], count: u32, newest: u32, y: usize, q: usize) -> bool
     ensures { λ r. ⌜ GivesFresh (now (text .entry)) (now (work .entry)) count newest y q r ⌝ }
 {
     if listed(text, y, q) {
@@ -65,7 +65,7 @@ fn is_fresh(text: &[u8], work: &[u32], count: u32, newest: u32, y: usize, q: usi
 }
 
 // One more, up to 1,000.
-fn one_more(n: u32) -> u32
+pub fn one_more(n: u32) -> u32
     ensures { λ r. ⌜ r ≡ counted n ⌝ }
 {
     if n < 1000 {
@@ -75,7 +75,7 @@ fn one_more(n: u32) -> u32
 }
 
 // Row 7 where a name is not new.
-fn fresh_fault(ok: bool) -> Fault
+pub fn fresh_fault(ok: bool) -> Fault
     ensures { λ r. ⌜ r ≡ cond ok Clear Name ⌝ }
 {
     if ok {
@@ -85,7 +85,7 @@ fn fresh_fault(ok: bool) -> Fault
 }
 
 // Whether both hold.
-fn both(a: bool, b: bool) -> bool
+pub fn both(a: bool, b: bool) -> bool
     ensures { λ r. ⌜ r ≡ (a && b) ⌝ }
 {
     if a {

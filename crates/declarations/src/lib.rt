@@ -1,9 +1,13 @@
 // The lines that declare variables and types.
 pub mod enums;
+pub mod fields;
+pub mod lines;
 pub mod made;
 pub mod ranges;
+pub mod records;
 pub mod simple;
 pub mod types;
+pub mod values;
 
 use atoms::Typed;
 use atoms::type_name;

@@ -64,7 +64,7 @@ pub fn lay_name(work: &mut [u32], st: State, p: usize, number: u32) -> u32
 }
 
 // Lays a description without fields; the free place then.
-fn lay_info(work: &mut [u32], top: u32, x: Info) -> u32
+pub fn lay_info(work: &mut [u32], top: u32, x: Info) -> u32
     ensures { λ r. ⌜ Laid (laid (infoNumbers x) top (now (work .entry))) r (now (work .exit)) ⌝ }
 {
     let ns = [
@@ -112,7 +112,7 @@ pub struct Placed {
 }
 
 // Lays the entry of a new type's name at p, and a description without fields.
-fn lay_type(work: &mut [u32], st: State, p: usize, x: Info) -> Placed
+pub fn lay_type(work: &mut [u32], st: State, p: usize, x: Info) -> Placed
     ensures { λ r. ⌜ LaysType (now (work .entry)) st p x r (now (work .exit)) ⌝ }
 {
     let place = lay_name(work, st, p, st.types);

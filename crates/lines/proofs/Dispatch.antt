@@ -84,16 +84,20 @@ module _ (s l ts : List ℕ) (kn : Known) (at : ℕ) (g : Entered) where
 
   module _ (n : Naming) (N : GivesName s at n) where
     pub enters-nameless : n ≡ naming.Nothing → g .fault ≡ Form → Enters s l ts kn LH.Proc at g l ts
-    enters-nameless h e = record { says = λ r bs S i. wrong-told s l ts (kn .state .top) r _ g
-        (some-first isProc (λ k. headIn k (r .known .stmts) (first (stackAt s at))) ∙ proc-shape (r .known .stmts) (first (stackAt s at)) ∙ rw (rw h at (N .says)) (none-first _)) e }
+    enters-nameless h e = record {
+      says = λ r bs S i. wrong-told s l ts (kn .state .top) r _ g
+          (some-first isProc (λ k. headIn k (r .known .stmts) (first (stackAt s at))) ∙ proc-shape (r .known .stmts) (first (stackAt s at)) ∙ rw (rw h at (N .says)) (none-first _)) e;
+    }
 
     pub enters-proc : (p q : ℕ) (b : Got) (l′ : List ℕ) (x : Meaning) (f : Fault) (u : ℕ) (l″ : List ℕ) → n ≡ naming.Called p q → x ≡ meaningHere s l (kn .state .count) (kn .state .newest) p
         → GivesBody s l ts (kn .state .count) (kn .state .newest) (kn .state .procs) (kn .stmts) q (kn .state .top) b l′ → f ≡ lowest (b .fault) (newFault Clear x) → ProcLaid (kn .state) f p b l′ u l″ → g ≡ procEntry kn f b u
         → Enters s l ts kn LH.Proc at g l″ ts
-    enters-proc p q b l′ x f u l″ h X B F P e = rw e (record { says = λ r bs S i.
-        let Z = rw h at (N .says) in
-        rw (some-first isProc (λ k. headIn k (r .known .stmts) (first (stackAt s at))))
-        (proc-told s l ts kn r bs S at p q (Z .0) (Z .1) (Z .2) (less-nodes (first (stackAt s at)) (first (stackAt s q)) (wordAt s p) (Z .0 .leaf .here) (r .known .stmts) i) b l′ B x X f F u l″ P) })
+    enters-proc p q b l′ x f u l″ h X B F P e = rw e (record {
+      says = λ r bs S i.
+          let Z = rw h at (N .says) in
+          rw (some-first isProc (λ k. headIn k (r .known .stmts) (first (stackAt s at))))
+          (proc-told s l ts kn r bs S at p q (Z .0) (Z .1) (Z .2) (less-nodes (first (stackAt s at)) (first (stackAt s q)) (wordAt s p) (Z .0 .leaf .here) (r .known .stmts) i) b l′ B x X f F u l″ P);
+    })
 
 -- by the head word
 module _ (s l ts : List ℕ) (kn : Known) (k : LineHead) (at : ℕ) (g : Entered) (l′ ts′ : List ℕ) where
@@ -117,20 +121,27 @@ module _ (s l ts : List ℕ) (kn : Known) (at n : ℕ) (x : Part) (c : Stands s 
   no-head r bs S ln L h = line-judged (r .known) (form (first (stackAt s at))) ln (L .form-is) (L .read) (L .worded-is) (L .going) ∙ rw h refl
 
   pub form-shut : (q : ℕ) → x ≡ part.Shut q → j ≡ refusedJudgement 6 kn → JudgesForm s l ts kn at n j l ts
-  form-shut q h e = rw e (record { says = λ r bs S ln L.
-      rw (no-head r bs S ln L (rw ((rw h at (c .says)) .here) (line-empty (r .known .stmts)))) (refl, omega arith) })
+  form-shut q h e = rw e (record {
+    says = λ r bs S ln L.
+        rw (no-head r bs S ln L (rw ((rw h at (c .says)) .here) (line-empty (r .known .stmts)))) (refl, omega arith);
+  })
 
   pub form-form : (p : ℕ) → x ≡ part.Form p → j ≡ refusedJudgement 6 kn → JudgesForm s l ts kn at n j l ts
-  form-form p h e = rw e (record { says = λ r bs S ln L.
-      rw (no-head r bs S ln L (rw ((rw h at (c .says)) .here) (line-headless (r .known .stmts) (first (stackAt s p)) (first (later (stackAt s p)))))) (refl, omega arith) })
+  form-form p h e = rw e (record {
+    says = λ r bs S ln L.
+        rw (no-head r bs S ln L (rw ((rw h at (c .says)) .here) (line-headless (r .known .stmts) (first (stackAt s p)) (first (later (stackAt s p)))))) (refl, omega arith);
+  })
 
   pub form-headed : (w : Kind.Word) (p q : ℕ) (k : LineHead) (g : Entered) (l′ ts′ : List ℕ) → x ≡ part.Leaf w p q → k ≡ lineHeadOf w → Enters s l ts kn k q g l′ ts′ → j ≡ judgement kn g n → JudgesForm s l ts kn at n j l′ ts′
-  form-headed w p q k g l′ ts′ h i E e = record { says = λ r bs S ln L.
-      let Z = rw h at (c .says) in
-      let y : k ≡ lineHeadOf (wordOf (wordAt s p)) = i ∙ ap lineHeadOf (Z .1) in
-      let v : lineIn (r .known .stmts) (form (first (stackAt s at))) ≡ (lineHeadMeant k >>= λ k. headIn k (r .known .stmts) (first (stackAt s q))) = ap (λ (us : Trees Run). lineIn (r .known .stmts) (form us)) (Z .0 .leaf .here) ∙ line-headed (r .known .stmts) (wordAt s p) (first (stackAt s q)) ∙ rw y refl in
-      line-answer s l ts kn r bs S (form (first (stackAt s at))) (L .read) (L .worded-is) ln (L .form-is) (L .going) g l′ ts′
-      (rw v (E .says r bs S (let a = line-nodes (first (stackAt s at)) (first (stackAt s q)) (wordAt s p) (Z .0 .leaf .here) n (L .count-is) in omega (arith, L .short, S .measured .stmts, S .measured .nodes)))) j (e ∙ ap (judgement kn g) (L .count-is)) }
+  form-headed w p q k g l′ ts′ h i E e = record {
+    says = λ r bs S ln L.
+        let Z = rw h at (c .says) in
+        let y : k ≡ lineHeadOf (wordOf (wordAt s p)) = i ∙ ap lineHeadOf (Z .1) in
+        let v : lineIn (r .known .stmts) (form (first (stackAt s at))) ≡ (lineHeadMeant k >>= λ k. headIn k (r .known .stmts) (first (stackAt s q))) = ap (λ (us : Trees Run). lineIn (r .known .stmts) (form us)) (Z .0 .leaf .here) ∙ line-headed (r .known .stmts) (wordAt s p) (first (stackAt s q)) ∙ rw y refl in
+        line-answer s l ts kn r bs S (form (first (stackAt s at))) (L .read) (L .worded-is) ln (L .form-is) (L .going) g l′ ts′
+        (rw v (E .says r bs S (let a = line-nodes (first (stackAt s at)) (first (stackAt s q)) (wordAt s p) (Z .0 .leaf .here) n (L .count-is) in omega (arith, L .short, S .measured .stmts, S .measured .nodes)))) j (e ∙ ap (judgement kn g) (L .count-is));
+  }
 
 pub ruleset form-laws = (form-shut, form-form, form-headed)
+
 pub ruleset proc-laws = (enters-nameless, enters-proc)

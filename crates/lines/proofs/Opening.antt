@@ -49,9 +49,11 @@ module _ (s l ts : List ℕ) (kn : Known) (at : ℕ) (j : Judgement) (b : Bool) 
 
   module _ (h : b ≡ true) (c : Bool) (k : c ≡ knownAll (stackAt s at)) where
     pub line-unknown : c ≡ false → j ≡ refusedJudgement 5 kn → JudgesLine s l ts kn at j l ts
-    line-unknown i m = rw m (record { says = λ r bs S.
-        let F = formed s at (sym e ∙ h) in
-        rw (fifth (r .known) (lineAt (drop at s)) (form (F .0)) (F .1) (worded-none (form (F .0)) (sym (ap knownAll (F .2) ∙ line-known (F .0)) ∙ sym k ∙ i))) (refl, omega arith) })
+    line-unknown i m = rw m (record {
+      says = λ r bs S.
+          let F = formed s at (sym e ∙ h) in
+          rw (fifth (r .known) (lineAt (drop at s)) (form (F .0)) (F .1) (worded-none (form (F .0)) (sym (ap knownAll (F .2) ∙ line-known (F .0)) ∙ sym k ∙ i))) (refl, omega arith);
+    })
 
     pub line-known-so : c ≡ true → (l′ ts′ : List ℕ) → JudgesKnown s l ts kn at j l′ ts′ → JudgesLine s l ts kn at j l′ ts′
     line-known-so i l′ ts′ J = record { says = λ r bs S. J .says r bs S (record { balanced = sym e ∙ h; known = sym k ∙ i }) }
@@ -62,10 +64,12 @@ pub ruleset line-laws = (line-unbalanced, line-unknown, line-known-so)
 
 module _ (s l ts : List ℕ) (kn : Known) (at : ℕ) (j : Judgement) where
   pub known-ended : kn .ended ≡ true → j ≡ refusedJudgement 6 kn → JudgesKnown s l ts kn at j l ts
-  known-ended h m = rw m (record { says = λ r bs S K.
-      let F = formed s at (K .balanced) in
-      let R = worded-some (form (F .0)) (sym (ap knownAll (F .2) ∙ line-known (F .0)) ∙ K .known) in
-      rw (sixth (r .known) (lineAt (drop at s)) (form (F .0)) (R .0) (F .1) (R .1) (sym (S .ended-is) ∙ h)) (refl, omega arith) })
+  known-ended h m = rw m (record {
+    says = λ r bs S K.
+        let F = formed s at (K .balanced) in
+        let R = worded-some (form (F .0)) (sym (ap knownAll (F .2) ∙ line-known (F .0)) ∙ K .known) in
+        rw (sixth (r .known) (lineAt (drop at s)) (form (F .0)) (R .0) (F .1) (R .1) (sym (S .ended-is) ∙ h)) (refl, omega arith);
+  })
 
   module _ (x : Part) (c : Stands s at x) where
     no-leaf : (p q : ℕ) (w : Kind.Word) → x ≡ part.Leaf w p q → KnownLine s at → ⊥
@@ -89,19 +93,21 @@ module _ (s l ts : List ℕ) (kn : Known) (at : ℕ) (j : Judgement) where
     known-shut q h = record { says = λ r bs S K. absurd (no-shut q h K) }
 
     pub known-form : (p n : ℕ) (l′ ts′ : List ℕ) → kn .ended ≡ false → x ≡ part.Form p → n ≡ nodesAll (stackAt s at) → JudgesForm s l ts kn p n j l′ ts′ → JudgesKnown s l ts kn at j l′ ts′
-    known-form p n l′ ts′ g h m J = record { says = λ r bs S K.
-        let F = formed s at (K .balanced) in
-        let Z = rw h at (c .says) in
-        let y : (form (F .0) then end) ≡ (form (first (stackAt s p)) then first (later (stackAt s p))) = sym (ap first (F .2)) ∙ Z .here in
-        let z : F .0 ≡ first (stackAt s p) = cc in
-        let R = worded-some (form (F .0)) (sym (ap knownAll (F .2) ∙ line-known (F .0)) ∙ K .known) in
-        J .says r bs S (lineAt (drop at s)) (record {
-          form-is = F .1 ∙ ap (λ (f : Trees Run). some (form f)) z;
-          read = R .0;
-          worded-is = ap (λ (f : Trees Run). worded (form f)) (sym z) ∙ R .1;
-          count-is = m ∙ ap nodesAll (F .2) ∙ line-nodes (F .0) ∙ ap (λ (f : Trees Run). nodes (form f)) z;
-          short = let a = nodes-short s at in omega (arith, S .holds .short-text);
-          going = sym (S .ended-is) ∙ g;
-        }) }
+    known-form p n l′ ts′ g h m J = record {
+      says = λ r bs S K.
+          let F = formed s at (K .balanced) in
+          let Z = rw h at (c .says) in
+          let y : (form (F .0) then end) ≡ (form (first (stackAt s p)) then first (later (stackAt s p))) = sym (ap first (F .2)) ∙ Z .here in
+          let z : F .0 ≡ first (stackAt s p) = cc in
+          let R = worded-some (form (F .0)) (sym (ap knownAll (F .2) ∙ line-known (F .0)) ∙ K .known) in
+          J .says r bs S (lineAt (drop at s)) (record {
+            form-is = F .1 ∙ ap (λ (f : Trees Run). some (form f)) z;
+            read = R .0;
+            worded-is = ap (λ (f : Trees Run). worded (form f)) (sym z) ∙ R .1;
+            count-is = m ∙ ap nodesAll (F .2) ∙ line-nodes (F .0) ∙ ap (λ (f : Trees Run). nodes (form f)) z;
+            short = let a = nodes-short s at in omega (arith, S .holds .short-text);
+            going = sym (S .ended-is) ∙ g;
+          });
+    }
 
 pub ruleset known-laws = (known-ended, known-leaf, known-shut, known-form)
