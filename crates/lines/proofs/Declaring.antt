@@ -160,7 +160,7 @@ module _ (s l ts : List ℕ) (kn : Known) (r : Read) (bs : List ℕ) (S : Standi
         stands = declared-stands;
       }
 
-some-first : {A B : Type 0} (a : A) (f : A → Option B) → (some a >>= f) ≡ f a
+pub some-first : {A B : Type 0} (a : A) (f : A → Option B) → (some a >>= f) ≡ f a
 unfolding _>>=_
 some-first a f = refl
 

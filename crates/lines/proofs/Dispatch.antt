@@ -46,7 +46,7 @@ use Rattle.lines.specs.Judging.{Standing}
 use Rattle.lines.specs.Whole.{lineIn, headIn, wholeStaged}
 use Rattle.lines.proofs.Bodies.{procOf, proc-shape}
 use Rattle.lines.proofs.BodyEnters.{main-told, proc-told, ProcLaid}
-use Rattle.lines.proofs.Declaring.{declared-enters, type-fixed, var-fixed}
+use Rattle.lines.proofs.Declaring.{some-first, declared-enters, type-fixed, var-fixed}
 use Rattle.lines.proofs.Lines.{line-judged, line-headed, line-empty, line-headless}
 use Rattle.lines.proofs.Stepping.{line-answer}
 
@@ -61,10 +61,6 @@ unfolding nodes
 line-nodes us vs w h n e = let j : n ≡ nodes (form (word w then vs)) = e ∙ ap (λ (ts : Trees Run). nodes (form ts)) h in omega arith
 
 -- ---- the parts after the head word
-
-some-first : {A B : Type 0} (a : A) (f : A → Option B) → (some a >>= f) ≡ f a
-unfolding _>>=_
-some-first a f = refl
 
 none-first : {A B : Type 0} (f : A → Option B) → (none >>= f) ≡ none
 unfolding _>>=_
