@@ -19,6 +19,12 @@ pub struct Got {
     pub top: u32,
 }
 
+// Document 01's reader: the lent text together with the offset it has reached.
+pub struct Reader<'a> {
+    pub text: &'a [u8],
+    pub at: usize,
+}
+
 // The next part of a form: a word (with its offset and its end), a form (the offset past its bracket), or none (past the closing bracket).
 pub enum Part {
     Leaf(Word, usize, usize),
@@ -41,8 +47,8 @@ fn leaf(text: &[u8], p: usize) -> Part
     Part::Leaf(word, p, seen.next)
 }
 
-// The part at an offset.
-pub fn part_at(text: &[u8], at: usize) -> Part
+// The part at an offset of a text.
+fn stands_at(text: &[u8], at: usize) -> Part
     ensures { λ r. ⌜ Stands (now (text .entry)) at r ⌝ }
 {
     let s = look(text, at);
@@ -51,6 +57,27 @@ pub fn part_at(text: &[u8], at: usize) -> Part
         Sight::Leaf(p) => leaf(text, p),
         Sight::Shut(p) => Part::Shut(p),
     }
+}
+
+// A reader that has reached an offset.
+pub fn reader_at<'a>(text: &'a [u8], at: usize) -> Reader<'a>
+    ensures { λ r. ⌜ (r .text ≡ text .entry) × (r .at ≡ at) ⌝ }
+{
+    Reader { text, at }
+}
+
+// The part at the offset that a reader has reached.
+pub fn next_part<'a>(r: Reader<'a>) -> Part
+    ensures { λ p. ⌜ Stands (now (r .entry .text)) (r .entry .at) p ⌝ }
+{
+    stands_at(r.text, r.at)
+}
+
+// The part at an offset, as the checker asks for it.
+pub fn part_at(text: &[u8], at: usize) -> Part
+    ensures { λ r. ⌜ Stands (now (text .entry)) at r ⌝ }
+{
+    next_part(reader_at(text, at))
 }
 
 // Whether the form ends at an offset.

@@ -8,31 +8,31 @@ use Rattle.parts.proofs.end_at.Reads as end-at-reads
 use Rattle.parts.proofs.failed.Reads as failed-reads
 use Rattle.parts.proofs.past_bracket.Reads as past-bracket-reads
 
--- src/lib.rt:159:9
+-- src/lib.rt:186:9
 end-at-requires : tie.Need-end-at-requires
 end-at-requires c κs = search needs
 
--- src/lib.rt:161:19
+-- src/lib.rt:188:19
 enum-known-e : tie.Need-enum-known-e
 enum-known-e c = search needs
 
--- src/lib.rt:161:25
+-- src/lib.rt:188:25
 past-bracket-requires : tie.Need-past-bracket-requires
 past-bracket-requires c κs = search needs
 
--- src/lib.rt:162:29
+-- src/lib.rt:189:29
 enum-told : tie.Need-enum-told
 enum-told c = search needs
 
--- src/lib.rt:162:22
+-- src/lib.rt:189:22
 failed-requires : tie.Need-failed-requires
 failed-requires c κs = search needs
 
--- src/lib.rt:156:1
+-- src/lib.rt:183:1
 returns : tie.Need-returns
 returns c = search closing-laws
 
--- src/lib.rt:156:1
+-- src/lib.rt:183:1
 returns-2 : tie.Need-returns-2
 returns-2 c = search closing-laws
 
