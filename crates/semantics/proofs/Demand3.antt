@@ -5,7 +5,7 @@ use mathlib.Core.Path.{_≡_, refl}
 use mathlib.Core.Bool.{false, true}
 use mathlib.Core.List.{List, [], _∷_}
 use mathlib.Core.Option.{Option, none, some}
-use Prim.Native.Nat.{ℕ, _+_, _*_, _<_, _≤_}
+use Prim.Native.Nat.{ℕ, _+_, _*_, _-_, _<_, _≤_}
 use native.Mathlib.Omega.{arith}
 use lib.IntN.{ℤ}
 use lib.ListN.{length, getD}
@@ -18,15 +18,16 @@ use Rattle.semantics.specs.Forms.{lineForm}
 use Rattle.semantics.specs.Script.{Body, Entry, newMain, newProc}
 use Rattle.semantics.specs.Environment.{Declared, PlacedBody}
 use Rattle.semantics.specs.Names.{bodyOf, newNames}
-use Rattle.semantics.specs.Code.{BodyCode}
+use Rattle.semantics.specs.Code.{BodyCode, stop}
 use Rattle.semantics.specs.Layout.{Laid, layBodies}
 use Rattle.semantics.specs.LayoutSize.{sizeBody, sizeBodies, sizeSymbols}
-use Rattle.semantics.specs.Readback.{readBody}
+use Rattle.semantics.specs.Readback.{readBody, bodyAtPlaces}
 use Rattle.semantics.specs.Stages.{bodyStaged}
 use Rattle.semantics.specs.Machine.{Outcome, spent, state, sticks}
 use Rattle.semantics.specs.Store.{storeFault}
 use Rattle.semantics.specs.Verdict.{Judged, Read, accepted, judgeLine, strictly}
-use Rattle.semantics.specs.Whole.{Report, fresh, lent, markOf, onStore, ran, report, runOf, verdictOf}
+use Rattle.semantics.specs.Whole.{Report, fresh, lent, markOf, onStore, ran, report, runAll, runOf, verdictOf}
+use Rattle.semantics.specs.ListMachine.{called}
 use Rattle.semantics.proofs.TextsAgree as Texts
 use Rattle.semantics.proofs.TextsAgree.{Paired, empty, more, judged-agree}
 use Rattle.semantics.proofs.StoreInRange.{Fine}
@@ -42,10 +43,15 @@ use Rattle.semantics.proofs.CodeSized.{SizedBody}
 use Rattle.semantics.proofs.ElaboratedSafe.{body-safe}
 use Rattle.semantics.proofs.LinesMeasured.{text-measured}
 use Rattle.semantics.proofs.TextRoom.{text-within, text-room}
+use Rattle.semantics.proofs.LayoutBodies as Held
 use Rattle.semantics.proofs.LayoutBodies.{no-bodies}
 use Rattle.semantics.proofs.LayoutFits.{all-laid, bodies-fit}
+use Rattle.semantics.proofs.ListMachineRuns.{bodies-run}
 use Rattle.semantics.proofs.OnePassLines as OnePass
 use Rattle.semantics.proofs.OnePassLines.{judgedBy}
+
+no-body : BodyCode
+no-body = record { acts = stop; handles = false; handler = stop }
 
 -- what rows 10 and 11 find in a store for a script
 abbrev pub faultIn : Read → List ℤ → List ℕ → Option ℕ
@@ -148,13 +154,35 @@ module _ (text : List ℕ) (work : ℕ) (r : Read) (accept : verdictOf text work
   pub room-enough : 1 + sizeSymbols (r .known .env) + sizeBodies (r .codes) ≤ 16384
   room-enough = text-room text work r accept
 
-  -- all bodies, laid from t on where there is room, are read back; `other` is the body past the last, of which nothing is said
+  bodies-laid : (t : ℕ) (l : List ℕ) → 1 ≤ t → t + sizeBodies (r .codes) ≤ 16384 → 16384 ≤ length l → (other : BodyCode)
+      → Held.Bodies other t (layBodies [] (r .codes) t l .top) (layBodies [] (r .codes) t l .list) (layBodies [] (r .codes) t l .places) (r .codes)
+  bodies-laid t l h g i other =
+      all-laid other t t l [] [] (r .codes) (omega arith) (record { start = h; fits = g; long = i }) (bodies-fit code-sized code-calls) (no-bodies other t t l)
+
+  -- all bodies, laid from t on where there is room, are read back, with places for the bodies that they call; `other` is the body past
+  -- the last, of which nothing is said
   pub laid-back : (t : ℕ) (l : List ℕ) → 1 ≤ t → t + sizeBodies (r .codes) ≤ 16384 → 16384 ≤ length l
       → (o : Laid) → layBodies [] (r .codes) t l ≡ o → (other : BodyCode) (k d : ℕ) → k < length (r .codes) → sizeBody (getD (r .codes) k other) ≤ d
-      → readBody d (o .list) (getD (o .places) k 0) ≡ getD (r .codes) k other
+      → readBody d (o .list) (getD (o .places) k 0) ≡ bodyAtPlaces (o .places) (getD (r .codes) k other)
   laid-back t l h g i o e other k d j m =
-      let B = all-laid other t t l [] [] (r .codes) (omega arith) (record { start = h; fits = g; long = i }) (bodies-fit code-sized code-calls) (no-bodies other t t l) in
-      rw (← e) (B .held (layBodies [] (r .codes) t l .list) (record { at = λ _ _ _. refl }) .read k j d m)
+      rw (← e) (bodies-laid t l h g i other .held (layBodies [] (r .codes) t l .list) (record { at = λ _ _ _. refl }) .read _ (record { at = λ _ _. refl }) k j d m)
+
+  -- ---- the machine over the working list (`called`, ListMachine), which runs the body at a place
+
+  -- in every list that holds the bodies at these places, whatever stands between them, the body at the last place, which is main's, runs as
+  -- the text's code does. Bodies are nested no deeper than there are bodies, so that each n from there on is deep enough
+  pub held-runs : {a t : ℕ} (l places : List ℕ) → ((other : BodyCode) → Held.Bodies other a t l places (r .codes)) → (n : ℕ) → length (r .codes) ≤ n
+      → called n l (getD places (length places - 1) 0) ≡ runAll (r .codes) []
+  held-runs l places B n h =
+      let H = B no-body in
+      bodies-run no-body l places (r .codes) (H .count) (H .held l (record { at = λ _ _ _. refl })) code-calls (omega (arith, room-enough)) (body-count .0) n h
+
+  -- so where all bodies are laid from t on
+  pub list-runs : (t : ℕ) (l : List ℕ) → 1 ≤ t → t + sizeBodies (r .codes) ≤ 16384 → 16384 ≤ length l
+      → (o : Laid) → layBodies [] (r .codes) t l ≡ o → (n : ℕ) → length (r .codes) ≤ n
+      → called n (o .list) (getD (o .places) (length (o .places) - 1) 0) ≡ runAll (r .codes) []
+  list-runs t l h g i o e n j =
+      rw (← e) (held-runs (layBodies [] (r .codes) t l .list) (layBodies [] (r .codes) t l .places) (λ other. bodies-laid t l h g i other) n j)
 
 -- ---- one pass over a body. Rows 6 to 8 of the line with it are what the pass answers: `bodyStaged` is 6, 7 or 8 where that stage is the
 -- first to give nothing, else the code (Stages); how it follows from the body's parts is said in OnePassExprs and OnePassStmts

@@ -25,9 +25,11 @@ pub mod StoreInRange
 pub mod TypeTables
 pub mod TypeSizes
 pub mod LinesKeep
+pub mod LinesCover
 pub mod StatementNumbers
 pub mod ScriptNumbers
 pub mod CodeCalls
+pub mod ListMachineRuns
 pub mod CodeSized
 pub mod BodiesInRange
 pub mod Reports

@@ -98,7 +98,7 @@ pub record Extends (Γ Γ′ : Types) : Type 0 where
 one-more : (Γ : Types) (i : TypeInfo) → Extends Γ (Γ ++ (i ∷ []))
 one-more Γ i = record { keeps = old Γ i; longer = rw length-append (omega arith) }
 
-declared-more : (Γ : Types) (d : Decl) → Extends Γ (extendTypes Γ d)
+pub declared-more : (Γ : Types) (d : Decl) → Extends Γ (extendTypes Γ d)
 unfolding extendTypes
 declared-more Γ (alias t) = record { keeps = λ t l. refl; longer = omega arith }
 declared-more Γ (enum v vs) = one-more Γ _
@@ -111,7 +111,7 @@ module _ {Γ Γ′ : Types} (x : Extends Γ Γ′) where
   same-fits : (t : ℕ) → t < length Γ → (z : ℤ) → cellFits Γ′ t z ≡ cellFits Γ t z
   same-fits t l z = rw (x .keeps t l)
 
-  same-cells : (t : ℕ) → t < length Γ → cellsOf Γ′ t ≡ cellsOf Γ t
+  pub same-cells : (t : ℕ) → t < length Γ → cellsOf Γ′ t ≡ cellsOf Γ t
   same-cells t l = rw (x .keeps t l)
 
   same-tests : {ts : List ℕ} → AllIn (length Γ) ts → tests Γ′ ts ≡ tests Γ ts
@@ -233,7 +233,7 @@ module _ (σ : Environment) (𝓣 : Table (σ .types)) {k : ℕ} (ns : AllFair (
       rw (← some-inj e, ← some-inj e′) (type-in (f .1) t ht, fields-in fs gs′ hgs)
 
   -- a declaration that kept rows 7, 8 and 9
-  decl-valid : (w : Name) (t : TypeForm) (d : Decl) → declOf σ w t ≡ some d → keptDecl (σ .types) d ≡ true → typeBounded (σ .types) d ≡ true → Valid (σ .types) d
+  pub decl-valid : (w : Name) (t : TypeForm) (d : Decl) → declOf σ w t ≡ some d → keptDecl (σ .types) d ≡ true → typeBounded (σ .types) d ≡ true → Valid (σ .types) d
   unfolding declOf keptDecl typeBounded
   decl-valid w (Syntax.alias t) d h k b = bind-some h λ n hn e. given-some e λ _ v. rw (← v) tt
   decl-valid w (Syntax.enum v vs) d h k b = given-some h λ _ q. rw (← q) (le-leb (length vs) 2147483647 (let l : suc (length vs) ≤ 256 = leb-true _ _ (rw (← q) at b) in omega arith))

@@ -4,7 +4,7 @@ use mathlib.Core.List.{List, [], _∷_}
 use mathlib.Core.Path.{_≡_}
 use Prim.Native.Nat.{ℕ, suc, _+_, _*_, _<_}
 use lib.IntN.{ℤ}
-use lib.ListN.{length, getD, drop}
+use lib.ListN.{length, drop}
 use Rattle.arith.specs.Integers.{least, most, inside}
 use Rattle.semantics.specs.Operators.{Operation, Operation1, intNegate, boolNot, intAbs, intSqr, intOdd, ordinalOf, predIn, succIn, setCard, setLeast, setGreatest}
 use Rattle.semantics.specs.Types.{Types}
@@ -156,10 +156,6 @@ mutual
 pub record BodyFits (bodies : ℕ) (b : BodyCode) : Type 0 where
   pub acts-fit : ActsFit bodies (b .acts)
   pub handler-fits : ActsFit bodies (b .handler)
-
--- the list has at each of the places the node of a body of that number
-pub record Named (bodies l : List ℕ) : Type 0 where
-  pub number : (p : ℕ) → p < length bodies → getD l (getD bodies p 0) 0 ≡ p
 
 -- ---- symbol entries: 4 numbers for each name, 8 for each type's description, 4 for each field of a record
 

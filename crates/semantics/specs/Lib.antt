@@ -24,5 +24,6 @@ pub mod Chair
 pub mod Marking
 pub mod Store
 pub mod Whole
+pub mod ListMachine
 pub mod Print
 pub mod Open

@@ -30,6 +30,7 @@ use Rattle.semantics.specs.Chair as Chair
 use Rattle.semantics.specs.Marking as Marking
 use Rattle.semantics.specs.Store as Store
 use Rattle.semantics.specs.Whole as Whole
+use Rattle.semantics.specs.ListMachine as ListMachine
 use Rattle.semantics.specs.Print as Print
 
 unfoldable pub everything : Unit {0}
@@ -65,20 +66,21 @@ unfolding
     Readback.placeOp Readback.actOp Readback.actOpUnless Readback.actOpAt Readback.operations Readback.operationAt Readback.operations1
     Readback.operation1At Readback.integerAt Readback.codeFrom Readback.placeFrom Readback.codesFrom Readback.readCode Readback.readPlace
     Readback.readCodes Readback.labelsFrom Readback.readLabels Readback.actFrom Readback.actsFrom Readback.armFrom Readback.casesFrom
-    Readback.readAct Readback.readActs Readback.readCases Readback.readBody Rules.plain Rules.allPlain Rules.labelled Rules.differ
-    Rules.labelsOf Rules.looping Rules.plainExpr Rules.plainTarget Rules.plainExprs Rules.keptStmt Rules.keptStmts Rules.keptArms
-    Rules.keptBody Rules.keptDecl Rules.keepsRules Stages.ruled Stages.named Stages.staged Stages.join Stages.orUnfit Stages.onFits
-    Stages.selected Stages.keptIf Stages.unknown Stages.dotted Stages.exprStaged Stages.targetName Stages.typeBy Stages.targetType
-    Stages.targetStaged Stages.membersStaged Stages.wantedStaged Stages.assignedStaged Stages.stmtStaged Stages.stmtsStaged
-    Stages.labelsStaged Stages.armsStaged Stages.casesStaged Stages.bodyStaged Ceilings.fieldSizes Ceilings.typeBounded
-    Ceilings.lineBounded Verdict._>>=_ Verdict.orBad Verdict.must Verdict.strictly Verdict.loosely Verdict.judgeLine Verdict.onward
-    Verdict.judgeLines Verdict.opening Verdict.judge Calculate.exceptionOf Calculate.integer Calculate.tested Calculate.truth
-    Calculate.setValue Calculate.joined Calculate.memberIn Calculate.compute Calculate.compute1 Machine.readCell Machine.readCells
-    Machine.whileRounds Machine.forRounds Machine.countUp Machine.storeOrdinal Machine.storeWhole Machine.passOn Machine.raiseNumber
-    Machine.procedureAt Chair.evalCode Chair.placeCode Chair.gatherCodes Chair.condition Chair.matches Chair.runAct Chair.runActs
-    Chair.runCases Marking.markExpr Marking.markTarget Marking.markMembers Marking.markCondition Marking.markLabels Marking.markBounds
-    Marking.markStmt Marking.markStmts Marking.markArms Store.cellsOk Store.faultOf Store.storeFault Whole.runBody Whole.markBody
-    Whole.runAll Whole.markAll Whole.report Whole.lent Whole.onStore Whole.unless Whole.verdictOf Whole.runOf Whole.markOf Whole.workAfter
-    Whole.refusalWords Whole.refusalWord Print.decimal Print.decimalOf Print.signedOf Print.row Print.outcome Print.cellValue Print.cells
-    Print.show Print.scripted Print.runscript Print.markscript
+    Readback.readAct Readback.readActs Readback.readCases Readback.readBody Readback.atPlaces Readback.allAtPlaces Readback.casesAtPlaces
+    Readback.bodyAtPlaces Rules.plain Rules.allPlain Rules.labelled Rules.differ Rules.labelsOf Rules.looping Rules.plainExpr
+    Rules.plainTarget Rules.plainExprs Rules.keptStmt Rules.keptStmts Rules.keptArms Rules.keptBody Rules.keptDecl Rules.keepsRules
+    Stages.ruled Stages.named Stages.staged Stages.join Stages.orUnfit Stages.onFits Stages.selected Stages.keptIf Stages.unknown
+    Stages.dotted Stages.exprStaged Stages.targetName Stages.typeBy Stages.targetType Stages.targetStaged Stages.membersStaged
+    Stages.wantedStaged Stages.assignedStaged Stages.stmtStaged Stages.stmtsStaged Stages.labelsStaged Stages.armsStaged Stages.casesStaged
+    Stages.bodyStaged Ceilings.fieldSizes Ceilings.typeBounded Ceilings.lineBounded Verdict._>>=_ Verdict.orBad Verdict.must
+    Verdict.strictly Verdict.loosely Verdict.judgeLine Verdict.onward Verdict.judgeLines Verdict.opening Verdict.judge
+    Calculate.exceptionOf Calculate.integer Calculate.tested Calculate.truth Calculate.setValue Calculate.joined Calculate.memberIn
+    Calculate.compute Calculate.compute1 Machine.readCell Machine.readCells Machine.whileRounds Machine.forRounds Machine.countUp
+    Machine.storeOrdinal Machine.storeWhole Machine.passOn Machine.raiseNumber Machine.procedureAt Chair.evalCode Chair.placeCode
+    Chair.gatherCodes Chair.condition Chair.matches Chair.runAct Chair.runActs Chair.runCases Marking.markExpr Marking.markTarget
+    Marking.markMembers Marking.markCondition Marking.markLabels Marking.markBounds Marking.markStmt Marking.markStmts Marking.markArms
+    Store.cellsOk Store.faultOf Store.storeFault Whole.runBody Whole.markBody Whole.runAll Whole.markAll Whole.report Whole.lent
+    Whole.onStore Whole.unless Whole.verdictOf Whole.runOf Whole.markOf Whole.workAfter Whole.refusalWords Whole.refusalWord
+    ListMachine.byPlace ListMachine.called ListMachine.callable Print.decimal Print.decimalOf Print.signedOf Print.row Print.outcome
+    Print.cellValue Print.cells Print.show Print.scripted Print.runscript Print.markscript
 everything = tt
