@@ -138,6 +138,7 @@ module _ {s l ts : List ℕ} {st : State} {k : Declared} {bs : List ℕ} (H : Ho
         fair = rw (H .bodies-are) (alias-keeps .names);
         fieldless = K .fieldless;
         cells = keeps-cells ka alias-keeps (omega (arith, H .cells-are, H .few-cells));
+        above = λ v c g. K .above v c (value-find wa v (aType kind) (k .env .names) c (type-value kind) g);
         once = λ v x c g h. K .once v x c (value-find wa v (aType kind) (k .env .names) c (type-value kind) g) (value-find wa x (aType kind) (k .env .names) c (type-value kind) h);
       }
 

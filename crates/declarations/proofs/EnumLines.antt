@@ -53,7 +53,7 @@ use Rattle.declarations.proofs.Aliases.{lines-bounded}
 use Rattle.declarations.proofs.SimpleLines.{read-numbers, describes-tells}
 use Rattle.declarations.proofs.EnumNames.{enum-parts, counted-more}
 use Rattle.declarations.proofs.EnumStages.{enum-named}
-use Rattle.declarations.proofs.EnumValues.{chained-one, chained-values, values-once, value-kind}
+use Rattle.declarations.proofs.EnumValues.{chained-one, chained-values, values-once, values-above, value-kind}
 
 -- ---- what is held
 
@@ -185,6 +185,8 @@ module _ {s l ts : List ℕ} {st : State} {k : Declared} {bs : List ℕ} (H : Ho
         fair = rw (H .bodies-are) (K .names);
         cells = keeps-cells ks K (omega (arith, H .cells-are, H .few-cells));
         fieldless = by-number Γ (typeInfoOf Γ (enum v vs)) (λ t j. isRecord (j .shape) ≡ false → j .fields ≡ []) (λ t _. H .scene .fieldless t) (λ _. refl) (λ t _ _. refl);
+        above = λ x c i. values-above (length Γ) (k .env .names) (H .scene .table .two) (H .scene .above) (v ∷ vs) 0 x c
+            (value-find w x (aType (length Γ)) (enumNames (length Γ) 0 (v ∷ vs) ++ k .env .names) c (type-value (length Γ)) i);
         once = λ x y c i j. values-once (length Γ) (k .env .names) (value-kind (H .scene .fair)) (H .scene .once) (v ∷ vs) 0 x y c
             (value-find w x (aType (length Γ)) (enumNames (length Γ) 0 (v ∷ vs) ++ k .env .names) c (type-value (length Γ)) i)
             (value-find w y (aType (length Γ)) (enumNames (length Γ) 0 (v ∷ vs) ++ k .env .names) c (type-value (length Γ)) j);

@@ -312,6 +312,21 @@ module _ (t : ℕ) (old : List (Name × NameSort)) (none-old : (w : Name) (c : C
       go _ false p true q g h = absurd (value-later ws (suc n) n a (omega arith) (g ∙ sym h))
       go k false p false q g h = k g h
 
+-- values of a declared kind stay so
+pub values-above : (t : ℕ) (old : List (Name × NameSort)) → 2 ≤ t → ((w : Name) (c : Const) → find old w ≡ some (aValue c) → 2 ≤ c .kind) → (ws : List Name) (n : ℕ) (a : Name) (c : Const)
+    → find (enumNames t n ws ++ old) a ≡ some (aValue c) → 2 ≤ c .kind
+unfolding enumNames find
+values-above t old b O [] n a c e = O a c e
+values-above t old b O (w ∷ ws) n a c e = go (λ g. values-above t old b O ws (suc n) a c g) (same w a) e
+  where
+    kind-is : {d : Const} → some (aValue (record { kind = t; value = pos n })) ≡ some (aValue d) → t ≡ d .kind
+    kind-is q = cc
+
+    go : (find (enumNames t (suc n) ws ++ old) a ≡ some (aValue c) → 2 ≤ c .kind) → (u : Bool)
+        → elim u [ true ↦ some (aValue (record { kind = t; value = pos n })) | false ↦ find (enumNames t (suc n) ws ++ old) a ] ≡ some (aValue c) → 2 ≤ c .kind
+    go _ true g = let z = kind-is g in omega arith
+    go k false g = k g
+
 -- the kinds of declared values are types of the table
 pub value-kind : {Γ : Types} {k : ℕ} {ns : List (Name × NameSort)} → AllFair Γ k ns → (w : Name) (c : Const) → find ns w ≡ some (aValue c) → c .kind < length Γ
 value-kind {Γ} {k} A w c h = go (find-fair A w (aValue c) h)

@@ -244,6 +244,7 @@ module _ {s l ts : List ℕ} {st : State} {k : Declared} {bs : List ℕ} (H : Ho
         fair = rw (H .bodies-are) (K .names);
         cells = keeps-cells ks K (omega (arith, H .cells-are, H .few-cells));
         fieldless = by-number Γ (typeInfoOf Γ (recordOf gs)) (λ t j. isRecord (j .shape) ≡ false → j .fields ≡ []) (λ t _. H .scene .fieldless t) (λ q. absurd (false≢true (sym q))) (λ t _ _. refl);
+        above = λ x c i. H .scene .above x c (value-find w x (aType (length Γ)) (k .env .names) c (type-value (length Γ)) i);
         once = λ x y c i j. H .scene .once x y c (value-find w x (aType (length Γ)) (k .env .names) c (type-value (length Γ)) i) (value-find w y (aType (length Γ)) (k .env .names) c (type-value (length Γ)) j);
       }
 

@@ -205,6 +205,7 @@ module _ {s l ts : List ℕ} {st : State} {k : Declared} {bs : List ℕ} (H : Ho
         fair = rw (H .bodies-are) (K .names);
         cells = keeps-cells ks K (omega (arith, H .cells-are, H .few-cells));
         fieldless = rw (simple-extends Γ D) (by-number Γ (typeInfoOf Γ d) (λ t j. isRecord (j .shape) ≡ false → j .fields ≡ []) (λ t _. H .scene .fieldless t) (λ _. simple-fields Γ D) (λ t _ _. refl));
+        above = rw (simple-names Γ ws D) (λ v c g. H .scene .above v c (value-find ws v (aType (length Γ)) (k .env .names) c (type-value (length Γ)) g));
         once = rw (simple-names Γ ws D) (λ v y c g h. H .scene .once v y c
             (value-find ws v (aType (length Γ)) (k .env .names) c (type-value (length Γ)) g) (value-find ws y (aType (length Γ)) (k .env .names) c (type-value (length Γ)) h));
       }

@@ -55,6 +55,7 @@ holds-start s l ts a b c h = record {
     fair = none-fair;
     fieldless = λ t _. fieldless-start t;
     cells = λ i v g. none-some g;
+    above = λ w c g. none-some g;
     once = λ v w c g _. none-some g;
   };
   keeps = keeps-start;

@@ -314,6 +314,7 @@ module _ {s l ts : List ℕ} {st : State} {k : Declared} {bs : List ℕ} (H : Ho
           fair = rw (H .bodies-are) (var-keeps .names);
           fieldless = K .fieldless;
           cells = keeps-cells k′ var-keeps (rw length-append (omega (arith, H .cells-are, cells-low)));
+          above = λ v c g. K .above v c (value-find wp v (aVar (length (k .env .vars))) (k .env .names) c (var-value (length (k .env .vars))) g);
           once = λ v w c g h. K .once v w c
               (value-find wp v (aVar (length (k .env .vars))) (k .env .names) c (var-value (length (k .env .vars))) g)
               (value-find wp w (aVar (length (k .env .vars))) (k .env .names) c (var-value (length (k .env .vars))) h);

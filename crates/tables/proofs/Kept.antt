@@ -96,5 +96,6 @@ scene-kept {s} {l} {l′} {ts} {count} {newest} {top} {top′} {σ} {bs} S E h =
   fair = S .fair;
   fieldless = S .fieldless;
   cells = S .cells;
+  above = S .above;
   once = S .once;
 }

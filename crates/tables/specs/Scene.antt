@@ -63,5 +63,6 @@ pub record Scene (s l ts : List ℕ) (count newest top : ℕ) (σ : Environment)
   pub fieldless : (t : ℕ) → record? (σ .types) t ≡ false → infoAt (σ .types) t .fields ≡ []
   -- a variable's cells are among the 2,048 that there may be
   pub cells : (i : ℕ) (v : Var) → variable (σ .vars) i ≡ some v → v .base + sizeOf (σ .types) (v .type) ≤ 2048
-  -- an enum value has one name
+  -- an enum value is of a declared kind, and has one name
+  pub above : (w : Name) (c : Const) → find (σ .names) w ≡ some (aValue c) → 2 ≤ c .kind
   pub once : (v w : Name) (c : Const) → find (σ .names) v ≡ some (aValue c) → find (σ .names) w ≡ some (aValue c) → same v w ≡ true
