@@ -235,7 +235,7 @@ fn is_minus(w: Word) -> bool
 }
 
 // The constant `(- number)` whose parts begin at an offset.
-fn minus_form(text: &[u8], at: usize) -> Valued
+pub fn minus_form(text: &[u8], at: usize) -> Valued
     ensures { λ r. ⌜ GivesMinus (now (text .entry)) at (minusForm (first (stackAt (now (text .entry)) at))) r ⌝ }
 {
     let part = part_at(text, at);

@@ -1,0 +1,5 @@
+pub mod Marking
+pub mod Skipping
+pub mod Telling
+pub mod Hopping
+pub mod Finding

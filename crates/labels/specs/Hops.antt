@@ -1,0 +1,171 @@
+-- The walk over the labels of a `case`, from label to label, by offset.
+use mathlib.Core.Bool.{Bool, true, false, cond}
+use mathlib.Core.Logic.{_⊎_}
+use mathlib.Core.List.{List, [], _∷_, _++_, map}
+use mathlib.Core.Option.{Option, none, some}
+use mathlib.Core.Path.{_≡_}
+use Prim.Native.Nat.{ℕ, _<_, _≤_}
+use lib.IntN.{ℤ}
+use Rattle.lexis.specs.Bytes.{small, same}
+use Rattle.semantics.specs.Base.{Name, find, each}
+use Rattle.semantics.specs.Calculate.{truth, equalZ}
+use Rattle.semantics.specs.Environment.{Environment, aValue}
+use Rattle.semantics.specs.Names.{constantOf, constOf}
+use Rattle.semantics.specs.Rules.{plain, allPlain, labelled, differ}
+use Rattle.semantics.specs.Script.{Const}
+use Rattle.semantics.specs.Syntax.{Constant}
+use Rattle.semantics.specs.Trees.{Tree, form, Trees, end, _then_, Run, first, later, wordAt, stackAt}
+use Rattle.reader.specs.Passes.{nodesAll}
+use Rattle.tables.specs.declared.Fault.{Fault}
+use Rattle.tables.specs.declared.Fault.the-variants.{Clear, Kind}
+use Rattle.parts.specs.Got.{lowest}
+use Rattle.parts.specs.Parts.{Before, ShutAt}
+use Rattle.labels.specs.Marks.{marksIn, marksOf}
+use Rattle.labels.specs.declared.Mark.{Mark}
+use Rattle.labels.specs.declared.Mark.the-variants as mark
+use Rattle.labels.specs.declared.Step.{Step}
+use Rattle.labels.specs.declared.Step.the-variants as step
+use Rattle.labels.specs.declared.Hop.{Hop}
+use Rattle.labels.specs.declared.Hop.the-variants as hop
+use Rattle.labels.specs.declared.Next.{Next}
+use Rattle.labels.specs.declared.Next.the-variants as next
+
+-- ---- past the parts of a form
+
+-- q is past the bracket that closes the parts at an offset
+pub record Past (s : List ℕ) (at q : ℕ) : Type 0 where
+  pub beyond : later (stackAt s at) ≡ stackAt s q
+
+-- one part is passed, or the closing bracket
+abbrev pub StepsBy : List ℕ → ℕ → Step → Type 0
+StepsBy s at (step.On q) = (t : Tree Run) × Before s at t q
+StepsBy s at (step.Out q) = ShutAt s at q
+
+pub record Steps (s : List ℕ) (at : ℕ) (r : Step) : Type 0 where
+  pub says : StepsBy s at r
+
+-- ---- labels
+
+-- the label that a mark stands for
+pub data MarkIs (s : List ℕ) (σ : Environment) : Mark → Const → Type 0 where
+  a-number : (z : ℤ) → MarkIs s σ (mark.Number z) (constOf 0 z)
+  a-truth : (b : Bool) → MarkIs s σ (mark.Truth b) (constOf 1 (truth b))
+  a-name : (p : ℕ) (x : Const) → find (σ .names) (map small (wordAt s p)) ≡ some (aValue x) → MarkIs s σ (mark.Named p) x
+
+-- the mark of a constant, where that is in the integers
+pub record Tells (s : List ℕ) (m : Mark) (c : Constant) : Type 0 where
+  pub tells : (σ : Environment) (x : Const) → constantOf σ c ≡ some x → plain x ≡ true → MarkIs s σ m x
+
+-- ---- whether two marks are the same
+
+-- two truth values
+abbrev pub sameTruth : Bool → Bool → Bool
+sameTruth true b = b
+sameTruth false true = false
+sameTruth false false = true
+
+-- whether a mark is that of the integer x; of the truth value a; of the name at p, case ignored
+abbrev pub isNumberMark : ℤ → Mark → Bool
+isNumberMark x (mark.Number y) = equalZ x y
+isNumberMark x (mark.Truth b) = false
+isNumberMark x (mark.Named p) = false
+
+abbrev pub isTruthMark : Bool → Mark → Bool
+isTruthMark a (mark.Number y) = false
+isTruthMark a (mark.Truth b) = sameTruth a b
+isTruthMark a (mark.Named p) = false
+
+abbrev pub isNameMark : List ℕ → ℕ → Mark → Bool
+isNameMark s p (mark.Number y) = false
+isNameMark s p (mark.Truth b) = false
+isNameMark s p (mark.Named q) = same (map small (wordAt s p)) (map small (wordAt s q))
+
+-- two marks: those of different sorts never are
+abbrev pub sameMark : List ℕ → Mark → Mark → Bool
+sameMark s (mark.Number x) n = isNumberMark x n
+sameMark s (mark.Truth b) n = isTruthMark b n
+sameMark s (mark.Named p) n = isNameMark s p n
+
+-- ---- where the walk stands: inside an arm, after its head or after a label
+
+-- the labels from there on, of this arm and of those after it
+unfoldable pub leftAt : List ℕ → ℕ → List Constant
+leftAt s p = marksIn (first (stackAt s p)) ++ marksOf (first (later (stackAt s p)))
+
+-- at q fewer brackets and words are left, by which the loops are measured
+pub record Nearer (s : List ℕ) (at q : ℕ) : Type 0 where
+  pub nearer : nodesAll (stackAt s q) < nodesAll (stackAt s at)
+
+-- a part before q that is the constant o, or none, and not the last of its arm: as a label
+abbrev pub MarkedBy : List ℕ → Option Constant → ℕ → Hop → Type 0
+MarkedBy s o q (hop.Label m p) = (p ≡ q) × ((c : Constant) × ((o ≡ some c) × Tells s m c))
+MarkedBy s o q (hop.Over p) = (p ≡ q) × (o ≡ none)
+MarkedBy s o q hop.End = ⊥
+
+pub record Marked (s : List ℕ) (o : Option Constant) (q : ℕ) (h : Hop) : Type 0 where
+  pub says : MarkedBy s o q h
+
+-- the same of any part of an arm: the last one, its statement, is no label
+abbrev pub PassesBy : List ℕ → Option Constant → ℕ → Hop → Type 0
+PassesBy s o q (hop.Label m p) = (p ≡ q) × ((first (stackAt s q) ≡ end → ⊥) × ((c : Constant) × ((o ≡ some c) × Tells s m c)))
+PassesBy s o q (hop.Over p) = (p ≡ q) × ((first (stackAt s q) ≡ end) ⊎ (o ≡ none))
+PassesBy s o q hop.End = ⊥
+
+pub record Passes (s : List ℕ) (o : Option Constant) (q : ℕ) (h : Hop) : Type 0 where
+  pub says : PassesBy s o q h
+
+-- into the next arm, whose parts begin at p: past its head, or there are no labels
+abbrev pub EntersFormBy : List ℕ → ℕ → Hop → Type 0
+EntersFormBy s p (hop.Label m q) = ⊥
+EntersFormBy s p (hop.Over q) = ((ts : Trees Run) → marksOf (form (first (stackAt s p)) then ts) ≡ (marksIn (first (stackAt s q)) ++ marksOf ts)) × ((later (stackAt s p) ≡ later (stackAt s q)) × Nearer s p q)
+EntersFormBy s p hop.End = (ts : Trees Run) → marksOf (form (first (stackAt s p)) then ts) ≡ []
+
+pub record EntersForm (s : List ℕ) (p : ℕ) (h : Hop) : Type 0 where
+  pub says : EntersFormBy s p h
+
+-- the same from an offset where arms stand
+abbrev pub EntersArmBy : List ℕ → ℕ → Hop → Type 0
+EntersArmBy s at (hop.Label m q) = ⊥
+EntersArmBy s at (hop.Over q) = (marksOf (first (stackAt s at)) ≡ leftAt s q) × Nearer s at q
+EntersArmBy s at hop.End = marksOf (first (stackAt s at)) ≡ []
+
+pub record EntersArm (s : List ℕ) (at : ℕ) (h : Hop) : Type 0 where
+  pub says : EntersArmBy s at h
+
+-- one part of an arm is passed, or its closing bracket and the next arm's head
+abbrev pub HopsBy : List ℕ → ℕ → Hop → Type 0
+HopsBy s at (hop.Label m q) = ((c : Constant) × ((leftAt s at ≡ (c ∷ leftAt s q)) × Tells s m c)) × Nearer s at q
+HopsBy s at (hop.Over q) = (leftAt s at ≡ leftAt s q) × Nearer s at q
+HopsBy s at hop.End = leftAt s at ≡ []
+
+pub record Hops (s : List ℕ) (at : ℕ) (h : Hop) : Type 0 where
+  pub says : HopsBy s at h
+
+-- the next label is passed, or none is left
+abbrev pub NextsBy : List ℕ → ℕ → Next → Type 0
+NextsBy s at (next.Label m q) = ((c : Constant) × ((leftAt s at ≡ (c ∷ leftAt s q)) × Tells s m c)) × Nearer s at q
+NextsBy s at next.Done = leftAt s at ≡ []
+
+pub record Nexts (s : List ℕ) (at : ℕ) (r : Next) : Type 0 where
+  pub says : NextsBy s at r
+
+-- ---- in an environment
+
+-- an enum value is of a declared kind, and has one name (tables, Scene)
+pub record Apart (σ : Environment) : Type 0 where
+  pub above : (w : Name) (c : Const) → find (σ .names) w ≡ some (aValue c) → 2 ≤ c .kind
+  pub once : (v w : Name) (c : Const) → find (σ .names) v ≡ some (aValue c) → find (σ .names) w ≡ some (aValue c) → same v w ≡ true
+
+-- the values of constants, all of them in the integers
+pub record Known (σ : Environment) (cs : List Constant) (xs : List Const) : Type 0 where
+  pub known : each (constantOf σ) cs ≡ some xs
+  pub inside : allPlain xs ≡ true
+
+-- whether a label comes again among those that are left at an offset
+pub record Repeats (s : List ℕ) (m : Mark) (at : ℕ) (r : Bool) : Type 0 where
+  pub says : (σ : Environment) → Apart σ → (x : Const) → MarkIs s σ m x → (xs : List Const) → Known σ (leftAt s at) xs → r ≡ labelled x xs
+
+-- a fault of row 8 where a label that is left at an offset comes again after it
+pub record Doubled (s : List ℕ) (at : ℕ) (r : Fault) : Type 0 where
+  pub small : lowest r Kind ≡ Kind
+  pub says : (σ : Environment) → Apart σ → (xs : List Const) → Known σ (leftAt s at) xs → r ≡ cond (differ xs) Clear Kind
