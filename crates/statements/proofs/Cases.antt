@@ -16,14 +16,10 @@ use Rattle.semantics.specs.Syntax as Syntax
 use Rattle.tables.specs.declared.Fault.the-variants.{Clear, Kind, Name, Form}
 use Rattle.parts.specs.Got.{lowest, faultOf}
 use Rattle.expressions.proofs.Joining.{wrong-fits, unnamed-fits, unfit-fits}
+use Rattle.labels.specs.Repeating.{labelsDiffer}
 use Rattle.statements.proofs.Faults.{lowest-clear}
 
 -- ---- the arms
-
--- whether the labels differ, where all names are known
-unfoldable pub labelsDiffer : Environment → Option Syntax.Arms → Bool
-labelsDiffer σ none = true
-labelsDiffer σ (some a) = elim (armsOf σ a) [ none ↦ true | some b ↦ differ (labelsOf b) ]
 
 module _ {C : Type 0} where
   differ-fault : (d p : Bool) (u : Option C) → faultOf (ruled (d && p) u) ≡ lowest (faultOf (ruled p u)) (cond d Clear Kind)

@@ -11,3 +11,7 @@ pub mod Fronts
 pub mod Bodies
 pub mod Following
 pub mod Cases
+pub mod Labelling
+pub mod ArmWays
+pub mod ArmLoop
+pub mod CaseWays

@@ -2,3 +2,4 @@ pub mod Nodes
 pub mod Walks
 pub mod Chains
 pub mod Fronts
+pub mod Cases

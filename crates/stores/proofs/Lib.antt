@@ -1,0 +1,4 @@
+pub mod Ways
+pub mod Leaves
+pub mod Holders
+pub mod Testing

@@ -1,0 +1,31 @@
+use Rattle.stores.proofs.Testing.{owner-found}
+use borrow.Author.Needs.{needs}
+use Rattle.stores.proofs.owner.Statement.{statement}
+use Rattle.stores.proofs.owner.Tie as tie
+use Rattle.stores.proofs.owner.Reads as reads
+use Rattle.stores.proofs.owner.Lts as lts
+use Rattle.stores.proofs.holder_of.Reads as holder-of-reads
+use Rattle.worklist.proofs.at.Reads as at-reads
+
+-- src/lib.rt:211:13
+holder-of-requires : tie.Need-holder-of-requires
+holder-of-requires c κs = search needs
+
+-- src/lib.rt:211:13
+cast-p : tie.Need-cast-p
+cast-p c = search needs
+
+-- src/lib.rt:212:5
+at-requires : tie.Need-at-requires
+at-requires c κs = search needs
+
+-- src/lib.rt:212:5
+cast-result : tie.Need-cast-result
+cast-result c = search needs
+
+-- src/lib.rt:208:1
+returns : tie.Need-returns
+returns c = search owner-found
+
+pub owner-spec : {M : Type 1} → statement M
+owner-spec = tie.close (tie.spec holder-of-requires cast-p at-requires cast-result returns)

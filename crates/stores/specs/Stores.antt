@@ -1,0 +1,49 @@
+-- Document 01, "Refusal table": rows 10 and 11 of the lent store, and each cell's variable, by what the checker holds after all lines.
+use mathlib.Core.Bool.{Bool, cond, _&&_}
+use mathlib.Core.List.{List, [], map}
+use mathlib.Core.Option.{Option, none, some}
+use mathlib.Core.Path.{_≡_}
+use Prim.Native.Nat.{ℕ, _<_}
+use lib.Dec.{eqb}
+use lib.IntN.{ℤ}
+use lib.ListN.{length, getD}
+use Rattle.arith.specs.Integers.{inside, isZero}
+use Rattle.sets.specs.Sets.{liesIn}
+use Rattle.lexis.specs.Bytes.{small}
+use Rattle.lexis.specs.Numbers.{signed}
+use Rattle.semantics.specs.Environment.{Declared}
+use Rattle.semantics.specs.Store.{storeFault}
+use Rattle.semantics.specs.Trees.{wordAt}
+use Rattle.semantics.proofs.LinesCover.{Covered}
+use Rattle.tables.specs.Descriptions.{infoOf}
+use Rattle.tables.specs.declared.Info.{Info}
+use Rattle.declarations.specs.State.{Holds}
+use Rattle.declarations.specs.declared.State.{State}
+use Rattle.stores.specs.Cells.{cellType}
+
+-- a value of the ordinal or set type that x describes
+unfoldable pub valueFits : Info → ℤ → Bool
+valueFits x v = cond (eqb (x .shape) 0) (inside (signed (x .low)) (signed (x .high)) v) (liesIn (signed (x .low)) (signed (x .high)) v)
+
+-- a defined cell with such a value, or an undefined one with value 0
+unfoldable pub markFits : Info → ℤ → ℕ → Bool
+markFits x v m = cond (eqb m 1) (valueFits x v) (eqb m 0 && isZero v)
+
+-- so of cell c of the store
+unfoldable pub cellPasses : List ℕ → List ℕ → ℕ → ℕ → ℕ → ℤ → ℕ → Bool
+cellPasses l ts count newest c v m = markFits (infoOf l ts (cellType l ts count newest c)) v m
+
+-- a refusal's number, 0 for none
+unfoldable pub rowNumber : Option ℕ → ℕ
+rowNumber none = 0
+rowNumber (some n) = n
+
+-- ---- contracts
+
+-- r is the row that refuses the store, whatever the lists hold
+pub record StoreFault (l ts : List ℕ) (st : State) (vs : List ℤ) (ms : List ℕ) (r : ℕ) : Type 0 where
+  pub says : (s : List ℕ) (k : Declared) (bs : List ℕ) → Holds s l ts st k bs → Covered k → r ≡ rowNumber (storeFault (k .env .types) (k .cells) vs ms)
+
+-- r is the offset of the name of cell c's variable
+pub record Owner (l ts : List ℕ) (st : State) (c r : ℕ) : Type 0 where
+  pub says : (s : List ℕ) (k : Declared) (bs : List ℕ) → Holds s l ts st k bs → Covered k → c < length (k .cells) → map small (wordAt s r) ≡ getD (k .owners) c []
