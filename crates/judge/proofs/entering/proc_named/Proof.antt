@@ -1,0 +1,45 @@
+use Rattle.judge.proofs.Dispatch.{proc-named-is}
+use borrow.Author.Needs.{needs}
+use Rattle.judge.proofs.entering.proc_named.Statement.{statement}
+use Rattle.judge.proofs.entering.proc_named.Tie as tie
+use Rattle.judge.proofs.entering.proc_named.Reads as reads
+use Rattle.judge.proofs.entering.proc_named.Lts as lts
+use Rattle.declarations.proofs.named_fault.Reads as named-fault-reads
+use Rattle.judge.proofs.entering.proc_end.Reads as proc-end-reads
+use Rattle.parts.proofs.lowest.Reads as lowest-reads
+use Rattle.statements.proofs.body.body.Reads as body-reads
+
+-- src/entering.rt:140:9
+named-fault-requires : tie.Need-named-fault-requires
+named-fault-requires c κs = search needs
+
+-- src/entering.rt:141:9
+body-requires : tie.Need-body-requires
+body-requires c κs = search needs
+
+-- src/entering.rt:153:24
+lowest-requires : tie.Need-lowest-requires
+lowest-requires c κs = search needs
+
+-- src/entering.rt:153:5
+proc-end-requires : tie.Need-proc-end-requires
+proc-end-requires c κs = search needs
+
+-- src/entering.rt:129:1
+same-length : tie.Need-same-length
+same-length c = search needs
+
+-- src/entering.rt:129:1
+returns : tie.Need-returns
+returns c = search proc-named-is
+
+pub proc-named-spec : {M : Type 1} → statement M
+proc-named-spec =
+    tie.close
+    (tie.spec
+    named-fault-requires
+    body-requires
+    lowest-requires
+    proc-end-requires
+    same-length
+    returns)

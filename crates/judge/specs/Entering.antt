@@ -1,0 +1,81 @@
+-- What the answer for a line's parts tells.
+use mathlib.Core.Bool.{Bool, true}
+use mathlib.Core.List.{List, _++_}
+use mathlib.Core.Option as Option
+use mathlib.Core.Option.{Option}
+use mathlib.Core.Path.{_≡_}
+use Prim.Native.Nat.{ℕ, _+_, _-_, _≤_}
+use lib.ListN.{length, getD}
+use Rattle.semantics.specs.Base.{_>>=_}
+use Rattle.semantics.specs.Ceilings.{lineBounded}
+use Rattle.semantics.specs.Code.{BodyCode}
+use Rattle.semantics.specs.Environment.{declareLine}
+use Rattle.semantics.specs.LayoutSize.{symbolSize, sizeBodies}
+use Rattle.semantics.specs.Script.{Entry}
+use Rattle.semantics.specs.Stages.{fits}
+use Rattle.semantics.specs.Syntax.{LineForm}
+use Rattle.semantics.specs.Trees.{nodesIn, first, stackAt}
+use Rattle.semantics.specs.Verdict.{Read}
+use Rattle.semantics.proofs.LayoutBodies.{Bodies}
+use Rattle.semantics.proofs.LinesMeasured.{Measured}
+use Rattle.semantics.specs.Layout.{lay}
+use Rattle.tables.specs.declared.Fault.{Fault}
+use Rattle.tables.specs.declared.Fault.the-variants.{Clear}
+use Rattle.parts.specs.declared.Got.{Got}
+use Rattle.parts.specs.Got.{lowest, faultOf}
+use Rattle.atoms.specs.Answers.{meaningHere}
+use Rattle.statements.specs.Walks.{GivesBody}
+use Rattle.declarations.specs.declared.State.{State}
+use Rattle.declarations.specs.Names.{newFault}
+use Rattle.shapes.specs.declared.LineHead.{LineHead}
+use Rattle.shapes.specs.Heads.{lineHeadMeant}
+use Rattle.declarations.specs.State.{Holds}
+use Rattle.judge.specs.declared.Known.{Known}
+use Rattle.judge.specs.declared.Entered.{Entered}
+use Rattle.judge.specs.Answers.{procNumbers, procEntry}
+use Rattle.judge.specs.Judging.{Standing}
+use Rattle.judge.specs.Whole.{headIn, wholeStaged}
+
+-- what stands after a line that declares e, with the code cs; its last statement has the number n, nn brackets and words came up to its end,
+-- and the free place was top
+pub record EntryStands (s l ts : List ℕ) (top : ℕ) (g : Entered) (r : Read) (e : Entry) (cs : List BodyCode) (n nn : ℕ) : Type 0 where
+  pub places : List ℕ
+  pub holds : Holds s l ts (g .state) (declareLine (r .known) e n nn) places
+  pub top-is : g .state .top ≡ top + symbolSize e + sizeBodies cs
+  pub bodies : (other : BodyCode) → Bodies other 1 (g .state .top) l places (r .codes ++ cs)
+  pub stmts-are : g .stmts ≡ n
+  pub ended-is : g .ended ≡ declareLine (r .known) e n nn .ended
+  pub main-is : declareLine (r .known) e n nn .ended ≡ true → g .main ≡ getD places (length places - 1) 0
+
+-- the number of the last statement
+abbrev pub lastOf : Option (LineForm × ℕ) → ℕ
+lastOf Option.none = 0
+lastOf (Option.some p) = p .1
+
+pub record EntryTold (s l ts : List ℕ) (top : ℕ) (r : Read) (o : Option (LineForm × ℕ)) (g : Entered) : Type 0 where
+  pub fault-is : g .fault ≡ faultOf (wholeStaged (r .known) o)
+  pub within-is : (e : Entry) (cs : List BodyCode) → wholeStaged (r .known) o ≡ fits (e, cs) → g .within ≡ lineBounded (r .known) e
+  pub stands : (e : Entry) (cs : List BodyCode) → wholeStaged (r .known) o ≡ fits (e, cs) → lineBounded (r .known) e ≡ true → top + symbolSize e + sizeBodies cs ≤ 16384
+      → (nn : ℕ) → Measured (declareLine (r .known) e (lastOf o) nn) (r .codes ++ cs) → EntryStands s l ts top g r e cs (lastOf o) nn
+
+-- the parts after the head word h, at an offset
+pub record Enters (s l ts : List ℕ) (kn : Known) (h : LineHead) (at : ℕ) (g : Entered) (l′ ts′ : List ℕ) : Type 0 where
+  pub says : (r : Read) (bs : List ℕ) → Standing s l ts kn r bs → r .known .stmts + nodesIn (first (stackAt s at)) ≤ 65535
+      → EntryTold s l′ ts′ (kn .state .top) r (lineHeadMeant h >>= λ k. headIn k (r .known .stmts) (first (stackAt s at))) g
+
+-- what is laid after the body of a procedure that has no fault; the free place is u then
+pub record ProcLaid (st : State) (f : Fault) (p : ℕ) (g : Got) (l : List ℕ) (u : ℕ) (l′ : List ℕ) : Type 0 where
+  pub laid-so : f ≡ Clear → (u ≡ lay (procNumbers st p (g .place)) (g .top) l .top) × (l′ ≡ lay (procNumbers st p (g .place)) (g .top) l .list)
+
+-- the entry of its name, and its answer
+pub record ProcEnds (kn : Known) (f : Fault) (g : Got) (p : ℕ) (l : List ℕ) (e : Entered) (l′ : List ℕ) : Type 0 where
+  pub free : ℕ
+  pub laid : ProcLaid (kn .state) f p g l free l′
+  pub given : e ≡ procEntry kn f g free
+
+-- a procedure from its name at p on; its body begins at an offset
+pub record ProcNamed (s l ts : List ℕ) (kn : Known) (p at : ℕ) (e : Entered) (l′ : List ℕ) : Type 0 where
+  pub answer : Got
+  pub list : List ℕ
+  pub gives : GivesBody s l ts (kn .state .count) (kn .state .newest) (kn .state .procs) (kn .stmts) at (kn .state .top) answer list
+  pub ends : ProcEnds kn (lowest (answer .fault) (newFault Clear (meaningHere s l (kn .state .count) (kn .state .newest) p))) answer p list e l′

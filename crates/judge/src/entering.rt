@@ -1,0 +1,186 @@
+// A line's parts after its head word.
+use crate::Entered;
+use crate::Known;
+use crate::judging::declared;
+use declarations::Naming;
+use declarations::State;
+use declarations::lines::type_line;
+use declarations::name_at;
+use declarations::named_fault;
+use declarations::narrow;
+use declarations::var_line;
+use parts::Got;
+use parts::is_clear;
+use parts::lowest;
+use shapes::LineHead;
+use statements::body::body;
+use symbols::declare;
+use tables::Fault;
+ghost use mathlib.Core.Path.{_≡_};
+ghost use Rattle.shapes.specs.declared.LineHead.the-variants.{Main, Proc};
+ghost use Rattle.judge.specs.Answers.{mainEntry, procEntry, failedEntry};
+ghost use Rattle.judge.specs.Entering.{Enters, ProcEnds, ProcNamed};
+
+// A line that is faulty.
+fn faulty(kn: Known, fault: Fault) -> Entered
+    ensures { λ r. ⌜ r ≡ failedEntry kn fault ⌝ }
+{
+    let state = kn.state;
+    Entered {
+        fault: fault,
+        within: false,
+        state: state,
+        stmts: kn.stmts,
+        ended: false,
+        main: 0,
+    }
+}
+
+// `main`, by its body's answer.
+fn main_entry(kn: Known, g: Got) -> Entered
+    ensures { λ r. ⌜ r ≡ mainEntry kn g ⌝ }
+{
+    let st = kn.state;
+    let fault = g.fault;
+    let state = State {
+        count: st.count,
+        newest: st.newest,
+        top: g.top,
+        types: st.types,
+        lines: st.lines,
+        vars: st.vars,
+        cells: st.cells,
+        procs: st.procs % 16384 + 1,
+    };
+    Entered {
+        fault: fault,
+        within: true,
+        state: state,
+        stmts: g.kind,
+        ended: true,
+        main: g.place,
+    }
+}
+
+// The parts of `main`.
+fn main_line(text: &[u8], work: &mut [u32], types: &[u32], kn: Known, at: usize) -> Entered
+    ensures { λ r. ⌜ Enters (now (text .entry)) (now (work .entry)) (now (types .entry)) kn Main at r (now (work .exit)) (now (types .entry)) ⌝ }
+{
+    let st = kn.state;
+    let g = body(
+        text,
+        work,
+        types,
+        st.count,
+        st.newest,
+        st.procs,
+        kn.stmts,
+        at,
+        st.top,
+    );
+    main_entry(kn, g)
+}
+
+// A procedure, by its body's answer; the free place after its entry is u.
+fn proc_entry(kn: Known, fault: Fault, g: Got, u: u32) -> Entered
+    ensures { λ r. ⌜ r ≡ procEntry kn fault g u ⌝ }
+{
+    let st = kn.state;
+    let state = State {
+        count: st.count % 65536 + 1,
+        newest: g.top,
+        top: u,
+        types: st.types,
+        lines: st.lines,
+        vars: st.vars,
+        cells: st.cells,
+        procs: st.procs % 16384 + 1,
+    };
+    Entered {
+        fault: fault,
+        within: st.procs < 32,
+        state: state,
+        stmts: g.kind,
+        ended: false,
+        main: 0,
+    }
+}
+
+// The entry of a procedure's name, where name and body have no fault.
+fn proc_end(work: &mut [u32], kn: Known, fault: Fault, g: Got, p: usize) -> Entered
+    ensures { λ r. ⌜ ProcEnds kn fault g p (now (work .entry)) r (now (work .exit)) ⌝ }
+{
+    if is_clear(fault) {
+        let st = kn.state;
+        let u = declare(
+            work,
+            g.top,
+            narrow(p),
+            2 + 4 * (st.procs % 16384),
+            g.place,
+            st.newest,
+        );
+        return proc_entry(kn, fault, g, u);
+    }
+    proc_entry(kn, fault, g, g.top)
+}
+
+// The parts of `proc` after its name at p.
+fn proc_named(
+    text: &[u8],
+    work: &mut [u32],
+    types: &[u32],
+    kn: Known,
+    p: usize,
+    at: usize,
+) -> Entered
+    ensures { λ r. ⌜ ProcNamed (now (text .entry)) (now (work .entry)) (now (types .entry)) kn p at r (now (work .exit)) ⌝ }
+{
+    let st = kn.state;
+    let n = named_fault(text, work, st.count, st.newest, p, Fault::Clear);
+    let g = body(
+        text,
+        work,
+        types,
+        st.count,
+        st.newest,
+        st.procs,
+        kn.stmts,
+        at,
+        st.top,
+    );
+    let f = g.fault;
+    proc_end(work, kn, lowest(f, n), g, p)
+}
+
+// The parts of `proc`.
+fn proc_line(text: &[u8], work: &mut [u32], types: &[u32], kn: Known, at: usize) -> Entered
+    ensures { λ r. ⌜ Enters (now (text .entry)) (now (work .entry)) (now (types .entry)) kn Proc at r (now (work .exit)) (now (types .entry)) ⌝ }
+{
+    let n = name_at(text, at);
+    match n {
+        Naming::Called(p, q) => proc_named(text, work, types, kn, p, q),
+        Naming::Nothing => faulty(kn, Fault::Form),
+    }
+}
+
+// The parts after the head word.
+pub fn enter(
+    text: &[u8],
+    work: &mut [u32],
+    types: &mut [u32],
+    kn: Known,
+    head: LineHead,
+    at: usize,
+) -> Entered
+    ensures { λ r. ⌜ Enters (now (text .entry)) (now (work .entry)) (now (types .entry)) kn head at r (now (work .exit)) (now (types .exit)) ⌝ }
+{
+    let st = kn.state;
+    match head {
+        LineHead::Type => declared(kn, type_line(text, work, types, st, at)),
+        LineHead::Var => declared(kn, var_line(text, work, types, st, at)),
+        LineHead::Proc => proc_line(text, work, types, kn, at),
+        LineHead::Main => main_line(text, work, types, kn, at),
+        LineHead::Nothing => faulty(kn, Fault::Form),
+    }
+}
