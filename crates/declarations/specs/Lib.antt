@@ -2,10 +2,3 @@ pub mod State
 pub mod Names
 pub mod Lines
 pub mod Vars
-pub mod TypeLines
-pub mod Simple
-pub mod Ranges
-pub mod Shapes
-pub mod Enums
-pub mod Values
-pub mod Records

@@ -1,14 +1,4 @@
-// The lines that declare variables and types.
-pub mod enums;
-pub mod fields;
-pub mod lines;
-pub mod made;
-pub mod ranges;
-pub mod records;
-pub mod simple;
-pub mod types;
-pub mod values;
-
+// What is held of the lines so far, the parts that declaring lines share, and the lines that declare variables.
 use atoms::Typed;
 use atoms::type_name;
 use lexis::words::Word;

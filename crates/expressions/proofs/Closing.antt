@@ -16,7 +16,7 @@ use Rattle.tables.specs.declared.Fault.the-variants.{Clear, Kind, Name, Form}
 use Rattle.parts.specs.declared.Got.{Got}
 use Rattle.parts.specs.Got.{lowest, isForm, faultOf, failedGot, pastBracket, Told}
 use Rattle.parts.specs.Parts.{Before, ShutAt, Closes, shut, more}
-use Rattle.expressions.specs.Nodes.{Made, Makes, failedMade, nodeMade, ifClear}
+use Rattle.exprnodes.specs.Nodes.{Made, Makes, failedMade, nodeMade, ifClear}
 use Rattle.expressions.specs.Walks.{Moves, Leaves}
 use Rattle.expressions.proofs.Joining.{told-wrong}
 

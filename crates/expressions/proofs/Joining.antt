@@ -10,7 +10,7 @@ use Rattle.tables.specs.declared.Fault.{Fault}
 use Rattle.tables.specs.declared.Fault.the-variants.{Clear, Kind, Name, Form}
 use Rattle.parts.specs.declared.Got.{Got}
 use Rattle.parts.specs.Got.{lowest, isForm, faultOf, failedGot, Told}
-use Rattle.expressions.specs.Nodes.{Made, Makes, failedMade, ifClear}
+use Rattle.exprnodes.specs.Nodes.{Made, Makes, failedMade, ifClear}
 
 -- ---- a fault is no fit
 

@@ -1,11 +1,8 @@
-pub mod Making
 pub mod Joining
 pub mod Closing
 pub mod Operators
 pub mod Targets
-pub mod Naming
 pub mod Dispatch
 pub mod Membership
-pub mod WordsMaking
 pub mod WordsTelling
 pub mod Minus

@@ -1,4 +1,4 @@
--- The laws of `members`.
+-- The laws of the members of a set, and of the set.
 use mathlib.Core.Path.{_≡_, refl, sym, ap, _∙_}
 use mathlib.Core.Bool.{Bool, true, false, cond, true≢false, false≢true}
 use mathlib.Core.List.{List, [], _∷_}
@@ -28,7 +28,6 @@ use Rattle.worklist.specs.Laid.{Laid}
 use Rattle.shapes.specs.Parts.{rest, exprIn, exprsIn, partOf, typeNameIn}
 use Rattle.tables.specs.declared.Fault.{Fault}
 use Rattle.tables.specs.declared.Fault.the-variants.{Clear, Kind, Name, Form}
-use Rattle.tables.specs.declared.Info.{Info}
 use Rattle.tables.specs.Descriptions.{infoOf}
 use Rattle.tables.specs.Scene.{Scene}
 use Rattle.tables.specs.Sides.{hostIn}
@@ -41,76 +40,16 @@ use Rattle.shapes.proofs.Expressions.{members-parts}
 use Rattle.parts.specs.declared.Got.{Got}
 use Rattle.parts.specs.declared.End.{End}
 use Rattle.parts.specs.declared.End.the-variants as ending
-use Rattle.parts.specs.Got.{lowest, isForm, isClear, faultOf, failedGot, Told}
+use Rattle.parts.specs.Got.{lowest, isForm, faultOf, failedGot, Told}
 use Rattle.parts.specs.Parts.{Before, Shuts}
-use Rattle.expressions.specs.Nodes.{Made, Makes, failedMade, nodeMade, ifClear}
+use Rattle.exprnodes.specs.Nodes.{Made, Makes, failedMade, nodeMade, ifClear}
 use Rattle.expressions.specs.Walks.{Moves, ExprTold, GivesExpr, formIn, GivesForm}
-use Rattle.expressions.specs.Members.{many, memberFault, linked, MembersTold, GivesMembers, setNode, setMade}
+use Rattle.expressions.specs.Members.{many, MembersTold, GivesMembers}
+use Rattle.exprnodes.specs.Members.{memberFault, linked, setNode, setMade}
 use Rattle.expressions.proofs.Joining.{wrong-fits, unnamed-fits, unfit-fits, fits-inj, told-wrong, told-unnamed, told-or, told-one}
 use Rattle.expressions.proofs.Closing.{form-true, same-refl, same-trans, right-lowest, clear-form, rest-is, Stays, stays-clear, stays-cond, stays-node, stays-failed}
 use Rattle.expressions.proofs.Operators.{expr-missing, expr-failed}
 use Rattle.expressions.proofs.Dispatch.{failed-leaves}
-use Rattle.expressions.proofs.Making.{if-clear, if-fault}
-
--- ---- the leaves
-
-module _ (a b : ℕ) where
-  pub kind-same : a ≡ b → Clear ≡ memberFault Clear a b
-  unfolding memberFault
-  kind-same h = rw (eq-eqb a b h) refl
-
-  pub kind-other : ((a ≡ b) → ⊥) → Kind ≡ memberFault Clear a b
-  unfolding memberFault
-  kind-other h = rw (ne-eqb a b h) refl
-
-pub ruleset same-kind-laws = (kind-same, kind-other)
-
-module _ (f : Fault) (kind base : ℕ) where
-  pub member-clear : (r : Fault) → f ≡ Clear → r ≡ memberFault Clear kind base → r ≡ memberFault f kind base
-  member-clear r h e = rw h e
-
-  pub member-kind : f ≡ Kind → Kind ≡ memberFault f kind base
-  unfolding memberFault
-  member-kind h = rw h refl
-
-  pub member-name : f ≡ Name → Name ≡ memberFault f kind base
-  unfolding memberFault
-  member-name h = rw h refl
-
-  pub member-form : f ≡ Form → Form ≡ memberFault f kind base
-  unfolding memberFault
-  member-form h = rw h refl
-
-pub ruleset member-fault-laws = (member-clear, member-kind, member-name, member-form)
-
-pub base-is : (l ts : List ℕ) (t : ℕ) (i : Info) (r : ℕ) → i ≡ infoOf l ts t → r ≡ hostIn l ts (i .element) → r ≡ hostIn l ts (infoOf l ts t .element)
-base-is l ts t i r h e = e ∙ ap (λ (x : Info). hostIn l ts (x .element)) h
-
-pub linked-is : (slot place top t : ℕ) (l l₁ l′ : List ℕ) → Laid (lay (place ∷ 0 ∷ []) top l) t l₁ → l′ ≡ set l₁ slot top → Laid (linked slot place top l) t l′
-unfolding linked link lay
-linked-is slot place top t l l₁ l′ h e = record { free = h .free; left = e ∙ ap (λ k. set k slot top) (h .left) }
-
-module _ (i : Info) (t chain : ℕ) (m : Got) (l : List ℕ) (r : Got) where
-  pub set-is : (l′ : List ℕ) → i .shape ≡ 1 → Makes (nodeMade t (m .next) (lay (6 ∷ i .low ∷ i .high ∷ chain ∷ []) (m .top) l)) r l′ → Makes (setNode i t chain m l) r l′
-  unfolding setNode
-  set-is l′ h k = rw (eq-eqb (i .shape) 1 h) k
-
-  pub set-no : ((i .shape ≡ 1) → ⊥) → r ≡ failedGot Kind 0 (m .next) (m .top) → Makes (setNode i t chain m l) r l
-  unfolding setNode
-  set-no h k = rw (ne-eqb (i .shape) 1 h) (record { given = k; left = refl })
-
-pub ruleset set-node-laws = (set-is, set-no)
-
-module _ (l ts : List ℕ) (f : Fault) (t chain : ℕ) (m : Got) (g : Fault) (b : Bool) (e : g ≡ lowest f (m .fault)) (h : b ≡ isClear g) (r : Got) where
-  pub set-clear : (i : Info) (l′ : List ℕ) → b ≡ true → i ≡ infoOf l ts t → Makes (setNode i t chain m l) r l′ → Makes (setMade l ts f t chain m) r l′
-  unfolding setMade
-  set-clear i l′ z d k = rw (← e, ← d) (if-clear g 0 (m .next) (m .top) l (setNode i t chain m l) b h z r l′ k)
-
-  pub set-fault : b ≡ false → r ≡ failedGot g 0 (m .next) (m .top) → Makes (setMade l ts f t chain m) r l
-  unfolding setMade
-  set-fault z k = rw (← e) (if-fault g 0 (m .next) (m .top) l (setNode (infoOf l ts t) t chain m l) b h z r k)
-
-pub ruleset set-laws = (set-clear, set-fault)
 
 -- ---- faults
 

@@ -3,7 +3,7 @@ use mathlib.Core.List.{List}
 use Prim.Native.Nat.{ℕ}
 use Rattle.parts.specs.declared.Got.{Got}
 use Rattle.parts.specs.Parts.{Closes}
-use Rattle.expressions.specs.Nodes.{Makes, paired}
+use Rattle.exprnodes.specs.Nodes.{Makes, paired}
 use Rattle.expressions.specs.Walks.{GivesExpr}
 
 -- a is the first side

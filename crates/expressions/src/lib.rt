@@ -1,6 +1,3 @@
 // Expressions and targets, walked once: rows 6 to 8, and the code of what fits.
-pub mod fields;
-pub mod members;
-pub mod nodes;
 pub mod walk;
 pub mod words;

@@ -2,4 +2,5 @@ pub mod Marking
 pub mod Skipping
 pub mod Telling
 pub mod Hopping
+pub mod Differing
 pub mod Finding

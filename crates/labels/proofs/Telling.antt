@@ -1,34 +1,32 @@
--- What marks tell of labels: two marks are compared as the labels that they stand for.
+-- What marks tell of labels: the values that they stand for.
 use mathlib.Core.Path.{_≡_, refl, sym, ap, _∙_, subst}
 use mathlib.Core.Bool.{Bool, true, false, false≢true, true≢false}
 use mathlib.Core.List.{List, [], map}
 use mathlib.Core.Option.{Option, none, some}
-use Prim.Native.Nat.{ℕ}
+use Prim.Native.Nat.{ℕ, _<_}
 use native.Mathlib.Omega.{arith}
-use borrow.Author.Tests.{eq-eqb, ne-eqb, eqb-true}
-use lib.Dec.{eqb}
+use borrow.Author.Tests.{eqb-true}
 use lib.IntN.{ℤ, pos, negsuc, negℤ, _-ℤ_, _+ℤ_, +ℤ-invr, +ℤ-idl, -ℤ-+ℤ-cancel}
-use mir.Val.{SFits, ofZ}
+use mir.Val.{SFits, toZ, ofZ}
 use mir.Facts.{toZ-ofZ}
 use mir.Syntax.{w64}
 use Rattle.arith.specs.Integers.{isZero}
 use Rattle.arith.proofs.Machine.{wire, same-bits}
 use Rattle.arith.proofs.Ranges.{is-zero, not-zero}
-use Rattle.lexis.specs.Bytes.{small, same}
+use Rattle.lexis.specs.Bytes.{small}
 use Rattle.lexis.specs.Words.{wordOf}
 use Rattle.lexis.specs.declared.words.Word.{Word}
-use Rattle.lexis.proofs.Same.{same-equal}
-use Rattle.semantics.specs.Base.{Name, find, _>>=_}
+use Rattle.semantics.specs.Base.{_>>=_}
 use Rattle.semantics.specs.Calculate.{truth, equalZ}
 use Rattle.semantics.specs.Environment.{Environment, NameSort, aType, aVar, aProc, aValue}
 use Rattle.semantics.specs.Names.{constantOf, constOf, asValue}
-use Rattle.semantics.specs.Rules.{plain, sameConst}
+use Rattle.semantics.specs.Rules.{plain}
 use Rattle.semantics.specs.Script.{Const}
 use Rattle.semantics.specs.Stages.{fits, ruled, named, staged}
 use Rattle.semantics.specs.Syntax as Syntax
 use Rattle.semantics.specs.Syntax.{Constant, number, minus}
 use Rattle.semantics.specs.Trees.{word, form, Trees, end, _then_, Run, first, wordAt, stackAt}
-use Rattle.semantics.proofs.Inversion.{none-some, some-inj, bind-some, and-true, and-both}
+use Rattle.semantics.proofs.Inversion.{none-some, some-inj, bind-some}
 use Rattle.shapes.specs.Heads.{atomOf, atomConstant, exprHeadOf, minusPick}
 use Rattle.shapes.specs.Parts.{rest, closed, numberIn, constantBy}
 use Rattle.shapes.specs.declared.Atom.{Atom}
@@ -36,13 +34,20 @@ use Rattle.shapes.specs.declared.Atom.the-variants as AT
 use Rattle.shapes.specs.declared.ExprHead.{ExprHead}
 use Rattle.shapes.specs.declared.ExprHead.the-variants as EH
 use Rattle.shapes.proofs.Expressions.{constant-form, constant-empty, constant-headless}
+use Rattle.symbols.specs.Chain.{entries, placeIn}
+use Rattle.tables.specs.declared.Meaning.{Meaning}
+use Rattle.tables.specs.declared.Meaning.the-variants as meaning
+use Rattle.tables.specs.Scene.{meaningAt, Means, a-type, a-var, a-proc, a-value, Told, unknown, known}
+use Rattle.tables.proofs.Telling.{meant}
 use Rattle.parts.specs.Got.{isForm, faultOf}
 use Rattle.atoms.specs.declared.Valued.{Valued}
+use Rattle.atoms.specs.Answers.{meaningHere}
 use Rattle.atoms.specs.Contracts.{GivesMinus, minusForm}
 use Rattle.labels.specs.declared.Mark.{Mark}
 use Rattle.labels.specs.declared.Mark.the-variants as mark
 use Rattle.labels.specs.declared.Hop.the-variants as hop
-use Rattle.labels.specs.Hops.{MarkIs, a-number, a-truth, a-name, Tells, sameTruth, isNumberMark, isTruthMark, isNameMark, sameMark, Marked, Apart}
+use Rattle.labels.specs.Hops.{MarkIs, a-number, a-truth, a-name, Tells, Marked}
+use Rattle.labels.specs.Blocks.{ordinalIn, valueAt, Held}
 
 -- ---- integers
 
@@ -71,76 +76,72 @@ number-other x y h = sym (equal-not x y (λ e. h (ap (ofZ w64) e)))
 
 pub ruleset number-laws = (number-same, number-other)
 
--- ---- two marks
-
-truth-same : (a b : Bool) → sameTruth a b ≡ sameConst (constOf 1 (truth a)) (constOf 1 (truth b))
-unfolding truth isZero
-truth-same true true = refl
-truth-same true false = refl
-truth-same false true = refl
-truth-same false false = refl
-
-both-ways : (a b : Bool) → (a ≡ true → b ≡ true) → (b ≡ true → a ≡ true) → a ≡ b
-both-ways true b f g = sym (f refl)
-both-ways false true f g = absurd (false≢true (g refl))
-both-ways false false f g = refl
+-- ---- the value of a label
 
 const-is : (x y : Const) → x .kind ≡ y .kind → x .value ≡ y .value → x ≡ y
 const-is x y h k = ap (λ (j : ℕ). constOf j (x .value)) h ∙ ap (λ (z : ℤ). constOf (y .kind) z) k
 
-value-inj : {x y : Const} → some (aValue x) ≡ some (aValue y) → x ≡ y
-value-inj {x} {y} h = cc
+pub truth-true : (b : Bool) → b ≡ true → pos 1 ≡ truth b
+unfolding truth
+truth-true b e = rw e refl
 
-const-self : (x : Const) → sameConst x x ≡ true
-const-self x = and-both (eqb (x .kind) (x .kind)) (equalZ (x .value) (x .value)) (eq-eqb (x .kind) (x .kind) refl) (equal-self (x .value))
+pub truth-false : (b : Bool) → b ≡ false → pos 0 ≡ truth b
+unfolding truth
+truth-false b e = rw e refl
 
-const-same : (x y : Const) → sameConst x y ≡ true → x ≡ y
-const-same x y h =
-    let g = and-true (eqb (x .kind) (y .kind)) (equalZ (x .value) (y .value)) h in
-    const-is x y (eqb-true (x .kind) (y .kind) (g .0)) (equal-is (x .value) (y .value) (g .1))
+pub ruleset truth-laws = (truth-true, truth-false)
 
-other-kind : (x y : Const) → (x .kind ≡ y .kind → ⊥) → false ≡ sameConst x y
-other-kind x y h = rw (ne-eqb (x .kind) (y .kind) h) refl
+pub wide-is : (n : ℕ) → n < 4294967296 → toZ w64 n ≡ pos n
+wide-is n h = toZ-ofZ {w = w64} {z = pos n} (record { sfits = omega arith })
 
-module _ (s : List ℕ) (σ : Environment) (A : Apart σ) where
-  name-same : (v w : Name) (x y : Const) → find (σ .names) v ≡ some (aValue x) → find (σ .names) w ≡ some (aValue y) → same v w ≡ sameConst x y
-  name-same v w x y h k = both-ways (same v w) (sameConst x y)
-      (λ e. let i : x ≡ y = value-inj (sym h ∙ ap (find (σ .names)) (same-equal v w e) ∙ k) in subst (λ (z : Const). sameConst x z ≡ true) i (const-self x))
-      (λ e. A .once v w x h (subst (λ (z : Const). find (σ .names) w ≡ some (aValue z)) (sym (const-same x y e)) k))
+module _ (m : Meaning) where
+  pub ordinal-unknown : m ≡ meaning.Unknown → pos 0 ≡ ordinalIn m
+  ordinal-unknown e = rw e refl
 
-  pub mark-same : {m n : Mark} {x y : Const} → MarkIs s σ m x → MarkIs s σ n y → sameMark s m n ≡ sameConst x y
-  mark-same (a-number x) (a-number y) = refl
-  mark-same (a-number x) (a-truth b) = refl
-  mark-same (a-number x) (a-name q d k) = other-kind (constOf 0 x) d (λ e. let g = A .above _ d k in absurd (omega arith))
-  mark-same (a-truth a) (a-number y) = refl
-  mark-same (a-truth a) (a-truth b) = truth-same a b
-  mark-same (a-truth a) (a-name q d k) = other-kind (constOf 1 (truth a)) d (λ e. let g = A .above _ d k in absurd (omega arith))
-  mark-same (a-name p c h) (a-number y) = other-kind c (constOf 0 y) (λ e. let g = A .above _ c h in absurd (omega arith))
-  mark-same (a-name p c h) (a-truth b) = other-kind c (constOf 1 (truth b)) (λ e. let g = A .above _ c h in absurd (omega arith))
-  mark-same (a-name p c h) (a-name q d k) = name-same (map small (wordAt s p)) (map small (wordAt s q)) c d h k
+  pub ordinal-type : (t : ℕ) → m ≡ meaning.Type t → pos 0 ≡ ordinalIn m
+  ordinal-type t e = rw e refl
 
--- ---- the functions that compare
+  pub ordinal-var : (i t a : ℕ) → m ≡ meaning.Var i t a → pos 0 ≡ ordinalIn m
+  ordinal-var i t a e = rw e refl
 
-pub number-number : (m : Mark) (r : Bool) (x y : ℤ) → m ≡ mark.Number y → SFits w64 x → SFits w64 y → r ≡ equalZ (wire x) (wire y) → r ≡ isNumberMark x m
-number-number m r x y e p q f = let i = toZ-ofZ p in let j = toZ-ofZ q in rw e (f ∙ rw (i, j) refl)
+  pub ordinal-proc : (p : ℕ) → m ≡ meaning.Proc p → pos 0 ≡ ordinalIn m
+  ordinal-proc p e = rw e refl
 
-pub truth-truth : (m : Mark) (a b r : Bool) → m ≡ mark.Truth b → r ≡ sameTruth a b → r ≡ isTruthMark a m
-truth-truth m a b r e f = rw e f
+  pub ordinal-is : (r : ℤ) (k n : ℕ) → m ≡ meaning.Value k n → r ≡ pos n → SFits w64 r → wire r ≡ ordinalIn m
+  ordinal-is r k n e f p = let i = toZ-ofZ p in rw e (i ∙ f)
 
-pub name-name : (s : List ℕ) (m : Mark) (p q : ℕ) (r : Bool) → m ≡ mark.Named q → r ≡ same (map small (wordAt s p)) (map small (wordAt s q)) → r ≡ isNameMark s p m
-name-name s m p q r e f = rw e f
+pub ruleset ordinal-laws = (ordinal-unknown, ordinal-type, ordinal-var, ordinal-proc, ordinal-is)
 
-module _ (s : List ℕ) (m n : Mark) (r : Bool) where
-  pub same-number-mark : (x : ℤ) → m ≡ mark.Number x → SFits w64 x → r ≡ isNumberMark (wire x) n → r ≡ sameMark s m n
-  same-number-mark x e p f = let i = toZ-ofZ p in rw e (f ∙ ap (λ (z : ℤ). isNumberMark z n) i)
+module _ (s l : List ℕ) (count newest : ℕ) (m : Mark) where
+  pub value-number : (z : ℤ) → m ≡ mark.Number z → SFits w64 z → wire z ≡ valueAt s l count newest m
+  value-number z e p = let i = toZ-ofZ p in rw e i
 
-  pub same-truth-mark : (b : Bool) → m ≡ mark.Truth b → r ≡ isTruthMark b n → r ≡ sameMark s m n
-  same-truth-mark b e f = rw e f
+  pub value-truth : (b : Bool) (r : ℤ) → m ≡ mark.Truth b → r ≡ truth b → SFits w64 r → wire r ≡ valueAt s l count newest m
+  value-truth b r e f p = let i = toZ-ofZ p in rw e (i ∙ f)
 
-  pub same-name-mark : (p : ℕ) → m ≡ mark.Named p → r ≡ isNameMark s p n → r ≡ sameMark s m n
-  same-name-mark p e f = rw e f
+  pub value-name : (p : ℕ) (x : Meaning) (r : ℤ) → m ≡ mark.Named p → x ≡ meaningAt l (placeIn s l (entries count l newest) (map small (wordAt s p))) → r ≡ ordinalIn x → SFits w64 r → wire r ≡ valueAt s l count newest m
+  unfolding meaningHere
+  value-name p x r e f g q = let i = toZ-ofZ q in rw e (i ∙ g ∙ ap ordinalIn f)
 
-pub ruleset same-laws = (same-number-mark, same-truth-mark, same-name-mark)
+pub ruleset value-laws = (value-number, value-truth, value-name)
+
+-- the meaning of an enum name in the tables has its ordinal
+ordinal-means : {σ : Environment} {bs : List ℕ} {y : Meaning} {n : NameSort} (x : Const) → Means σ bs y n → n ≡ aValue x → ordinalIn y ≡ x .value
+ordinal-means x a-type e = none-some (ap asValue e)
+ordinal-means x (a-var v h) e = none-some (ap asValue e)
+ordinal-means x a-proc e = none-some (ap asValue e)
+ordinal-means x (a-value {k} {n}) e = ap (λ (c : Const). c .value) (some-inj (ap asValue e))
+
+ordinal-told : {σ : Environment} {bs : List ℕ} {y : Meaning} {o : Option NameSort} (x : Const) → Told σ bs y o → o ≡ some (aValue x) → ordinalIn y ≡ x .value
+ordinal-told x unknown e = none-some e
+ordinal-told x (known M) e = ordinal-means x M (some-inj e)
+
+-- the value by the tables is that of the label
+pub value-told : {s l : List ℕ} {count newest : ℕ} {σ : Environment} {m : Mark} {x : Const} → Held s l count newest σ → MarkIs s σ m x → valueAt s l count newest m ≡ x .value
+unfolding meaningHere
+value-told H (a-number z) = refl
+value-told H (a-truth b) = refl
+value-told {s} H (a-name p x h) = ordinal-told x (meant (H .scene) (map small (wordAt s p))) h
 
 -- ---- a word as a label
 

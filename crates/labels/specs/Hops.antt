@@ -1,24 +1,21 @@
 -- The walk over the labels of a `case`, from label to label, by offset.
-use mathlib.Core.Bool.{Bool, true, false, cond}
+use mathlib.Core.Bool.{Bool, true}
 use mathlib.Core.Logic.{_⊎_}
 use mathlib.Core.List.{List, [], _∷_, _++_, map}
 use mathlib.Core.Option.{Option, none, some}
 use mathlib.Core.Path.{_≡_}
-use Prim.Native.Nat.{ℕ, _<_, _≤_}
+use Prim.Native.Nat.{ℕ, _<_}
 use lib.IntN.{ℤ}
-use Rattle.lexis.specs.Bytes.{small, same}
-use Rattle.semantics.specs.Base.{Name, find, each}
-use Rattle.semantics.specs.Calculate.{truth, equalZ}
+use Rattle.lexis.specs.Bytes.{small}
+use Rattle.semantics.specs.Base.{find}
+use Rattle.semantics.specs.Calculate.{truth}
 use Rattle.semantics.specs.Environment.{Environment, aValue}
 use Rattle.semantics.specs.Names.{constantOf, constOf}
-use Rattle.semantics.specs.Rules.{plain, allPlain, labelled, differ}
+use Rattle.semantics.specs.Rules.{plain}
 use Rattle.semantics.specs.Script.{Const}
 use Rattle.semantics.specs.Syntax.{Constant}
 use Rattle.semantics.specs.Trees.{Tree, form, Trees, end, _then_, Run, first, later, wordAt, stackAt}
 use Rattle.reader.specs.Passes.{nodesAll}
-use Rattle.tables.specs.declared.Fault.{Fault}
-use Rattle.tables.specs.declared.Fault.the-variants.{Clear, Kind}
-use Rattle.parts.specs.Got.{lowest}
 use Rattle.parts.specs.Parts.{Before, ShutAt}
 use Rattle.labels.specs.Marks.{marksIn, marksOf}
 use Rattle.labels.specs.declared.Mark.{Mark}
@@ -55,36 +52,6 @@ pub data MarkIs (s : List ℕ) (σ : Environment) : Mark → Const → Type 0 wh
 -- the mark of a constant, where that is in the integers
 pub record Tells (s : List ℕ) (m : Mark) (c : Constant) : Type 0 where
   pub tells : (σ : Environment) (x : Const) → constantOf σ c ≡ some x → plain x ≡ true → MarkIs s σ m x
-
--- ---- whether two marks are the same
-
--- two truth values
-abbrev pub sameTruth : Bool → Bool → Bool
-sameTruth true b = b
-sameTruth false true = false
-sameTruth false false = true
-
--- whether a mark is that of the integer x; of the truth value a; of the name at p, case ignored
-abbrev pub isNumberMark : ℤ → Mark → Bool
-isNumberMark x (mark.Number y) = equalZ x y
-isNumberMark x (mark.Truth b) = false
-isNumberMark x (mark.Named p) = false
-
-abbrev pub isTruthMark : Bool → Mark → Bool
-isTruthMark a (mark.Number y) = false
-isTruthMark a (mark.Truth b) = sameTruth a b
-isTruthMark a (mark.Named p) = false
-
-abbrev pub isNameMark : List ℕ → ℕ → Mark → Bool
-isNameMark s p (mark.Number y) = false
-isNameMark s p (mark.Truth b) = false
-isNameMark s p (mark.Named q) = same (map small (wordAt s p)) (map small (wordAt s q))
-
--- two marks: those of different sorts never are
-abbrev pub sameMark : List ℕ → Mark → Mark → Bool
-sameMark s (mark.Number x) n = isNumberMark x n
-sameMark s (mark.Truth b) n = isTruthMark b n
-sameMark s (mark.Named p) n = isNameMark s p n
 
 -- ---- where the walk stands: inside an arm, after its head or after a label
 
@@ -148,24 +115,3 @@ NextsBy s at next.Done = leftAt s at ≡ []
 
 pub record Nexts (s : List ℕ) (at : ℕ) (r : Next) : Type 0 where
   pub says : NextsBy s at r
-
--- ---- in an environment
-
--- an enum value is of a declared kind, and has one name (tables, Scene)
-pub record Apart (σ : Environment) : Type 0 where
-  pub above : (w : Name) (c : Const) → find (σ .names) w ≡ some (aValue c) → 2 ≤ c .kind
-  pub once : (v w : Name) (c : Const) → find (σ .names) v ≡ some (aValue c) → find (σ .names) w ≡ some (aValue c) → same v w ≡ true
-
--- the values of constants, all of them in the integers
-pub record Known (σ : Environment) (cs : List Constant) (xs : List Const) : Type 0 where
-  pub known : each (constantOf σ) cs ≡ some xs
-  pub inside : allPlain xs ≡ true
-
--- whether a label comes again among those that are left at an offset
-pub record Repeats (s : List ℕ) (m : Mark) (at : ℕ) (r : Bool) : Type 0 where
-  pub says : (σ : Environment) → Apart σ → (x : Const) → MarkIs s σ m x → (xs : List Const) → Known σ (leftAt s at) xs → r ≡ labelled x xs
-
--- a fault of row 8 where a label that is left at an offset comes again after it
-pub record Doubled (s : List ℕ) (at : ℕ) (r : Fault) : Type 0 where
-  pub small : lowest r Kind ≡ Kind
-  pub says : (σ : Environment) → Apart σ → (xs : List Const) → Known σ (leftAt s at) xs → r ≡ cond (differ xs) Clear Kind

@@ -1,3 +1,4 @@
 pub mod Marks
 pub mod Repeating
 pub mod Hops
+pub mod Blocks

@@ -1,4 +1,4 @@
-// Whether the labels of a `case` differ, compared in the text: the working list may be too short for the labels of a faulty line.
+// Whether the labels of a `case` differ: their values are compared block by block, since the working list may be too short for the labels of a faulty line.
 use atoms::minus_form;
 use lexis::words::Word;
 use parts::End;
@@ -9,16 +9,22 @@ use parts::is_form;
 use parts::part_at;
 use shapes::Atom;
 use shapes::atom_of;
-use symbols::same_word;
 use tables::Fault;
+use tables::Meaning;
+use tables::meaning_of;
 ghost use mathlib.Core.Path.{_≡_};
+ghost use mathlib.Core.Bool.{not};
 ghost use mathlib.Core.List.{map};
+ghost use Prim.Native.Nat.{_<_};
+ghost use lib.IntN.{pos};
+ghost use lib.ListN.{length};
 ghost use Rattle.lexis.specs.Bytes.{small};
-ghost use Rattle.semantics.specs.Calculate.{equalZ};
+ghost use Rattle.semantics.specs.Calculate.{equalZ, truth};
 ghost use Rattle.semantics.specs.Trees.{first, wordAt, stackAt};
 ghost use Rattle.shapes.specs.Heads.{atomOf, atomConstant};
 ghost use Rattle.atoms.specs.Contracts.{minusForm};
-ghost use Rattle.labels.specs.Hops.{Past, Steps, sameTruth, isNumberMark, isTruthMark, isNameMark, sameMark, Marked, Passes, EntersForm, EntersArm, Hops, Nexts, Repeats, Doubled};
+ghost use Rattle.labels.specs.Hops.{Past, Steps, Marked, Passes, EntersForm, EntersArm, Hops, Nexts};
+ghost use Rattle.labels.specs.Blocks.{ordinalIn, valueAt, among, apart, NextValues, Fills, ComesAgain, Recurs, Doubled};
 ghost use Rattle.labels.specs.Repeating.{Repeating};
 
 // A label: its integer, its truth value, or the offset of its name.
@@ -45,6 +51,18 @@ pub enum Hop {
 pub enum Next {
     Label(Mark, usize),
     Done,
+}
+
+// The value of the next label and the offset after it, or none is left.
+pub enum NextValue {
+    Value(i64, usize),
+    Done,
+}
+
+// How many values stand in a block, and the offset after the last label of them.
+pub struct Filled {
+    size: usize,
+    next: usize,
 }
 
 // Past one part of a form, or past its end.
@@ -74,73 +92,6 @@ fn past_form(text: &[u8], at: usize) -> usize
                 return q;
             }
         }
-    }
-}
-
-// Whether two integers are the same.
-fn same_number(x: i64, y: i64) -> bool
-    ensures { λ r. ⌜ r ≡ equalZ x y ⌝ }
-{
-    if x == y {
-        return true;
-    }
-    false
-}
-
-// Whether a label is the integer x.
-fn is_number(x: i64, m: Mark) -> bool
-    ensures { λ r. ⌜ r ≡ isNumberMark x m ⌝ }
-{
-    match m {
-        Mark::Number(y) => same_number(x, y),
-        Mark::Truth(_) => false,
-        Mark::Named(_) => false,
-    }
-}
-
-// Whether two truth values are the same.
-fn same_truth(a: bool, b: bool) -> bool
-    ensures { λ r. ⌜ r ≡ sameTruth a b ⌝ }
-{
-    if a {
-        return b;
-    }
-    if b {
-        return false;
-    }
-    true
-}
-
-// Whether a label is the truth value a.
-fn is_truth(a: bool, m: Mark) -> bool
-    ensures { λ r. ⌜ r ≡ isTruthMark a m ⌝ }
-{
-    match m {
-        Mark::Number(_) => false,
-        Mark::Truth(b) => same_truth(a, b),
-        Mark::Named(_) => false,
-    }
-}
-
-// Whether a label is the name at an offset.
-fn is_named(text: &[u8], p: usize, m: Mark) -> bool
-    ensures { λ r. ⌜ r ≡ isNameMark (now (text .entry)) p m ⌝ }
-{
-    match m {
-        Mark::Number(_) => false,
-        Mark::Truth(_) => false,
-        Mark::Named(q) => same_word(text, p, q),
-    }
-}
-
-// Whether two labels of a case are the same.
-fn same_mark(text: &[u8], m: Mark, n: Mark) -> bool
-    ensures { λ r. ⌜ r ≡ sameMark (now (text .entry)) m n ⌝ }
-{
-    match m {
-        Mark::Number(x) => is_number(x, n),
-        Mark::Truth(b) => is_truth(b, n),
-        Mark::Named(p) => is_named(text, p, n),
     }
 }
 
@@ -250,51 +201,192 @@ fn next_label(text: &[u8], at: usize) -> Next
     }
 }
 
-// Whether a label comes again from an offset on.
-fn repeats(text: &[u8], m: Mark, at: usize) -> bool
-    ensures { λ r. ⌜ Repeats (now (text .entry)) m at r ⌝ }
+// An ordinal as an integer.
+fn wide(n: u32) -> i64
+    ensures { λ r. ⌜ r ≡ pos n ⌝ }
+{
+    n as i64
+}
+
+// The value of `true` or `false`.
+fn truth_value(b: bool) -> i64
+    ensures { λ r. ⌜ r ≡ truth b ⌝ }
+{
+    if b {
+        return 1;
+    }
+    0
+}
+
+// The ordinal of an enum name, 0 for what is none.
+fn ordinal_in(m: Meaning) -> i64
+    ensures { λ r. ⌜ r ≡ ordinalIn m ⌝ }
+{
+    match m {
+        Meaning::Unknown => 0,
+        Meaning::Type(_) => 0,
+        Meaning::Var(_, _, _) => 0,
+        Meaning::Proc(_) => 0,
+        Meaning::Value(_, n) => wide(n),
+    }
+}
+
+// The value of a label.
+fn value_of(text: &[u8], work: &[u32], count: u32, newest: u32, m: Mark) -> i64
+    ensures { λ r. ⌜ r ≡ valueAt (now (text .entry)) (now (work .entry)) count newest m ⌝ }
+{
+    match m {
+        Mark::Number(z) => z,
+        Mark::Truth(b) => truth_value(b),
+        Mark::Named(p) => ordinal_in(meaning_of(text, work, count, newest, p)),
+    }
+}
+
+// The value of the next label from an offset inside an arm.
+fn next_value(text: &[u8], work: &[u32], count: u32, newest: u32, at: usize) -> NextValue
+    ensures { λ r. ⌜ NextValues (now (text .entry)) (now (work .entry)) count newest at r ⌝ }
+{
+    let x = next_label(text, at);
+    match x {
+        Next::Label(m, q) => NextValue::Value(value_of(text, work, count, newest, m), q),
+        Next::Done => NextValue::Done,
+    }
+}
+
+// Whether two integers are the same.
+fn same_number(x: i64, y: i64) -> bool
+    ensures { λ r. ⌜ r ≡ equalZ x y ⌝ }
+{
+    if x == y {
+        return true;
+    }
+    false
+}
+
+// Whether an integer is among those of a block.
+fn holds(block: &[i64], z: i64) -> bool
+    ensures { λ r. ⌜ r ≡ among z (now (block .entry)) ⌝ }
+{
+    let mut i = 0;
+    while i < block.len() {
+        if same_number(z, block[i]) {
+            return true;
+        }
+        i += 1;
+    }
+    false
+}
+
+// Whether an integer of a block comes again in it.
+fn repeated(block: &[i64]) -> bool
+    ensures { λ r. ⌜ r ≡ not (apart (now (block .entry))) ⌝ }
+{
+    let mut i = 0;
+    while i < block.len() {
+        if holds(&block[i + 1..], block[i]) {
+            return true;
+        }
+        i += 1;
+    }
+    false
+}
+
+// The values of the labels from an offset on, as many as a block holds.
+fn fill_block(
+    text: &[u8],
+    work: &[u32],
+    count: u32,
+    newest: u32,
+    block: &mut [i64],
+    at: usize,
+) -> Filled
+    ensures { λ r. ⌜ Fills (now (text .entry)) (now (work .entry)) count newest at r (now (block .exit)) ⌝ }
+{
+    let mut n = 0;
+    let mut p = at;
+    while n < block.len() {
+        let x = next_value(text, work, count, newest, p);
+        match x {
+            NextValue::Value(z, q) => {
+                block[n] = z;
+                n += 1;
+                p = q;
+            }
+            NextValue::Done => {
+                return Filled { size: n, next: p };
+            }
+        }
+    }
+    Filled { size: n, next: p }
+}
+
+// Whether a value of a block is that of a label from an offset on.
+fn comes_again(text: &[u8], work: &[u32], count: u32, newest: u32, block: &[i64], at: usize) -> bool
+    ensures { λ r. ⌜ ComesAgain (now (text .entry)) (now (work .entry)) count newest (now (block .entry)) at r ⌝ }
 {
     let mut p = at;
     loop {
-        let x = next_label(text, p);
+        let x = next_value(text, work, count, newest, p);
         match x {
-            Next::Label(n, q) => {
-                if same_mark(text, m, n) {
+            NextValue::Value(z, q) => {
+                if holds(block, z) {
                     return true;
                 }
                 p = q;
             }
-            Next::Done => {
+            NextValue::Done => {
                 return false;
             }
         }
     }
 }
 
-// A fault of row 8 where a label from an offset inside an arm on comes twice.
-fn label_fault(text: &[u8], at: usize) -> Fault
-    ensures { λ r. ⌜ Doubled (now (text .entry)) at r ⌝ }
+// Whether a value of a block comes again in it or among the labels from an offset on.
+fn recurs(text: &[u8], work: &[u32], count: u32, newest: u32, block: &[i64], at: usize) -> bool
+    ensures { λ r. ⌜ Recurs (now (text .entry)) (now (work .entry)) count newest (now (block .entry)) at r ⌝ }
+{
+    if repeated(block) {
+        return true;
+    }
+    comes_again(text, work, count, newest, block, at)
+}
+
+// A fault of row 8 where a label from an offset inside an arm on comes twice; the labels are compared block by block.
+fn label_fault(
+    text: &[u8],
+    work: &[u32],
+    count: u32,
+    newest: u32,
+    block: &mut [i64],
+    at: usize,
+) -> Fault
+    requires { ⌜ 0 < length (now block) ⌝ }
+    ensures { λ r. ⌜ Doubled (now (text .entry)) (now (work .entry)) count newest at r ⌝ }
 {
     let mut p = at;
     loop {
-        let x = next_label(text, p);
-        match x {
-            Next::Label(m, q) => {
-                if repeats(text, m, q) {
-                    return Fault::Kind;
-                }
-                p = q;
-            }
-            Next::Done => {
-                return Fault::Clear;
-            }
+        let r = fill_block(text, work, count, newest, block, p);
+        let n = r.size;
+        if n == 0 {
+            return Fault::Clear;
         }
+        if recurs(text, work, count, newest, &block[..n], r.next) {
+            return Fault::Kind;
+        }
+        p = r.next;
     }
 }
 
 // A fault of row 8 where a label comes twice in a case whose arms begin at an offset and have the fault f.
-pub fn repeat_fault(text: &[u8], f: Fault, at: usize) -> Fault
-    ensures { λ r. ⌜ Repeating (now (text .entry)) at f r ⌝ }
+pub fn repeat_fault(
+    text: &[u8],
+    work: &[u32],
+    count: u32,
+    newest: u32,
+    f: Fault,
+    at: usize,
+) -> Fault
+    ensures { λ r. ⌜ Repeating (now (text .entry)) (now (work .entry)) count newest at f r ⌝ }
 {
     if is_clear(f) {
         let h = arm_hop(text, at);
@@ -303,7 +395,8 @@ pub fn repeat_fault(text: &[u8], f: Fault, at: usize) -> Fault
                 return Fault::Clear;
             }
             Hop::Over(q) => {
-                return label_fault(text, q);
+                let mut block = [0i64; 256];
+                return label_fault(text, work, count, newest, &mut block, q);
             }
             Hop::End => {
                 return Fault::Clear;

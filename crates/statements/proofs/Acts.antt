@@ -21,7 +21,7 @@ use Rattle.tables.specs.declared.Fault.{Fault}
 use Rattle.tables.specs.declared.Fault.the-variants.{Clear}
 use Rattle.parts.specs.declared.Got.{Got}
 use Rattle.parts.specs.Got.{lowest, isForm, faultOf}
-use Rattle.statements.specs.Nodes.{skipGot}
+use Rattle.stmtnodes.specs.Nodes.{skipGot}
 use Rattle.statements.specs.Walks.{bare, WantTold, ActTold, ActsTold}
 use Rattle.statements.proofs.Faults.{lowest-clear, join-fault, Both, join-fits, on-fault, Only, on-fits, Node, form-none, form-is}
 use Rattle.expressions.proofs.Joining.{wrong-fits, fits-inj}

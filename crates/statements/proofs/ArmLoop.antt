@@ -46,12 +46,12 @@ use Rattle.parts.specs.declared.Part.{Part}
 use Rattle.parts.specs.declared.Part.the-variants as part
 use Rattle.parts.specs.Got.{lowest, isForm, isClear, faultOf, failedGot}
 use Rattle.parts.specs.Parts.{Before, LeafAt, FormAt, ShutAt, Stands, Closes, shut, more}
-use Rattle.expressions.specs.Nodes.{Made, Makes}
+use Rattle.exprnodes.specs.Nodes.{Made, Makes}
 use Rattle.expressions.specs.Walks.{Moves, Leaves}
 use Rattle.expressions.proofs.Joining.{wrong-fits, fits-inj}
 use Rattle.statements.specs.declared.arms.NextArm.{NextArm}
 use Rattle.statements.specs.declared.arms.NextArm.the-variants as next-arm
-use Rattle.statements.specs.Nodes.{nodeIf, skipGot, joinedGot, finishedGot}
+use Rattle.stmtnodes.specs.Nodes.{nodeIf, skipGot, joinedGot, finishedGot}
 use Rattle.statements.specs.Walks.{bare, ActTold, Around, GivesStmt}
 use Rattle.statements.specs.Chains.{many}
 use Rattle.statements.specs.Cases.{LabelsTold, GivesLabels, ArmFormAt, ArmHeadAt, ArmComes, ArmInside, armMade, ArmStmtBy, stmt-parts, ArmBy, arm-parts, ElseBy, else-parts, ArmsLeft, Arming, ArmsTold, GivesArms, selectedKind, cased, FirstArm, an-arm, no-arm, caseMade, CaseEnds, case-ends, CaseBy, case-parts}

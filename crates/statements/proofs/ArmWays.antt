@@ -46,12 +46,12 @@ use Rattle.parts.specs.declared.Part.{Part}
 use Rattle.parts.specs.declared.Part.the-variants as part
 use Rattle.parts.specs.Got.{lowest, isForm, isClear, faultOf, failedGot}
 use Rattle.parts.specs.Parts.{Before, LeafAt, FormAt, ShutAt, Stands, Closes, shut, more}
-use Rattle.expressions.specs.Nodes.{Made, Makes}
+use Rattle.exprnodes.specs.Nodes.{Made, Makes}
 use Rattle.expressions.specs.Walks.{Moves, Leaves}
 use Rattle.expressions.proofs.Joining.{wrong-fits, fits-inj}
 use Rattle.statements.specs.declared.arms.NextArm.{NextArm}
 use Rattle.statements.specs.declared.arms.NextArm.the-variants as next-arm
-use Rattle.statements.specs.Nodes.{nodeIf, skipGot, joinedGot, finishedGot}
+use Rattle.stmtnodes.specs.Nodes.{nodeIf, skipGot, joinedGot, finishedGot}
 use Rattle.statements.specs.Walks.{bare, ActTold, Around, GivesStmt}
 use Rattle.statements.specs.Chains.{many}
 use Rattle.labels.specs.Repeating.{Repeating}
@@ -216,9 +216,9 @@ pub case-is : (l : List ℕ) (i : Info) (n : ℕ) (x m : Got) (f w a b c d e : F
 unfolding caseMade
 case-is l i n x m f w a b c d e r l′ ea eb ec ed ee k = rw (← ea, ← eb, ← ec, ← ed, ← ee) k
 
-pub end-is : (s l ts : List ℕ) (n : ℕ) (x m r : Got) (l′ : List ℕ) (i : Info) (f w : Fault) → FirstArm s (x .next) f → Repeating s (x .next) (m .fault) w → i ≡ infoOf l ts (x .kind) → Makes (caseMade l i n x m f w) r l′
-    → CaseEnds s l ts n x m r l′
-end-is s l ts n x m r l′ i f w F R e k = case-ends f w F R (rw (← e) k)
+pub end-is : (s l ts : List ℕ) (count newest n : ℕ) (x m r : Got) (l′ : List ℕ) (i : Info) (f w : Fault) → FirstArm s (x .next) f → Repeating s l count newest (x .next) (m .fault) w → i ≡ infoOf l ts (x .kind) → Makes (caseMade l i n x m f w) r l′
+    → CaseEnds s l ts count newest n x m r l′
+end-is s l ts count newest n x m r l′ i f w F R e k = case-ends f w F R (rw (← e) k)
 
 -- ---- by parts
 
@@ -236,5 +236,5 @@ module _ (s l ts : List ℕ) (count newest : ℕ) (loops : Mask) where
   else-way d slot g at r l′ a b c l₁ G C E M = else-parts a b c l₁ G C E M
 
   pub case-way : (x : Got) (d n : ℕ) (r : Got) (l′ : List ℕ) (t h k : ℕ) (m : Got) (l₁ l₂ : List ℕ) → Laid (lay (0 ∷ []) (x .top) l) t l₁ → h ≡ x .top → k ≡ selectedKind x
-      → GivesArms s l₁ ts count newest loops k d n h (x .next) t m l₂ → CaseEnds s l₂ ts n x m r l′ → CaseBy s l ts count newest loops x d n r l′
+      → GivesArms s l₁ ts count newest loops k d n h (x .next) t m l₂ → CaseEnds s l₂ ts count newest n x m r l′ → CaseBy s l ts count newest loops x d n r l′
   case-way x d n r l′ t h k m l₁ l₂ K e i G E = case-parts t h k m l₁ l₂ K e i G E

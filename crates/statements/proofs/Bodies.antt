@@ -34,14 +34,15 @@ use Rattle.worklist.specs.Laid.{Laid}
 use Rattle.parts.specs.declared.Got.{Got}
 use Rattle.parts.specs.Got.{lowest, isForm, faultOf, failedGot, pastBracket}
 use Rattle.parts.specs.Parts.{ShutAt, Closes, shut, more}
-use Rattle.expressions.specs.Nodes.{Makes}
+use Rattle.exprnodes.specs.Nodes.{Makes}
 use Rattle.expressions.proofs.Joining.{wrong-fits, fits-inj}
-use Rattle.statements.specs.Nodes.{plainMade, handledMade, linked, skipGot, joinedGot}
+use Rattle.stmtnodes.specs.Nodes.{plainMade, handledMade, linked, skipGot, joinedGot}
 use Rattle.statements.specs.Chains.{many}
-use Rattle.statements.specs.declared.last.Next.{Next}
-use Rattle.statements.specs.declared.last.Next.the-variants as following
+use Rattle.stmtnodes.specs.declared.last.Next.{Next}
+use Rattle.stmtnodes.specs.declared.last.Next.the-variants as following
 use Rattle.statements.specs.Walks.{bare, ActsTold, Around, GivesActs, GivesStmt, BodyTold, GivesBody}
-use Rattle.statements.specs.Fronts.{HandlerAt, PlainAt, BodyLeft, Fronting, layRest, RestTold, GivesRest, Comes, HandledBy, by-parts}
+use Rattle.stmtnodes.specs.Handlers.{HandlerAt, PlainAt, Comes}
+use Rattle.statements.specs.Fronts.{BodyLeft, Fronting, layRest, RestTold, GivesRest, HandledBy, by-parts}
 use Rattle.statements.proofs.Faults.{lowest-clear, lowest-form, join-fault, Both, join-fits, form-is, form-left, form-right, form-none, Node, node-of}
 use Rattle.statements.proofs.Acts.{bare-last}
 use Rattle.statements.proofs.Chains.{none-of}

@@ -31,10 +31,10 @@ use Rattle.tables.proofs.Telling.{shape-ordinal}
 use Rattle.worklist.specs.Laid.{Laid}
 use Rattle.parts.specs.declared.Got.{Got}
 use Rattle.parts.specs.Got.{lowest, isForm, isClear, faultOf}
-use Rattle.expressions.specs.Nodes.{Makes}
+use Rattle.exprnodes.specs.Nodes.{Makes}
 use Rattle.expressions.specs.Walks.{Moves, Leaves, ExprTold, GivesExpr}
 use Rattle.expressions.proofs.Joining.{wrong-fits, unnamed-fits, unfit-fits, fits-inj}
-use Rattle.statements.specs.Nodes.{nodeIf}
+use Rattle.stmtnodes.specs.Nodes.{nodeIf}
 use Rattle.statements.specs.Walks.{bare, ActTold, Around, GivesVerb}
 use Rattle.labels.specs.Repeating.{labelsDiffer, Repeating}
 use Rattle.statements.specs.Cases.{ArmsTold, GivesArms, selectedKind, cased, FirstArm, an-arm, no-arm, caseMade, CaseEnds, case-ends, CaseBy, case-parts}
@@ -142,14 +142,14 @@ kind-is x (fits y) f e = rw f (e y refl)
 
 -- the fault of the arms and of their labels
 labels-fault : (s l ts : List ℕ) (count newest top : ℕ) (σ : Environment) (bs js : List ℕ) (k d n at : ℕ) (f w : Fault) (B : Option (Syntax.Arms × ℕ)) → B ≡ armsIn d n (first (stackAt s at)) → Scene s l ts count newest top σ bs
-    → f ≡ faultOf (armsStaged σ js k (bare B)) → Repeating s at f w → faultOf (casesStaged σ js k (bare B)) ≡ lowest f w
+    → f ≡ faultOf (armsStaged σ js k (bare B)) → Repeating s l count newest at f w → faultOf (casesStaged σ js k (bare B)) ≡ lowest f w
 unfolding armsStaged staged _>>=_
 labels-fault s l ts count newest top σ bs js k d n at f w B eb S ef R =
     cases-fault σ js k (bare B) ∙ rw ef (go (armsStaged σ js k (bare B)) refl)
   where
     clear : (o : Option (Syntax.Arms × ℕ)) → B ≡ o → (c : Cases) → armsStaged σ js k (bare B) ≡ fits c → cond (labelsDiffer σ (bare B)) Clear Kind ≡ w
     clear none e c h = absurd (wrong-fits (rw e at h))
-    clear (some a) e c h = rw e (sym (R .says (ef ∙ ap faultOf h) l ts count newest top σ bs S js k d n a c (sym eb ∙ e) (rw e at h)))
+    clear (some a) e c h = rw e (sym (R .says (ef ∙ ap faultOf h) ts top σ bs S js k d n a c (sym eb ∙ e) (rw e at h)))
 
     go : (A : Staged Cases) → armsStaged σ js k (bare B) ≡ A → lowest (faultOf A) (cond (labelsDiffer σ (bare B)) Clear Kind) ≡ lowest (faultOf A) w
     go wrong h = refl
@@ -174,7 +174,7 @@ module _ (s l ts : List ℕ) (count newest : ℕ) (loops : Mask) (d n at top : �
   }
 
   module _ (h : t ≡ false) (u k : ℕ) (m r : Got) (l₂ l₃ l′ : List ℕ) (K : Laid (lay (0 ∷ []) (x .top) l₁) u l₂) (ek : k ≡ selectedKind x) (GA : GivesArms s l₂ ts count newest loops k d n (x .top) (x .next) u m l₃) (w : Fault)
-      (R : Repeating s (x .next) (m .fault) w) where
+      (R : Repeating s l₃ count newest (x .next) (m .fault) w) where
     slot-up : x .top ≤ u
     slot-up = rw (K .free) (lay-g (0 ∷ []) (x .top) l₁ .up)
 

@@ -32,7 +32,7 @@ use Rattle.parts.specs.declared.End.the-variants as ending
 use Rattle.parts.specs.Got.{lowest, isForm, faultOf}
 use Rattle.parts.specs.Parts.{Shuts, ShutAt}
 use Rattle.expressions.proofs.Joining.{wrong-fits, fits-inj}
-use Rattle.statements.specs.Nodes.{linked, skipGot}
+use Rattle.stmtnodes.specs.Nodes.{linked, skipGot}
 use Rattle.statements.specs.Walks.{bare, ActTold, ActsTold, Around, GivesStmt, GivesActs}
 use Rattle.statements.specs.Chains.{many, LeftTold, Doing}
 use Rattle.statements.proofs.Faults.{lowest-clear, lowest-form, lowest-assoc, join-fault, Both, join-fits, on-fault, Only, on-fits, Node, form-is, form-none, same-refl, same-trans}

@@ -24,10 +24,10 @@ use Rattle.parts.specs.declared.Got.{Got}
 use Rattle.parts.specs.Got.{lowest, isForm, isClear, faultOf, failedGot, pastBracket, Told}
 use Rattle.parts.specs.Parts.{Before, ShutAt, Closes, shut, more}
 use Rattle.shapes.specs.Parts.{rest, closed}
-use Rattle.expressions.specs.Nodes.{Made, Makes, nodeMade, ifClear}
+use Rattle.exprnodes.specs.Nodes.{Made, Makes, nodeMade, ifClear}
 use Rattle.expressions.specs.Walks.{Moves, Leaves, ExprTold}
 use Rattle.expressions.proofs.Joining.{wrong-fits, unnamed-fits, unfit-fits, fits-inj}
-use Rattle.statements.specs.Nodes.{nodeIf, wantedGot, withFault}
+use Rattle.stmtnodes.specs.Nodes.{nodeIf, wantedGot, withFault}
 use Rattle.statements.specs.Walks.{bare, ActTold, WantTold}
 
 -- ---- the lower fault

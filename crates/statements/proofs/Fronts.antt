@@ -30,10 +30,11 @@ use Rattle.tables.proofs.Kept.{scene-kept}
 use Rattle.worklist.specs.Laid.{Laid}
 use Rattle.parts.specs.declared.Got.{Got}
 use Rattle.parts.specs.Got.{lowest, isForm, faultOf}
-use Rattle.statements.specs.Nodes.{linked, skipGot, joinedGot}
+use Rattle.stmtnodes.specs.Nodes.{linked, skipGot, joinedGot}
 use Rattle.statements.specs.Walks.{bare, ActTold, Around, GivesStmt}
 use Rattle.statements.specs.Chains.{many}
-use Rattle.statements.specs.Fronts.{PlainAt, BodyLeft, Fronting}
+use Rattle.stmtnodes.specs.Handlers.{PlainAt}
+use Rattle.statements.specs.Fronts.{BodyLeft, Fronting}
 use Rattle.statements.proofs.Faults.{lowest-form, lowest-assoc, join-fault, Both, join-fits, form-is, same-refl}
 use Rattle.statements.proofs.Acts.{some-of}
 use Rattle.statements.proofs.Shapes.{stmt-count}

@@ -42,10 +42,10 @@ use Rattle.parts.specs.Got.{lowest, isForm, faultOf, failedGot}
 use Rattle.parts.specs.Parts.{Before, Shuts, ShutAt}
 use Rattle.atoms.specs.declared.Valued.{Valued}
 use Rattle.atoms.specs.Contracts.{ValueTold, GivesConstant}
-use Rattle.expressions.specs.Nodes.{IsBits}
-use Rattle.expressions.specs.Members.{memberFault}
+use Rattle.exprnodes.specs.Nodes.{IsBits}
+use Rattle.exprnodes.specs.Members.{memberFault}
 use Rattle.expressions.proofs.Joining.{wrong-fits, unnamed-fits, unfit-fits, fits-inj}
-use Rattle.statements.specs.Nodes.{linked, skipGot}
+use Rattle.stmtnodes.specs.Nodes.{linked, skipGot}
 use Rattle.statements.specs.Chains.{many}
 use Rattle.statements.specs.Cases.{armFrom, prefixed, someLabels, counts, labelledGot, countedGot, LinksLabel, LabelsLeft, Labelling, LabelsTold, GivesLabels}
 use Rattle.statements.proofs.Faults.{lowest-clear, lowest-assoc, join-fault, Both, join-fits, form-is, form-none, same-refl}

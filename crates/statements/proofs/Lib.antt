@@ -1,4 +1,3 @@
-pub mod Making
 pub mod Faults
 pub mod Acts
 pub mod Stores
@@ -9,7 +8,6 @@ pub mod Storing
 pub mod Repeats
 pub mod Fronts
 pub mod Bodies
-pub mod Following
 pub mod Cases
 pub mod Labelling
 pub mod ArmWays

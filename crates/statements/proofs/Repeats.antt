@@ -45,10 +45,10 @@ use Rattle.parts.specs.declared.End.{End}
 use Rattle.parts.specs.declared.End.the-variants as ending
 use Rattle.parts.specs.Got.{lowest, isForm, faultOf, failedGot}
 use Rattle.parts.specs.Parts.{Before, LeafAt, FormAt, ShutAt, Stands, Shuts, Closes}
-use Rattle.expressions.specs.Nodes.{Makes}
+use Rattle.exprnodes.specs.Nodes.{Makes}
 use Rattle.expressions.specs.Walks.{Moves, Leaves, GivesExpr}
-use Rattle.statements.specs.declared.nodes.Control.{Control}
-use Rattle.statements.specs.Nodes.{wantedGot, controlIs, controlBy, controlFault, repeated, repeatedBy, linked, sequenced, skipGot, joinedGot, finishedGot, isNamed}
+use Rattle.stmtnodes.specs.declared.nodes.Control.{Control}
+use Rattle.stmtnodes.specs.Nodes.{wantedGot, controlIs, controlBy, controlFault, repeated, repeatedBy, linked, sequenced, skipGot, joinedGot, finishedGot, isNamed}
 use Rattle.statements.specs.Walks.{bare, WantTold, ActTold, ActsTold, ControlTold, known, unknown, Around, GivesStmt, GivesVerb, GivesWanted, forIn, GivesFor, toIn, GivesTo, doIn, GivesDo, GivesActs}
 use Rattle.statements.specs.Chains.{many, Doing}
 use Rattle.statements.proofs.Faults.{form-is, form-left, form-right, closes-leaves, same-refl, then-leaves, Node, node-of, node-leaves, want-told, wanted-moves, act-closed, on-fault, Only, on-fits}

@@ -32,11 +32,11 @@ use Rattle.tables.specs.Sides.{hostIn}
 use Rattle.tables.proofs.Telling.{shape-ordinal, low-told, high-told, host-in}
 use Rattle.parts.specs.declared.Got.{Got}
 use Rattle.parts.specs.Got.{lowest, isForm, faultOf, Told}
-use Rattle.expressions.specs.Nodes.{Made, Makes, failedMade, nodeMade, ifClear}
+use Rattle.exprnodes.specs.Nodes.{Made, Makes, failedMade, nodeMade, ifClear}
 use Rattle.expressions.specs.Walks.{ExprTold}
 use Rattle.expressions.proofs.Joining.{wrong-fits, unnamed-fits, unfit-fits, fits-inj, told-join, told-as, told-fits, told-unfit}
-use Rattle.statements.specs.declared.nodes.Control.{Control}
-use Rattle.statements.specs.Nodes.{called, stored, assigned, controlIs, controlBy, controlFault}
+use Rattle.stmtnodes.specs.declared.nodes.Control.{Control}
+use Rattle.stmtnodes.specs.Nodes.{called, stored, assigned, controlIs, controlBy, controlFault}
 use Rattle.statements.specs.Walks.{bare, WantTold, ActTold, StoreTold, ControlTold, known, unknown as not-known}
 use Rattle.statements.proofs.Faults.{lowest-clear, lowest-assoc, join-fault, Both, join-fits, Node}
 use Rattle.statements.proofs.Acts.{bare-two}

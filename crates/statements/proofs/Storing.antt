@@ -51,10 +51,10 @@ use Rattle.parts.specs.declared.Part.{Part}
 use Rattle.parts.specs.declared.Part.the-variants as part
 use Rattle.parts.specs.Got.{lowest, isForm, faultOf, failedGot, Told}
 use Rattle.parts.specs.Parts.{Before, LeafAt, FormAt, ShutAt, Stands, Closes}
-use Rattle.expressions.specs.Nodes.{Makes, failedMade, nodeMade, ifClear}
+use Rattle.exprnodes.specs.Nodes.{Makes, failedMade, nodeMade, ifClear}
 use Rattle.expressions.specs.Walks.{Moves, Leaves, ExprTold, GivesExpr, GivesTarget}
 use Rattle.expressions.proofs.Joining.{wrong-fits, unnamed-fits, unfit-fits}
-use Rattle.statements.specs.Nodes.{withFault, steered, stored, assigned}
+use Rattle.stmtnodes.specs.Nodes.{withFault, steered, stored, assigned}
 use Rattle.statements.specs.Walks.{StoreTold, ActTold, Around, GivesVerb, GivesAssign, GivesStore}
 use Rattle.statements.proofs.Faults.{lowest-clear, form-is, form-left, form-right, form-none, closes-leaves, same-refl, then-leaves, expr-closed}
 use Rattle.statements.proofs.Acts.{act-none}

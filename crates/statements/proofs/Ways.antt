@@ -41,10 +41,10 @@ use Rattle.parts.specs.declared.End.{End}
 use Rattle.parts.specs.declared.End.the-variants as ending
 use Rattle.parts.specs.Got.{lowest, isForm, faultOf, failedGot}
 use Rattle.parts.specs.Parts.{Before, LeafAt, FormAt, ShutAt, Stands, Shuts, Closes}
-use Rattle.expressions.specs.Nodes.{Makes, failedMade, nodeMade}
+use Rattle.exprnodes.specs.Nodes.{Makes, failedMade, nodeMade}
 use Rattle.expressions.specs.Walks.{Moves, Leaves, ExprTold, GivesExpr}
-use Rattle.statements.specs.declared.nodes.Control.{Control}
-use Rattle.statements.specs.Nodes.{nextNumber, wantedGot, raised, looped, branched, skipGot, called, isNamed}
+use Rattle.stmtnodes.specs.declared.nodes.Control.{Control}
+use Rattle.stmtnodes.specs.Nodes.{nextNumber, wantedGot, raised, looped, branched, skipGot, called, isNamed}
 use Rattle.statements.specs.Walks.{bare, WantTold, ActTold, Around, GivesStmt, GivesInner, verbIn, GivesVerb, GivesAssign, GivesRaise, GivesCall, GivesCallEnd, GivesElse, GivesWanted, thenIn, GivesThen}
 use Rattle.statements.proofs.Faults.{form-is, form-left, form-right, form-none, closes-leaves, same-refl, then-leaves, Node, node-of, node-leaves, want-told, wanted-moves, wanted-leaves, expr-closed, act-closed}
 use Rattle.statements.proofs.Acts.{act-none, some-of, raise-act, while-act, if-act, skip-act}

@@ -29,9 +29,9 @@ use Rattle.parts.specs.Parts.{ShutAt, Closes}
 use Rattle.worklist.specs.Laid.{Laid}
 use Rattle.atoms.specs.declared.Valued.{Valued}
 use Rattle.labels.specs.Repeating.{Repeating}
-use Rattle.expressions.specs.Nodes.{IsBits, Made, Makes}
-use Rattle.expressions.specs.Members.{memberFault}
-use Rattle.statements.specs.Nodes.{linked, nodeIf}
+use Rattle.exprnodes.specs.Nodes.{IsBits, Made, Makes}
+use Rattle.exprnodes.specs.Members.{memberFault}
+use Rattle.stmtnodes.specs.Nodes.{linked, nodeIf}
 use Rattle.statements.specs.Walks.{bare, Around, GivesStmt}
 use Rattle.statements.specs.declared.arms.NextArm.{NextArm}
 use Rattle.statements.specs.declared.arms.NextArm.the-variants as next-arm
@@ -207,10 +207,10 @@ caseMade l i n x m f w =
     nodeIf (lowest (lowest (x .fault) (lowest (lowest f (m .fault)) w)) (cond (eqb (i .shape) 0) Clear Kind)) (m .kind) (m .next) (49 ∷ n ∷ x .place ∷ x .top ∷ []) (m .top) l
 
 -- the end of a case whose selector has the answer x and whose arms have m
-pub data CaseEnds (s l ts : List ℕ) (n : ℕ) (x m r : Got) (l′ : List ℕ) : Type 0 where
-  case-ends : (f w : Fault) → FirstArm s (x .next) f → Repeating s (x .next) (m .fault) w → Makes (caseMade l (infoOf l ts (x .kind)) n x m f w) r l′ → CaseEnds s l ts n x m r l′
+pub data CaseEnds (s l ts : List ℕ) (count newest n : ℕ) (x m r : Got) (l′ : List ℕ) : Type 0 where
+  case-ends : (f w : Fault) → FirstArm s (x .next) f → Repeating s l count newest (x .next) (m .fault) w → Makes (caseMade l (infoOf l ts (x .kind)) n x m f w) r l′ → CaseEnds s l ts count newest n x m r l′
 
 -- the parts of a case after its selector
 pub data CaseBy (s l ts : List ℕ) (count newest : ℕ) (loops : Mask) (x : Got) (d n : ℕ) (r : Got) (l′ : List ℕ) : Type 0 where
   case-parts : (t h k : ℕ) (m : Got) (l₁ l₂ : List ℕ) → Laid (lay (0 ∷ []) (x .top) l) t l₁ → h ≡ x .top → k ≡ selectedKind x → GivesArms s l₁ ts count newest loops k d n h (x .next) t m l₂
-      → CaseEnds s l₂ ts n x m r l′ → CaseBy s l ts count newest loops x d n r l′
+      → CaseEnds s l₂ ts count newest n x m r l′ → CaseBy s l ts count newest loops x d n r l′

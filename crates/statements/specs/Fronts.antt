@@ -1,68 +1,27 @@
 -- The statements of a body before its handler while they are laid: what is done and what is left.
-use mathlib.Core.Bool.{true, false}
+use mathlib.Core.Bool.{false}
 use mathlib.Core.List.{List, [], _∷_}
-use mathlib.Core.Option.{Option, none, some}
+use mathlib.Core.Option.{Option, some}
 use mathlib.Core.Path.{_≡_}
 use Prim.Native.Nat.{ℕ, _+_, _≤_}
 use lib.ListN.{length}
-use Rattle.lexis.specs.Words.{wordOf}
 use Rattle.semantics.specs.Code.{Acts, BodyCode}
 use Rattle.semantics.specs.Environment.{Environment}
 use Rattle.semantics.specs.Layout.{Out, out, lay, layActs, flag}
 use Rattle.semantics.specs.Stages.{fits, bodyStaged}
 use Rattle.semantics.specs.Syntax.{Body}
-use Rattle.semantics.specs.Trees.{Tree, word, form, Trees, end, _then_, Run, first, later, stackAt, nodesIn}
+use Rattle.semantics.specs.Trees.{first, later, stackAt, nodesIn}
 use Rattle.semantics.proofs.LayoutRegions.{Same}
-use Rattle.shapes.specs.Heads.{isException}
-use Rattle.shapes.specs.Parts.{bodyIn, handlerIn}
+use Rattle.shapes.specs.Parts.{bodyIn}
 use Rattle.tables.specs.declared.Fault.{Fault}
 use Rattle.tables.specs.Loops.{noLoops}
 use Rattle.parts.specs.declared.Got.{Got}
 use Rattle.parts.specs.Got.{lowest, isForm, faultOf}
-use Rattle.parts.specs.Parts.{ShutAt, Closes}
+use Rattle.parts.specs.Parts.{Closes}
 use Rattle.worklist.specs.Laid.{Laid}
-use Rattle.expressions.specs.Nodes.{Makes}
-use Rattle.statements.specs.Nodes.{handledMade}
-use Rattle.statements.specs.declared.last.Next.{Next}
-use Rattle.statements.specs.declared.last.Next.the-variants as following
+use Rattle.exprnodes.specs.Nodes.{Makes}
+use Rattle.stmtnodes.specs.Nodes.{handledMade}
 use Rattle.statements.specs.Walks.{bare, Around, GivesActs}
-
--- `(exception S..)` whose statements begin at q
-pub record HandlerAt (s : List ℕ) (at q : ℕ) : Type 0 where
-  pub head : Run
-  pub here : first (stackAt s at) ≡ (form (word head then first (stackAt s q)) then first (later (stackAt s q)))
-  pub around : later (stackAt s at) ≡ later (later (stackAt s q))
-  pub exception : isException (wordOf head) ≡ true
-
--- a part that is no handler
-pub record PlainAt (s : List ℕ) (at : ℕ) : Type 0 where
-  pub more : first (stackAt s at) ≡ end → ⊥
-  pub plain : (t : Tree Run) (ts : Trees Run) → first (stackAt s at) ≡ (t then ts) → handlerIn t ≡ none
-
--- what comes next in a body
-abbrev pub ComesBy : List ℕ → ℕ → Next → Type 0
-ComesBy s at (following.Past q) = ShutAt s at q
-ComesBy s at (following.Handler q) = HandlerAt s at q
-ComesBy s at following.Stmt = PlainAt s at
-
-pub record Comes (s : List ℕ) (at : ℕ) (r : Next) : Type 0 where
-  pub says : ComesBy s at r
-
--- the head `exception`
-pub record HeadAt (s : List ℕ) (at q : ℕ) : Type 0 where
-  pub head : Run
-  pub here : first (stackAt s at) ≡ (word head then first (stackAt s q))
-  pub around : later (stackAt s at) ≡ later (stackAt s q)
-  pub exception : isException (wordOf head) ≡ true
-
--- the same from inside a form
-abbrev pub HandlerInBy : List ℕ → ℕ → Next → Type 0
-HandlerInBy s at (following.Past q) = ⊥
-HandlerInBy s at (following.Handler q) = HeadAt s at q
-HandlerInBy s at following.Stmt = handlerIn (form (first (stackAt s at))) ≡ none
-
-pub record HandlerIn (s : List ℕ) (at : ℕ) (r : Next) : Type 0 where
-  pub says : HandlerInBy s at r
 
 -- of a body o, what is left is o′: f is the lowest fault of the statements before, whose layout ends at top′ with the slot slot′
 pub record BodyLeft (σ : Environment) (bs : List ℕ) (o : Option (Body × ℕ)) (slot top : ℕ) (l : List ℕ) (f : Fault) (o′ : Option (Body × ℕ)) (slot′ top′ : ℕ) (l′ : List ℕ) : Type 0 where

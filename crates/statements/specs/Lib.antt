@@ -1,4 +1,3 @@
-pub mod Nodes
 pub mod Walks
 pub mod Chains
 pub mod Fronts

@@ -31,8 +31,8 @@ use Rattle.tables.specs.Scene.{Scene}
 use Rattle.parts.specs.declared.Got.{Got}
 use Rattle.parts.specs.Got.{isForm, faultOf, Told}
 use Rattle.expressions.specs.Walks.{Moves, Leaves}
-use Rattle.statements.specs.declared.nodes.Control.{Control}
-use Rattle.statements.specs.Nodes.{controlIs}
+use Rattle.stmtnodes.specs.declared.nodes.Control.{Control}
+use Rattle.stmtnodes.specs.Nodes.{controlIs}
 
 -- ---- what is told
 

@@ -1,17 +1,17 @@
 // The labels of an arm of a `case`.
-use crate::nodes::after;
-use crate::nodes::chain;
-use crate::nodes::no_act;
 use atoms::Valued;
 use atoms::constant;
-use expressions::members::member_fault;
-use expressions::nodes::bits_of;
+use exprnodes::members::member_fault;
+use exprnodes::nodes::bits_of;
 use parts::End;
 use parts::Got;
 use parts::end_at;
 use parts::failed;
 use parts::is_form;
 use parts::lowest;
+use stmtnodes::nodes::after;
+use stmtnodes::nodes::chain;
+use stmtnodes::nodes::no_act;
 use tables::Fault;
 ghost use mathlib.Core.Path.{_≡_};
 ghost use Rattle.statements.specs.Cases.{labelledGot, countedGot, LinksLabel, GivesLabels};

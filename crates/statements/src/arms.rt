@@ -1,5 +1,4 @@
 // The arms of a `case`: what comes next, their links, and the node of a case.
-use crate::nodes::node_if;
 use labels::repeat_fault;
 use parts::Got;
 use parts::Part;
@@ -8,6 +7,7 @@ use parts::lowest;
 use parts::part_at;
 use shapes::ArmHead;
 use shapes::arm_head;
+use stmtnodes::nodes::node_if;
 use tables::Fault;
 use tables::Info;
 use tables::describe;
@@ -18,7 +18,7 @@ ghost use mathlib.Core.Bool.{cond};
 ghost use lib.Dec.{eqb};
 ghost use Rattle.tables.specs.declared.Fault.the-variants.{Clear, Kind};
 ghost use Prim.Native.Nat.{_+_};
-ghost use Rattle.expressions.specs.Nodes.{Makes};
+ghost use Rattle.exprnodes.specs.Nodes.{Makes};
 ghost use Rattle.statements.specs.Cases.{ArmComes, ArmInside, armMade, selectedKind, FirstArm, caseMade, CaseEnds};
 
 // The next part of a case: none (past the closing bracket), an arm or an `else` (the offset of its parts), or no arm.
@@ -131,12 +131,21 @@ fn case_node(work: &mut [u32], i: Info, n: u32, x: Got, m: Got, f: Fault, w: Fau
 }
 
 // The end of a case whose selector has the answer x and whose arms have m.
-pub fn case_end(text: &[u8], work: &mut [u32], types: &[u32], n: u32, x: Got, m: Got) -> Got
-    ensures { λ r. ⌜ CaseEnds (now (text .entry)) (now (work .entry)) (now (types .entry)) n x m r (now (work .exit)) ⌝ }
+pub fn case_end(
+    text: &[u8],
+    work: &mut [u32],
+    types: &[u32],
+    count: u32,
+    newest: u32,
+    n: u32,
+    x: Got,
+    m: Got,
+) -> Got
+    ensures { λ r. ⌜ CaseEnds (now (text .entry)) (now (work .entry)) (now (types .entry)) count newest n x m r (now (work .exit)) ⌝ }
 {
     let f = first_fault(text, x.next);
     let g = m.fault;
-    let w = repeat_fault(text, g, x.next);
+    let w = repeat_fault(text, work, count, newest, g, x.next);
     let i = describe(work, types, x.kind);
     case_node(work, i, n, x, m, f, w)
 }

@@ -1,18 +1,18 @@
 // The walk over a body.
-use crate::last::Next;
-use crate::last::handled_node;
-use crate::last::next_at;
-use crate::last::plain_node;
-use crate::nodes::after;
-use crate::nodes::chain;
-use crate::nodes::joined;
-use crate::nodes::no_act;
-use crate::nodes::wide;
 use crate::walk::acts;
 use crate::walk::stmt;
 use parts::Got;
 use parts::closing;
 use parts::is_form;
+use stmtnodes::last::Next;
+use stmtnodes::last::handled_node;
+use stmtnodes::last::next_at;
+use stmtnodes::last::plain_node;
+use stmtnodes::nodes::after;
+use stmtnodes::nodes::chain;
+use stmtnodes::nodes::joined;
+use stmtnodes::nodes::no_act;
+use stmtnodes::nodes::wide;
 use tables::no_loops;
 use worklist::slot;
 ghost use Rattle.statements.specs.Walks.{GivesBody};

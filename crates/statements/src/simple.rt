@@ -1,10 +1,4 @@
 // The statements that have no statements in them, from past the head word on.
-use crate::nodes::assign_node;
-use crate::nodes::call_node;
-use crate::nodes::is_named;
-use crate::nodes::raise_node;
-use crate::nodes::steer;
-use crate::nodes::wanted;
 use expressions::walk::expr;
 use expressions::walk::target;
 use parts::End;
@@ -15,6 +9,12 @@ use parts::end_at;
 use parts::failed;
 use parts::is_form;
 use parts::part_at;
+use stmtnodes::nodes::assign_node;
+use stmtnodes::nodes::call_node;
+use stmtnodes::nodes::is_named;
+use stmtnodes::nodes::raise_node;
+use stmtnodes::nodes::steer;
+use stmtnodes::nodes::wanted;
 use tables::Fault;
 use tables::Mask;
 use tables::meaning_of;

@@ -7,20 +7,6 @@ use crate::arms::arm_slot;
 use crate::arms::case_end;
 use crate::arms::link_arm;
 use crate::arms::selector_kind;
-use crate::nodes::Control;
-use crate::nodes::after;
-use crate::nodes::begin_node;
-use crate::nodes::chain;
-use crate::nodes::finished;
-use crate::nodes::for_node;
-use crate::nodes::if_node;
-use crate::nodes::is_named;
-use crate::nodes::joined;
-use crate::nodes::next_number;
-use crate::nodes::no_act;
-use crate::nodes::stepped;
-use crate::nodes::while_node;
-use crate::nodes::wide;
 use crate::simple::assign;
 use crate::simple::call;
 use crate::simple::raise;
@@ -36,6 +22,20 @@ use parts::is_form;
 use parts::part_at;
 use shapes::Verb;
 use shapes::verb_of;
+use stmtnodes::nodes::Control;
+use stmtnodes::nodes::after;
+use stmtnodes::nodes::begin_node;
+use stmtnodes::nodes::chain;
+use stmtnodes::nodes::finished;
+use stmtnodes::nodes::for_node;
+use stmtnodes::nodes::if_node;
+use stmtnodes::nodes::is_named;
+use stmtnodes::nodes::joined;
+use stmtnodes::nodes::next_number;
+use stmtnodes::nodes::no_act;
+use stmtnodes::nodes::stepped;
+use stmtnodes::nodes::while_node;
+use stmtnodes::nodes::wide;
 use tables::Fault;
 use tables::Mask;
 use tables::host_of;
@@ -618,7 +618,7 @@ fn case_arms(
         x.next,
         t,
     );
-    case_end(text, work, types, number, x, m)
+    case_end(text, work, types, count, newest, number, x, m)
 }
 
 // Arms up to the closing bracket, chained from a slot on; their labels are of kind k.

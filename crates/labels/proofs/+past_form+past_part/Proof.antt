@@ -42,7 +42,7 @@ past-form-Inv-loop text at p₀ p = Skipping text at p
 abbrev past-form-μ-loop : past-form-lts.MeasureT-loop
 past-form-μ-loop text at p₀ p = nodesAll (stackAt text p)
 
--- src/lib.rt:67:5
+-- src/lib.rt:85:5
 past-form-loop-holds :
     (t : ℕ) →
     past-form-lts.Need-loop-holds
@@ -53,21 +53,21 @@ past-form-loop-holds :
     past-form-μ-loop
 past-form-loop-holds t c = skip-start _ _
 
--- src/lib.rt:68:13
+-- src/lib.rt:86:13
 past-form-past-part-requires : (t : ℕ) → past-form-lts.Need-past-part-requires (
   past-part-below t,
   past-part.Post,
 ) (past-form-at t) past-form.Post past-form-Inv-loop past-form-μ-loop
 past-form-past-part-requires t c κs = search (skip-below, needs)
 
--- src/lib.rt:70:22
+-- src/lib.rt:88:22
 past-form-enum-known-s : (t : ℕ) → past-form-lts.Need-enum-known-s (
   past-part-below t,
   past-part.Post,
 ) (past-form-at t) past-form.Post past-form-Inv-loop past-form-μ-loop
 past-form-enum-known-s t c = search needs
 
--- src/lib.rt:67:5
+-- src/lib.rt:85:5
 past-form-loop-less :
     (t : ℕ) →
     past-form-lts.Need-loop-less
@@ -78,7 +78,7 @@ past-form-loop-less :
     past-form-μ-loop
 past-form-loop-less t c = search skip-falls
 
--- src/lib.rt:67:5
+-- src/lib.rt:85:5
 past-form-loop-again :
     (t : ℕ) →
     past-form-lts.Need-loop-again
@@ -89,14 +89,14 @@ past-form-loop-again :
     past-form-μ-loop
 past-form-loop-again t c = search skip-laws
 
--- src/lib.rt:73:23
+-- src/lib.rt:91:23
 past-form-enum-known-s-2 : (t : ℕ) → past-form-lts.Need-enum-known-s-2 (
   past-part-below t,
   past-part.Post,
 ) (past-form-at t) past-form.Post past-form-Inv-loop past-form-μ-loop
 past-form-enum-known-s-2 t c = search needs
 
--- src/lib.rt:74:17
+-- src/lib.rt:92:17
 past-form-returns :
     (t : ℕ) →
     past-form-lts.Need-returns
@@ -107,7 +107,7 @@ past-form-returns :
     past-form-μ-loop
 past-form-returns t c = search skip-laws
 
--- src/lib.rt:54:9
+-- src/lib.rt:72:9
 past-part-part-at-requires : (t : ℕ) → past-part-lts.Need-part-at-requires (
   part-at-reads.Asked,
   part-at-reads.Learnt,
@@ -116,7 +116,7 @@ past-part-part-at-requires : (t : ℕ) → past-part-lts.Need-part-at-requires (
 ) (past-part-at t) past-part.Post
 past-part-part-at-requires t c κs = search needs
 
--- src/lib.rt:56:26
+-- src/lib.rt:74:26
 past-part-enum-known-part : (t : ℕ) → past-part-lts.Need-enum-known-part (
   part-at-reads.Asked,
   part-at-reads.Learnt,
@@ -125,7 +125,7 @@ past-part-enum-known-part : (t : ℕ) → past-part-lts.Need-enum-known-part (
 ) (past-part-at t) past-part.Post
 past-part-enum-known-part t c = search needs
 
--- src/lib.rt:57:20
+-- src/lib.rt:75:20
 past-part-enum-known-part-2 : (t : ℕ) → past-part-lts.Need-enum-known-part-2 (
   part-at-reads.Asked,
   part-at-reads.Learnt,
@@ -134,7 +134,7 @@ past-part-enum-known-part-2 : (t : ℕ) → past-part-lts.Need-enum-known-part-2
 ) (past-part-at t) past-part.Post
 past-part-enum-known-part-2 t c = search needs
 
--- src/lib.rt:57:35
+-- src/lib.rt:75:35
 past-part-past-form-requires : (t : ℕ) → past-part-lts.Need-past-form-requires (
   part-at-reads.Asked,
   part-at-reads.Learnt,
@@ -143,7 +143,7 @@ past-part-past-form-requires : (t : ℕ) → past-part-lts.Need-past-form-requir
 ) (past-part-at t) past-part.Post
 past-part-past-form-requires t c κs = search (step-falls, needs)
 
--- src/lib.rt:58:20
+-- src/lib.rt:76:20
 past-part-enum-known-part-3 : (t : ℕ) → past-part-lts.Need-enum-known-part-3 (
   part-at-reads.Asked,
   part-at-reads.Learnt,
@@ -152,7 +152,7 @@ past-part-enum-known-part-3 : (t : ℕ) → past-part-lts.Need-enum-known-part-3
 ) (past-part-at t) past-part.Post
 past-part-enum-known-part-3 t c = search needs
 
--- src/lib.rt:51:1
+-- src/lib.rt:69:1
 past-part-returns : (t : ℕ) → past-part-lts.Need-returns (
   part-at-reads.Asked,
   part-at-reads.Learnt,
@@ -161,7 +161,7 @@ past-part-returns : (t : ℕ) → past-part-lts.Need-returns (
 ) (past-part-at t) past-part.Post
 past-part-returns t c = search step-laws
 
--- src/lib.rt:51:1
+-- src/lib.rt:69:1
 past-part-returns-2 : (t : ℕ) → past-part-lts.Need-returns-2 (
   part-at-reads.Asked,
   part-at-reads.Learnt,
@@ -170,7 +170,7 @@ past-part-returns-2 : (t : ℕ) → past-part-lts.Need-returns-2 (
 ) (past-part-at t) past-part.Post
 past-part-returns-2 t c = search step-laws
 
--- src/lib.rt:51:1
+-- src/lib.rt:69:1
 past-part-returns-3 : (t : ℕ) → past-part-lts.Need-returns-3 (
   part-at-reads.Asked,
   part-at-reads.Learnt,

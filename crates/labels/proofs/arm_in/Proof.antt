@@ -6,31 +6,31 @@ use Rattle.labels.proofs.arm_in.Reads as reads
 use Rattle.labels.proofs.arm_in.Lts as lts
 use Rattle.parts.proofs.part_at.Reads as part-at-reads
 
--- src/lib.rt:200:9
+-- src/lib.rt:151:9
 part-at-requires : tie.Need-part-at-requires
 part-at-requires c κs = search needs
 
--- src/lib.rt:202:26
+-- src/lib.rt:153:26
 enum-known-part : tie.Need-enum-known-part
 enum-known-part c = search needs
 
--- src/lib.rt:203:26
+-- src/lib.rt:154:26
 enum-told : tie.Need-enum-told
 enum-told c = search needs
 
--- src/lib.rt:204:26
+-- src/lib.rt:155:26
 enum-told-2 : tie.Need-enum-told-2
 enum-told-2 c = search needs
 
--- src/lib.rt:197:1
+-- src/lib.rt:148:1
 returns : tie.Need-returns
 returns c = search enter-laws
 
--- src/lib.rt:197:1
+-- src/lib.rt:148:1
 returns-2 : tie.Need-returns-2
 returns-2 c = search enter-laws
 
--- src/lib.rt:197:1
+-- src/lib.rt:148:1
 returns-3 : tie.Need-returns-3
 returns-3 c = search enter-laws
 

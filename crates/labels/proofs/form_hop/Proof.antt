@@ -7,27 +7,27 @@ use Rattle.labels.proofs.form_hop.Lts as lts
 use Rattle.labels.proofs.form_mark.Reads as form-mark-reads
 use Rattle.parts.proofs.end_at.Reads as end-at-reads
 
--- src/lib.rt:189:9
+-- src/lib.rt:140:9
 end-at-requires : tie.Need-end-at-requires
 end-at-requires c κs = search needs
 
--- src/lib.rt:191:25
+-- src/lib.rt:142:25
 enum-told : tie.Need-enum-told
 enum-told c = search needs
 
--- src/lib.rt:192:22
+-- src/lib.rt:143:22
 enum-told-2 : tie.Need-enum-told-2
 enum-told-2 c = search needs
 
--- src/lib.rt:192:22
+-- src/lib.rt:143:22
 form-mark-requires : tie.Need-form-mark-requires
 form-mark-requires c κs = search needs
 
--- src/lib.rt:186:1
+-- src/lib.rt:137:1
 returns : tie.Need-returns
 returns c = search pass-laws
 
--- src/lib.rt:186:1
+-- src/lib.rt:137:1
 returns-2 : tie.Need-returns-2
 returns-2 c = search pass-laws
 

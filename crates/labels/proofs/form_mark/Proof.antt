@@ -8,19 +8,19 @@ use Rattle.labels.proofs.form_mark.Lts as lts
 use Rattle.atoms.proofs.minus_form.Reads as minus-form-reads
 use Rattle.parts.proofs.is_form.Reads as is-form-reads
 
--- src/lib.rt:166:9
+-- src/lib.rt:117:9
 minus-form-requires : tie.Need-minus-form-requires
 minus-form-requires c κs = search needs
 
--- src/lib.rt:168:8
+-- src/lib.rt:119:8
 is-form-requires : tie.Need-is-form-requires
 is-form-requires c κs = search needs
 
--- src/lib.rt:169:9
+-- src/lib.rt:120:9
 returns : tie.Need-returns
 returns c = search minus-laws
 
--- src/lib.rt:163:1
+-- src/lib.rt:114:1
 returns-2 : tie.Need-returns-2
 returns-2 c = search (minus-laws, sfits-of)
 

@@ -7,27 +7,27 @@ use Rattle.labels.proofs.leaf_hop.Lts as lts
 use Rattle.labels.proofs.word_mark.Reads as word-mark-reads
 use Rattle.parts.proofs.end_at.Reads as end-at-reads
 
--- src/lib.rt:178:9
+-- src/lib.rt:129:9
 end-at-requires : tie.Need-end-at-requires
 end-at-requires c κs = search needs
 
--- src/lib.rt:180:25
+-- src/lib.rt:131:25
 enum-told : tie.Need-enum-told
 enum-told c = search needs
 
--- src/lib.rt:181:22
+-- src/lib.rt:132:22
 enum-told-2 : tie.Need-enum-told-2
 enum-told-2 c = search needs
 
--- src/lib.rt:181:22
+-- src/lib.rt:132:22
 word-mark-requires : tie.Need-word-mark-requires
 word-mark-requires c κs = search needs
 
--- src/lib.rt:175:1
+-- src/lib.rt:126:1
 returns : tie.Need-returns
 returns c = search pass-laws
 
--- src/lib.rt:175:1
+-- src/lib.rt:126:1
 returns-2 : tie.Need-returns-2
 returns-2 c = search pass-laws
 

@@ -15,39 +15,39 @@ Inv-loop text at p₀ p = Seeking text at p
 abbrev μ-loop : tie.MeasureT-loop
 μ-loop text at p₀ p = nodesAll (stackAt text p)
 
--- src/lib.rt:237:5
+-- src/lib.rt:188:5
 loop-holds : tie.Need-loop-holds Inv-loop μ-loop
 loop-holds c = seek-start _ _
 
--- src/lib.rt:238:13
+-- src/lib.rt:189:13
 hop-at-requires : tie.Need-hop-at-requires Inv-loop μ-loop
 hop-at-requires c κs = search needs
 
--- src/lib.rt:240:24
+-- src/lib.rt:191:24
 enum-known-h : tie.Need-enum-known-h Inv-loop μ-loop
 enum-known-h c = search needs
 
--- src/lib.rt:241:17
+-- src/lib.rt:192:17
 returns : tie.Need-returns Inv-loop μ-loop
 returns c = search seek-laws
 
--- src/lib.rt:243:23
+-- src/lib.rt:194:23
 enum-known-h-2 : tie.Need-enum-known-h-2 Inv-loop μ-loop
 enum-known-h-2 c = search needs
 
--- src/lib.rt:237:5
+-- src/lib.rt:188:5
 loop-less : tie.Need-loop-less Inv-loop μ-loop
 loop-less c = search seek-falls
 
--- src/lib.rt:237:5
+-- src/lib.rt:188:5
 loop-again : tie.Need-loop-again Inv-loop μ-loop
 loop-again c = search seek-laws
 
--- src/lib.rt:247:17
+-- src/lib.rt:198:17
 enum-told : tie.Need-enum-told Inv-loop μ-loop
 enum-told c = search needs
 
--- src/lib.rt:247:17
+-- src/lib.rt:198:17
 returns-2 : tie.Need-returns-2 Inv-loop μ-loop
 returns-2 c = search seek-laws
 

@@ -8,43 +8,47 @@ use Rattle.labels.proofs.arm_hop.Reads as arm-hop-reads
 use Rattle.labels.proofs.label_fault.Reads as label-fault-reads
 use Rattle.parts.proofs.is_clear.Reads as is-clear-reads
 
--- src/lib.rt:299:8
+-- src/lib.rt:391:8
 is-clear-requires : tie.Need-is-clear-requires
 is-clear-requires c κs = search needs
 
--- src/lib.rt:300:13
+-- src/lib.rt:392:13
 arm-hop-requires : tie.Need-arm-hop-requires
 arm-hop-requires c κs = search needs
 
--- src/lib.rt:303:17
+-- src/lib.rt:395:17
 enum-told : tie.Need-enum-told
 enum-told c = search needs
 
--- src/lib.rt:303:17
+-- src/lib.rt:395:17
 returns : tie.Need-returns
 returns c = search fault-laws
 
--- src/lib.rt:305:23
+-- src/lib.rt:397:23
 enum-known-h : tie.Need-enum-known-h
 enum-known-h c = search needs
 
--- src/lib.rt:306:17
+-- src/lib.rt:399:63
+slice-aggregate-label-fault : tie.Need-slice-aggregate-label-fault
+slice-aggregate-label-fault c = search needs
+
+-- src/lib.rt:399:17
 label-fault-requires : tie.Need-label-fault-requires
 label-fault-requires c κs = search needs
 
--- src/lib.rt:306:17
+-- src/lib.rt:399:17
 returns-2 : tie.Need-returns-2
 returns-2 c = search fault-laws
 
--- src/lib.rt:309:17
+-- src/lib.rt:402:17
 enum-told-2 : tie.Need-enum-told-2
 enum-told-2 c = search needs
 
--- src/lib.rt:309:17
+-- src/lib.rt:402:17
 returns-3 : tie.Need-returns-3
 returns-3 c = search fault-laws
 
--- src/lib.rt:296:1
+-- src/lib.rt:381:1
 returns-4 : tie.Need-returns-4
 returns-4 c = search fault-laws
 
@@ -57,6 +61,7 @@ repeat-fault-spec =
     enum-told
     returns
     enum-known-h
+    slice-aggregate-label-fault
     label-fault-requires
     returns-2
     enum-told-2

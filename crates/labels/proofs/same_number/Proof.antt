@@ -5,11 +5,11 @@ use Rattle.labels.proofs.same_number.Tie as tie
 use Rattle.labels.proofs.same_number.Reads as reads
 use Rattle.labels.proofs.same_number.Lts as lts
 
--- src/lib.rt:85:9
+-- src/lib.rt:261:9
 returns : tie.Need-returns
 returns c = search (number-laws, sfits-of)
 
--- src/lib.rt:81:1
+-- src/lib.rt:257:1
 returns-2 : tie.Need-returns-2
 returns-2 c = search number-laws
 

@@ -4,7 +4,7 @@ use Rattle.judge.proofs.entering.enter.Statement.{statement}
 use Rattle.judge.proofs.entering.enter.Tie as tie
 use Rattle.judge.proofs.entering.enter.Reads as reads
 use Rattle.judge.proofs.entering.enter.Lts as lts
-use Rattle.declarations.proofs.lines.type_line.Reads as type-line-reads
+use Rattle.typeforms.proofs.type_line.Reads as type-line-reads
 use Rattle.declarations.proofs.var_line.Reads as var-line-reads
 use Rattle.judge.proofs.entering.faulty.Reads as faulty-reads
 use Rattle.judge.proofs.entering.main_line.Reads as main-line-reads

@@ -15,8 +15,8 @@ use Rattle.parts.proofs.is_form.Reads as is-form-reads
 use Rattle.statements.proofs.arm_labels.counted.Reads as counted-reads
 use Rattle.statements.proofs.arm_labels.labelled.Reads as labelled-reads
 use Rattle.statements.proofs.arm_labels.link_label.Reads as link-label-reads
-use Rattle.statements.proofs.nodes.after.Reads as after-reads
-use Rattle.statements.proofs.nodes.no_act.Reads as no-act-reads
+use Rattle.stmtnodes.proofs.nodes.after.Reads as after-reads
+use Rattle.stmtnodes.proofs.nodes.no_act.Reads as no-act-reads
 
 abbrev Inv-loop : tie.InvT-loop
 Inv-loop text work₀ count newest k first at top g₀ p₀ work g p = (length work ≡ length work₀) × Labelling text work₀ count newest k first at top g p work

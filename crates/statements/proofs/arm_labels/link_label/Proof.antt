@@ -5,8 +5,8 @@ use Rattle.statements.proofs.arm_labels.link_label.Statement.{statement
 use Rattle.statements.proofs.arm_labels.link_label.Tie as tie
 use Rattle.statements.proofs.arm_labels.link_label.Reads as reads
 use Rattle.statements.proofs.arm_labels.link_label.Lts as lts
-use Rattle.expressions.proofs.nodes.bits_of.Reads as bits-of-reads
-use Rattle.statements.proofs.nodes.chain.Reads as chain-reads
+use Rattle.exprnodes.proofs.nodes.bits_of.Reads as bits-of-reads
+use Rattle.stmtnodes.proofs.nodes.chain.Reads as chain-reads
 
 -- src/arm_labels.rt:48:9
 bits-of-requires : tie.Need-bits-of-requires

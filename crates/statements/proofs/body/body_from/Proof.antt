@@ -11,13 +11,13 @@ use Rattle.statements.proofs.body.body_from.Reads as reads
 use Rattle.statements.proofs.body.body_from.Lts as lts
 use Rattle.parts.proofs.is_form.Reads as is-form-reads
 use Rattle.statements.proofs.body.handled.Reads as handled-reads
-use Rattle.statements.proofs.last.next_at.Reads as next-at-reads
-use Rattle.statements.proofs.last.plain_node.Reads as plain-node-reads
-use Rattle.statements.proofs.nodes.after.Reads as after-reads
-use Rattle.statements.proofs.nodes.chain.Reads as chain-reads
-use Rattle.statements.proofs.nodes.joined.Reads as joined-reads
-use Rattle.statements.proofs.nodes.no_act.Reads as no-act-reads
-use Rattle.statements.proofs.nodes.wide.Reads as wide-reads
+use Rattle.stmtnodes.proofs.last.next_at.Reads as next-at-reads
+use Rattle.stmtnodes.proofs.last.plain_node.Reads as plain-node-reads
+use Rattle.stmtnodes.proofs.nodes.after.Reads as after-reads
+use Rattle.stmtnodes.proofs.nodes.chain.Reads as chain-reads
+use Rattle.stmtnodes.proofs.nodes.joined.Reads as joined-reads
+use Rattle.stmtnodes.proofs.nodes.no_act.Reads as no-act-reads
+use Rattle.stmtnodes.proofs.nodes.wide.Reads as wide-reads
 use Rattle.statements.proofs.walk.stmt.Reads as stmt-reads
 use Rattle.tables.proofs.no_loops.Reads as no-loops-reads
 

@@ -6,8 +6,8 @@ use Rattle.statements.proofs.simple.raise.Reads as reads
 use Rattle.statements.proofs.simple.raise.Lts as lts
 use Rattle.expressions.proofs.walk.expr.Reads as expr-reads
 use Rattle.parts.proofs.closing.Reads as closing-reads
-use Rattle.statements.proofs.nodes.raise_node.Reads as raise-node-reads
-use Rattle.statements.proofs.nodes.wanted.Reads as wanted-reads
+use Rattle.stmtnodes.proofs.nodes.raise_node.Reads as raise-node-reads
+use Rattle.stmtnodes.proofs.nodes.wanted.Reads as wanted-reads
 
 -- src/simple.rt:65:9
 expr-requires : tie.Need-expr-requires

@@ -5,7 +5,7 @@ use Rattle.statements.proofs.simple.wanted_expr.Tie as tie
 use Rattle.statements.proofs.simple.wanted_expr.Reads as reads
 use Rattle.statements.proofs.simple.wanted_expr.Lts as lts
 use Rattle.expressions.proofs.walk.expr.Reads as expr-reads
-use Rattle.statements.proofs.nodes.wanted.Reads as wanted-reads
+use Rattle.stmtnodes.proofs.nodes.wanted.Reads as wanted-reads
 
 -- src/simple.rt:57:9
 expr-requires : tie.Need-expr-requires

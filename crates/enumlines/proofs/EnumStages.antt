@@ -1,0 +1,60 @@
+-- The stages of a line that makes an enumeration.
+use mathlib.Core.Path.{_≡_, refl, ap, _∙_}
+use mathlib.Core.Bool.{Bool, true, false, cond, not, _&&_}
+use mathlib.Core.List.{List, [], _∷_}
+use mathlib.Core.Option.{Option, none, some}
+use Rattle.semantics.specs.Base.{Name, _>>=_, given}
+use Rattle.semantics.specs.Environment.{Declared, Environment}
+use Rattle.semantics.specs.Forms.{some?}
+use Rattle.semantics.specs.Names.{listedIn, isKnown, distinct, noneKnown, newNames, declOf, entryOf}
+use Rattle.semantics.specs.Rules.{keepsRules, keptDecl}
+use Rattle.semantics.specs.Script as Script
+use Rattle.semantics.specs.Script.{newType}
+use Rattle.semantics.specs.Stages as Stages
+use Rattle.semantics.specs.Stages.{wrong, unnamed, fits, ruled, staged}
+use Rattle.semantics.specs.Syntax.{LineForm, TypeForm, typeLine, enum}
+use Rattle.semantics.specs.Trees.{Trees, Run}
+use Rattle.declarations.specs.Lines.{entryStaged}
+use Rattle.enumlines.specs.Enums.{enumIn, namesIn, freshOne, fresh}
+use Rattle.enumlines.proofs.EnumNames.{enum-parts}
+
+-- names that are new, one by one or all at once
+pub new-fresh : (σ : Environment) (ns : List Name) → newNames σ ns ≡ fresh σ ns
+unfolding newNames distinct noneKnown fresh freshOne
+new-fresh σ [] = refl
+new-fresh σ (w ∷ ws) = go (not (listedIn σ w ws)) (distinct σ ws) (not (isKnown σ w)) (noneKnown σ ws) ∙ ap (λ (b : Bool). (not (listedIn σ w ws) && not (isKnown σ w)) && b) (new-fresh σ ws)
+  where
+    go : (a b c d : Bool) → ((a && b) && (c && d)) ≡ ((a && c) && (b && d))
+    go true true c d = refl
+    go true false true d = refl
+    go true false false d = refl
+    go false b c d = refl
+
+module _ (k : Declared) (w : Name) (us : Trees Run) where
+  abbrev line : Option LineForm
+  line = enumIn us >>= λ (t : TypeForm). some (typeLine w t)
+
+  -- a part that is no name, or no name at all, is row 6
+  pub enum-wrong : namesIn us ≡ none → entryStaged k line ≡ wrong
+  unfolding entryStaged staged _>>=_
+  enum-wrong e = rw (enum-parts us, e) refl
+
+  pub enum-empty : namesIn us ≡ some [] → entryStaged k line ≡ wrong
+  unfolding entryStaged staged _>>=_ some?
+  enum-empty e = rw (enum-parts us, e) refl
+
+  last-stage : (b : Bool) (v : Name) (vs : List Name) → Stages.named (given b (Script.enum v vs) >>= λ (d : Script.Decl). some (newType w d)) (keepsRules (k .env .types)) some
+      ≡ cond b (fits (newType w (Script.enum v vs))) unnamed
+  unfolding Stages.named given _>>=_ keepsRules keptDecl ruled
+  last-stage true v vs = refl
+  last-stage false v vs = refl
+
+  -- row 7: all names and the type's are new and differ
+  pub enum-named : (v : Name) (vs : List Name) → namesIn us ≡ some (v ∷ vs)
+      → entryStaged k line ≡ cond (fresh (k .env) (w ∷ v ∷ vs)) (fits (newType w (Script.enum v vs))) unnamed
+  unfolding entryStaged staged _>>=_ some? entryOf declOf
+  enum-named v vs e =
+      let z : line ≡ some (typeLine w (enum v vs)) = rw (enum-parts us, e) refl in
+      ap (entryStaged k) z
+      ∙ ap (λ (b : Bool). Stages.named (given b (Script.enum v vs) >>= λ (d : Script.Decl). some (newType w d)) (keepsRules (k .env .types)) some) (new-fresh (k .env) (w ∷ v ∷ vs))
+      ∙ last-stage (fresh (k .env) (w ∷ v ∷ vs)) v vs

@@ -1,0 +1,4 @@
+pub mod EnumNames
+pub mod EnumStages
+pub mod EnumValues
+pub mod EnumLines

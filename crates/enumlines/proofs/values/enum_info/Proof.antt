@@ -1,0 +1,18 @@
+use Rattle.enumlines.proofs.EnumValues.{enum-info-is}
+use borrow.Author.Needs.{needs}
+use Rattle.enumlines.proofs.values.enum_info.Statement.{statement}
+use Rattle.enumlines.proofs.values.enum_info.Tie as tie
+use Rattle.enumlines.proofs.values.enum_info.Reads as reads
+use Rattle.enumlines.proofs.values.enum_info.Lts as lts
+use Rattle.enumlines.proofs.values.one_less.Reads as one-less-reads
+
+-- src/values.rt:113:9
+one-less-requires : tie.Need-one-less-requires
+one-less-requires c κs = search needs
+
+-- src/values.rt:110:1
+returns : tie.Need-returns
+returns c = search enum-info-is
+
+pub enum-info-spec : {M : Type 1} → statement M
+enum-info-spec = tie.close (tie.spec one-less-requires returns)

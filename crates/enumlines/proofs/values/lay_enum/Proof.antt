@@ -1,0 +1,27 @@
+use Rattle.enumlines.proofs.EnumValues.{lays-enum}
+use borrow.Author.Needs.{needs}
+use Rattle.enumlines.proofs.values.lay_enum.Statement.{statement}
+use Rattle.enumlines.proofs.values.lay_enum.Tie as tie
+use Rattle.enumlines.proofs.values.lay_enum.Reads as reads
+use Rattle.enumlines.proofs.values.lay_enum.Lts as lts
+use Rattle.enumlines.proofs.values.lay_described.Reads as lay-described-reads
+use Rattle.enumlines.proofs.values.lay_values.Reads as lay-values-reads
+
+-- src/values.rt:145:9
+lay-described-requires : tie.Need-lay-described-requires
+lay-described-requires c κs = search needs
+
+-- src/values.rt:146:9
+lay-values-requires : tie.Need-lay-values-requires
+lay-values-requires c κs = search needs
+
+-- src/values.rt:142:1
+same-length : tie.Need-same-length
+same-length c = search needs
+
+-- src/values.rt:142:1
+returns : tie.Need-returns
+returns c = search lays-enum
+
+pub lay-enum-spec : {M : Type 1} → statement M
+lay-enum-spec = tie.close (tie.spec lay-described-requires lay-values-requires same-length returns)

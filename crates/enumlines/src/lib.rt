@@ -1,0 +1,3 @@
+// `type` lines that make an enumeration, and its names.
+pub mod enums;
+pub mod values;

@@ -1,0 +1,4 @@
+pub mod Making
+pub mod Naming
+pub mod MembersMaking
+pub mod WordsMaking

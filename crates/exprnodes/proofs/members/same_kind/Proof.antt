@@ -1,0 +1,16 @@
+use Rattle.exprnodes.proofs.MembersMaking.{same-kind-laws}
+use Rattle.exprnodes.proofs.members.same_kind.Statement.{statement}
+use Rattle.exprnodes.proofs.members.same_kind.Tie as tie
+use Rattle.exprnodes.proofs.members.same_kind.Reads as reads
+use Rattle.exprnodes.proofs.members.same_kind.Lts as lts
+
+-- src/members.rt:39:9
+returns : tie.Need-returns
+returns c = search same-kind-laws
+
+-- src/members.rt:35:1
+returns-2 : tie.Need-returns-2
+returns-2 c = search same-kind-laws
+
+pub same-kind-spec : {M : Type 1} → statement M
+same-kind-spec = tie.close (tie.spec returns returns-2)

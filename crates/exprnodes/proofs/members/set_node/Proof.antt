@@ -1,0 +1,37 @@
+use Rattle.exprnodes.proofs.MembersMaking.{set-node-laws}
+use borrow.Author.Needs.{needs}
+use Rattle.exprnodes.proofs.members.set_node.Statement.{statement}
+use Rattle.exprnodes.proofs.members.set_node.Tie as tie
+use Rattle.exprnodes.proofs.members.set_node.Reads as reads
+use Rattle.exprnodes.proofs.members.set_node.Lts as lts
+use Rattle.exprnodes.proofs.nodes.node.Reads as node-reads
+use Rattle.parts.proofs.failed.Reads as failed-reads
+
+-- src/members.rt:75:45
+slice-aggregate-node : tie.Need-slice-aggregate-node
+slice-aggregate-node c = search needs
+
+-- src/members.rt:75:9
+node-requires : tie.Need-node-requires
+node-requires c κs = search needs
+
+-- src/members.rt:75:9
+same-length : tie.Need-same-length
+same-length c = search needs
+
+-- src/members.rt:75:9
+returns : tie.Need-returns
+returns c = search set-node-laws
+
+-- src/members.rt:77:5
+failed-requires : tie.Need-failed-requires
+failed-requires c κs = search needs
+
+-- src/members.rt:70:1
+returns-2 : tie.Need-returns-2
+returns-2 c = search set-node-laws
+
+pub set-node-spec : {M : Type 1} → statement M
+set-node-spec =
+    tie.close
+    (tie.spec slice-aggregate-node node-requires same-length returns failed-requires returns-2)

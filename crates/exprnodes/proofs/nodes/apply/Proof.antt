@@ -1,0 +1,38 @@
+use Rattle.exprnodes.proofs.Making.{applied-laws}
+use borrow.Author.Needs.{needs}
+use Rattle.exprnodes.proofs.nodes.apply.Statement.{statement}
+use Rattle.exprnodes.proofs.nodes.apply.Tie as tie
+use Rattle.exprnodes.proofs.nodes.apply.Reads as reads
+use Rattle.exprnodes.proofs.nodes.apply.Lts as lts
+use Rattle.exprnodes.proofs.nodes.operate_one.Reads as operate-one-reads
+use Rattle.parts.proofs.failed.Reads as failed-reads
+use Rattle.parts.proofs.is_clear.Reads as is-clear-reads
+
+-- src/nodes.rt:156:8
+is-clear-requires : tie.Need-is-clear-requires
+is-clear-requires c κs = search needs
+
+-- src/nodes.rt:157:9
+operate-one-requires : tie.Need-operate-one-requires
+operate-one-requires c κs = search needs
+
+-- src/nodes.rt:157:9
+same-length : tie.Need-same-length
+same-length c = search needs
+
+-- src/nodes.rt:157:9
+returns : tie.Need-returns
+returns c = search applied-laws
+
+-- src/nodes.rt:159:5
+failed-requires : tie.Need-failed-requires
+failed-requires c κs = search needs
+
+-- src/nodes.rt:152:1
+returns-2 : tie.Need-returns-2
+returns-2 c = search applied-laws
+
+pub apply-spec : {M : Type 1} → statement M
+apply-spec =
+    tie.close
+    (tie.spec is-clear-requires operate-one-requires same-length returns failed-requires returns-2)

@@ -1,0 +1,16 @@
+use Rattle.exprnodes.proofs.Making.{short-both, short-one}
+use Rattle.exprnodes.proofs.nodes.short_node.Statement.{statement}
+use Rattle.exprnodes.proofs.nodes.short_node.Tie as tie
+use Rattle.exprnodes.proofs.nodes.short_node.Reads as reads
+use Rattle.exprnodes.proofs.nodes.short_node.Lts as lts
+
+-- src/nodes.rt:110:9
+returns : tie.Need-returns
+returns c = search short-both
+
+-- src/nodes.rt:106:1
+returns-2 : tie.Need-returns-2
+returns-2 c = search short-one
+
+pub short-node-spec : {M : Type 1} → statement M
+short-node-spec = tie.close (tie.spec returns returns-2)

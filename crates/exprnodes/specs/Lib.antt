@@ -1,0 +1,4 @@
+pub mod Nodes
+pub mod Fields
+pub mod Members
+pub mod Words

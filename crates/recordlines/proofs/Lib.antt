@@ -1,0 +1,3 @@
+pub mod FieldParts
+pub mod FieldLaying
+pub mod RecordLines

@@ -1,0 +1,3 @@
+// `type` lines that make a record, and its fields.
+pub mod fields;
+pub mod records;

@@ -1,0 +1,5 @@
+pub mod SetTypes
+pub mod TwoParts
+pub mod ArrayTypes
+pub mod RangeTypes
+pub mod MadeLines

@@ -1,0 +1,26 @@
+use Rattle.stmtnodes.proofs.Making.{begin-is}
+use borrow.Author.Needs.{needs}
+use Rattle.stmtnodes.proofs.nodes.begin_node.Statement.{statement}
+use Rattle.stmtnodes.proofs.nodes.begin_node.Tie as tie
+use Rattle.stmtnodes.proofs.nodes.begin_node.Reads as reads
+use Rattle.stmtnodes.proofs.nodes.begin_node.Lts as lts
+use Rattle.stmtnodes.proofs.nodes.node_if.Reads as node-if-reads
+
+-- src/nodes.rt:282:45
+slice-aggregate-node-if : tie.Need-slice-aggregate-node-if
+slice-aggregate-node-if c = search needs
+
+-- src/nodes.rt:282:5
+node-if-requires : tie.Need-node-if-requires
+node-if-requires c κs = search needs
+
+-- src/nodes.rt:277:1
+same-length : tie.Need-same-length
+same-length c = search needs
+
+-- src/nodes.rt:277:1
+returns : tie.Need-returns
+returns c = search begin-is
+
+pub begin-node-spec : {M : Type 1} → statement M
+begin-node-spec = tie.close (tie.spec slice-aggregate-node-if node-if-requires same-length returns)

@@ -1,0 +1,31 @@
+use Rattle.stmtnodes.proofs.Making.{chain-is}
+use borrow.Author.Needs.{needs}
+use Rattle.stmtnodes.proofs.nodes.chain.Statement.{statement}
+use Rattle.stmtnodes.proofs.nodes.chain.Tie as tie
+use Rattle.stmtnodes.proofs.nodes.chain.Reads as reads
+use Rattle.stmtnodes.proofs.nodes.chain.Lts as lts
+use Rattle.worklist.proofs.lay.Reads as lay-reads
+use Rattle.worklist.proofs.put.Reads as put-reads
+
+-- src/nodes.rt:271:28
+slice-aggregate-lay : tie.Need-slice-aggregate-lay
+slice-aggregate-lay c = search needs
+
+-- src/nodes.rt:271:9
+lay-requires : tie.Need-lay-requires
+lay-requires c κs = search needs
+
+-- src/nodes.rt:272:5
+put-requires : tie.Need-put-requires
+put-requires c κs = search needs
+
+-- src/nodes.rt:267:1
+same-length : tie.Need-same-length
+same-length c = search needs
+
+-- src/nodes.rt:267:1
+returns : tie.Need-returns
+returns c = search chain-is
+
+pub chain-spec : {M : Type 1} → statement M
+chain-spec = tie.close (tie.spec slice-aggregate-lay lay-requires put-requires same-length returns)

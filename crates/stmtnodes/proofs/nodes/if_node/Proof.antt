@@ -1,0 +1,43 @@
+use Rattle.stmtnodes.proofs.Making.{if-is}
+use borrow.Author.Needs.{needs}
+use Rattle.stmtnodes.proofs.nodes.if_node.Statement.{statement}
+use Rattle.stmtnodes.proofs.nodes.if_node.Tie as tie
+use Rattle.stmtnodes.proofs.nodes.if_node.Reads as reads
+use Rattle.stmtnodes.proofs.nodes.if_node.Lts as lts
+use Rattle.parts.proofs.lowest.Reads as lowest-reads
+use Rattle.stmtnodes.proofs.nodes.node_if.Reads as node-if-reads
+
+-- src/nodes.rt:117:26
+lowest-requires : tie.Need-lowest-requires
+lowest-requires c κs = search needs
+
+-- src/nodes.rt:117:19
+lowest-requires-2 : tie.Need-lowest-requires-2
+lowest-requires-2 c κs = search needs
+
+-- src/nodes.rt:117:67
+slice-aggregate-node-if : tie.Need-slice-aggregate-node-if
+slice-aggregate-node-if c = search needs
+
+-- src/nodes.rt:117:5
+node-if-requires : tie.Need-node-if-requires
+node-if-requires c κs = search needs
+
+-- src/nodes.rt:110:1
+same-length : tie.Need-same-length
+same-length c = search needs
+
+-- src/nodes.rt:110:1
+returns : tie.Need-returns
+returns c = search if-is
+
+pub if-node-spec : {M : Type 1} → statement M
+if-node-spec =
+    tie.close
+    (tie.spec
+    lowest-requires
+    lowest-requires-2
+    slice-aggregate-node-if
+    node-if-requires
+    same-length
+    returns)

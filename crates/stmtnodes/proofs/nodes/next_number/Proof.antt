@@ -1,0 +1,21 @@
+use Rattle.stmtnodes.proofs.Making.{number-laws}
+use borrow.Author.Needs.{needs}
+use Rattle.stmtnodes.proofs.nodes.next_number.Statement.{statement}
+use Rattle.stmtnodes.proofs.nodes.next_number.Tie as tie
+use Rattle.stmtnodes.proofs.nodes.next_number.Reads as reads
+use Rattle.stmtnodes.proofs.nodes.next_number.Lts as lts
+
+-- src/nodes.rt:37:16
+add-result : tie.Need-add-result
+add-result c = search needs
+
+-- src/nodes.rt:37:9
+returns : tie.Need-returns
+returns c = search number-laws
+
+-- src/nodes.rt:33:1
+returns-2 : tie.Need-returns-2
+returns-2 c = search number-laws
+
+pub next-number-spec : {M : Type 1} → statement M
+next-number-spec = tie.close (tie.spec add-result returns returns-2)

@@ -1,0 +1,3 @@
+// The leaves of the walk over statements: the code of a node from the answers for its parts, and the parts of a body.
+pub mod last;
+pub mod nodes;

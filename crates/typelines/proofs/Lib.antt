@@ -1,0 +1,3 @@
+pub mod TypeScenes
+pub mod Aliases
+pub mod SimpleLines

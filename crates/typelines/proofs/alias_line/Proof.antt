@@ -1,0 +1,61 @@
+use Rattle.typelines.proofs.Aliases.{alias-laws}
+use borrow.Author.Needs.{needs}
+use Rattle.typelines.proofs.alias_line.Statement.{statement}
+use Rattle.typelines.proofs.alias_line.Tie as tie
+use Rattle.typelines.proofs.alias_line.Reads as reads
+use Rattle.typelines.proofs.alias_line.Lts as lts
+use Rattle.declarations.proofs.answered.Reads as answered-reads
+use Rattle.declarations.proofs.last_type.Reads as last-type-reads
+use Rattle.declarations.proofs.named_fault.Reads as named-fault-reads
+use Rattle.typelines.proofs.add_alias.Reads as add-alias-reads
+use Rattle.parts.proofs.is_clear.Reads as is-clear-reads
+
+-- src/lib.rt:90:9
+last-type-requires : tie.Need-last-type-requires
+last-type-requires c κs = search needs
+
+-- src/lib.rt:92:9
+named-fault-requires : tie.Need-named-fault-requires
+named-fault-requires c κs = search needs
+
+-- src/lib.rt:93:8
+is-clear-requires : tie.Need-is-clear-requires
+is-clear-requires c κs = search needs
+
+-- src/lib.rt:94:9
+add-alias-requires : tie.Need-add-alias-requires
+add-alias-requires c κs = search needs
+
+-- src/lib.rt:94:9
+same-length : tie.Need-same-length
+same-length c = search needs
+
+-- src/lib.rt:94:9
+returns : tie.Need-returns
+returns c = search alias-laws
+
+-- src/lib.rt:96:5
+answered-requires : tie.Need-answered-requires
+answered-requires c κs = search needs
+
+-- src/lib.rt:87:1
+same-length-2 : tie.Need-same-length-2
+same-length-2 c = search needs
+
+-- src/lib.rt:87:1
+returns-2 : tie.Need-returns-2
+returns-2 c = search alias-laws
+
+pub alias-line-spec : {M : Type 1} → statement M
+alias-line-spec =
+    tie.close
+    (tie.spec
+    last-type-requires
+    named-fault-requires
+    is-clear-requires
+    add-alias-requires
+    same-length
+    returns
+    answered-requires
+    same-length-2
+    returns-2)

@@ -1,0 +1,172 @@
+// Lines that declare types: the name's entry, the description and its place, and the counts then.
+use declarations::Lined;
+use declarations::State;
+use declarations::answered;
+use declarations::last_type;
+use declarations::named_fault;
+use declarations::narrow;
+use parts::End;
+use parts::end_at;
+use parts::is_clear;
+use parts::is_form;
+use symbols::declare;
+use tables::Fault;
+use tables::Info;
+use worklist::lay;
+use worklist::put;
+ghost use mathlib.Core.Path.{_≡_};
+ghost use Rattle.semantics.specs.Layout.{lay as laid};
+ghost use Rattle.worklist.specs.Laid.{Laid};
+ghost use Rattle.typelines.specs.TypeLines.{linesFit, typeEntry, infoNumbers, typeState, AddsAlias, GivesAlias, LaysType, AddsType, EndFault, GivesShaped};
+
+// The answer for the form of a type: its fault; with no fault its description, and whether it is within the ceilings of row 9; where the
+// next part of the line stands.
+pub struct Shaped {
+    pub fault: Fault,
+    pub info: Info,
+    pub within: bool,
+    pub next: usize,
+}
+
+// Whether a line is within the ceilings of row 9, where its type is or is not; so many `type` lines came before.
+pub fn lines_fit(lines: u32, within: bool) -> bool
+    ensures { λ r. ⌜ r ≡ linesFit lines within ⌝ }
+{
+    if lines < 64 {
+        return within;
+    }
+    false
+}
+
+// What is held after a line with so many names, the last at `newest`, and so many new types.
+pub fn type_state(st: State, names: u32, newest: u32, made: u32, top: u32) -> State
+    ensures { λ r. ⌜ r ≡ typeState st names newest made top ⌝ }
+{
+    State {
+        count: st.count % 65536 + names % 65536,
+        newest: newest,
+        top: top,
+        types: st.types % 128 + made % 2,
+        lines: st.lines % 128 + 1,
+        vars: st.vars,
+        cells: st.cells,
+        procs: st.procs,
+    }
+}
+
+// Lays the entry of a type's name at p; the free place then.
+pub fn lay_name(work: &mut [u32], st: State, p: usize, number: u32) -> u32
+    ensures { λ r. ⌜ Laid (laid (typeEntry st p number) (st .top) (now (work .entry))) r (now (work .exit)) ⌝ }
+{
+    let name = narrow(p);
+    let sort = 4 * (number % 128);
+    declare(work, st.top, name, sort, 0, st.newest)
+}
+
+// Lays a description without fields; the free place then.
+pub fn lay_info(work: &mut [u32], top: u32, x: Info) -> u32
+    ensures { λ r. ⌜ Laid (laid (infoNumbers x) top (now (work .entry))) r (now (work .exit)) ⌝ }
+{
+    let ns = [
+        x.shape,
+        x.host,
+        x.low,
+        x.high,
+        x.size,
+        x.index,
+        x.element,
+        x.fields,
+    ];
+    lay(work, top, &ns)
+}
+
+// A line that names a type anew, with no fault of rows 6 to 8: its name is at p.
+fn add_alias(work: &mut [u32], st: State, p: usize, kind: u32) -> Lined
+    ensures { λ r. ⌜ AddsAlias (now (work .entry)) st p kind r (now (work .exit)) ⌝ }
+{
+    if lines_fit(st.lines, true) {
+        let top = lay_name(work, st, p, kind);
+        let after = type_state(st, 1, st.top, 0, top);
+        return answered(Fault::Clear, true, after);
+    }
+    answered(Fault::Clear, false, st)
+}
+
+// A `type` line from its type on, which is a name; the line's name is at p.
+pub fn alias_line(text: &[u8], work: &mut [u32], st: State, p: usize, at: usize) -> Lined
+    ensures { λ r. ⌜ GivesAlias (now (text .entry)) (now (work .entry)) st p at r (now (work .exit)) ⌝ }
+{
+    let t = last_type(text, work, st.count, st.newest, at);
+    let g = t.fault;
+    let f = named_fault(text, work, st.count, st.newest, p, g);
+    if is_clear(f) {
+        return add_alias(work, st, p, t.kind);
+    }
+    answered(f, false, st)
+}
+
+// Where a description stands, and the free place then.
+pub struct Placed {
+    pub place: u32,
+    pub top: u32,
+}
+
+// Lays the entry of a new type's name at p, and a description without fields.
+pub fn lay_type(work: &mut [u32], st: State, p: usize, x: Info) -> Placed
+    ensures { λ r. ⌜ LaysType (now (work .entry)) st p x r (now (work .exit)) ⌝ }
+{
+    let place = lay_name(work, st, p, st.types);
+    let top = lay_info(work, place, x);
+    Placed {
+        place: place,
+        top: top,
+    }
+}
+
+// A line that makes a type of one name and one description, within the ceilings: its name is at p.
+fn add_type(work: &mut [u32], types: &mut [u32], st: State, p: usize, x: Info) -> Lined
+    ensures { λ r. ⌜ AddsType (now (work .entry)) (now (types .entry)) st p x r (now (work .exit)) (now (types .exit)) ⌝ }
+{
+    let at = lay_type(work, st, p, x);
+    put(types, st.types as usize, at.place);
+    let after = type_state(st, 1, st.top, 1, at.top);
+    answered(Fault::Clear, true, after)
+}
+
+// A fault, or row 6 where a form does not end at an offset.
+pub fn end_fault(text: &[u8], f: Fault, at: usize) -> Fault
+    ensures { λ r. ⌜ EndFault (now (text .entry)) f at r ⌝ }
+{
+    if is_form(f) {
+        return Fault::Form;
+    }
+    let e = end_at(text, at);
+    match e {
+        End::Past(_) => f,
+        End::More => Fault::Form,
+    }
+}
+
+// A `type` line whose type's form has been read; its name is at p.
+pub fn shaped_line(
+    text: &[u8],
+    work: &mut [u32],
+    types: &mut [u32],
+    st: State,
+    p: usize,
+    g: Shaped,
+) -> Lined
+    ensures { λ r. ⌜ GivesShaped (now (text .entry)) (now (work .entry)) (now (types .entry)) st p g r (now (work .exit)) (now (types .exit)) ⌝ }
+{
+    let h = g.fault;
+    let e = end_fault(text, h, g.next);
+    let f = named_fault(text, work, st.count, st.newest, p, e);
+    if is_clear(f) {
+        if lines_fit(st.lines, g.within) {
+            let x = g.info;
+            return add_type(work, types, st, p, x);
+        }
+        return answered(Fault::Clear, false, st);
+    }
+    answered(f, false, st)
+}
