@@ -1,0 +1,3 @@
+pub mod Keeping
+pub mod Lists
+pub mod Whole

@@ -1,0 +1,678 @@
+-- The ways through the walk over expressions and places.
+use mathlib.Core.Path.{_≡_, refl, sym, ap, subst, _∙_}
+use mathlib.Core.Bool.{Bool, true, false, _&&_, and-eq-true-iff, true≢false}
+use mathlib.Core.List.{List, [], _∷_}
+use mathlib.Core.Logic.{_⊎_, inl, inr}
+use Prim.Native.Nat.{ℕ, zero, suc, _+_, _*_, _-_, _/_, _%_, _<_, _≤_, min}
+use native.Mathlib.Numerals.{sub-one}
+use native.Mathlib.Omega.{arith}
+use borrow.Author.Tests.{eq-eqb, ne-eqb, lt-ltb, le-ltb, leb-true, leb-false, eqb-true, eqb-false}
+use borrow.Author.Needs.{sfits-of}
+use lib.Dec.{eqb, ltb, leb}
+use Rattle.arith.proofs.Order.{le-not, not-le}
+use Rattle.evaluate.proofs.Combining.{fault-again, value-again}
+use lib.IntN.{ℤ, pos, negsuc, _+ℤ_, _-ℤ_}
+use lib.Signed.{leZ, ltZ, mag, nonNeg}
+use lib.ListN.{length, getD}
+use mir.Syntax.{w32, w64}
+use mir.Val.{SFits, Fits, toZ, ofZ}
+use mir.Facts.{toZ-pos, toZ-ofZ}
+use Rattle.arith.specs.Integers.{inside, least, most}
+use Rattle.arith.proofs.Machine.{wire}
+use Rattle.arith.proofs.Ranges.{inside-both}
+use Rattle.lexis.specs.Numbers.{signed}
+use Rattle.semantics.specs.declared.CodeOp.{CodeOp}
+use Rattle.semantics.specs.declared.CodeOp.the-variants as code
+use Rattle.semantics.specs.declared.CodeOp.the-variants.{Literal, LoadCell, LoadCells, LoadAt, LastNumber, MakeSet, AndThen, OrElse, Binary, Unary, Pred, Succ}
+use Rattle.semantics.specs.declared.PlaceOp.{PlaceOp}
+use Rattle.semantics.specs.declared.PlaceOp.the-variants as place
+use Rattle.semantics.specs.declared.PlaceOp.the-variants.{Cell, Index, Shift}
+use Rattle.semantics.specs.Base.{pick}
+use Rattle.semantics.specs.Calculate.{Result, is, fails, stuck, _>>=_, natOf, isTrue, tested, numericError, rangeError, undefinedError, compute, compute1}
+use Rattle.semantics.specs.Chair.{evalCode, placeCode, gatherCodes}
+use Rattle.semantics.specs.Code.{Code, literal, load, lastNumber, makeSet, calculate, shortCut, calculate1, Place, cell, index, shift, Codes}
+use Rattle.semantics.specs.Machine.{Store, readCell, readCells, sole, oneCell, shortCircuited, defined, undefined}
+use Rattle.semantics.specs.Operators.{predIn, succIn}
+use Rattle.semantics.specs.Readback.{codeOps, codeOp, placeOp, operationAt, operation1At, integerAt, codeFrom, placeFrom, readCode, readPlace, readCodes}
+use Rattle.evaluate.specs.Words.{wordOf, resultOf, applied, applied1, InRange, Ranged, Means, Holds, first, nested, undefinedWord, storeWord, simpleWord, allValues, cellsWord, cellsAt, Integral, Simple, placeWord, cellOf, distanceWord, elementWord, shiftedWord}
+use Rattle.evaluate.specs.Walks.{Evaluates, Places, Gathers, capped}
+use Rattle.evaluate.proofs.Leaves.{small-signed}
+use Rattle.evaluate.proofs.Placing.{index-span, index-up}
+use Rattle.evaluate.proofs.Ranging.{Bounded, plain, wide, low-range, range-value, decoded, binary-means, unary-means, fault-means, value-means}
+
+-- ---- what a node is
+binary-op : (n : ℕ) → 8 < n → n < 29 → codeOp n ≡ Binary (n - 9)
+unfolding codeOp codeOps
+binary-op zero h k = absurd (omega arith)
+binary-op (suc (zero)) h k = absurd (omega arith)
+binary-op (suc (suc (zero))) h k = absurd (omega arith)
+binary-op (suc (suc (suc (zero)))) h k = absurd (omega arith)
+binary-op (suc (suc (suc (suc (zero))))) h k = absurd (omega arith)
+binary-op (suc (suc (suc (suc (suc (zero)))))) h k = absurd (omega arith)
+binary-op (suc (suc (suc (suc (suc (suc (zero))))))) h k = absurd (omega arith)
+binary-op (suc (suc (suc (suc (suc (suc (suc (zero)))))))) h k = absurd (omega arith)
+binary-op (suc (suc (suc (suc (suc (suc (suc (suc (zero))))))))) h k = absurd (omega arith)
+binary-op (suc (suc (suc (suc (suc (suc (suc (suc (suc (zero)))))))))) h k = refl
+binary-op (suc (suc (suc (suc (suc (suc (suc (suc (suc (suc (zero))))))))))) h k = refl
+binary-op (suc (suc (suc (suc (suc (suc (suc (suc (suc (suc (suc (zero)))))))))))) h k = refl
+binary-op (suc (suc (suc (suc (suc (suc (suc (suc (suc (suc (suc (suc (zero))))))))))))) h k = refl
+binary-op (suc (suc (suc (suc (suc (suc (suc (suc (suc (suc (suc (suc (suc (zero)))))))))))))) h k = refl
+binary-op (suc (suc (suc (suc (suc (suc (suc (suc (suc (suc (suc (suc (suc (suc (zero))))))))))))))) h k = refl
+binary-op (suc (suc (suc (suc (suc (suc (suc (suc (suc (suc (suc (suc (suc (suc (suc (zero)))))))))))))))) h k = refl
+binary-op (suc (suc (suc (suc (suc (suc (suc (suc (suc (suc (suc (suc (suc (suc (suc (suc (zero))))))))))))))))) h k = refl
+binary-op (suc (suc (suc (suc (suc (suc (suc (suc (suc (suc (suc (suc (suc (suc (suc (suc (suc (zero)))))))))))))))))) h k = refl
+binary-op (suc (suc (suc (suc (suc (suc (suc (suc (suc (suc (suc (suc (suc (suc (suc (suc (suc (suc (zero))))))))))))))))))) h k = refl
+binary-op (suc (suc (suc (suc (suc (suc (suc (suc (suc (suc (suc (suc (suc (suc (suc (suc (suc (suc (suc (zero)))))))))))))))))))) h k = refl
+binary-op (suc (suc (suc (suc (suc (suc (suc (suc (suc (suc (suc (suc (suc (suc (suc (suc (suc (suc (suc (suc (zero))))))))))))))))))))) h k = refl
+binary-op (suc (suc (suc (suc (suc (suc (suc (suc (suc (suc (suc (suc (suc (suc (suc (suc (suc (suc (suc (suc (suc (zero)))))))))))))))))))))) h k = refl
+binary-op (suc (suc (suc (suc (suc (suc (suc (suc (suc (suc (suc (suc (suc (suc (suc (suc (suc (suc (suc (suc (suc (suc (zero))))))))))))))))))))))) h k = refl
+binary-op (suc (suc (suc (suc (suc (suc (suc (suc (suc (suc (suc (suc (suc (suc (suc (suc (suc (suc (suc (suc (suc (suc (suc (zero)))))))))))))))))))))))) h k = refl
+binary-op (suc (suc (suc (suc (suc (suc (suc (suc (suc (suc (suc (suc (suc (suc (suc (suc (suc (suc (suc (suc (suc (suc (suc (suc (zero))))))))))))))))))))))))) h k = refl
+binary-op (suc (suc (suc (suc (suc (suc (suc (suc (suc (suc (suc (suc (suc (suc (suc (suc (suc (suc (suc (suc (suc (suc (suc (suc (suc (zero)))))))))))))))))))))))))) h k = refl
+binary-op (suc (suc (suc (suc (suc (suc (suc (suc (suc (suc (suc (suc (suc (suc (suc (suc (suc (suc (suc (suc (suc (suc (suc (suc (suc (suc (zero))))))))))))))))))))))))))) h k = refl
+binary-op (suc (suc (suc (suc (suc (suc (suc (suc (suc (suc (suc (suc (suc (suc (suc (suc (suc (suc (suc (suc (suc (suc (suc (suc (suc (suc (suc (zero)))))))))))))))))))))))))))) h k = refl
+binary-op (suc (suc (suc (suc (suc (suc (suc (suc (suc (suc (suc (suc (suc (suc (suc (suc (suc (suc (suc (suc (suc (suc (suc (suc (suc (suc (suc (suc (zero))))))))))))))))))))))))))))) h k = refl
+binary-op (suc (suc (suc (suc (suc (suc (suc (suc (suc (suc (suc (suc (suc (suc (suc (suc (suc (suc (suc (suc (suc (suc (suc (suc (suc (suc (suc (suc (suc (n)))))))))))))))))))))))))))))) h k = absurd (omega arith)
+
+unary-op : (n : ℕ) → 28 < n → n < 38 → codeOp n ≡ Unary (n - 29)
+unfolding codeOp codeOps
+unary-op zero h k = absurd (omega arith)
+unary-op (suc (zero)) h k = absurd (omega arith)
+unary-op (suc (suc (zero))) h k = absurd (omega arith)
+unary-op (suc (suc (suc (zero)))) h k = absurd (omega arith)
+unary-op (suc (suc (suc (suc (zero))))) h k = absurd (omega arith)
+unary-op (suc (suc (suc (suc (suc (zero)))))) h k = absurd (omega arith)
+unary-op (suc (suc (suc (suc (suc (suc (zero))))))) h k = absurd (omega arith)
+unary-op (suc (suc (suc (suc (suc (suc (suc (zero)))))))) h k = absurd (omega arith)
+unary-op (suc (suc (suc (suc (suc (suc (suc (suc (zero))))))))) h k = absurd (omega arith)
+unary-op (suc (suc (suc (suc (suc (suc (suc (suc (suc (zero)))))))))) h k = absurd (omega arith)
+unary-op (suc (suc (suc (suc (suc (suc (suc (suc (suc (suc (zero))))))))))) h k = absurd (omega arith)
+unary-op (suc (suc (suc (suc (suc (suc (suc (suc (suc (suc (suc (zero)))))))))))) h k = absurd (omega arith)
+unary-op (suc (suc (suc (suc (suc (suc (suc (suc (suc (suc (suc (suc (zero))))))))))))) h k = absurd (omega arith)
+unary-op (suc (suc (suc (suc (suc (suc (suc (suc (suc (suc (suc (suc (suc (zero)))))))))))))) h k = absurd (omega arith)
+unary-op (suc (suc (suc (suc (suc (suc (suc (suc (suc (suc (suc (suc (suc (suc (zero))))))))))))))) h k = absurd (omega arith)
+unary-op (suc (suc (suc (suc (suc (suc (suc (suc (suc (suc (suc (suc (suc (suc (suc (zero)))))))))))))))) h k = absurd (omega arith)
+unary-op (suc (suc (suc (suc (suc (suc (suc (suc (suc (suc (suc (suc (suc (suc (suc (suc (zero))))))))))))))))) h k = absurd (omega arith)
+unary-op (suc (suc (suc (suc (suc (suc (suc (suc (suc (suc (suc (suc (suc (suc (suc (suc (suc (zero)))))))))))))))))) h k = absurd (omega arith)
+unary-op (suc (suc (suc (suc (suc (suc (suc (suc (suc (suc (suc (suc (suc (suc (suc (suc (suc (suc (zero))))))))))))))))))) h k = absurd (omega arith)
+unary-op (suc (suc (suc (suc (suc (suc (suc (suc (suc (suc (suc (suc (suc (suc (suc (suc (suc (suc (suc (zero)))))))))))))))))))) h k = absurd (omega arith)
+unary-op (suc (suc (suc (suc (suc (suc (suc (suc (suc (suc (suc (suc (suc (suc (suc (suc (suc (suc (suc (suc (zero))))))))))))))))))))) h k = absurd (omega arith)
+unary-op (suc (suc (suc (suc (suc (suc (suc (suc (suc (suc (suc (suc (suc (suc (suc (suc (suc (suc (suc (suc (suc (zero)))))))))))))))))))))) h k = absurd (omega arith)
+unary-op (suc (suc (suc (suc (suc (suc (suc (suc (suc (suc (suc (suc (suc (suc (suc (suc (suc (suc (suc (suc (suc (suc (zero))))))))))))))))))))))) h k = absurd (omega arith)
+unary-op (suc (suc (suc (suc (suc (suc (suc (suc (suc (suc (suc (suc (suc (suc (suc (suc (suc (suc (suc (suc (suc (suc (suc (zero)))))))))))))))))))))))) h k = absurd (omega arith)
+unary-op (suc (suc (suc (suc (suc (suc (suc (suc (suc (suc (suc (suc (suc (suc (suc (suc (suc (suc (suc (suc (suc (suc (suc (suc (zero))))))))))))))))))))))))) h k = absurd (omega arith)
+unary-op (suc (suc (suc (suc (suc (suc (suc (suc (suc (suc (suc (suc (suc (suc (suc (suc (suc (suc (suc (suc (suc (suc (suc (suc (suc (zero)))))))))))))))))))))))))) h k = absurd (omega arith)
+unary-op (suc (suc (suc (suc (suc (suc (suc (suc (suc (suc (suc (suc (suc (suc (suc (suc (suc (suc (suc (suc (suc (suc (suc (suc (suc (suc (zero))))))))))))))))))))))))))) h k = absurd (omega arith)
+unary-op (suc (suc (suc (suc (suc (suc (suc (suc (suc (suc (suc (suc (suc (suc (suc (suc (suc (suc (suc (suc (suc (suc (suc (suc (suc (suc (suc (zero)))))))))))))))))))))))))))) h k = absurd (omega arith)
+unary-op (suc (suc (suc (suc (suc (suc (suc (suc (suc (suc (suc (suc (suc (suc (suc (suc (suc (suc (suc (suc (suc (suc (suc (suc (suc (suc (suc (suc (zero))))))))))))))))))))))))))))) h k = absurd (omega arith)
+unary-op (suc (suc (suc (suc (suc (suc (suc (suc (suc (suc (suc (suc (suc (suc (suc (suc (suc (suc (suc (suc (suc (suc (suc (suc (suc (suc (suc (suc (suc (zero)))))))))))))))))))))))))))))) h k = refl
+unary-op (suc (suc (suc (suc (suc (suc (suc (suc (suc (suc (suc (suc (suc (suc (suc (suc (suc (suc (suc (suc (suc (suc (suc (suc (suc (suc (suc (suc (suc (suc (zero))))))))))))))))))))))))))))))) h k = refl
+unary-op (suc (suc (suc (suc (suc (suc (suc (suc (suc (suc (suc (suc (suc (suc (suc (suc (suc (suc (suc (suc (suc (suc (suc (suc (suc (suc (suc (suc (suc (suc (suc (zero)))))))))))))))))))))))))))))))) h k = refl
+unary-op (suc (suc (suc (suc (suc (suc (suc (suc (suc (suc (suc (suc (suc (suc (suc (suc (suc (suc (suc (suc (suc (suc (suc (suc (suc (suc (suc (suc (suc (suc (suc (suc (zero))))))))))))))))))))))))))))))))) h k = refl
+unary-op (suc (suc (suc (suc (suc (suc (suc (suc (suc (suc (suc (suc (suc (suc (suc (suc (suc (suc (suc (suc (suc (suc (suc (suc (suc (suc (suc (suc (suc (suc (suc (suc (suc (zero)))))))))))))))))))))))))))))))))) h k = refl
+unary-op (suc (suc (suc (suc (suc (suc (suc (suc (suc (suc (suc (suc (suc (suc (suc (suc (suc (suc (suc (suc (suc (suc (suc (suc (suc (suc (suc (suc (suc (suc (suc (suc (suc (suc (zero))))))))))))))))))))))))))))))))))) h k = refl
+unary-op (suc (suc (suc (suc (suc (suc (suc (suc (suc (suc (suc (suc (suc (suc (suc (suc (suc (suc (suc (suc (suc (suc (suc (suc (suc (suc (suc (suc (suc (suc (suc (suc (suc (suc (suc (zero)))))))))))))))))))))))))))))))))))) h k = refl
+unary-op (suc (suc (suc (suc (suc (suc (suc (suc (suc (suc (suc (suc (suc (suc (suc (suc (suc (suc (suc (suc (suc (suc (suc (suc (suc (suc (suc (suc (suc (suc (suc (suc (suc (suc (suc (suc (zero))))))))))))))))))))))))))))))))))))) h k = refl
+unary-op (suc (suc (suc (suc (suc (suc (suc (suc (suc (suc (suc (suc (suc (suc (suc (suc (suc (suc (suc (suc (suc (suc (suc (suc (suc (suc (suc (suc (suc (suc (suc (suc (suc (suc (suc (suc (suc (zero)))))))))))))))))))))))))))))))))))))) h k = refl
+unary-op (suc (suc (suc (suc (suc (suc (suc (suc (suc (suc (suc (suc (suc (suc (suc (suc (suc (suc (suc (suc (suc (suc (suc (suc (suc (suc (suc (suc (suc (suc (suc (suc (suc (suc (suc (suc (suc (suc (n))))))))))))))))))))))))))))))))))))))) h k = absurd (omega arith)
+
+past-op : (n : ℕ) → 39 < n → codeOp n ≡ code.Nothing
+unfolding codeOp codeOps
+past-op zero h = absurd (omega arith)
+past-op (suc (zero)) h = absurd (omega arith)
+past-op (suc (suc (zero))) h = absurd (omega arith)
+past-op (suc (suc (suc (zero)))) h = absurd (omega arith)
+past-op (suc (suc (suc (suc (zero))))) h = absurd (omega arith)
+past-op (suc (suc (suc (suc (suc (zero)))))) h = absurd (omega arith)
+past-op (suc (suc (suc (suc (suc (suc (zero))))))) h = absurd (omega arith)
+past-op (suc (suc (suc (suc (suc (suc (suc (zero)))))))) h = absurd (omega arith)
+past-op (suc (suc (suc (suc (suc (suc (suc (suc (zero))))))))) h = absurd (omega arith)
+past-op (suc (suc (suc (suc (suc (suc (suc (suc (suc (zero)))))))))) h = absurd (omega arith)
+past-op (suc (suc (suc (suc (suc (suc (suc (suc (suc (suc (zero))))))))))) h = absurd (omega arith)
+past-op (suc (suc (suc (suc (suc (suc (suc (suc (suc (suc (suc (zero)))))))))))) h = absurd (omega arith)
+past-op (suc (suc (suc (suc (suc (suc (suc (suc (suc (suc (suc (suc (zero))))))))))))) h = absurd (omega arith)
+past-op (suc (suc (suc (suc (suc (suc (suc (suc (suc (suc (suc (suc (suc (zero)))))))))))))) h = absurd (omega arith)
+past-op (suc (suc (suc (suc (suc (suc (suc (suc (suc (suc (suc (suc (suc (suc (zero))))))))))))))) h = absurd (omega arith)
+past-op (suc (suc (suc (suc (suc (suc (suc (suc (suc (suc (suc (suc (suc (suc (suc (zero)))))))))))))))) h = absurd (omega arith)
+past-op (suc (suc (suc (suc (suc (suc (suc (suc (suc (suc (suc (suc (suc (suc (suc (suc (zero))))))))))))))))) h = absurd (omega arith)
+past-op (suc (suc (suc (suc (suc (suc (suc (suc (suc (suc (suc (suc (suc (suc (suc (suc (suc (zero)))))))))))))))))) h = absurd (omega arith)
+past-op (suc (suc (suc (suc (suc (suc (suc (suc (suc (suc (suc (suc (suc (suc (suc (suc (suc (suc (zero))))))))))))))))))) h = absurd (omega arith)
+past-op (suc (suc (suc (suc (suc (suc (suc (suc (suc (suc (suc (suc (suc (suc (suc (suc (suc (suc (suc (zero)))))))))))))))))))) h = absurd (omega arith)
+past-op (suc (suc (suc (suc (suc (suc (suc (suc (suc (suc (suc (suc (suc (suc (suc (suc (suc (suc (suc (suc (zero))))))))))))))))))))) h = absurd (omega arith)
+past-op (suc (suc (suc (suc (suc (suc (suc (suc (suc (suc (suc (suc (suc (suc (suc (suc (suc (suc (suc (suc (suc (zero)))))))))))))))))))))) h = absurd (omega arith)
+past-op (suc (suc (suc (suc (suc (suc (suc (suc (suc (suc (suc (suc (suc (suc (suc (suc (suc (suc (suc (suc (suc (suc (zero))))))))))))))))))))))) h = absurd (omega arith)
+past-op (suc (suc (suc (suc (suc (suc (suc (suc (suc (suc (suc (suc (suc (suc (suc (suc (suc (suc (suc (suc (suc (suc (suc (zero)))))))))))))))))))))))) h = absurd (omega arith)
+past-op (suc (suc (suc (suc (suc (suc (suc (suc (suc (suc (suc (suc (suc (suc (suc (suc (suc (suc (suc (suc (suc (suc (suc (suc (zero))))))))))))))))))))))))) h = absurd (omega arith)
+past-op (suc (suc (suc (suc (suc (suc (suc (suc (suc (suc (suc (suc (suc (suc (suc (suc (suc (suc (suc (suc (suc (suc (suc (suc (suc (zero)))))))))))))))))))))))))) h = absurd (omega arith)
+past-op (suc (suc (suc (suc (suc (suc (suc (suc (suc (suc (suc (suc (suc (suc (suc (suc (suc (suc (suc (suc (suc (suc (suc (suc (suc (suc (zero))))))))))))))))))))))))))) h = absurd (omega arith)
+past-op (suc (suc (suc (suc (suc (suc (suc (suc (suc (suc (suc (suc (suc (suc (suc (suc (suc (suc (suc (suc (suc (suc (suc (suc (suc (suc (suc (zero)))))))))))))))))))))))))))) h = absurd (omega arith)
+past-op (suc (suc (suc (suc (suc (suc (suc (suc (suc (suc (suc (suc (suc (suc (suc (suc (suc (suc (suc (suc (suc (suc (suc (suc (suc (suc (suc (suc (zero))))))))))))))))))))))))))))) h = absurd (omega arith)
+past-op (suc (suc (suc (suc (suc (suc (suc (suc (suc (suc (suc (suc (suc (suc (suc (suc (suc (suc (suc (suc (suc (suc (suc (suc (suc (suc (suc (suc (suc (zero)))))))))))))))))))))))))))))) h = absurd (omega arith)
+past-op (suc (suc (suc (suc (suc (suc (suc (suc (suc (suc (suc (suc (suc (suc (suc (suc (suc (suc (suc (suc (suc (suc (suc (suc (suc (suc (suc (suc (suc (suc (zero))))))))))))))))))))))))))))))) h = absurd (omega arith)
+past-op (suc (suc (suc (suc (suc (suc (suc (suc (suc (suc (suc (suc (suc (suc (suc (suc (suc (suc (suc (suc (suc (suc (suc (suc (suc (suc (suc (suc (suc (suc (suc (zero)))))))))))))))))))))))))))))))) h = absurd (omega arith)
+past-op (suc (suc (suc (suc (suc (suc (suc (suc (suc (suc (suc (suc (suc (suc (suc (suc (suc (suc (suc (suc (suc (suc (suc (suc (suc (suc (suc (suc (suc (suc (suc (suc (zero))))))))))))))))))))))))))))))))) h = absurd (omega arith)
+past-op (suc (suc (suc (suc (suc (suc (suc (suc (suc (suc (suc (suc (suc (suc (suc (suc (suc (suc (suc (suc (suc (suc (suc (suc (suc (suc (suc (suc (suc (suc (suc (suc (suc (zero)))))))))))))))))))))))))))))))))) h = absurd (omega arith)
+past-op (suc (suc (suc (suc (suc (suc (suc (suc (suc (suc (suc (suc (suc (suc (suc (suc (suc (suc (suc (suc (suc (suc (suc (suc (suc (suc (suc (suc (suc (suc (suc (suc (suc (suc (zero))))))))))))))))))))))))))))))))))) h = absurd (omega arith)
+past-op (suc (suc (suc (suc (suc (suc (suc (suc (suc (suc (suc (suc (suc (suc (suc (suc (suc (suc (suc (suc (suc (suc (suc (suc (suc (suc (suc (suc (suc (suc (suc (suc (suc (suc (suc (zero)))))))))))))))))))))))))))))))))))) h = absurd (omega arith)
+past-op (suc (suc (suc (suc (suc (suc (suc (suc (suc (suc (suc (suc (suc (suc (suc (suc (suc (suc (suc (suc (suc (suc (suc (suc (suc (suc (suc (suc (suc (suc (suc (suc (suc (suc (suc (suc (zero))))))))))))))))))))))))))))))))))))) h = absurd (omega arith)
+past-op (suc (suc (suc (suc (suc (suc (suc (suc (suc (suc (suc (suc (suc (suc (suc (suc (suc (suc (suc (suc (suc (suc (suc (suc (suc (suc (suc (suc (suc (suc (suc (suc (suc (suc (suc (suc (suc (zero)))))))))))))))))))))))))))))))))))))) h = absurd (omega arith)
+past-op (suc (suc (suc (suc (suc (suc (suc (suc (suc (suc (suc (suc (suc (suc (suc (suc (suc (suc (suc (suc (suc (suc (suc (suc (suc (suc (suc (suc (suc (suc (suc (suc (suc (suc (suc (suc (suc (suc (zero))))))))))))))))))))))))))))))))))))))) h = absurd (omega arith)
+past-op (suc (suc (suc (suc (suc (suc (suc (suc (suc (suc (suc (suc (suc (suc (suc (suc (suc (suc (suc (suc (suc (suc (suc (suc (suc (suc (suc (suc (suc (suc (suc (suc (suc (suc (suc (suc (suc (suc (suc (zero)))))))))))))))))))))))))))))))))))))))) h = absurd (omega arith)
+past-op (suc (suc (suc (suc (suc (suc (suc (suc (suc (suc (suc (suc (suc (suc (suc (suc (suc (suc (suc (suc (suc (suc (suc (suc (suc (suc (suc (suc (suc (suc (suc (suc (suc (suc (suc (suc (suc (suc (suc (suc (n))))))))))))))))))))))))))))))))))))))))) h = refl
+
+place-op : (n : ℕ) → ((n ≡ 40) → ⊥) → ((n ≡ 41) → ⊥) → ((n ≡ 42) → ⊥) → placeOp n ≡ place.Nothing
+unfolding placeOp
+place-op n a b c = go (n - 39) (λ e. a (omega arith)) (λ e. b (omega arith)) (λ e. c (omega arith))
+  where
+    go : (k : ℕ) → ((k ≡ 1) → ⊥) → ((k ≡ 2) → ⊥) → ((k ≡ 3) → ⊥) → getD (place.Nothing ∷ Cell ∷ Index ∷ Shift ∷ []) k place.Nothing ≡ place.Nothing
+    go zero x y z = refl
+    go (suc zero) x y z = absurd (x refl)
+    go (suc (suc zero)) x y z = absurd (y refl)
+    go (suc (suc (suc zero))) x y z = absurd (z refl)
+    go (suc (suc (suc (suc k)))) x y z = refl
+
+-- ---- one step of reading back
+read-step : (d : ℕ) (l : List ℕ) (p : ℕ) → 1 ≤ d → readCode d l p ≡ codeFrom (codeOp (getD l p 0)) l p (λ q. readCode (d - 1) l q) (λ q. readPlace (d - 1) l q) (λ s. readCodes (d - 1) l s)
+unfolding readCode
+read-step zero l p h = absurd (omega arith)
+read-step (suc d) l p h = rw (sub-one (suc d))
+
+place-step : (d : ℕ) (l : List ℕ) (p : ℕ) → 1 ≤ d → readPlace d l p ≡ placeFrom (placeOp (getD l p 0)) l p (λ q. readCode (d - 1) l q) (λ q. readPlace (d - 1) l q)
+unfolding readPlace
+place-step zero l p h = absurd (omega arith)
+place-step (suc d) l p h = rw (sub-one (suc d))
+
+-- ---- cells
+one-read : (v : Result ℤ) → v ≡ first (v >>= λ z. is (z ∷ []))
+one-read (is z) = refl
+one-read (fails e) = refl
+one-read stuck = refl
+
+cell-read : (a : ℕ) (m : Store) → readCell a m ≡ first (readCells a 1 m)
+unfolding readCells
+cell-read a m = one-read (readCell a m)
+
+value-fault : {z e : ℤ} → is z ≡ fails e → ⊥
+value-fault q = let z : _≡_ {A = ℕ} 0 1 = cc in omega arith
+
+-- a cell gives a value or an Undefined_Error
+cell-fails : (a : ℕ) (m : Store) (e : ℤ) → readCell a m ≡ fails e → readCell a m ≡ fails undefinedError
+unfolding readCell pick
+cell-fails a m e h = go (eqb (getD (m .marks) a undefined) defined) h
+  where
+    go : (t : Bool) → pick t (is (getD (m .values) a (pos 0))) (fails undefinedError) ≡ fails e → pick t (is (getD (m .values) a (pos 0))) (fails undefinedError) ≡ fails undefinedError
+    go true q = absurd (value-fault q)
+    go false q = refl
+
+as-value : (w : ℤ) → ltZ (pos 4294967295) w ≡ false → resultOf w ≡ is w
+as-value w e = value-again w e
+
+as-fault : (w : ℤ) → ltZ (pos 4294967295) w ≡ true → resultOf w ≡ fails (w -ℤ pos 8589934592)
+as-fault w e = fault-again w e
+
+zero-word : pos 0 ≡ wordOf (is (pos 0))
+unfolding wordOf
+zero-word = refl
+
+zero-ranged : Ranged (is (pos 0))
+unfolding Ranged
+zero-ranged = low-range 0 (omega arith)
+
+undefined-means : Means undefinedWord (fails undefinedError)
+unfolding wordOf Ranged
+undefined-means = record { word = refl; ranged = inr (inr refl) }
+
+past-word : (ws : List ℤ) (a : ℕ) → 2048 ≤ a → storeWord ws a ≡ undefinedWord
+unfolding storeWord pick
+past-word ws a e = rw (le-ltb a 2048 e)
+
+module _ (ws : List ℤ) (k : ℤ) (m : Store) (h : Holds ws k m) where
+  cell-is : (a : ℕ) → leZ (storeWord ws a) (pos 4294967295) ≡ true → readCell a m ≡ is (storeWord ws a)
+  cell-is a e = go (readCell a m) (h .cells a)
+    where
+      go : (v : Result ℤ) → Means (storeWord ws a) v → v ≡ is (storeWord ws a)
+      go v q = sym (decoded (storeWord ws a) v q) ∙ as-value (storeWord ws a) (le-not (storeWord ws a) (pos 4294967295) e)
+
+  cell-none : (a : ℕ) → leZ (storeWord ws a) (pos 4294967295) ≡ false → readCell a m ≡ fails undefinedError
+  cell-none a e = cell-fails a m (storeWord ws a -ℤ pos 8589934592) (sym (decoded (storeWord ws a) (readCell a m) (h .cells a)) ∙ as-fault (storeWord ws a) (not-le (storeWord ws a) (pos 4294967295) e))
+
+  none-read : (a : ℕ) → Means (pos 0) (first (readCells a 0 m))
+  unfolding readCells
+  none-read a = record { word = zero-word; ranged = zero-ranged }
+
+  up : (a n : ℕ) → allValues ws (a + 1) n ≡ allValues ws (suc a) n
+  up a n = ap (λ (q : ℕ). allValues ws q n) (omega arith)
+
+  -- all values are read, or none
+  reads : (n a : ℕ) → allValues ws a n ≡ true → (zs : List ℤ) × (readCells a n m ≡ is zs)
+  unfolding readCells allValues
+  reads zero a e = ([], refl)
+  reads (suc n) a e =
+      let w = and-eq-true-iff (leZ (storeWord ws a) (pos 4294967295)) (allValues ws (a + 1) n) .0 e in
+      let r = reads n (suc a) (sym (up a n) ∙ w .1) in
+      (storeWord ws a ∷ r .0, rw (cell-is a (w .0), r .1))
+
+  reads-more : (n a : ℕ) → allValues ws a (suc n) ≡ true → (leZ (storeWord ws a) (pos 4294967295) ≡ true) × ((zs : List ℤ) × (readCells a (suc n) m ≡ is (storeWord ws a ∷ zs)))
+  unfolding readCells allValues
+  reads-more n a e =
+      let w = and-eq-true-iff (leZ (storeWord ws a) (pos 4294967295)) (allValues ws (a + 1) n) .0 e in
+      let r = reads n (suc a) (sym (up a n) ∙ w .1) in
+      (w .0, (r .0, rw (cell-is a (w .0), r .1)))
+
+  reads-none : (n a : ℕ) → allValues ws a n ≡ false → readCells a n m ≡ fails undefinedError
+  unfolding readCells allValues
+  reads-none zero a e = absurd (true≢false e)
+  reads-none (suc n) a e = go (λ q. reads-none n (suc a) (sym (up a n) ∙ q)) (leZ (storeWord ws a) (pos 4294967295)) refl e
+    where
+      go : (allValues ws (a + 1) n ≡ false → readCells (suc a) n m ≡ fails undefinedError) → (t : Bool) → leZ (storeWord ws a) (pos 4294967295) ≡ t → (t && allValues ws (a + 1) n) ≡ false
+          → (readCell a m >>= λ z. readCells (suc a) n m >>= λ zs. is (z ∷ zs)) ≡ fails undefinedError
+      go f true q r = rw (cell-is a q, f r)
+      go f false q r = rw (cell-none a q)
+
+  cells-word : (a n : ℕ) → Means (cellsWord ws a n) (first (readCells a n m))
+  unfolding cellsWord pick
+  cells-word a zero = none-read a
+  cells-word a (suc n) = go (allValues ws a (suc n)) refl
+    where
+      go : (t : Bool) → allValues ws a (suc n) ≡ t → Means (pick t (storeWord ws a) undefinedWord) (first (readCells a (suc n) m))
+      go true q =
+          subst (λ (v : Result (List ℤ)). Means (storeWord ws a) (first v)) (sym (reads-more n a q .1 .1))
+          (subst (λ (v : Result ℤ). Means (storeWord ws a) v) (cell-is a (reads-more n a q .0)) (h .cells a))
+      go false q = subst (λ (v : Result (List ℤ)). Means undefinedWord (first v)) (sym (reads-none (suc n) a q)) undefined-means
+
+  -- past every store
+  cell-past : (a : ℕ) → 2048 ≤ a → readCell a m ≡ fails undefinedError
+  cell-past a e = cell-none a (rw (past-word ws a e))
+
+  capped-cells : (a n : ℕ) → readCells (min a 4294967295) n m ≡ readCells a n m
+  unfolding readCells
+  capped-cells a zero = refl
+  capped-cells a (suc n) = go (leb a 4294967295) refl
+    where
+      go : (t : Bool) → leb a 4294967295 ≡ t → readCells (min a 4294967295) (suc n) m ≡ readCells a (suc n) m
+      go true q = ap (λ (b : ℕ). readCells b (suc n) m) (omega (arith, leb-true a 4294967295 q))
+      go false q = rw (cell-past (min a 4294967295) (omega (arith, leb-false a 4294967295 q)), cell-past a (omega (arith, leb-false a 4294967295 q)))
+
+one-word : pos 1 ≡ wordOf (is (pos 1))
+unfolding wordOf
+one-word = refl
+
+one-ranged : Ranged (is (pos 1))
+unfolding Ranged
+one-ranged = low-range 1 (omega arith)
+
+one-result : (u : Result ℤ) → u ≡ first (oneCell u)
+one-result (is z) = refl
+one-result (fails e) = refl
+one-result stuck = refl
+
+below-38 : (n : ℕ) → n ≤ 39 → ((n ≡ 38) → ⊥) → ((n ≡ 39) → ⊥) → n < 38
+below-38 n h a b = omega arith
+
+nought : (n : ℕ) → n ≤ 6 → ((n ≡ 1) → ⊥) → ((n ≡ 2) → ⊥) → ((n ≡ 3) → ⊥) → ((n ≡ 4) → ⊥) → ((n ≡ 5) → ⊥) → ((n ≡ 6) → ⊥) → n ≡ 0
+nought zero h a b c d e f = refl
+nought (suc zero) h a b c d e f = absurd (a refl)
+nought (suc (suc zero)) h a b c d e f = absurd (b refl)
+nought (suc (suc (suc zero))) h a b c d e f = absurd (c refl)
+nought (suc (suc (suc (suc zero)))) h a b c d e f = absurd (d refl)
+nought (suc (suc (suc (suc (suc zero))))) h a b c d e f = absurd (e refl)
+nought (suc (suc (suc (suc (suc (suc zero)))))) h a b c d e f = absurd (f refl)
+nought (suc (suc (suc (suc (suc (suc (suc n))))))) h a b c d e f = absurd (omega arith)
+
+-- a depth that is not 0
+pub deep-not : (d : ℕ) → ((d ≡ 0) → ⊥) → 1 ≤ d
+deep-not d h = omega arith
+
+pub deep-two : (d : ℕ) → 2 ≤ d → 1 ≤ d
+deep-two d h = omega arith
+
+pub ruleset deep = (deep-not, deep-two)
+
+eight : (n : ℕ) → ((n ≡ 7) → ⊥) → 6 < n → n < 9 → n ≡ 8
+eight n h a b = omega arith
+
+short-when : (q t : Bool) (v w : Result (List ℤ)) (x : ℤ) → ltZ (pos 4294967295) x ≡ false → Means x (first v) → ltZ (pos 0) x ≡ t → (v >>= λ u. shortCircuited q (isTrue (sole u)) w) ≡ shortCircuited q t w
+short-when q t v w x h k g =
+    let s = value-means x v h k in
+    ap (λ (v : Result (List ℤ)). v >>= λ u. shortCircuited q (isTrue (sole u)) w) (s .1 .0) ∙ ap (λ (z : ℤ). shortCircuited q (isTrue z) w) (s .1 .1) ∙ ap (λ (b : Bool). shortCircuited q b w) g
+
+le-ltb-cap : (a : ℕ) → ltb 4294967295 (min a 4294967295) ≡ false
+le-ltb-cap a = le-ltb 4294967295 (min a 4294967295) (omega arith)
+
+cap-add : (a t : ℕ) → min (min a 4294967295 + t) 4294967295 ≡ min (a + t) 4294967295
+cap-add a t = omega arith
+
+-- r is the word of the place v
+unfoldable Found : Result ℕ → Type 0
+Found (is a) = Unit {0}
+Found (fails e) = (e ≡ numericError) ⊎ ((e ≡ rangeError) ⊎ (e ≡ undefinedError))
+Found stuck = ⊥
+
+record Located (r : ℤ) (v : Result ℕ) : Type 0 where
+  word : r ≡ placeWord v
+  found : Found v
+
+located : (r : ℤ) (v : Result ℕ) → Means r (capped v) → Located r v
+unfolding wordOf placeWord Ranged Found
+located r (is a) h = record { word = h .word; found = tt }
+located r (fails e) h = record { word = h .word; found = h .ranged }
+located r stuck h = absurd (h .ranged)
+
+means-place : (r : ℤ) (v : Result ℕ) → Located r v → Means r (capped v)
+unfolding wordOf placeWord Ranged Found
+means-place r (is a) h = record { word = h .word; ranged = low-range (min a 4294967295) (omega arith) }
+means-place r (fails e) h = record { word = h .word; ranged = h .found }
+means-place r stuck h = absurd (h .found)
+
+place-zero : Located (pos 0) (is 0)
+unfolding placeWord Found
+place-zero = record { word = ap pos (omega arith); found = tt }
+
+up-range : (z : ℤ) → mag z ≤ 4294967295 → nonNeg z ≡ true → InRange z
+up-range (pos n) h k = low-range n h
+up-range (negsuc n) h k = absurd (true≢false (sym k))
+
+one-or-more : (ws : List ℤ) (k : ℤ) (m : Store) → Holds ws k m → (a c : ℕ) → Means (pick (eqb c 1) (storeWord ws a) (cellsWord ws a c)) (first (readCells a c m))
+unfolding pick
+one-or-more ws k m h a c = go (eqb c 1) refl
+  where
+    go : (t : Bool) → eqb c 1 ≡ t → Means (pick t (storeWord ws a) (cellsWord ws a c)) (first (readCells a c m))
+    go true q = rw (eqb-true c 1 q, ← cell-read a m) (h .cells a)
+    go false q = cells-word ws k m h a c
+
+at-fault : (y e : ℤ) → (e ≡ numericError) ⊎ ((e ≡ rangeError) ⊎ (e ≡ undefinedError)) → pick (ltZ (pos 4294967295) (e +ℤ pos 8589934592)) (e +ℤ pos 8589934592) y ≡ e +ℤ pos 8589934592
+unfolding pick
+at-fault y e (inl q) = rw q
+at-fault y e (inr (inl q)) = rw q
+at-fault y e (inr (inr q)) = rw q
+
+at-means : (ws : List ℤ) (k : ℤ) (m : Store) → Holds ws k m → (w z : ℤ) (c : ℕ) (v : Result ℕ) → Located w v → z ≡ cellsAt ws w c → Means z (first (v >>= λ a. readCells a c m))
+unfolding cellsAt placeWord Found Ranged wordOf pick
+at-means ws k m h w z c (is a) q e =
+    subst (λ (u : Result (List ℤ)). Means z (first u)) (capped-cells ws k m h a c)
+    (subst (λ (x : ℤ). Means x (first (readCells (min a 4294967295) c m))) (sym (e ∙ rw (q .word, le-ltb-cap a))) (one-or-more ws k m h (min a 4294967295) c))
+at-means ws k m h w z c (fails x) q e = record { word = e ∙ rw (q .word) (at-fault _ x (q .found)); ranged = q .found }
+at-means ws k m h w z c stuck q e = absurd (q .found)
+
+-- ---- expressions
+module _ (l : List ℕ) (ws : List ℤ) (p d n : ℕ) (dp : 1 ≤ d) (e : n ≡ getD l p 0) where
+  is-op : (o : CodeOp) → codeOp n ≡ o → readCode d l p ≡ codeFrom o l p (λ q. readCode (d - 1) l q) (λ q. readPlace (d - 1) l q) (λ s. readCodes (d - 1) l s)
+  is-op o f = read-step d l p dp ∙ ap (λ (o : CodeOp). codeFrom o l p (λ q. readCode (d - 1) l q) (λ q. readPlace (d - 1) l q) (λ s. readCodes (d - 1) l s)) (ap codeOp (sym e) ∙ f)
+
+  -- an expression that is a constant 0
+  none-means : (m : Store) → codeOp n ≡ code.Nothing → Means (pos 0) (first (evalCode (readCode d l p) m))
+  unfolding codeFrom evalCode
+  none-means m f = rw (is-op code.Nothing f) (record { word = zero-word; ranged = zero-ranged })
+
+  cell-means : (k : ℤ) (m : Store) → Holds ws k m → n ≡ 2 → Means (storeWord ws (getD l (p + 1) 0)) (first (evalCode (readCode d l p) m))
+  unfolding codeFrom evalCode placeCode codeOp codeOps
+  cell-means k m h o = rw (is-op LoadCell (rw o), ← cell-read (getD l (p + 1) 0) m) (h .cells (getD l (p + 1) 0))
+
+  literal-means : (m : Store) (z : ℤ) → n ≡ 1 → z ≡ integerAt l (p + 1) → inside least most z ≡ true → Means z (first (evalCode (readCode d l p) m))
+  unfolding codeFrom evalCode codeOp codeOps wordOf Ranged
+  literal-means m z o f g = rw (is-op Literal (rw o)) (record { word = f; ranged = subst InRange f (wide z g) })
+
+-- an operand that is read in place
+module _ (l : List ℕ) (ws : List ℤ) (k : ℤ) where
+  simple-means : (p d : ℕ) (x : ℤ) (m : Store) → 1 ≤ d → Simple l ws p x → ((x ≡ nested) → ⊥) → Holds ws k m → Means x (first (evalCode (readCode d l p) m))
+  unfolding simpleWord pick
+  simple-means p d x m dp s q h = go (eqb (getD l p 0) 2) refl (eqb (getD l p 0) 1) refl (s .value)
+    where
+      go : (t : Bool) → eqb (getD l p 0) 2 ≡ t → (u : Bool) → eqb (getD l p 0) 1 ≡ u
+          → x ≡ pick t (storeWord ws (getD l (p + 1) 0)) (pick u (integerAt l (p + 1)) nested) → Means x (first (evalCode (readCode d l p) m))
+      go true a u b f = subst (λ (z : ℤ). Means z (first (evalCode (readCode d l p) m))) (sym f) (cell-means l ws p d (getD l p 0) dp refl k m h (eqb-true (getD l p 0) 2 a))
+      go false a true b f = literal-means l ws p d (getD l p 0) dp refl m x (eqb-true (getD l p 0) 1 b) f (s .small (eqb-true (getD l p 0) 1 b))
+      go false a false b f = absurd (q f)
+
+  pub simple-evals : (p d : ℕ) (x : ℤ) → 2 ≤ d → Simple l ws p x → ((ofZ w64 x ≡ 17179869184) → ⊥) → Evaluates l ws k p (d - 1) x
+  simple-evals p d x dp s q = record { says = λ m h. simple-means p (d - 1) x m (omega arith) s (λ e. q (ap (ofZ w64) e)) h }
+
+module _ (l : List ℕ) (ws : List ℤ) (k : ℤ) (fk : SFits w64 k) (p d : ℕ) where
+  pub evals-passed : (z : ℤ) → Evaluates l ws (wire k) p d z → SFits w64 z → Evaluates l ws k p d (wire z)
+  evals-passed z h f = rw (toZ-ofZ f) (record { says = λ m g. h .says m (subst (λ (q : ℤ). Holds ws q m) (sym (toZ-ofZ fk)) g) })
+
+  pub evals-zero : d ≡ 0 → Evaluates l ws k p d (pos 0)
+  unfolding readCode evalCode
+  evals-zero e = record { says = λ m h. rw e (record { word = zero-word; ranged = zero-ranged }) }
+
+  module _ (n : ℕ) (dp : 1 ≤ d) (e : n ≡ getD l p 0) where
+    under : {m : Store} → Holds ws k m → Holds ws (wire k) m
+    under {m} g = subst (λ (q : ℤ). Holds ws q m) (sym (toZ-ofZ fk)) g
+
+    pub evals-none : 39 < n → Evaluates l ws k p d (pos 0)
+    evals-none f = record { says = λ m h. none-means l ws p d n dp e m (past-op n f) }
+
+    pub evals-nothing : n ≡ 0 → Evaluates l ws k p d (pos 0)
+    unfolding codeOp codeOps
+    evals-nothing f = record { says = λ m h. none-means l ws p d n dp e m (rw f) }
+
+    pub evals-cell : (a : ℕ) (z : ℤ) → n ≡ 2 → a ≡ getD l (p + 1) 0 → z ≡ storeWord ws a → SFits w64 z → Evaluates l ws k p d (wire z)
+    evals-cell a z o f g s = rw (toZ-ofZ s) (record { says = λ m h. subst (λ (q : ℤ). Means q (first (evalCode (readCode d l p) m))) (sym (g ∙ ap (storeWord ws) f)) (cell-means l ws p d n dp e k m h o) })
+
+    pub evals-literal : (z : ℤ) → n ≡ 1 → Integral l (p + 1) z → SFits w64 z → Evaluates l ws k p d (wire z)
+    evals-literal z o g s = rw (toZ-ofZ s) (record { says = λ m h. literal-means l ws p d n dp e m z o (g .value) (g .small) })
+
+    pub evals-cells : (b : ℕ) (z : ℤ) → n ≡ 3 → b ≡ getD l (p + 1) 0 → z ≡ cellsWord ws (b % 4096) (b / 4096) → SFits w64 z → Evaluates l ws k p d (wire z)
+    unfolding codeFrom evalCode placeCode codeOp codeOps
+    evals-cells b z o f g s =
+        rw (toZ-ofZ s) (record { says = λ m h. rw (is-op l ws p d n dp e LoadCells (rw o), ← f) (subst (λ (q : ℤ). Means q (first (readCells (b % 4096) (b / 4096) m))) (sym g) (cells-word ws k m h (b % 4096) (b / 4096))) })
+
+    pub evals-last : n ≡ 5 → Evaluates l ws k p d (wire k)
+    unfolding codeFrom evalCode codeOp codeOps wordOf Ranged
+    evals-last o =
+        rw (toZ-ofZ fk) (record { says = λ m h. rw (is-op l ws p d n dp e LastNumber (rw o)) (record { word = sym (h .last); ranged = subst InRange (sym (h .last)) (h .last-ranged) }) })
+
+    pub evals-gather : (z : ℤ) → n ≡ 6 → Gathers l ws (wire k) (integerAt l (p + 1)) (integerAt l (p + 2)) (getD l (p + 3) 0) (d - 1) z → SFits w64 z → Evaluates l ws k p d (wire z)
+    unfolding codeFrom evalCode codeOp codeOps
+    evals-gather z o g s =
+        rw (toZ-ofZ s) (record { says = λ m h. rw (is-op l ws p d n dp e MakeSet (rw o)) (subst (λ (u : Result ℤ). Means z u) (one-result (gatherCodes (integerAt l (p + 1)) (integerAt l (p + 2)) (readCodes (d - 1) l (getD l (p + 3) 0)) m)) (g .says m (under h))) })
+
+    pub evals-at : (a c : ℕ) (w z : ℤ) → n ≡ 4 → a ≡ getD l (p + 1) 0 → c ≡ getD l (p + 2) 0 → Places l ws (wire k) a (d - 1) w → SFits w64 w → z ≡ cellsAt ws (wire w) c → SFits w64 z → Evaluates l ws k p d (wire z)
+    unfolding codeFrom evalCode codeOp codeOps
+    evals-at a c w z o f g r fw y s =
+        rw (toZ-ofZ s) (record {
+          says = λ m h. rw (is-op l ws p d n dp e LoadAt (rw o), ← f, ← g)
+              (at-means ws k m h w z c (placeCode (readPlace (d - 1) l a) m) (located w (placeCode (readPlace (d - 1) l a) m) (r .says m (under h))) (y ∙ ap (λ (q : ℤ). cellsAt ws q c) (toZ-ofZ fw)));
+        })
+
+    -- one part
+    module _ (a : ℕ) (x z : ℤ) (f : a ≡ getD l (p + 1) 0) (r : Evaluates l ws (wire k) a (d - 1) x) (fx : SFits w64 x) (s : SFits w64 z) where
+      pub evals-unary : 28 < n → n ≤ 39 → ((n ≡ 38) → ⊥) → ((n ≡ 39) → ⊥) → z ≡ applied1 (operation1At (n - 29)) (wire x) → Evaluates l ws k p d (wire z)
+      unfolding codeFrom evalCode
+      evals-unary h1 h2 h3 h4 g =
+          rw (toZ-ofZ s) (record {
+            says = λ m h. rw (is-op l ws p d n dp e (Unary (n - 29)) (unary-op n h1 (below-38 n h2 h3 h4)), ← f)
+                (unary-means (operation1At (n - 29)) x z (evalCode (readCode (d - 1) l a) m) (plain (n - 29)) (r .says m (under h)) (g ∙ ap (applied1 (operation1At (n - 29))) (toZ-ofZ fx)));
+          })
+
+      module _ (lo hi : ℤ) (il : Integral l (p + 2) lo) (ih : Integral l (p + 3) hi) (fl : SFits w64 lo) (fh : SFits w64 hi) where
+        pub evals-pred : n ≡ 38 → z ≡ applied1 (predIn (wire lo) (wire hi)) (wire x) → Evaluates l ws k p d (wire z)
+        unfolding codeFrom evalCode codeOp codeOps
+        evals-pred o g =
+            rw (toZ-ofZ s) (record {
+              says = λ m h. rw (is-op l ws p d n dp e Pred (rw o), ← f, ← il .value, ← ih .value)
+                  (unary-means (predIn lo hi) x z (evalCode (readCode (d - 1) l a) m) (il .small, ih .small) (r .says m (under h)) (g ∙ rw (toZ-ofZ fx, toZ-ofZ fl, toZ-ofZ fh)));
+            })
+
+        pub evals-succ : n ≡ 39 → z ≡ applied1 (succIn (wire lo) (wire hi)) (wire x) → Evaluates l ws k p d (wire z)
+        unfolding codeFrom evalCode codeOp codeOps
+        evals-succ o g =
+            rw (toZ-ofZ s) (record {
+              says = λ m h. rw (is-op l ws p d n dp e Succ (rw o), ← f, ← il .value, ← ih .value)
+                  (unary-means (succIn lo hi) x z (evalCode (readCode (d - 1) l a) m) (il .small, ih .small) (r .says m (under h)) (g ∙ rw (toZ-ofZ fx, toZ-ofZ fl, toZ-ofZ fh)));
+            })
+
+    -- two parts
+    pub evals-binary : (a b : ℕ) (x y z : ℤ) → 8 < n → n < 29 → a ≡ getD l (p + 1) 0 → b ≡ getD l (p + 2) 0 → Evaluates l ws (wire k) a (d - 1) x → Evaluates l ws (wire k) b (d - 1) y
+        → SFits w64 x → SFits w64 y → SFits w64 z → z ≡ applied (operationAt (n - 9)) (wire x) (wire y) → Evaluates l ws k p d (wire z)
+    unfolding codeFrom evalCode
+    evals-binary a b x y z h1 h2 f g r t fx fy s v =
+        rw (toZ-ofZ s) (record {
+          says = λ m h. rw (is-op l ws p d n dp e (Binary (n - 9)) (binary-op n h1 h2), ← f, ← g)
+              (binary-means (operationAt (n - 9)) x y z (evalCode (readCode (d - 1) l a) m) (evalCode (readCode (d - 1) l b) m) (r .says m (under h)) (t .says m (under h)) (v ∙ rw (toZ-ofZ fx, toZ-ofZ fy)));
+        })
+
+    pub binary-form : (a b : ℕ) (x y z : ℤ) → 8 < n → n ≤ 28 → a ≡ getD l (p + 1) 0 → b ≡ getD l (p + 2) 0 → Evaluates l ws (wire k) a (d - 1) x → Evaluates l ws (wire k) b (d - 1) y
+        → SFits w64 x → SFits w64 y → SFits w64 z → z ≡ applied (operationAt (n - 9)) (wire x) (wire y) → Evaluates l ws k p d (wire z)
+    binary-form a b x y z h1 h2 f g r t fx fy s v = evals-binary a b x y z h1 (omega arith) f g r t fx fy s v
+
+    pub binary-node : (a b : ℕ) (x y z : ℤ) → 8 < getD l p 0 → getD l p 0 < 29 → a ≡ getD l (p + 1) 0 → b ≡ getD l (p + 2) 0 → Evaluates l ws (wire k) a (d - 1) x → Evaluates l ws (wire k) b (d - 1) y
+        → SFits w64 x → SFits w64 y → SFits w64 z → z ≡ applied (operationAt (n - 9)) (wire x) (wire y) → Evaluates l ws k p d (wire z)
+    binary-node a b x y z h1 h2 f g r t fx fy s v = evals-binary a b x y z (omega (arith, e)) (omega (arith, e)) f g r t fx fy s v
+
+    pub unary-node : (a : ℕ) (x z : ℤ) → 28 < getD l p 0 → n ≤ 39 → ((n ≡ 38) → ⊥) → ((n ≡ 39) → ⊥) → a ≡ getD l (p + 1) 0 → Evaluates l ws (wire k) a (d - 1) x → SFits w64 x → SFits w64 z
+        → z ≡ applied1 (operation1At (n - 29)) (wire x) → Evaluates l ws k p d (wire z)
+    unary-node a x z h1 h2 h3 h4 f r fx s g = evals-unary a x z f r fx s (omega (arith, e)) h2 h3 h4 g
+
+    pub two-simple : (a b : ℕ) (x y z : ℤ) → 2 ≤ d → 8 < n → n < 29 → a ≡ getD l (p + 1) 0 → b ≡ getD l (p + 2) 0 → Simple l ws a x → ((ofZ w64 x ≡ 17179869184) → ⊥) → Simple l ws b y → ((ofZ w64 y ≡ 17179869184) → ⊥)
+        → SFits w64 x → SFits w64 y → SFits w64 z → z ≡ applied (operationAt (n - 9)) (wire x) (wire y) → Evaluates l ws k p d (wire z)
+    two-simple a b x y z dd h1 h2 f g r nr t nt fx fy s v =
+        evals-binary a b x y z h1 h2 f g (simple-evals l ws (wire k) a d x dd r nr) (simple-evals l ws (wire k) b d y dd t nt) fx fy s v
+
+    pub nothing-node : n ≤ 6 → ((n ≡ 1) → ⊥) → ((n ≡ 2) → ⊥) → ((n ≡ 3) → ⊥) → ((n ≡ 4) → ⊥) → ((n ≡ 5) → ⊥) → ((n ≡ 6) → ⊥) → Evaluates l ws k p d (pos 0)
+    nothing-node h a b c f g q = evals-nothing (nought n h a b c f g q)
+
+  -- the short-circuiting ones
+  module _ (n a : ℕ) (x : ℤ) (dp : 1 ≤ d) (e : n ≡ getD l p 0) (f : a ≡ getD l (p + 1) 0) (r : Evaluates l ws (wire k) a (d - 1) x) (fx : SFits w64 x) (h1 : 6 < getD l p 0) (h2 : getD l p 0 < 9) where
+    under′ : {m : Store} → Holds ws k m → Holds ws (wire k) m
+    under′ {m} g = subst (λ (q : ℤ). Holds ws q m) (sym (toZ-ofZ fk)) g
+
+    and-read : (m : Store) → n ≡ 7 → evalCode (readCode d l p) m ≡ (evalCode (readCode (d - 1) l a) m >>= λ u. shortCircuited true (isTrue (sole u)) (evalCode (readCode (d - 1) l (getD l (p + 2) 0)) m))
+    unfolding codeFrom evalCode codeOp codeOps
+    and-read m o = rw (is-op l ws p d n dp e AndThen (rw o), ← f)
+
+    or-read : (m : Store) → n ≡ 8 → evalCode (readCode d l p) m ≡ (evalCode (readCode (d - 1) l a) m >>= λ u. shortCircuited false (isTrue (sole u)) (evalCode (readCode (d - 1) l (getD l (p + 2) 0)) m))
+    unfolding codeFrom evalCode codeOp codeOps
+    or-read m o = rw (is-op l ws p d n dp e OrElse (rw o), ← f)
+
+    pub short-fault : ltZ (pos 4294967295) (wire x) ≡ true → Evaluates l ws k p d (wire x)
+    short-fault g = rw (toZ-ofZ fx) (record { says = λ m h. go m h (eqb n 7) refl })
+      where
+        go : (m : Store) → Holds ws k m → (t : Bool) → eqb n 7 ≡ t → Means x (first (evalCode (readCode d l p) m))
+        go m h true q =
+            rw (and-read m (eqb-true n 7 q))
+            (fault-means x (evalCode (readCode (d - 1) l a) m) (λ u. shortCircuited true (isTrue (sole u)) (evalCode (readCode (d - 1) l (getD l (p + 2) 0)) m)) (rw (toZ-ofZ fx) at g) (r .says m (under′ h)))
+        go m h false q =
+            rw (or-read m (eight n (eqb-false n 7 q) (omega (arith, e, h1)) (omega (arith, e, h2))))
+            (fault-means x (evalCode (readCode (d - 1) l a) m) (λ u. shortCircuited false (isTrue (sole u)) (evalCode (readCode (d - 1) l (getD l (p + 2) 0)) m)) (rw (toZ-ofZ fx) at g) (r .says m (under′ h)))
+
+    module _ (v : ltZ (pos 4294967295) (wire x) ≡ false) where
+      short-is : (q t : Bool) (m : Store) → Holds ws k m → ltZ (pos 0) (wire x) ≡ t → (evalCode (readCode (d - 1) l a) m >>= λ u. shortCircuited q (isTrue (sole u)) (evalCode (readCode (d - 1) l (getD l (p + 2) 0)) m)) ≡ shortCircuited q t (evalCode (readCode (d - 1) l (getD l (p + 2) 0)) m)
+      short-is q t m h g = short-when q t (evalCode (readCode (d - 1) l a) m) (evalCode (readCode (d - 1) l (getD l (p + 2) 0)) m) x (rw (toZ-ofZ fx) at v) (r .says m (under′ h)) (rw (toZ-ofZ fx) at g)
+
+      pub and-right : (b : ℕ) (y : ℤ) → n ≡ 7 → ltZ (pos 0) (wire x) ≡ true → b ≡ getD l (p + 2) 0 → Evaluates l ws (wire k) b (d - 1) y → SFits w64 y → Evaluates l ws k p d (wire y)
+      and-right b y o g c t s = rw (toZ-ofZ s) (record { says = λ m h. rw (and-read m o ∙ short-is true true m h g, ← c) (t .says m (under′ h)) })
+
+      pub and-stop : n ≡ 7 → ltZ (pos 0) (wire x) ≡ false → Evaluates l ws k p d (pos 0)
+      and-stop o g = record { says = λ m h. rw (and-read m o ∙ short-is true false m h g) (record { word = zero-word; ranged = zero-ranged }) }
+
+      pub or-stop : ((n ≡ 7) → ⊥) → ltZ (pos 0) (wire x) ≡ true → Evaluates l ws k p d (pos 1)
+      or-stop o g = record { says = λ m h. rw (or-read m (eight n o (omega (arith, e, h1)) (omega (arith, e, h2))) ∙ short-is false true m h g) (record { word = one-word; ranged = one-ranged }) }
+
+      pub or-right : (b : ℕ) (y : ℤ) → ((n ≡ 7) → ⊥) → ltZ (pos 0) (wire x) ≡ false → b ≡ getD l (p + 2) 0 → Evaluates l ws (wire k) b (d - 1) y → SFits w64 y → Evaluates l ws k p d (wire y)
+      or-right b y o g c t s = rw (toZ-ofZ s) (record { says = λ m h. rw (or-read m (eight n o (omega (arith, e, h1)) (omega (arith, e, h2))) ∙ short-is false false m h g, ← c) (t .says m (under′ h)) })
+
+pub ruleset short-laws = (short-fault, and-right, and-stop, or-stop, or-right, sfits-of)
+
+-- ---- places
+cell-decoded : (w : ℤ) (v : Result ℕ) → Located w v → cellOf w ≡ (v >>= λ a. is (min a 4294967295))
+unfolding placeWord cellOf pick Found
+cell-decoded w (is a) h = rw (h .word, le-ltb-cap a)
+cell-decoded w (fails e) h = rw (h .word) (go e (h .found))
+  where
+    go : (e : ℤ) → (e ≡ numericError) ⊎ ((e ≡ rangeError) ⊎ (e ≡ undefinedError)) → cellOf (e +ℤ pos 8589934592) ≡ fails e
+    go e (inl q) = rw q
+    go e (inr (inl q)) = rw q
+    go e (inr (inr q)) = rw q
+cell-decoded w stuck h = absurd (h .found)
+
+shift-means : (w z : ℤ) (c : ℕ) (v : Result ℕ) → Located w v → z ≡ shiftedWord w c → Located z (v >>= λ a. is (a + c))
+unfolding shiftedWord placeWord Found
+shift-means w z c (is a) h e = record { word = e ∙ rw (cell-decoded w (is a) h) (ap pos (cap-add a c)); found = tt }
+shift-means w z c (fails q) h e = record { word = e ∙ rw (cell-decoded w (fails q) h); found = h .found }
+shift-means w z c stuck h e = absurd (h .found)
+
+element-means : (w y z : ℤ) (c : ℕ) (v : Result ℕ) (u : Result ℤ) → Located w v → Means y u → z ≡ elementWord w y c → Located z (v >>= λ a. u >>= λ k. is (a + natOf k * c))
+unfolding elementWord placeWord Found Ranged
+element-means w y z c (is a) (is k) h g e = record { word = e ∙ rw (cell-decoded w (is a) h, decoded y (is k) g) (ap pos (cap-add a (natOf k * c))); found = tt }
+element-means w y z c (is a) (fails q) h g e = record { word = e ∙ rw (cell-decoded w (is a) h, decoded y (fails q) g); found = g .ranged }
+element-means w y z c (is a) stuck h g e = absurd (g .ranged)
+element-means w y z c (fails q) u h g e = record { word = e ∙ rw (cell-decoded w (fails q) h); found = h .found }
+element-means w y z c stuck u h g e = absurd (h .found)
+
+-- an index's distance
+test-cases : (lo hi u : ℤ) → inside least most lo ≡ true → inside least most hi ≡ true → Ranged (tested rangeError lo hi u >>= λ z. is (z -ℤ lo))
+unfolding tested pick Ranged
+test-cases lo hi u p q = go (inside lo hi u) refl
+  where
+    go : (t : Bool) → inside lo hi u ≡ t → Ranged (pick t (is u) (fails rangeError) >>= λ z. is (z -ℤ lo))
+    go true h = up-range (u -ℤ lo) (index-span lo hi u p q h) (index-up lo hi u p q h)
+    go false h = inr (inl refl)
+
+distance-means : (lo hi x y : ℤ) (v : Result ℤ) → inside least most lo ≡ true → inside least most hi ≡ true → Means x v → y ≡ distanceWord lo hi x → Means y (v >>= λ u. tested rangeError lo hi u >>= λ z. is (z -ℤ lo))
+unfolding distanceWord Ranged
+distance-means lo hi x y (is u) p q h e = record { word = e ∙ rw (decoded x (is u) h); ranged = test-cases lo hi u p q }
+distance-means lo hi x y (fails k) p q h e = record { word = e ∙ rw (decoded x (fails k) h); ranged = h .ranged }
+distance-means lo hi x y stuck p q h e = absurd (h .ranged)
+
+inner : (a c : ℕ) (lo : ℤ) (t : Result ℤ) → ((t >>= λ z. is (z -ℤ lo)) >>= λ k. is (a + natOf k * c)) ≡ (t >>= λ z. is (a + natOf (z -ℤ lo) * c))
+inner a c lo (is z) = refl
+inner a c lo (fails e) = refl
+inner a c lo stuck = refl
+
+index-join : (lo hi : ℤ) (c : ℕ) (v : Result ℕ) (u : Result (List ℤ))
+    → (v >>= λ a. (first u >>= λ x. tested rangeError lo hi x >>= λ z. is (z -ℤ lo)) >>= λ k. is (a + natOf k * c))
+    ≡ (v >>= λ a. u >>= λ x. tested rangeError lo hi (sole x) >>= λ z. is (a + natOf (z -ℤ lo) * c))
+index-join lo hi c (is a) (is x) = inner a c lo (tested rangeError lo hi (sole x))
+index-join lo hi c (is a) (fails e) = refl
+index-join lo hi c (is a) stuck = refl
+index-join lo hi c (fails e) u = refl
+index-join lo hi c stuck u = refl
+
+module _ (l : List ℕ) (ws : List ℤ) (k : ℤ) (fk : SFits w64 k) (p d : ℕ) where
+  pub finds-passed : (z : ℤ) → Places l ws (wire k) p d z → SFits w64 z → Places l ws k p d (wire z)
+  finds-passed z h f = rw (toZ-ofZ f) (record { says = λ m g. h .says m (subst (λ (q : ℤ). Holds ws q m) (sym (toZ-ofZ fk)) g) })
+
+  pub finds-zero : d ≡ 0 → Places l ws k p d (pos 0)
+  unfolding readPlace placeCode
+  finds-zero e = record { says = λ m h. rw e (means-place (pos 0) (is 0) place-zero) }
+
+  module _ (n : ℕ) (dp : 1 ≤ d) (e : n ≡ getD l p 0) where
+    below-k : {m : Store} → Holds ws k m → Holds ws (wire k) m
+    below-k {m} g = subst (λ (q : ℤ). Holds ws q m) (sym (toZ-ofZ fk)) g
+
+    place-is : (o : PlaceOp) → placeOp n ≡ o → readPlace d l p ≡ placeFrom o l p (λ q. readCode (d - 1) l q) (λ q. readPlace (d - 1) l q)
+    place-is o f = place-step d l p dp ∙ ap (λ (o : PlaceOp). placeFrom o l p (λ q. readCode (d - 1) l q) (λ q. readPlace (d - 1) l q)) (ap placeOp (sym e) ∙ f)
+
+    pub finds-none : ((n ≡ 41) → ⊥) → ((n ≡ 42) → ⊥) → ((n ≡ 40) → ⊥) → Places l ws k p d (pos 0)
+    unfolding placeFrom placeCode
+    finds-none b c a = record { says = λ m h. rw (place-is place.Nothing (place-op n a b c)) (means-place (pos 0) (is 0) place-zero) }
+
+    pub finds-cell : (a : ℕ) → n ≡ 40 → a ≡ getD l (p + 1) 0 → Fits w32 a → Places l ws k p d (toZ w64 a)
+    unfolding placeFrom placeCode placeOp placeWord Found
+    finds-cell a o f g =
+        rw (toZ-pos w64 {n = a} (omega (arith, g .fits)))
+        (record { says = λ m h. rw (place-is Cell (rw o), ← f) (means-place (pos a) (is a) (record { word = ap pos (omega (arith, g .fits)); found = tt })) })
+
+    pub finds-shift : (a c : ℕ) (w z : ℤ) → n ≡ 42 → a ≡ getD l (p + 1) 0 → c ≡ getD l (p + 2) 0 → Places l ws (wire k) a (d - 1) w → SFits w64 w → z ≡ shiftedWord (wire w) c → SFits w64 z → Places l ws k p d (wire z)
+    unfolding placeFrom placeCode placeOp
+    finds-shift a c w z o f g r fw v s =
+        rw (toZ-ofZ s) (record {
+          says = λ m h. rw (place-is Shift (rw o), ← f, ← g)
+              (means-place z (placeCode (readPlace (d - 1) l a) m >>= λ q. is (q + c))
+              (shift-means w z c (placeCode (readPlace (d - 1) l a) m) (located w (placeCode (readPlace (d - 1) l a) m) (r .says m (below-k h))) (v ∙ ap (λ (q : ℤ). shiftedWord q c) (toZ-ofZ fw))));
+        })
+
+    pub finds-element : (a b i j c : ℕ) (w x y z : ℤ) → n ≡ 41 → a ≡ getD l (p + 1) 0 → b ≡ getD l (p + 2) 0 → i ≡ getD l (p + 3) 0 → j ≡ getD l (p + 4) 0 → c ≡ getD l (p + 5) 0
+        → Places l ws (wire k) a (d - 1) w → Evaluates l ws (wire k) b (d - 1) x → y ≡ distanceWord (signed i) (signed j) (wire x) → z ≡ elementWord (wire w) (wire y) c
+        → Fits w32 i → Fits w32 j → SFits w64 w → SFits w64 x → SFits w64 y → SFits w64 z → Places l ws k p d (wire z)
+    unfolding placeFrom placeCode placeOp integerAt
+    finds-element a b i j c w x y z o fa fb fi fj fc r t u v gi gj fw fx fy s =
+        rw (toZ-ofZ s) (record {
+          says = λ m h. rw (place-is Index (rw o), ← fa, ← fb, ← fi, ← fj, ← fc)
+              (subst (λ (q : Result ℕ). Means z (capped q)) (index-join (signed i) (signed j) c (placeCode (readPlace (d - 1) l a) m) (evalCode (readCode (d - 1) l b) m))
+              (means-place z (placeCode (readPlace (d - 1) l a) m >>= λ q. (first (evalCode (readCode (d - 1) l b) m) >>= λ q. tested rangeError (signed i) (signed j) q >>= λ g. is (g -ℤ signed i)) >>= λ g. is (q + natOf g * c))
+              (element-means w y z c (placeCode (readPlace (d - 1) l a) m) (first (evalCode (readCode (d - 1) l b) m) >>= λ q. tested rangeError (signed i) (signed j) q >>= λ g. is (g -ℤ signed i)) (located w (placeCode (readPlace (d - 1) l a) m) (r .says m (below-k h)))
+              (distance-means (signed i) (signed j) x y (first (evalCode (readCode (d - 1) l b) m)) (small-signed i gi) (small-signed j gj) (t .says m (below-k h)) (u ∙ ap (distanceWord (signed i) (signed j)) (toZ-ofZ fx)))
+              (v ∙ rw (toZ-ofZ fw, toZ-ofZ fy)))));
+        })

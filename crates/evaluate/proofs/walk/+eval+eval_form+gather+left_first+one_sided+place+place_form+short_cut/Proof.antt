@@ -1,0 +1,4072 @@
+use native.Mathlib.Omega.{arith}
+use borrow.Author.Needs.{needs, sfits-of}
+use mir.Val.{toZ}
+use mir.Syntax.{w64}
+use Rattle.evaluate.specs.Words.{codeIn}
+use Rattle.evaluate.proofs.Gathering.{Gathering}
+use borrow.Author.Needs.{needs}
+use Rattle.evaluate.proofs.Gathering.{gather-done, gather-end, gather-fault, gather-start, gather-step, link-laws}
+use Rattle.evaluate.proofs.Walking.{binary-form, binary-node, deep, evals-at, evals-binary, evals-cell, evals-cells, evals-gather, evals-last, evals-literal, evals-none, evals-passed, evals-pred, evals-succ, evals-zero, finds-cell, finds-element, finds-none, finds-passed, finds-shift, finds-zero, nothing-node, short-laws, simple-evals, two-simple, unary-node}
+use Prim.Native.Nat.{ℕ, _<_, _≤_, _+_, _*_, _-_}
+use borrow.Fn.Kinds.{In}
+use borrow.Fn.PlainCycle.{Measures, is, falls, and}
+use Rattle.evaluate.proofs.walk.eval.Reads as eval
+use Rattle.evaluate.proofs.walk.eval.Kinds as eval-kinds
+use Rattle.evaluate.proofs.walk.+eval+eval_form+gather+left_first+one_sided+place+place_form+short_cut.Lts-eval as eval-lts
+use Rattle.evaluate.proofs.walk.eval_form.Reads as eval-form
+use Rattle.evaluate.proofs.walk.eval_form.Kinds as eval-form-kinds
+use Rattle.evaluate.proofs.walk.+eval+eval_form+gather+left_first+one_sided+place+place_form+short_cut.Lts-eval_form as eval-form-lts
+use Rattle.evaluate.proofs.walk.gather.Reads as gather
+use Rattle.evaluate.proofs.walk.gather.Kinds as gather-kinds
+use Rattle.evaluate.proofs.walk.+eval+eval_form+gather+left_first+one_sided+place+place_form+short_cut.Lts-gather as gather-lts
+use Rattle.evaluate.proofs.walk.left_first.Reads as left-first
+use Rattle.evaluate.proofs.walk.left_first.Kinds as left-first-kinds
+use Rattle.evaluate.proofs.walk.+eval+eval_form+gather+left_first+one_sided+place+place_form+short_cut.Lts-left_first as left-first-lts
+use Rattle.evaluate.proofs.walk.one_sided.Reads as one-sided
+use Rattle.evaluate.proofs.walk.one_sided.Kinds as one-sided-kinds
+use Rattle.evaluate.proofs.walk.+eval+eval_form+gather+left_first+one_sided+place+place_form+short_cut.Lts-one_sided as one-sided-lts
+use Rattle.evaluate.proofs.walk.place.Reads as place
+use Rattle.evaluate.proofs.walk.place.Kinds as place-kinds
+use Rattle.evaluate.proofs.walk.+eval+eval_form+gather+left_first+one_sided+place+place_form+short_cut.Lts-place as place-lts
+use Rattle.evaluate.proofs.walk.place_form.Reads as place-form
+use Rattle.evaluate.proofs.walk.place_form.Kinds as place-form-kinds
+use Rattle.evaluate.proofs.walk.+eval+eval_form+gather+left_first+one_sided+place+place_form+short_cut.Lts-place_form as place-form-lts
+use Rattle.evaluate.proofs.walk.short_cut.Reads as short-cut
+use Rattle.evaluate.proofs.walk.short_cut.Kinds as short-cut-kinds
+use Rattle.evaluate.proofs.walk.+eval+eval_form+gather+left_first+one_sided+place+place_form+short_cut.Lts-short_cut as short-cut-lts
+use Rattle.evaluate.proofs.cells.cell.Reads as cell-reads
+use Rattle.evaluate.proofs.cells.cells.Reads as cells-reads
+use Rattle.evaluate.proofs.cells.cells_at.Reads as cells-at-reads
+use Rattle.evaluate.proofs.cells.simple.Reads as simple-reads
+use Rattle.evaluate.proofs.operators.binary.Reads as binary-reads
+use Rattle.evaluate.proofs.operators.distance.Reads as distance-reads
+use Rattle.evaluate.proofs.operators.element.Reads as element-reads
+use Rattle.evaluate.proofs.operators.pred.Reads as pred-reads
+use Rattle.evaluate.proofs.operators.shifted.Reads as shifted-reads
+use Rattle.evaluate.proofs.operators.succ.Reads as succ-reads
+use Rattle.evaluate.proofs.operators.test.Reads as test-reads
+use Rattle.evaluate.proofs.operators.unary.Reads as unary-reads
+use Rattle.evaluate.proofs.words.integral.Reads as integral-reads
+use Rattle.evaluate.proofs.words.number.Reads as number-reads
+use Rattle.sets.proofs.insert.Reads as insert-reads
+use Rattle.sets.proofs.value.Reads as value-reads
+use Rattle.evaluate.proofs.walk.+eval+eval_form+gather+left_first+one_sided+place+place_form+short_cut.{
+  statement,
+}
+use Rattle.evaluate.proofs.walk.+eval+eval_form+gather+left_first+one_sided+place+place_form+short_cut.Tie.{
+  close,
+}
+
+abbrev μ-eval : Measures 2 eval-kinds.ps ℕ
+μ-eval κs a = 3 * a .1 .1 .1 .1 .0 + 2
+
+abbrev μ-eval-form : Measures 2 eval-form-kinds.ps ℕ
+μ-eval-form κs a = 3 * a .1 .1 .1 .1 .0 + 1
+
+abbrev μ-gather : Measures 2 gather-kinds.ps ℕ
+μ-gather κs a = 3 * a .1 .1 .1 .1 .0
+
+abbrev μ-left-first : Measures 2 left-first-kinds.ps ℕ
+μ-left-first κs a = 3 * a .1 .1 .1 .1 .0
+
+abbrev μ-one-sided : Measures 2 one-sided-kinds.ps ℕ
+μ-one-sided κs a = 3 * a .1 .1 .1 .1 .0
+
+abbrev μ-place : Measures 2 place-kinds.ps ℕ
+μ-place κs a = 3 * a .1 .1 .1 .1 .0 + 1
+
+abbrev μ-place-form : Measures 2 place-form-kinds.ps ℕ
+μ-place-form κs a = 3 * a .1 .1 .1 .1 .0
+
+abbrev μ-short-cut : Measures 2 short-cut-kinds.ps ℕ
+μ-short-cut κs a = 3 * a .1 .1 .1 .1 .0
+
+abbrev eval-at : ℕ → In 2 eval-kinds.ps
+eval-at t = and 2 eval-kinds.ps (is 2 eval-kinds.ps μ-eval t) eval.Pre
+
+abbrev eval-below : ℕ → In 2 eval-kinds.ps
+eval-below t = and 2 eval-kinds.ps (falls 2 eval-kinds.ps _<_ μ-eval t) eval.Pre
+
+abbrev eval-form-at : ℕ → In 2 eval-form-kinds.ps
+eval-form-at t = and 2 eval-form-kinds.ps (is 2 eval-form-kinds.ps μ-eval-form t) eval-form.Pre
+
+abbrev eval-form-below : ℕ → In 2 eval-form-kinds.ps
+eval-form-below t =
+    and 2 eval-form-kinds.ps (falls 2 eval-form-kinds.ps _<_ μ-eval-form t) eval-form.Pre
+
+abbrev gather-at : ℕ → In 2 gather-kinds.ps
+gather-at t = and 2 gather-kinds.ps (is 2 gather-kinds.ps μ-gather t) gather.Pre
+
+abbrev gather-below : ℕ → In 2 gather-kinds.ps
+gather-below t = and 2 gather-kinds.ps (falls 2 gather-kinds.ps _<_ μ-gather t) gather.Pre
+
+abbrev left-first-at : ℕ → In 2 left-first-kinds.ps
+left-first-at t =
+    and 2 left-first-kinds.ps (is 2 left-first-kinds.ps μ-left-first t) left-first.Pre
+
+abbrev left-first-below : ℕ → In 2 left-first-kinds.ps
+left-first-below t =
+    and 2 left-first-kinds.ps (falls 2 left-first-kinds.ps _<_ μ-left-first t) left-first.Pre
+
+abbrev one-sided-at : ℕ → In 2 one-sided-kinds.ps
+one-sided-at t = and 2 one-sided-kinds.ps (is 2 one-sided-kinds.ps μ-one-sided t) one-sided.Pre
+
+abbrev one-sided-below : ℕ → In 2 one-sided-kinds.ps
+one-sided-below t =
+    and 2 one-sided-kinds.ps (falls 2 one-sided-kinds.ps _<_ μ-one-sided t) one-sided.Pre
+
+abbrev place-at : ℕ → In 2 place-kinds.ps
+place-at t = and 2 place-kinds.ps (is 2 place-kinds.ps μ-place t) place.Pre
+
+abbrev place-below : ℕ → In 2 place-kinds.ps
+place-below t = and 2 place-kinds.ps (falls 2 place-kinds.ps _<_ μ-place t) place.Pre
+
+abbrev place-form-at : ℕ → In 2 place-form-kinds.ps
+place-form-at t =
+    and 2 place-form-kinds.ps (is 2 place-form-kinds.ps μ-place-form t) place-form.Pre
+
+abbrev place-form-below : ℕ → In 2 place-form-kinds.ps
+place-form-below t =
+    and 2 place-form-kinds.ps (falls 2 place-form-kinds.ps _<_ μ-place-form t) place-form.Pre
+
+abbrev short-cut-at : ℕ → In 2 short-cut-kinds.ps
+short-cut-at t = and 2 short-cut-kinds.ps (is 2 short-cut-kinds.ps μ-short-cut t) short-cut.Pre
+
+abbrev short-cut-below : ℕ → In 2 short-cut-kinds.ps
+short-cut-below t =
+    and 2 short-cut-kinds.ps (falls 2 short-cut-kinds.ps _<_ μ-short-cut t) short-cut.Pre
+
+-- src/walk.rt:29:9
+eval-eval-form-requires : (t : ℕ) → eval-lts.Need-eval-form-requires (
+  eval-form-below t,
+  eval-form.Post,
+  number-reads.Asked,
+  number-reads.Learnt,
+  simple-reads.Asked,
+  simple-reads.Learnt,
+  left-first-below t,
+  left-first.Post,
+  eval-below t,
+  eval.Post,
+  binary-reads.Asked,
+  binary-reads.Learnt,
+  one-sided-below t,
+  one-sided.Post,
+  cell-reads.Asked,
+  cell-reads.Learnt,
+  integral-reads.Asked,
+  integral-reads.Learnt,
+) (eval-at t) eval.Post
+eval-eval-form-requires t c κs = search needs
+
+-- src/walk.rt:29:9
+eval-returns : (t : ℕ) → eval-lts.Need-returns (
+  eval-form-below t,
+  eval-form.Post,
+  number-reads.Asked,
+  number-reads.Learnt,
+  simple-reads.Asked,
+  simple-reads.Learnt,
+  left-first-below t,
+  left-first.Post,
+  eval-below t,
+  eval.Post,
+  binary-reads.Asked,
+  binary-reads.Learnt,
+  one-sided-below t,
+  one-sided.Post,
+  cell-reads.Asked,
+  cell-reads.Learnt,
+  integral-reads.Asked,
+  integral-reads.Learnt,
+) (eval-at t) eval.Post
+eval-returns t c = search (evals-passed, sfits-of)
+
+-- src/walk.rt:32:9
+eval-number-requires : (t : ℕ) → eval-lts.Need-number-requires (
+  eval-form-below t,
+  eval-form.Post,
+  number-reads.Asked,
+  number-reads.Learnt,
+  simple-reads.Asked,
+  simple-reads.Learnt,
+  left-first-below t,
+  left-first.Post,
+  eval-below t,
+  eval.Post,
+  binary-reads.Asked,
+  binary-reads.Learnt,
+  one-sided-below t,
+  one-sided.Post,
+  cell-reads.Asked,
+  cell-reads.Learnt,
+  integral-reads.Asked,
+  integral-reads.Learnt,
+) (eval-at t) eval.Post
+eval-number-requires t c κs = search needs
+
+-- src/walk.rt:35:54
+eval-add-number : (t : ℕ) → eval-lts.Need-add-number (
+  eval-form-below t,
+  eval-form.Post,
+  number-reads.Asked,
+  number-reads.Learnt,
+  simple-reads.Asked,
+  simple-reads.Learnt,
+  left-first-below t,
+  left-first.Post,
+  eval-below t,
+  eval.Post,
+  binary-reads.Asked,
+  binary-reads.Learnt,
+  one-sided-below t,
+  one-sided.Post,
+  cell-reads.Asked,
+  cell-reads.Learnt,
+  integral-reads.Asked,
+  integral-reads.Learnt,
+) (eval-at t) eval.Post
+eval-add-number t c = search needs
+
+-- src/walk.rt:35:41
+eval-number-requires-2 : (t : ℕ) → eval-lts.Need-number-requires-2 (
+  eval-form-below t,
+  eval-form.Post,
+  number-reads.Asked,
+  number-reads.Learnt,
+  simple-reads.Asked,
+  simple-reads.Learnt,
+  left-first-below t,
+  left-first.Post,
+  eval-below t,
+  eval.Post,
+  binary-reads.Asked,
+  binary-reads.Learnt,
+  one-sided-below t,
+  one-sided.Post,
+  cell-reads.Asked,
+  cell-reads.Learnt,
+  integral-reads.Asked,
+  integral-reads.Learnt,
+) (eval-at t) eval.Post
+eval-number-requires-2 t c κs = search needs
+
+-- src/walk.rt:35:17
+eval-simple-requires : (t : ℕ) → eval-lts.Need-simple-requires (
+  eval-form-below t,
+  eval-form.Post,
+  number-reads.Asked,
+  number-reads.Learnt,
+  simple-reads.Asked,
+  simple-reads.Learnt,
+  left-first-below t,
+  left-first.Post,
+  eval-below t,
+  eval.Post,
+  binary-reads.Asked,
+  binary-reads.Learnt,
+  one-sided-below t,
+  one-sided.Post,
+  cell-reads.Asked,
+  cell-reads.Learnt,
+  integral-reads.Asked,
+  integral-reads.Learnt,
+) (eval-at t) eval.Post
+eval-simple-requires t c κs = search needs
+
+-- src/walk.rt:37:17
+eval-left-first-requires : (t : ℕ) → eval-lts.Need-left-first-requires (
+  eval-form-below t,
+  eval-form.Post,
+  number-reads.Asked,
+  number-reads.Learnt,
+  simple-reads.Asked,
+  simple-reads.Learnt,
+  left-first-below t,
+  left-first.Post,
+  eval-below t,
+  eval.Post,
+  binary-reads.Asked,
+  binary-reads.Learnt,
+  one-sided-below t,
+  one-sided.Post,
+  cell-reads.Asked,
+  cell-reads.Learnt,
+  integral-reads.Asked,
+  integral-reads.Learnt,
+) (eval-at t) eval.Post
+eval-left-first-requires t c κs = search needs
+
+-- src/walk.rt:37:17
+eval-returns-2 : (t : ℕ) → eval-lts.Need-returns-2 (
+  eval-form-below t,
+  eval-form.Post,
+  number-reads.Asked,
+  number-reads.Learnt,
+  simple-reads.Asked,
+  simple-reads.Learnt,
+  left-first-below t,
+  left-first.Post,
+  eval-below t,
+  eval.Post,
+  binary-reads.Asked,
+  binary-reads.Learnt,
+  one-sided-below t,
+  one-sided.Post,
+  cell-reads.Asked,
+  cell-reads.Learnt,
+  integral-reads.Asked,
+  integral-reads.Learnt,
+) (eval-at t) eval.Post
+eval-returns-2 t c = search (evals-passed, sfits-of)
+
+-- src/walk.rt:39:34
+eval-add-number-2 : (t : ℕ) → eval-lts.Need-add-number-2 (
+  eval-form-below t,
+  eval-form.Post,
+  number-reads.Asked,
+  number-reads.Learnt,
+  simple-reads.Asked,
+  simple-reads.Learnt,
+  left-first-below t,
+  left-first.Post,
+  eval-below t,
+  eval.Post,
+  binary-reads.Asked,
+  binary-reads.Learnt,
+  one-sided-below t,
+  one-sided.Post,
+  cell-reads.Asked,
+  cell-reads.Learnt,
+  integral-reads.Asked,
+  integral-reads.Learnt,
+) (eval-at t) eval.Post
+eval-add-number-2 t c = search needs
+
+-- src/walk.rt:39:17
+eval-number-requires-3 : (t : ℕ) → eval-lts.Need-number-requires-3 (
+  eval-form-below t,
+  eval-form.Post,
+  number-reads.Asked,
+  number-reads.Learnt,
+  simple-reads.Asked,
+  simple-reads.Learnt,
+  left-first-below t,
+  left-first.Post,
+  eval-below t,
+  eval.Post,
+  binary-reads.Asked,
+  binary-reads.Learnt,
+  one-sided-below t,
+  one-sided.Post,
+  cell-reads.Asked,
+  cell-reads.Learnt,
+  integral-reads.Asked,
+  integral-reads.Learnt,
+) (eval-at t) eval.Post
+eval-number-requires-3 t c κs = search needs
+
+-- src/walk.rt:40:17
+eval-simple-requires-2 : (t : ℕ) → eval-lts.Need-simple-requires-2 (
+  eval-form-below t,
+  eval-form.Post,
+  number-reads.Asked,
+  number-reads.Learnt,
+  simple-reads.Asked,
+  simple-reads.Learnt,
+  left-first-below t,
+  left-first.Post,
+  eval-below t,
+  eval.Post,
+  binary-reads.Asked,
+  binary-reads.Learnt,
+  one-sided-below t,
+  one-sided.Post,
+  cell-reads.Asked,
+  cell-reads.Learnt,
+  integral-reads.Asked,
+  integral-reads.Learnt,
+) (eval-at t) eval.Post
+eval-simple-requires-2 t c κs = search needs
+
+-- src/walk.rt:42:67
+eval-sub-eval : (t : ℕ) → eval-lts.Need-sub-eval (
+  eval-form-below t,
+  eval-form.Post,
+  number-reads.Asked,
+  number-reads.Learnt,
+  simple-reads.Asked,
+  simple-reads.Learnt,
+  left-first-below t,
+  left-first.Post,
+  eval-below t,
+  eval.Post,
+  binary-reads.Asked,
+  binary-reads.Learnt,
+  one-sided-below t,
+  one-sided.Post,
+  cell-reads.Asked,
+  cell-reads.Learnt,
+  integral-reads.Asked,
+  integral-reads.Learnt,
+) (eval-at t) eval.Post
+eval-sub-eval t c = search needs
+
+-- src/walk.rt:42:38
+eval-eval-requires : (t : ℕ) → eval-lts.Need-eval-requires (
+  eval-form-below t,
+  eval-form.Post,
+  number-reads.Asked,
+  number-reads.Learnt,
+  simple-reads.Asked,
+  simple-reads.Learnt,
+  left-first-below t,
+  left-first.Post,
+  eval-below t,
+  eval.Post,
+  binary-reads.Asked,
+  binary-reads.Learnt,
+  one-sided-below t,
+  one-sided.Post,
+  cell-reads.Asked,
+  cell-reads.Learnt,
+  integral-reads.Asked,
+  integral-reads.Learnt,
+) (eval-at t) eval.Post
+eval-eval-requires t c κs = search needs
+
+-- src/walk.rt:42:17
+eval-binary-requires : (t : ℕ) → eval-lts.Need-binary-requires (
+  eval-form-below t,
+  eval-form.Post,
+  number-reads.Asked,
+  number-reads.Learnt,
+  simple-reads.Asked,
+  simple-reads.Learnt,
+  left-first-below t,
+  left-first.Post,
+  eval-below t,
+  eval.Post,
+  binary-reads.Asked,
+  binary-reads.Learnt,
+  one-sided-below t,
+  one-sided.Post,
+  cell-reads.Asked,
+  cell-reads.Learnt,
+  integral-reads.Asked,
+  integral-reads.Learnt,
+) (eval-at t) eval.Post
+eval-binary-requires t c κs = search needs
+
+-- src/walk.rt:42:17
+eval-returns-3 : (t : ℕ) → eval-lts.Need-returns-3 (
+  eval-form-below t,
+  eval-form.Post,
+  number-reads.Asked,
+  number-reads.Learnt,
+  simple-reads.Asked,
+  simple-reads.Learnt,
+  left-first-below t,
+  left-first.Post,
+  eval-below t,
+  eval.Post,
+  binary-reads.Asked,
+  binary-reads.Learnt,
+  one-sided-below t,
+  one-sided.Post,
+  cell-reads.Asked,
+  cell-reads.Learnt,
+  integral-reads.Asked,
+  integral-reads.Learnt,
+) (eval-at t) eval.Post
+eval-returns-3 t c = search (evals-binary, simple-evals, deep, sfits-of)
+
+-- src/walk.rt:44:13
+eval-binary-requires-2 : (t : ℕ) → eval-lts.Need-binary-requires-2 (
+  eval-form-below t,
+  eval-form.Post,
+  number-reads.Asked,
+  number-reads.Learnt,
+  simple-reads.Asked,
+  simple-reads.Learnt,
+  left-first-below t,
+  left-first.Post,
+  eval-below t,
+  eval.Post,
+  binary-reads.Asked,
+  binary-reads.Learnt,
+  one-sided-below t,
+  one-sided.Post,
+  cell-reads.Asked,
+  cell-reads.Learnt,
+  integral-reads.Asked,
+  integral-reads.Learnt,
+) (eval-at t) eval.Post
+eval-binary-requires-2 t c κs = search needs
+
+-- src/walk.rt:44:13
+eval-returns-4 : (t : ℕ) → eval-lts.Need-returns-4 (
+  eval-form-below t,
+  eval-form.Post,
+  number-reads.Asked,
+  number-reads.Learnt,
+  simple-reads.Asked,
+  simple-reads.Learnt,
+  left-first-below t,
+  left-first.Post,
+  eval-below t,
+  eval.Post,
+  binary-reads.Asked,
+  binary-reads.Learnt,
+  one-sided-below t,
+  one-sided.Post,
+  cell-reads.Asked,
+  cell-reads.Learnt,
+  integral-reads.Asked,
+  integral-reads.Learnt,
+) (eval-at t) eval.Post
+eval-returns-4 t c = search (two-simple, deep, sfits-of)
+
+-- src/walk.rt:46:9
+eval-one-sided-requires : (t : ℕ) → eval-lts.Need-one-sided-requires (
+  eval-form-below t,
+  eval-form.Post,
+  number-reads.Asked,
+  number-reads.Learnt,
+  simple-reads.Asked,
+  simple-reads.Learnt,
+  left-first-below t,
+  left-first.Post,
+  eval-below t,
+  eval.Post,
+  binary-reads.Asked,
+  binary-reads.Learnt,
+  one-sided-below t,
+  one-sided.Post,
+  cell-reads.Asked,
+  cell-reads.Learnt,
+  integral-reads.Asked,
+  integral-reads.Learnt,
+) (eval-at t) eval.Post
+eval-one-sided-requires t c κs = search needs
+
+-- src/walk.rt:46:9
+eval-returns-5 : (t : ℕ) → eval-lts.Need-returns-5 (
+  eval-form-below t,
+  eval-form.Post,
+  number-reads.Asked,
+  number-reads.Learnt,
+  simple-reads.Asked,
+  simple-reads.Learnt,
+  left-first-below t,
+  left-first.Post,
+  eval-below t,
+  eval.Post,
+  binary-reads.Asked,
+  binary-reads.Learnt,
+  one-sided-below t,
+  one-sided.Post,
+  cell-reads.Asked,
+  cell-reads.Learnt,
+  integral-reads.Asked,
+  integral-reads.Learnt,
+) (eval-at t) eval.Post
+eval-returns-5 t c = search (evals-passed, sfits-of)
+
+-- src/walk.rt:49:41
+eval-add-number-3 : (t : ℕ) → eval-lts.Need-add-number-3 (
+  eval-form-below t,
+  eval-form.Post,
+  number-reads.Asked,
+  number-reads.Learnt,
+  simple-reads.Asked,
+  simple-reads.Learnt,
+  left-first-below t,
+  left-first.Post,
+  eval-below t,
+  eval.Post,
+  binary-reads.Asked,
+  binary-reads.Learnt,
+  one-sided-below t,
+  one-sided.Post,
+  cell-reads.Asked,
+  cell-reads.Learnt,
+  integral-reads.Asked,
+  integral-reads.Learnt,
+) (eval-at t) eval.Post
+eval-add-number-3 t c = search needs
+
+-- src/walk.rt:49:28
+eval-number-requires-4 : (t : ℕ) → eval-lts.Need-number-requires-4 (
+  eval-form-below t,
+  eval-form.Post,
+  number-reads.Asked,
+  number-reads.Learnt,
+  simple-reads.Asked,
+  simple-reads.Learnt,
+  left-first-below t,
+  left-first.Post,
+  eval-below t,
+  eval.Post,
+  binary-reads.Asked,
+  binary-reads.Learnt,
+  one-sided-below t,
+  one-sided.Post,
+  cell-reads.Asked,
+  cell-reads.Learnt,
+  integral-reads.Asked,
+  integral-reads.Learnt,
+) (eval-at t) eval.Post
+eval-number-requires-4 t c κs = search needs
+
+-- src/walk.rt:49:28
+eval-cast-cell : (t : ℕ) → eval-lts.Need-cast-cell (
+  eval-form-below t,
+  eval-form.Post,
+  number-reads.Asked,
+  number-reads.Learnt,
+  simple-reads.Asked,
+  simple-reads.Learnt,
+  left-first-below t,
+  left-first.Post,
+  eval-below t,
+  eval.Post,
+  binary-reads.Asked,
+  binary-reads.Learnt,
+  one-sided-below t,
+  one-sided.Post,
+  cell-reads.Asked,
+  cell-reads.Learnt,
+  integral-reads.Asked,
+  integral-reads.Learnt,
+) (eval-at t) eval.Post
+eval-cast-cell t c = search needs
+
+-- src/walk.rt:49:9
+eval-cell-requires : (t : ℕ) → eval-lts.Need-cell-requires (
+  eval-form-below t,
+  eval-form.Post,
+  number-reads.Asked,
+  number-reads.Learnt,
+  simple-reads.Asked,
+  simple-reads.Learnt,
+  left-first-below t,
+  left-first.Post,
+  eval-below t,
+  eval.Post,
+  binary-reads.Asked,
+  binary-reads.Learnt,
+  one-sided-below t,
+  one-sided.Post,
+  cell-reads.Asked,
+  cell-reads.Learnt,
+  integral-reads.Asked,
+  integral-reads.Learnt,
+) (eval-at t) eval.Post
+eval-cell-requires t c κs = search needs
+
+-- src/walk.rt:49:9
+eval-returns-6 : (t : ℕ) → eval-lts.Need-returns-6 (
+  eval-form-below t,
+  eval-form.Post,
+  number-reads.Asked,
+  number-reads.Learnt,
+  simple-reads.Asked,
+  simple-reads.Learnt,
+  left-first-below t,
+  left-first.Post,
+  eval-below t,
+  eval.Post,
+  binary-reads.Asked,
+  binary-reads.Learnt,
+  one-sided-below t,
+  one-sided.Post,
+  cell-reads.Asked,
+  cell-reads.Learnt,
+  integral-reads.Asked,
+  integral-reads.Learnt,
+) (eval-at t) eval.Post
+eval-returns-6 t c = search (evals-cell, deep, sfits-of)
+
+-- src/walk.rt:52:31
+eval-add-integral : (t : ℕ) → eval-lts.Need-add-integral (
+  eval-form-below t,
+  eval-form.Post,
+  number-reads.Asked,
+  number-reads.Learnt,
+  simple-reads.Asked,
+  simple-reads.Learnt,
+  left-first-below t,
+  left-first.Post,
+  eval-below t,
+  eval.Post,
+  binary-reads.Asked,
+  binary-reads.Learnt,
+  one-sided-below t,
+  one-sided.Post,
+  cell-reads.Asked,
+  cell-reads.Learnt,
+  integral-reads.Asked,
+  integral-reads.Learnt,
+) (eval-at t) eval.Post
+eval-add-integral t c = search needs
+
+-- src/walk.rt:52:9
+eval-integral-requires : (t : ℕ) → eval-lts.Need-integral-requires (
+  eval-form-below t,
+  eval-form.Post,
+  number-reads.Asked,
+  number-reads.Learnt,
+  simple-reads.Asked,
+  simple-reads.Learnt,
+  left-first-below t,
+  left-first.Post,
+  eval-below t,
+  eval.Post,
+  binary-reads.Asked,
+  binary-reads.Learnt,
+  one-sided-below t,
+  one-sided.Post,
+  cell-reads.Asked,
+  cell-reads.Learnt,
+  integral-reads.Asked,
+  integral-reads.Learnt,
+) (eval-at t) eval.Post
+eval-integral-requires t c κs = search needs
+
+-- src/walk.rt:52:9
+eval-returns-7 : (t : ℕ) → eval-lts.Need-returns-7 (
+  eval-form-below t,
+  eval-form.Post,
+  number-reads.Asked,
+  number-reads.Learnt,
+  simple-reads.Asked,
+  simple-reads.Learnt,
+  left-first-below t,
+  left-first.Post,
+  eval-below t,
+  eval.Post,
+  binary-reads.Asked,
+  binary-reads.Learnt,
+  one-sided-below t,
+  one-sided.Post,
+  cell-reads.Asked,
+  cell-reads.Learnt,
+  integral-reads.Asked,
+  integral-reads.Learnt,
+) (eval-at t) eval.Post
+eval-returns-7 t c = search (evals-literal, deep, sfits-of)
+
+-- src/walk.rt:54:5
+eval-eval-form-requires-2 : (t : ℕ) → eval-lts.Need-eval-form-requires-2 (
+  eval-form-below t,
+  eval-form.Post,
+  number-reads.Asked,
+  number-reads.Learnt,
+  simple-reads.Asked,
+  simple-reads.Learnt,
+  left-first-below t,
+  left-first.Post,
+  eval-below t,
+  eval.Post,
+  binary-reads.Asked,
+  binary-reads.Learnt,
+  one-sided-below t,
+  one-sided.Post,
+  cell-reads.Asked,
+  cell-reads.Learnt,
+  integral-reads.Asked,
+  integral-reads.Learnt,
+) (eval-at t) eval.Post
+eval-eval-form-requires-2 t c κs = search needs
+
+-- src/walk.rt:25:1
+eval-returns-8 : (t : ℕ) → eval-lts.Need-returns-8 (
+  eval-form-below t,
+  eval-form.Post,
+  number-reads.Asked,
+  number-reads.Learnt,
+  simple-reads.Asked,
+  simple-reads.Learnt,
+  left-first-below t,
+  left-first.Post,
+  eval-below t,
+  eval.Post,
+  binary-reads.Asked,
+  binary-reads.Learnt,
+  one-sided-below t,
+  one-sided.Post,
+  cell-reads.Asked,
+  cell-reads.Learnt,
+  integral-reads.Asked,
+  integral-reads.Learnt,
+) (eval-at t) eval.Post
+eval-returns-8 t c = search (evals-passed, sfits-of)
+
+-- src/walk.rt:98:9
+eval-form-returns : (t : ℕ) → eval-form-lts.Need-returns (
+  number-reads.Asked,
+  number-reads.Learnt,
+  one-sided-below t,
+  one-sided.Post,
+  eval-below t,
+  eval.Post,
+  binary-reads.Asked,
+  binary-reads.Learnt,
+  short-cut-below t,
+  short-cut.Post,
+  integral-reads.Asked,
+  integral-reads.Learnt,
+  cell-reads.Asked,
+  cell-reads.Learnt,
+  cells-reads.Asked,
+  cells-reads.Learnt,
+  place-below t,
+  place.Post,
+  cells-at-reads.Asked,
+  cells-at-reads.Learnt,
+  gather-below t,
+  gather.Post,
+) (eval-form-at t) eval-form.Post
+eval-form-returns t c = search (evals-zero, sfits-of)
+
+-- src/walk.rt:101:9
+eval-form-number-requires : (t : ℕ) → eval-form-lts.Need-number-requires (
+  number-reads.Asked,
+  number-reads.Learnt,
+  one-sided-below t,
+  one-sided.Post,
+  eval-below t,
+  eval.Post,
+  binary-reads.Asked,
+  binary-reads.Learnt,
+  short-cut-below t,
+  short-cut.Post,
+  integral-reads.Asked,
+  integral-reads.Learnt,
+  cell-reads.Asked,
+  cell-reads.Learnt,
+  cells-reads.Asked,
+  cells-reads.Learnt,
+  place-below t,
+  place.Post,
+  cells-at-reads.Asked,
+  cells-at-reads.Learnt,
+  gather-below t,
+  gather.Post,
+) (eval-form-at t) eval-form.Post
+eval-form-number-requires t c κs = search needs
+
+-- src/walk.rt:103:9
+eval-form-one-sided-requires : (t : ℕ) → eval-form-lts.Need-one-sided-requires (
+  number-reads.Asked,
+  number-reads.Learnt,
+  one-sided-below t,
+  one-sided.Post,
+  eval-below t,
+  eval.Post,
+  binary-reads.Asked,
+  binary-reads.Learnt,
+  short-cut-below t,
+  short-cut.Post,
+  integral-reads.Asked,
+  integral-reads.Learnt,
+  cell-reads.Asked,
+  cell-reads.Learnt,
+  cells-reads.Asked,
+  cells-reads.Learnt,
+  place-below t,
+  place.Post,
+  cells-at-reads.Asked,
+  cells-at-reads.Learnt,
+  gather-below t,
+  gather.Post,
+) (eval-form-at t) eval-form.Post
+eval-form-one-sided-requires t c κs = search needs
+
+-- src/walk.rt:103:9
+eval-form-returns-2 : (t : ℕ) → eval-form-lts.Need-returns-2 (
+  number-reads.Asked,
+  number-reads.Learnt,
+  one-sided-below t,
+  one-sided.Post,
+  eval-below t,
+  eval.Post,
+  binary-reads.Asked,
+  binary-reads.Learnt,
+  short-cut-below t,
+  short-cut.Post,
+  integral-reads.Asked,
+  integral-reads.Learnt,
+  cell-reads.Asked,
+  cell-reads.Learnt,
+  cells-reads.Asked,
+  cells-reads.Learnt,
+  place-below t,
+  place.Post,
+  cells-at-reads.Asked,
+  cells-at-reads.Learnt,
+  gather-below t,
+  gather.Post,
+) (eval-form-at t) eval-form.Post
+eval-form-returns-2 t c = search (evals-passed, sfits-of)
+
+-- src/walk.rt:106:56
+eval-form-add-number : (t : ℕ) → eval-form-lts.Need-add-number (
+  number-reads.Asked,
+  number-reads.Learnt,
+  one-sided-below t,
+  one-sided.Post,
+  eval-below t,
+  eval.Post,
+  binary-reads.Asked,
+  binary-reads.Learnt,
+  short-cut-below t,
+  short-cut.Post,
+  integral-reads.Asked,
+  integral-reads.Learnt,
+  cell-reads.Asked,
+  cell-reads.Learnt,
+  cells-reads.Asked,
+  cells-reads.Learnt,
+  place-below t,
+  place.Post,
+  cells-at-reads.Asked,
+  cells-at-reads.Learnt,
+  gather-below t,
+  gather.Post,
+) (eval-form-at t) eval-form.Post
+eval-form-add-number t c = search needs
+
+-- src/walk.rt:106:43
+eval-form-number-requires-2 : (t : ℕ) → eval-form-lts.Need-number-requires-2 (
+  number-reads.Asked,
+  number-reads.Learnt,
+  one-sided-below t,
+  one-sided.Post,
+  eval-below t,
+  eval.Post,
+  binary-reads.Asked,
+  binary-reads.Learnt,
+  short-cut-below t,
+  short-cut.Post,
+  integral-reads.Asked,
+  integral-reads.Learnt,
+  cell-reads.Asked,
+  cell-reads.Learnt,
+  cells-reads.Asked,
+  cells-reads.Learnt,
+  place-below t,
+  place.Post,
+  cells-at-reads.Asked,
+  cells-at-reads.Learnt,
+  gather-below t,
+  gather.Post,
+) (eval-form-at t) eval-form.Post
+eval-form-number-requires-2 t c κs = search needs
+
+-- src/walk.rt:106:64
+eval-form-sub-eval : (t : ℕ) → eval-form-lts.Need-sub-eval (
+  number-reads.Asked,
+  number-reads.Learnt,
+  one-sided-below t,
+  one-sided.Post,
+  eval-below t,
+  eval.Post,
+  binary-reads.Asked,
+  binary-reads.Learnt,
+  short-cut-below t,
+  short-cut.Post,
+  integral-reads.Asked,
+  integral-reads.Learnt,
+  cell-reads.Asked,
+  cell-reads.Learnt,
+  cells-reads.Asked,
+  cells-reads.Learnt,
+  place-below t,
+  place.Post,
+  cells-at-reads.Asked,
+  cells-at-reads.Learnt,
+  gather-below t,
+  gather.Post,
+) (eval-form-at t) eval-form.Post
+eval-form-sub-eval t c = search needs
+
+-- src/walk.rt:106:13
+eval-form-eval-requires : (t : ℕ) → eval-form-lts.Need-eval-requires (
+  number-reads.Asked,
+  number-reads.Learnt,
+  one-sided-below t,
+  one-sided.Post,
+  eval-below t,
+  eval.Post,
+  binary-reads.Asked,
+  binary-reads.Learnt,
+  short-cut-below t,
+  short-cut.Post,
+  integral-reads.Asked,
+  integral-reads.Learnt,
+  cell-reads.Asked,
+  cell-reads.Learnt,
+  cells-reads.Asked,
+  cells-reads.Learnt,
+  place-below t,
+  place.Post,
+  cells-at-reads.Asked,
+  cells-at-reads.Learnt,
+  gather-below t,
+  gather.Post,
+) (eval-form-at t) eval-form.Post
+eval-form-eval-requires t c κs = search needs
+
+-- src/walk.rt:107:56
+eval-form-add-number-2 : (t : ℕ) → eval-form-lts.Need-add-number-2 (
+  number-reads.Asked,
+  number-reads.Learnt,
+  one-sided-below t,
+  one-sided.Post,
+  eval-below t,
+  eval.Post,
+  binary-reads.Asked,
+  binary-reads.Learnt,
+  short-cut-below t,
+  short-cut.Post,
+  integral-reads.Asked,
+  integral-reads.Learnt,
+  cell-reads.Asked,
+  cell-reads.Learnt,
+  cells-reads.Asked,
+  cells-reads.Learnt,
+  place-below t,
+  place.Post,
+  cells-at-reads.Asked,
+  cells-at-reads.Learnt,
+  gather-below t,
+  gather.Post,
+) (eval-form-at t) eval-form.Post
+eval-form-add-number-2 t c = search needs
+
+-- src/walk.rt:107:43
+eval-form-number-requires-3 : (t : ℕ) → eval-form-lts.Need-number-requires-3 (
+  number-reads.Asked,
+  number-reads.Learnt,
+  one-sided-below t,
+  one-sided.Post,
+  eval-below t,
+  eval.Post,
+  binary-reads.Asked,
+  binary-reads.Learnt,
+  short-cut-below t,
+  short-cut.Post,
+  integral-reads.Asked,
+  integral-reads.Learnt,
+  cell-reads.Asked,
+  cell-reads.Learnt,
+  cells-reads.Asked,
+  cells-reads.Learnt,
+  place-below t,
+  place.Post,
+  cells-at-reads.Asked,
+  cells-at-reads.Learnt,
+  gather-below t,
+  gather.Post,
+) (eval-form-at t) eval-form.Post
+eval-form-number-requires-3 t c κs = search needs
+
+-- src/walk.rt:107:64
+eval-form-sub-eval-2 : (t : ℕ) → eval-form-lts.Need-sub-eval-2 (
+  number-reads.Asked,
+  number-reads.Learnt,
+  one-sided-below t,
+  one-sided.Post,
+  eval-below t,
+  eval.Post,
+  binary-reads.Asked,
+  binary-reads.Learnt,
+  short-cut-below t,
+  short-cut.Post,
+  integral-reads.Asked,
+  integral-reads.Learnt,
+  cell-reads.Asked,
+  cell-reads.Learnt,
+  cells-reads.Asked,
+  cells-reads.Learnt,
+  place-below t,
+  place.Post,
+  cells-at-reads.Asked,
+  cells-at-reads.Learnt,
+  gather-below t,
+  gather.Post,
+) (eval-form-at t) eval-form.Post
+eval-form-sub-eval-2 t c = search needs
+
+-- src/walk.rt:107:13
+eval-form-eval-requires-2 : (t : ℕ) → eval-form-lts.Need-eval-requires-2 (
+  number-reads.Asked,
+  number-reads.Learnt,
+  one-sided-below t,
+  one-sided.Post,
+  eval-below t,
+  eval.Post,
+  binary-reads.Asked,
+  binary-reads.Learnt,
+  short-cut-below t,
+  short-cut.Post,
+  integral-reads.Asked,
+  integral-reads.Learnt,
+  cell-reads.Asked,
+  cell-reads.Learnt,
+  cells-reads.Asked,
+  cells-reads.Learnt,
+  place-below t,
+  place.Post,
+  cells-at-reads.Asked,
+  cells-at-reads.Learnt,
+  gather-below t,
+  gather.Post,
+) (eval-form-at t) eval-form.Post
+eval-form-eval-requires-2 t c κs = search needs
+
+-- src/walk.rt:108:9
+eval-form-binary-requires : (t : ℕ) → eval-form-lts.Need-binary-requires (
+  number-reads.Asked,
+  number-reads.Learnt,
+  one-sided-below t,
+  one-sided.Post,
+  eval-below t,
+  eval.Post,
+  binary-reads.Asked,
+  binary-reads.Learnt,
+  short-cut-below t,
+  short-cut.Post,
+  integral-reads.Asked,
+  integral-reads.Learnt,
+  cell-reads.Asked,
+  cell-reads.Learnt,
+  cells-reads.Asked,
+  cells-reads.Learnt,
+  place-below t,
+  place.Post,
+  cells-at-reads.Asked,
+  cells-at-reads.Learnt,
+  gather-below t,
+  gather.Post,
+) (eval-form-at t) eval-form.Post
+eval-form-binary-requires t c κs = search needs
+
+-- src/walk.rt:108:9
+eval-form-returns-3 : (t : ℕ) → eval-form-lts.Need-returns-3 (
+  number-reads.Asked,
+  number-reads.Learnt,
+  one-sided-below t,
+  one-sided.Post,
+  eval-below t,
+  eval.Post,
+  binary-reads.Asked,
+  binary-reads.Learnt,
+  short-cut-below t,
+  short-cut.Post,
+  integral-reads.Asked,
+  integral-reads.Learnt,
+  cell-reads.Asked,
+  cell-reads.Learnt,
+  cells-reads.Asked,
+  cells-reads.Learnt,
+  place-below t,
+  place.Post,
+  cells-at-reads.Asked,
+  cells-at-reads.Learnt,
+  gather-below t,
+  gather.Post,
+) (eval-form-at t) eval-form.Post
+eval-form-returns-3 t c = search (binary-form, deep, sfits-of)
+
+-- src/walk.rt:111:9
+eval-form-short-cut-requires : (t : ℕ) → eval-form-lts.Need-short-cut-requires (
+  number-reads.Asked,
+  number-reads.Learnt,
+  one-sided-below t,
+  one-sided.Post,
+  eval-below t,
+  eval.Post,
+  binary-reads.Asked,
+  binary-reads.Learnt,
+  short-cut-below t,
+  short-cut.Post,
+  integral-reads.Asked,
+  integral-reads.Learnt,
+  cell-reads.Asked,
+  cell-reads.Learnt,
+  cells-reads.Asked,
+  cells-reads.Learnt,
+  place-below t,
+  place.Post,
+  cells-at-reads.Asked,
+  cells-at-reads.Learnt,
+  gather-below t,
+  gather.Post,
+) (eval-form-at t) eval-form.Post
+eval-form-short-cut-requires t c κs = search needs
+
+-- src/walk.rt:111:9
+eval-form-returns-4 : (t : ℕ) → eval-form-lts.Need-returns-4 (
+  number-reads.Asked,
+  number-reads.Learnt,
+  one-sided-below t,
+  one-sided.Post,
+  eval-below t,
+  eval.Post,
+  binary-reads.Asked,
+  binary-reads.Learnt,
+  short-cut-below t,
+  short-cut.Post,
+  integral-reads.Asked,
+  integral-reads.Learnt,
+  cell-reads.Asked,
+  cell-reads.Learnt,
+  cells-reads.Asked,
+  cells-reads.Learnt,
+  place-below t,
+  place.Post,
+  cells-at-reads.Asked,
+  cells-at-reads.Learnt,
+  gather-below t,
+  gather.Post,
+) (eval-form-at t) eval-form.Post
+eval-form-returns-4 t c = search (evals-passed, sfits-of)
+
+-- src/walk.rt:114:29
+eval-form-add-integral : (t : ℕ) → eval-form-lts.Need-add-integral (
+  number-reads.Asked,
+  number-reads.Learnt,
+  one-sided-below t,
+  one-sided.Post,
+  eval-below t,
+  eval.Post,
+  binary-reads.Asked,
+  binary-reads.Learnt,
+  short-cut-below t,
+  short-cut.Post,
+  integral-reads.Asked,
+  integral-reads.Learnt,
+  cell-reads.Asked,
+  cell-reads.Learnt,
+  cells-reads.Asked,
+  cells-reads.Learnt,
+  place-below t,
+  place.Post,
+  cells-at-reads.Asked,
+  cells-at-reads.Learnt,
+  gather-below t,
+  gather.Post,
+) (eval-form-at t) eval-form.Post
+eval-form-add-integral t c = search needs
+
+-- src/walk.rt:114:14
+eval-form-integral-requires : (t : ℕ) → eval-form-lts.Need-integral-requires (
+  number-reads.Asked,
+  number-reads.Learnt,
+  one-sided-below t,
+  one-sided.Post,
+  eval-below t,
+  eval.Post,
+  binary-reads.Asked,
+  binary-reads.Learnt,
+  short-cut-below t,
+  short-cut.Post,
+  integral-reads.Asked,
+  integral-reads.Learnt,
+  cell-reads.Asked,
+  cell-reads.Learnt,
+  cells-reads.Asked,
+  cells-reads.Learnt,
+  place-below t,
+  place.Post,
+  cells-at-reads.Asked,
+  cells-at-reads.Learnt,
+  gather-below t,
+  gather.Post,
+) (eval-form-at t) eval-form.Post
+eval-form-integral-requires t c κs = search needs
+
+-- src/walk.rt:115:39
+eval-form-add-number-3 : (t : ℕ) → eval-form-lts.Need-add-number-3 (
+  number-reads.Asked,
+  number-reads.Learnt,
+  one-sided-below t,
+  one-sided.Post,
+  eval-below t,
+  eval.Post,
+  binary-reads.Asked,
+  binary-reads.Learnt,
+  short-cut-below t,
+  short-cut.Post,
+  integral-reads.Asked,
+  integral-reads.Learnt,
+  cell-reads.Asked,
+  cell-reads.Learnt,
+  cells-reads.Asked,
+  cells-reads.Learnt,
+  place-below t,
+  place.Post,
+  cells-at-reads.Asked,
+  cells-at-reads.Learnt,
+  gather-below t,
+  gather.Post,
+) (eval-form-at t) eval-form.Post
+eval-form-add-number-3 t c = search needs
+
+-- src/walk.rt:115:26
+eval-form-number-requires-4 : (t : ℕ) → eval-form-lts.Need-number-requires-4 (
+  number-reads.Asked,
+  number-reads.Learnt,
+  one-sided-below t,
+  one-sided.Post,
+  eval-below t,
+  eval.Post,
+  binary-reads.Asked,
+  binary-reads.Learnt,
+  short-cut-below t,
+  short-cut.Post,
+  integral-reads.Asked,
+  integral-reads.Learnt,
+  cell-reads.Asked,
+  cell-reads.Learnt,
+  cells-reads.Asked,
+  cells-reads.Learnt,
+  place-below t,
+  place.Post,
+  cells-at-reads.Asked,
+  cells-at-reads.Learnt,
+  gather-below t,
+  gather.Post,
+) (eval-form-at t) eval-form.Post
+eval-form-number-requires-4 t c κs = search needs
+
+-- src/walk.rt:115:26
+eval-form-cast-cell : (t : ℕ) → eval-form-lts.Need-cast-cell (
+  number-reads.Asked,
+  number-reads.Learnt,
+  one-sided-below t,
+  one-sided.Post,
+  eval-below t,
+  eval.Post,
+  binary-reads.Asked,
+  binary-reads.Learnt,
+  short-cut-below t,
+  short-cut.Post,
+  integral-reads.Asked,
+  integral-reads.Learnt,
+  cell-reads.Asked,
+  cell-reads.Learnt,
+  cells-reads.Asked,
+  cells-reads.Learnt,
+  place-below t,
+  place.Post,
+  cells-at-reads.Asked,
+  cells-at-reads.Learnt,
+  gather-below t,
+  gather.Post,
+) (eval-form-at t) eval-form.Post
+eval-form-cast-cell t c = search needs
+
+-- src/walk.rt:115:14
+eval-form-cell-requires : (t : ℕ) → eval-form-lts.Need-cell-requires (
+  number-reads.Asked,
+  number-reads.Learnt,
+  one-sided-below t,
+  one-sided.Post,
+  eval-below t,
+  eval.Post,
+  binary-reads.Asked,
+  binary-reads.Learnt,
+  short-cut-below t,
+  short-cut.Post,
+  integral-reads.Asked,
+  integral-reads.Learnt,
+  cell-reads.Asked,
+  cell-reads.Learnt,
+  cells-reads.Asked,
+  cells-reads.Learnt,
+  place-below t,
+  place.Post,
+  cells-at-reads.Asked,
+  cells-at-reads.Learnt,
+  gather-below t,
+  gather.Post,
+) (eval-form-at t) eval-form.Post
+eval-form-cell-requires t c κs = search needs
+
+-- src/walk.rt:117:34
+eval-form-add-number-4 : (t : ℕ) → eval-form-lts.Need-add-number-4 (
+  number-reads.Asked,
+  number-reads.Learnt,
+  one-sided-below t,
+  one-sided.Post,
+  eval-below t,
+  eval.Post,
+  binary-reads.Asked,
+  binary-reads.Learnt,
+  short-cut-below t,
+  short-cut.Post,
+  integral-reads.Asked,
+  integral-reads.Learnt,
+  cell-reads.Asked,
+  cell-reads.Learnt,
+  cells-reads.Asked,
+  cells-reads.Learnt,
+  place-below t,
+  place.Post,
+  cells-at-reads.Asked,
+  cells-at-reads.Learnt,
+  gather-below t,
+  gather.Post,
+) (eval-form-at t) eval-form.Post
+eval-form-add-number-4 t c = search needs
+
+-- src/walk.rt:117:17
+eval-form-number-requires-5 : (t : ℕ) → eval-form-lts.Need-number-requires-5 (
+  number-reads.Asked,
+  number-reads.Learnt,
+  one-sided-below t,
+  one-sided.Post,
+  eval-below t,
+  eval.Post,
+  binary-reads.Asked,
+  binary-reads.Learnt,
+  short-cut-below t,
+  short-cut.Post,
+  integral-reads.Asked,
+  integral-reads.Learnt,
+  cell-reads.Asked,
+  cell-reads.Learnt,
+  cells-reads.Asked,
+  cells-reads.Learnt,
+  place-below t,
+  place.Post,
+  cells-at-reads.Asked,
+  cells-at-reads.Learnt,
+  gather-below t,
+  gather.Post,
+) (eval-form-at t) eval-form.Post
+eval-form-number-requires-5 t c κs = search needs
+
+-- src/walk.rt:118:13
+eval-form-cells-requires : (t : ℕ) → eval-form-lts.Need-cells-requires (
+  number-reads.Asked,
+  number-reads.Learnt,
+  one-sided-below t,
+  one-sided.Post,
+  eval-below t,
+  eval.Post,
+  binary-reads.Asked,
+  binary-reads.Learnt,
+  short-cut-below t,
+  short-cut.Post,
+  integral-reads.Asked,
+  integral-reads.Learnt,
+  cell-reads.Asked,
+  cell-reads.Learnt,
+  cells-reads.Asked,
+  cells-reads.Learnt,
+  place-below t,
+  place.Post,
+  cells-at-reads.Asked,
+  cells-at-reads.Learnt,
+  gather-below t,
+  gather.Post,
+) (eval-form-at t) eval-form.Post
+eval-form-cells-requires t c κs = search needs
+
+-- src/walk.rt:121:61
+eval-form-add-number-5 : (t : ℕ) → eval-form-lts.Need-add-number-5 (
+  number-reads.Asked,
+  number-reads.Learnt,
+  one-sided-below t,
+  one-sided.Post,
+  eval-below t,
+  eval.Post,
+  binary-reads.Asked,
+  binary-reads.Learnt,
+  short-cut-below t,
+  short-cut.Post,
+  integral-reads.Asked,
+  integral-reads.Learnt,
+  cell-reads.Asked,
+  cell-reads.Learnt,
+  cells-reads.Asked,
+  cells-reads.Learnt,
+  place-below t,
+  place.Post,
+  cells-at-reads.Asked,
+  cells-at-reads.Learnt,
+  gather-below t,
+  gather.Post,
+) (eval-form-at t) eval-form.Post
+eval-form-add-number-5 t c = search needs
+
+-- src/walk.rt:121:48
+eval-form-number-requires-6 : (t : ℕ) → eval-form-lts.Need-number-requires-6 (
+  number-reads.Asked,
+  number-reads.Learnt,
+  one-sided-below t,
+  one-sided.Post,
+  eval-below t,
+  eval.Post,
+  binary-reads.Asked,
+  binary-reads.Learnt,
+  short-cut-below t,
+  short-cut.Post,
+  integral-reads.Asked,
+  integral-reads.Learnt,
+  cell-reads.Asked,
+  cell-reads.Learnt,
+  cells-reads.Asked,
+  cells-reads.Learnt,
+  place-below t,
+  place.Post,
+  cells-at-reads.Asked,
+  cells-at-reads.Learnt,
+  gather-below t,
+  gather.Post,
+) (eval-form-at t) eval-form.Post
+eval-form-number-requires-6 t c κs = search needs
+
+-- src/walk.rt:121:69
+eval-form-sub-place : (t : ℕ) → eval-form-lts.Need-sub-place (
+  number-reads.Asked,
+  number-reads.Learnt,
+  one-sided-below t,
+  one-sided.Post,
+  eval-below t,
+  eval.Post,
+  binary-reads.Asked,
+  binary-reads.Learnt,
+  short-cut-below t,
+  short-cut.Post,
+  integral-reads.Asked,
+  integral-reads.Learnt,
+  cell-reads.Asked,
+  cell-reads.Learnt,
+  cells-reads.Asked,
+  cells-reads.Learnt,
+  place-below t,
+  place.Post,
+  cells-at-reads.Asked,
+  cells-at-reads.Learnt,
+  gather-below t,
+  gather.Post,
+) (eval-form-at t) eval-form.Post
+eval-form-sub-place t c = search needs
+
+-- src/walk.rt:121:17
+eval-form-place-requires : (t : ℕ) → eval-form-lts.Need-place-requires (
+  number-reads.Asked,
+  number-reads.Learnt,
+  one-sided-below t,
+  one-sided.Post,
+  eval-below t,
+  eval.Post,
+  binary-reads.Asked,
+  binary-reads.Learnt,
+  short-cut-below t,
+  short-cut.Post,
+  integral-reads.Asked,
+  integral-reads.Learnt,
+  cell-reads.Asked,
+  cell-reads.Learnt,
+  cells-reads.Asked,
+  cells-reads.Learnt,
+  place-below t,
+  place.Post,
+  cells-at-reads.Asked,
+  cells-at-reads.Learnt,
+  gather-below t,
+  gather.Post,
+) (eval-form-at t) eval-form.Post
+eval-form-place-requires t c κs = search needs
+
+-- src/walk.rt:122:45
+eval-form-add-number-6 : (t : ℕ) → eval-form-lts.Need-add-number-6 (
+  number-reads.Asked,
+  number-reads.Learnt,
+  one-sided-below t,
+  one-sided.Post,
+  eval-below t,
+  eval.Post,
+  binary-reads.Asked,
+  binary-reads.Learnt,
+  short-cut-below t,
+  short-cut.Post,
+  integral-reads.Asked,
+  integral-reads.Learnt,
+  cell-reads.Asked,
+  cell-reads.Learnt,
+  cells-reads.Asked,
+  cells-reads.Learnt,
+  place-below t,
+  place.Post,
+  cells-at-reads.Asked,
+  cells-at-reads.Learnt,
+  gather-below t,
+  gather.Post,
+) (eval-form-at t) eval-form.Post
+eval-form-add-number-6 t c = search needs
+
+-- src/walk.rt:122:32
+eval-form-number-requires-7 : (t : ℕ) → eval-form-lts.Need-number-requires-7 (
+  number-reads.Asked,
+  number-reads.Learnt,
+  one-sided-below t,
+  one-sided.Post,
+  eval-below t,
+  eval.Post,
+  binary-reads.Asked,
+  binary-reads.Learnt,
+  short-cut-below t,
+  short-cut.Post,
+  integral-reads.Asked,
+  integral-reads.Learnt,
+  cell-reads.Asked,
+  cell-reads.Learnt,
+  cells-reads.Asked,
+  cells-reads.Learnt,
+  place-below t,
+  place.Post,
+  cells-at-reads.Asked,
+  cells-at-reads.Learnt,
+  gather-below t,
+  gather.Post,
+) (eval-form-at t) eval-form.Post
+eval-form-number-requires-7 t c κs = search needs
+
+-- src/walk.rt:122:13
+eval-form-cells-at-requires : (t : ℕ) → eval-form-lts.Need-cells-at-requires (
+  number-reads.Asked,
+  number-reads.Learnt,
+  one-sided-below t,
+  one-sided.Post,
+  eval-below t,
+  eval.Post,
+  binary-reads.Asked,
+  binary-reads.Learnt,
+  short-cut-below t,
+  short-cut.Post,
+  integral-reads.Asked,
+  integral-reads.Learnt,
+  cell-reads.Asked,
+  cell-reads.Learnt,
+  cells-reads.Asked,
+  cells-reads.Learnt,
+  place-below t,
+  place.Post,
+  cells-at-reads.Asked,
+  cells-at-reads.Learnt,
+  gather-below t,
+  gather.Post,
+) (eval-form-at t) eval-form.Post
+eval-form-cells-at-requires t c κs = search needs
+
+-- src/walk.rt:125:46
+eval-form-sub-gather : (t : ℕ) → eval-form-lts.Need-sub-gather (
+  number-reads.Asked,
+  number-reads.Learnt,
+  one-sided-below t,
+  one-sided.Post,
+  eval-below t,
+  eval.Post,
+  binary-reads.Asked,
+  binary-reads.Learnt,
+  short-cut-below t,
+  short-cut.Post,
+  integral-reads.Asked,
+  integral-reads.Learnt,
+  cell-reads.Asked,
+  cell-reads.Learnt,
+  cells-reads.Asked,
+  cells-reads.Learnt,
+  place-below t,
+  place.Post,
+  cells-at-reads.Asked,
+  cells-at-reads.Learnt,
+  gather-below t,
+  gather.Post,
+) (eval-form-at t) eval-form.Post
+eval-form-sub-gather t c = search needs
+
+-- src/walk.rt:125:14
+eval-form-gather-requires : (t : ℕ) → eval-form-lts.Need-gather-requires (
+  number-reads.Asked,
+  number-reads.Learnt,
+  one-sided-below t,
+  one-sided.Post,
+  eval-below t,
+  eval.Post,
+  binary-reads.Asked,
+  binary-reads.Learnt,
+  short-cut-below t,
+  short-cut.Post,
+  integral-reads.Asked,
+  integral-reads.Learnt,
+  cell-reads.Asked,
+  cell-reads.Learnt,
+  cells-reads.Asked,
+  cells-reads.Learnt,
+  place-below t,
+  place.Post,
+  cells-at-reads.Asked,
+  cells-at-reads.Learnt,
+  gather-below t,
+  gather.Post,
+) (eval-form-at t) eval-form.Post
+eval-form-gather-requires t c κs = search needs
+
+-- src/walk.rt:94:1
+eval-form-returns-5 : (t : ℕ) → eval-form-lts.Need-returns-5 (
+  number-reads.Asked,
+  number-reads.Learnt,
+  one-sided-below t,
+  one-sided.Post,
+  eval-below t,
+  eval.Post,
+  binary-reads.Asked,
+  binary-reads.Learnt,
+  short-cut-below t,
+  short-cut.Post,
+  integral-reads.Asked,
+  integral-reads.Learnt,
+  cell-reads.Asked,
+  cell-reads.Learnt,
+  cells-reads.Asked,
+  cells-reads.Learnt,
+  place-below t,
+  place.Post,
+  cells-at-reads.Asked,
+  cells-at-reads.Learnt,
+  gather-below t,
+  gather.Post,
+) (eval-form-at t) eval-form.Post
+eval-form-returns-5 t c = search (evals-literal, deep, sfits-of)
+
+-- src/walk.rt:94:1
+eval-form-returns-6 : (t : ℕ) → eval-form-lts.Need-returns-6 (
+  number-reads.Asked,
+  number-reads.Learnt,
+  one-sided-below t,
+  one-sided.Post,
+  eval-below t,
+  eval.Post,
+  binary-reads.Asked,
+  binary-reads.Learnt,
+  short-cut-below t,
+  short-cut.Post,
+  integral-reads.Asked,
+  integral-reads.Learnt,
+  cell-reads.Asked,
+  cell-reads.Learnt,
+  cells-reads.Asked,
+  cells-reads.Learnt,
+  place-below t,
+  place.Post,
+  cells-at-reads.Asked,
+  cells-at-reads.Learnt,
+  gather-below t,
+  gather.Post,
+) (eval-form-at t) eval-form.Post
+eval-form-returns-6 t c = search (evals-cell, deep, sfits-of)
+
+-- src/walk.rt:94:1
+eval-form-returns-7 : (t : ℕ) → eval-form-lts.Need-returns-7 (
+  number-reads.Asked,
+  number-reads.Learnt,
+  one-sided-below t,
+  one-sided.Post,
+  eval-below t,
+  eval.Post,
+  binary-reads.Asked,
+  binary-reads.Learnt,
+  short-cut-below t,
+  short-cut.Post,
+  integral-reads.Asked,
+  integral-reads.Learnt,
+  cell-reads.Asked,
+  cell-reads.Learnt,
+  cells-reads.Asked,
+  cells-reads.Learnt,
+  place-below t,
+  place.Post,
+  cells-at-reads.Asked,
+  cells-at-reads.Learnt,
+  gather-below t,
+  gather.Post,
+) (eval-form-at t) eval-form.Post
+eval-form-returns-7 t c = search (evals-cells, deep, sfits-of)
+
+-- src/walk.rt:94:1
+eval-form-returns-8 : (t : ℕ) → eval-form-lts.Need-returns-8 (
+  number-reads.Asked,
+  number-reads.Learnt,
+  one-sided-below t,
+  one-sided.Post,
+  eval-below t,
+  eval.Post,
+  binary-reads.Asked,
+  binary-reads.Learnt,
+  short-cut-below t,
+  short-cut.Post,
+  integral-reads.Asked,
+  integral-reads.Learnt,
+  cell-reads.Asked,
+  cell-reads.Learnt,
+  cells-reads.Asked,
+  cells-reads.Learnt,
+  place-below t,
+  place.Post,
+  cells-at-reads.Asked,
+  cells-at-reads.Learnt,
+  gather-below t,
+  gather.Post,
+) (eval-form-at t) eval-form.Post
+eval-form-returns-8 t c = search (evals-at, deep, sfits-of)
+
+-- src/walk.rt:94:1
+eval-form-returns-9 : (t : ℕ) → eval-form-lts.Need-returns-9 (
+  number-reads.Asked,
+  number-reads.Learnt,
+  one-sided-below t,
+  one-sided.Post,
+  eval-below t,
+  eval.Post,
+  binary-reads.Asked,
+  binary-reads.Learnt,
+  short-cut-below t,
+  short-cut.Post,
+  integral-reads.Asked,
+  integral-reads.Learnt,
+  cell-reads.Asked,
+  cell-reads.Learnt,
+  cells-reads.Asked,
+  cells-reads.Learnt,
+  place-below t,
+  place.Post,
+  cells-at-reads.Asked,
+  cells-at-reads.Learnt,
+  gather-below t,
+  gather.Post,
+) (eval-form-at t) eval-form.Post
+eval-form-returns-9 t c = search (evals-last, deep, sfits-of)
+
+-- src/walk.rt:94:1
+eval-form-returns-10 : (t : ℕ) → eval-form-lts.Need-returns-10 (
+  number-reads.Asked,
+  number-reads.Learnt,
+  one-sided-below t,
+  one-sided.Post,
+  eval-below t,
+  eval.Post,
+  binary-reads.Asked,
+  binary-reads.Learnt,
+  short-cut-below t,
+  short-cut.Post,
+  integral-reads.Asked,
+  integral-reads.Learnt,
+  cell-reads.Asked,
+  cell-reads.Learnt,
+  cells-reads.Asked,
+  cells-reads.Learnt,
+  place-below t,
+  place.Post,
+  cells-at-reads.Asked,
+  cells-at-reads.Learnt,
+  gather-below t,
+  gather.Post,
+) (eval-form-at t) eval-form.Post
+eval-form-returns-10 t c = search (evals-gather, deep, sfits-of)
+
+-- src/walk.rt:94:1
+eval-form-returns-11 : (t : ℕ) → eval-form-lts.Need-returns-11 (
+  number-reads.Asked,
+  number-reads.Learnt,
+  one-sided-below t,
+  one-sided.Post,
+  eval-below t,
+  eval.Post,
+  binary-reads.Asked,
+  binary-reads.Learnt,
+  short-cut-below t,
+  short-cut.Post,
+  integral-reads.Asked,
+  integral-reads.Learnt,
+  cell-reads.Asked,
+  cell-reads.Learnt,
+  cells-reads.Asked,
+  cells-reads.Learnt,
+  place-below t,
+  place.Post,
+  cells-at-reads.Asked,
+  cells-at-reads.Learnt,
+  gather-below t,
+  gather.Post,
+) (eval-form-at t) eval-form.Post
+eval-form-returns-11 t c = search (nothing-node, deep, sfits-of)
+
+abbrev gather-Inv-loop : gather-lts.InvT-loop
+gather-Inv-loop code store latest pc depth p lo hi s₀ d₀ q₀ s d q = Gathering (codeIn code) store (toZ w64 latest) pc depth (toZ w64 lo) (toZ w64 hi) s d q
+
+abbrev gather-μ-loop : gather-lts.MeasureT-loop
+gather-μ-loop code store latest pc depth p lo hi s₀ d₀ q₀ s d q = d
+
+-- src/walk.rt:198:29
+gather-add-integral : (t : ℕ) → gather-lts.Need-add-integral (
+  integral-reads.Asked,
+  integral-reads.Learnt,
+  number-reads.Asked,
+  number-reads.Learnt,
+  value-reads.Asked,
+  value-reads.Learnt,
+  eval-below t,
+  eval.Post,
+  test-reads.Asked,
+  test-reads.Learnt,
+  insert-reads.Asked,
+  insert-reads.Learnt,
+) (gather-at t) gather.Post gather-Inv-loop gather-μ-loop
+gather-add-integral t c = search needs
+
+-- src/walk.rt:198:9
+gather-integral-requires : (t : ℕ) → gather-lts.Need-integral-requires (
+  integral-reads.Asked,
+  integral-reads.Learnt,
+  number-reads.Asked,
+  number-reads.Learnt,
+  value-reads.Asked,
+  value-reads.Learnt,
+  eval-below t,
+  eval.Post,
+  test-reads.Asked,
+  test-reads.Learnt,
+  insert-reads.Asked,
+  insert-reads.Learnt,
+) (gather-at t) gather.Post gather-Inv-loop gather-μ-loop
+gather-integral-requires t c κs = search needs
+
+-- src/walk.rt:199:29
+gather-add-integral-2 : (t : ℕ) → gather-lts.Need-add-integral-2 (
+  integral-reads.Asked,
+  integral-reads.Learnt,
+  number-reads.Asked,
+  number-reads.Learnt,
+  value-reads.Asked,
+  value-reads.Learnt,
+  eval-below t,
+  eval.Post,
+  test-reads.Asked,
+  test-reads.Learnt,
+  insert-reads.Asked,
+  insert-reads.Learnt,
+) (gather-at t) gather.Post gather-Inv-loop gather-μ-loop
+gather-add-integral-2 t c = search needs
+
+-- src/walk.rt:199:9
+gather-integral-requires-2 : (t : ℕ) → gather-lts.Need-integral-requires-2 (
+  integral-reads.Asked,
+  integral-reads.Learnt,
+  number-reads.Asked,
+  number-reads.Learnt,
+  value-reads.Asked,
+  value-reads.Learnt,
+  eval-below t,
+  eval.Post,
+  test-reads.Asked,
+  test-reads.Learnt,
+  insert-reads.Asked,
+  insert-reads.Learnt,
+) (gather-at t) gather.Post gather-Inv-loop gather-μ-loop
+gather-integral-requires-2 t c κs = search needs
+
+-- src/walk.rt:202:43
+gather-add-number : (t : ℕ) → gather-lts.Need-add-number (
+  integral-reads.Asked,
+  integral-reads.Learnt,
+  number-reads.Asked,
+  number-reads.Learnt,
+  value-reads.Asked,
+  value-reads.Learnt,
+  eval-below t,
+  eval.Post,
+  test-reads.Asked,
+  test-reads.Learnt,
+  insert-reads.Asked,
+  insert-reads.Learnt,
+) (gather-at t) gather.Post gather-Inv-loop gather-μ-loop
+gather-add-number t c = search needs
+
+-- src/walk.rt:202:30
+gather-number-requires : (t : ℕ) → gather-lts.Need-number-requires (
+  integral-reads.Asked,
+  integral-reads.Learnt,
+  number-reads.Asked,
+  number-reads.Learnt,
+  value-reads.Asked,
+  value-reads.Learnt,
+  eval-below t,
+  eval.Post,
+  test-reads.Asked,
+  test-reads.Learnt,
+  insert-reads.Asked,
+  insert-reads.Learnt,
+) (gather-at t) gather.Post gather-Inv-loop gather-μ-loop
+gather-number-requires t c κs = search needs
+
+-- src/walk.rt:202:30
+gather-cast-number : (t : ℕ) → gather-lts.Need-cast-number (
+  integral-reads.Asked,
+  integral-reads.Learnt,
+  number-reads.Asked,
+  number-reads.Learnt,
+  value-reads.Asked,
+  value-reads.Learnt,
+  eval-below t,
+  eval.Post,
+  test-reads.Asked,
+  test-reads.Learnt,
+  insert-reads.Asked,
+  insert-reads.Learnt,
+) (gather-at t) gather.Post gather-Inv-loop gather-μ-loop
+gather-cast-number t c = search needs
+
+-- src/walk.rt:202:9
+gather-number-requires-2 : (t : ℕ) → gather-lts.Need-number-requires-2 (
+  integral-reads.Asked,
+  integral-reads.Learnt,
+  number-reads.Asked,
+  number-reads.Learnt,
+  value-reads.Asked,
+  value-reads.Learnt,
+  eval-below t,
+  eval.Post,
+  test-reads.Asked,
+  test-reads.Learnt,
+  insert-reads.Asked,
+  insert-reads.Learnt,
+) (gather-at t) gather.Post gather-Inv-loop gather-μ-loop
+gather-number-requires-2 t c κs = search needs
+
+-- src/walk.rt:203:5
+gather-loop-holds : (t : ℕ) → gather-lts.Need-loop-holds (
+  integral-reads.Asked,
+  integral-reads.Learnt,
+  number-reads.Asked,
+  number-reads.Learnt,
+  value-reads.Asked,
+  value-reads.Learnt,
+  eval-below t,
+  eval.Post,
+  test-reads.Asked,
+  test-reads.Learnt,
+  insert-reads.Asked,
+  insert-reads.Learnt,
+) (gather-at t) gather.Post gather-Inv-loop gather-μ-loop
+gather-loop-holds t c = search (gather-start, needs)
+
+-- src/walk.rt:205:13
+gather-value-requires : (t : ℕ) → gather-lts.Need-value-requires (
+  integral-reads.Asked,
+  integral-reads.Learnt,
+  number-reads.Asked,
+  number-reads.Learnt,
+  value-reads.Asked,
+  value-reads.Learnt,
+  eval-below t,
+  eval.Post,
+  test-reads.Asked,
+  test-reads.Learnt,
+  insert-reads.Asked,
+  insert-reads.Learnt,
+) (gather-at t) gather.Post gather-Inv-loop gather-μ-loop
+gather-value-requires t c κs = search needs
+
+-- src/walk.rt:205:13
+gather-returns : (t : ℕ) → gather-lts.Need-returns (
+  integral-reads.Asked,
+  integral-reads.Learnt,
+  number-reads.Asked,
+  number-reads.Learnt,
+  value-reads.Asked,
+  value-reads.Learnt,
+  eval-below t,
+  eval.Post,
+  test-reads.Asked,
+  test-reads.Learnt,
+  insert-reads.Asked,
+  insert-reads.Learnt,
+) (gather-at t) gather.Post gather-Inv-loop gather-μ-loop
+gather-returns t c = search (gather-done, sfits-of)
+
+-- src/walk.rt:207:9
+gather-sub-d : (t : ℕ) → gather-lts.Need-sub-d (
+  integral-reads.Asked,
+  integral-reads.Learnt,
+  number-reads.Asked,
+  number-reads.Learnt,
+  value-reads.Asked,
+  value-reads.Learnt,
+  eval-below t,
+  eval.Post,
+  test-reads.Asked,
+  test-reads.Learnt,
+  insert-reads.Asked,
+  insert-reads.Learnt,
+) (gather-at t) gather.Post gather-Inv-loop gather-μ-loop
+gather-sub-d t c = search needs
+
+-- src/walk.rt:208:56
+gather-cast-number-2 : (t : ℕ) → gather-lts.Need-cast-number-2 (
+  integral-reads.Asked,
+  integral-reads.Learnt,
+  number-reads.Asked,
+  number-reads.Learnt,
+  value-reads.Asked,
+  value-reads.Learnt,
+  eval-below t,
+  eval.Post,
+  test-reads.Asked,
+  test-reads.Learnt,
+  insert-reads.Asked,
+  insert-reads.Learnt,
+) (gather-at t) gather.Post gather-Inv-loop gather-μ-loop
+gather-cast-number-2 t c = search link-laws
+
+-- src/walk.rt:208:43
+gather-number-requires-3 : (t : ℕ) → gather-lts.Need-number-requires-3 (
+  integral-reads.Asked,
+  integral-reads.Learnt,
+  number-reads.Asked,
+  number-reads.Learnt,
+  value-reads.Asked,
+  value-reads.Learnt,
+  eval-below t,
+  eval.Post,
+  test-reads.Asked,
+  test-reads.Learnt,
+  insert-reads.Asked,
+  insert-reads.Learnt,
+) (gather-at t) gather.Post gather-Inv-loop gather-μ-loop
+gather-number-requires-3 t c κs = search needs
+
+-- src/walk.rt:208:13
+gather-eval-requires : (t : ℕ) → gather-lts.Need-eval-requires (
+  integral-reads.Asked,
+  integral-reads.Learnt,
+  number-reads.Asked,
+  number-reads.Learnt,
+  value-reads.Asked,
+  value-reads.Learnt,
+  eval-below t,
+  eval.Post,
+  test-reads.Asked,
+  test-reads.Learnt,
+  insert-reads.Asked,
+  insert-reads.Learnt,
+) (gather-at t) gather.Post gather-Inv-loop gather-μ-loop
+gather-eval-requires t c κs = search needs
+
+-- src/walk.rt:209:13
+gather-test-requires : (t : ℕ) → gather-lts.Need-test-requires (
+  integral-reads.Asked,
+  integral-reads.Learnt,
+  number-reads.Asked,
+  number-reads.Learnt,
+  value-reads.Asked,
+  value-reads.Learnt,
+  eval-below t,
+  eval.Post,
+  test-reads.Asked,
+  test-reads.Learnt,
+  insert-reads.Asked,
+  insert-reads.Learnt,
+) (gather-at t) gather.Post gather-Inv-loop gather-μ-loop
+gather-test-requires t c κs = search needs
+
+-- src/walk.rt:211:13
+gather-returns-2 : (t : ℕ) → gather-lts.Need-returns-2 (
+  integral-reads.Asked,
+  integral-reads.Learnt,
+  number-reads.Asked,
+  number-reads.Learnt,
+  value-reads.Asked,
+  value-reads.Learnt,
+  eval-below t,
+  eval.Post,
+  test-reads.Asked,
+  test-reads.Learnt,
+  insert-reads.Asked,
+  insert-reads.Learnt,
+) (gather-at t) gather.Post gather-Inv-loop gather-μ-loop
+gather-returns-2 t c = search (gather-fault, sfits-of)
+
+-- src/walk.rt:213:9
+gather-insert-requires : (t : ℕ) → gather-lts.Need-insert-requires (
+  integral-reads.Asked,
+  integral-reads.Learnt,
+  number-reads.Asked,
+  number-reads.Learnt,
+  value-reads.Asked,
+  value-reads.Learnt,
+  eval-below t,
+  eval.Post,
+  test-reads.Asked,
+  test-reads.Learnt,
+  insert-reads.Asked,
+  insert-reads.Learnt,
+) (gather-at t) gather.Post gather-Inv-loop gather-μ-loop
+gather-insert-requires t c κs = search needs
+
+-- src/walk.rt:214:26
+gather-cast-number-3 : (t : ℕ) → gather-lts.Need-cast-number-3 (
+  integral-reads.Asked,
+  integral-reads.Learnt,
+  number-reads.Asked,
+  number-reads.Learnt,
+  value-reads.Asked,
+  value-reads.Learnt,
+  eval-below t,
+  eval.Post,
+  test-reads.Asked,
+  test-reads.Learnt,
+  insert-reads.Asked,
+  insert-reads.Learnt,
+) (gather-at t) gather.Post gather-Inv-loop gather-μ-loop
+gather-cast-number-3 t c = search link-laws
+
+-- src/walk.rt:214:26
+gather-add-number-2 : (t : ℕ) → gather-lts.Need-add-number-2 (
+  integral-reads.Asked,
+  integral-reads.Learnt,
+  number-reads.Asked,
+  number-reads.Learnt,
+  value-reads.Asked,
+  value-reads.Learnt,
+  eval-below t,
+  eval.Post,
+  test-reads.Asked,
+  test-reads.Learnt,
+  insert-reads.Asked,
+  insert-reads.Learnt,
+) (gather-at t) gather.Post gather-Inv-loop gather-μ-loop
+gather-add-number-2 t c = search link-laws
+
+-- src/walk.rt:214:9
+gather-number-requires-4 : (t : ℕ) → gather-lts.Need-number-requires-4 (
+  integral-reads.Asked,
+  integral-reads.Learnt,
+  number-reads.Asked,
+  number-reads.Learnt,
+  value-reads.Asked,
+  value-reads.Learnt,
+  eval-below t,
+  eval.Post,
+  test-reads.Asked,
+  test-reads.Learnt,
+  insert-reads.Asked,
+  insert-reads.Learnt,
+) (gather-at t) gather.Post gather-Inv-loop gather-μ-loop
+gather-number-requires-4 t c κs = search needs
+
+-- src/walk.rt:203:5
+gather-loop-less : (t : ℕ) → gather-lts.Need-loop-less (
+  integral-reads.Asked,
+  integral-reads.Learnt,
+  number-reads.Asked,
+  number-reads.Learnt,
+  value-reads.Asked,
+  value-reads.Learnt,
+  eval-below t,
+  eval.Post,
+  test-reads.Asked,
+  test-reads.Learnt,
+  insert-reads.Asked,
+  insert-reads.Learnt,
+) (gather-at t) gather.Post gather-Inv-loop gather-μ-loop
+gather-loop-less t c = omega arith
+
+-- src/walk.rt:203:5
+gather-loop-again : (t : ℕ) → gather-lts.Need-loop-again (
+  integral-reads.Asked,
+  integral-reads.Learnt,
+  number-reads.Asked,
+  number-reads.Learnt,
+  value-reads.Asked,
+  value-reads.Learnt,
+  eval-below t,
+  eval.Post,
+  test-reads.Asked,
+  test-reads.Learnt,
+  insert-reads.Asked,
+  insert-reads.Learnt,
+) (gather-at t) gather.Post gather-Inv-loop gather-μ-loop
+gather-loop-again t c = search (gather-step, sfits-of)
+
+-- src/walk.rt:216:5
+gather-value-requires-2 : (t : ℕ) → gather-lts.Need-value-requires-2 (
+  integral-reads.Asked,
+  integral-reads.Learnt,
+  number-reads.Asked,
+  number-reads.Learnt,
+  value-reads.Asked,
+  value-reads.Learnt,
+  eval-below t,
+  eval.Post,
+  test-reads.Asked,
+  test-reads.Learnt,
+  insert-reads.Asked,
+  insert-reads.Learnt,
+) (gather-at t) gather.Post gather-Inv-loop gather-μ-loop
+gather-value-requires-2 t c κs = search needs
+
+-- src/walk.rt:194:1
+gather-returns-3 : (t : ℕ) → gather-lts.Need-returns-3 (
+  integral-reads.Asked,
+  integral-reads.Learnt,
+  number-reads.Asked,
+  number-reads.Learnt,
+  value-reads.Asked,
+  value-reads.Learnt,
+  eval-below t,
+  eval.Post,
+  test-reads.Asked,
+  test-reads.Learnt,
+  insert-reads.Asked,
+  insert-reads.Learnt,
+) (gather-at t) gather.Post gather-Inv-loop gather-μ-loop
+gather-returns-3 t c = search (gather-end, sfits-of)
+
+-- src/walk.rt:63:9
+left-first-number-requires : (t : ℕ) → left-first-lts.Need-number-requires (
+  number-reads.Asked,
+  number-reads.Learnt,
+  eval-below t,
+  eval.Post,
+  simple-reads.Asked,
+  simple-reads.Learnt,
+  binary-reads.Asked,
+  binary-reads.Learnt,
+) (left-first-at t) left-first.Post
+left-first-number-requires t c κs = search needs
+
+-- src/walk.rt:64:26
+left-first-add-number : (t : ℕ) → left-first-lts.Need-add-number (
+  number-reads.Asked,
+  number-reads.Learnt,
+  eval-below t,
+  eval.Post,
+  simple-reads.Asked,
+  simple-reads.Learnt,
+  binary-reads.Asked,
+  binary-reads.Learnt,
+) (left-first-at t) left-first.Post
+left-first-add-number t c = search needs
+
+-- src/walk.rt:64:9
+left-first-number-requires-2 : (t : ℕ) → left-first-lts.Need-number-requires-2 (
+  number-reads.Asked,
+  number-reads.Learnt,
+  eval-below t,
+  eval.Post,
+  simple-reads.Asked,
+  simple-reads.Learnt,
+  binary-reads.Asked,
+  binary-reads.Learnt,
+) (left-first-at t) left-first.Post
+left-first-number-requires-2 t c κs = search needs
+
+-- src/walk.rt:65:52
+left-first-add-number-2 : (t : ℕ) → left-first-lts.Need-add-number-2 (
+  number-reads.Asked,
+  number-reads.Learnt,
+  eval-below t,
+  eval.Post,
+  simple-reads.Asked,
+  simple-reads.Learnt,
+  binary-reads.Asked,
+  binary-reads.Learnt,
+) (left-first-at t) left-first.Post
+left-first-add-number-2 t c = search needs
+
+-- src/walk.rt:65:39
+left-first-number-requires-3 : (t : ℕ) → left-first-lts.Need-number-requires-3 (
+  number-reads.Asked,
+  number-reads.Learnt,
+  eval-below t,
+  eval.Post,
+  simple-reads.Asked,
+  simple-reads.Learnt,
+  binary-reads.Asked,
+  binary-reads.Learnt,
+) (left-first-at t) left-first.Post
+left-first-number-requires-3 t c κs = search needs
+
+-- src/walk.rt:65:60
+left-first-sub-eval : (t : ℕ) → left-first-lts.Need-sub-eval (
+  number-reads.Asked,
+  number-reads.Learnt,
+  eval-below t,
+  eval.Post,
+  simple-reads.Asked,
+  simple-reads.Learnt,
+  binary-reads.Asked,
+  binary-reads.Learnt,
+) (left-first-at t) left-first.Post
+left-first-sub-eval t c = search needs
+
+-- src/walk.rt:65:9
+left-first-eval-requires : (t : ℕ) → left-first-lts.Need-eval-requires (
+  number-reads.Asked,
+  number-reads.Learnt,
+  eval-below t,
+  eval.Post,
+  simple-reads.Asked,
+  simple-reads.Learnt,
+  binary-reads.Asked,
+  binary-reads.Learnt,
+) (left-first-at t) left-first.Post
+left-first-eval-requires t c κs = search needs
+
+-- src/walk.rt:66:9
+left-first-simple-requires : (t : ℕ) → left-first-lts.Need-simple-requires (
+  number-reads.Asked,
+  number-reads.Learnt,
+  eval-below t,
+  eval.Post,
+  simple-reads.Asked,
+  simple-reads.Learnt,
+  binary-reads.Asked,
+  binary-reads.Learnt,
+) (left-first-at t) left-first.Post
+left-first-simple-requires t c κs = search needs
+
+-- src/walk.rt:68:59
+left-first-sub-eval-2 : (t : ℕ) → left-first-lts.Need-sub-eval-2 (
+  number-reads.Asked,
+  number-reads.Learnt,
+  eval-below t,
+  eval.Post,
+  simple-reads.Asked,
+  simple-reads.Learnt,
+  binary-reads.Asked,
+  binary-reads.Learnt,
+) (left-first-at t) left-first.Post
+left-first-sub-eval-2 t c = search needs
+
+-- src/walk.rt:68:30
+left-first-eval-requires-2 : (t : ℕ) → left-first-lts.Need-eval-requires-2 (
+  number-reads.Asked,
+  number-reads.Learnt,
+  eval-below t,
+  eval.Post,
+  simple-reads.Asked,
+  simple-reads.Learnt,
+  binary-reads.Asked,
+  binary-reads.Learnt,
+) (left-first-at t) left-first.Post
+left-first-eval-requires-2 t c κs = search needs
+
+-- src/walk.rt:68:9
+left-first-binary-requires : (t : ℕ) → left-first-lts.Need-binary-requires (
+  number-reads.Asked,
+  number-reads.Learnt,
+  eval-below t,
+  eval.Post,
+  simple-reads.Asked,
+  simple-reads.Learnt,
+  binary-reads.Asked,
+  binary-reads.Learnt,
+) (left-first-at t) left-first.Post
+left-first-binary-requires t c κs = search needs
+
+-- src/walk.rt:68:9
+left-first-returns : (t : ℕ) → left-first-lts.Need-returns (
+  number-reads.Asked,
+  number-reads.Learnt,
+  eval-below t,
+  eval.Post,
+  simple-reads.Asked,
+  simple-reads.Learnt,
+  binary-reads.Asked,
+  binary-reads.Learnt,
+) (left-first-at t) left-first.Post
+left-first-returns t c = search (binary-node, simple-evals, deep, sfits-of)
+
+-- src/walk.rt:70:5
+left-first-binary-requires-2 : (t : ℕ) → left-first-lts.Need-binary-requires-2 (
+  number-reads.Asked,
+  number-reads.Learnt,
+  eval-below t,
+  eval.Post,
+  simple-reads.Asked,
+  simple-reads.Learnt,
+  binary-reads.Asked,
+  binary-reads.Learnt,
+) (left-first-at t) left-first.Post
+left-first-binary-requires-2 t c κs = search needs
+
+-- src/walk.rt:58:1
+left-first-returns-2 : (t : ℕ) → left-first-lts.Need-returns-2 (
+  number-reads.Asked,
+  number-reads.Learnt,
+  eval-below t,
+  eval.Post,
+  simple-reads.Asked,
+  simple-reads.Learnt,
+  binary-reads.Asked,
+  binary-reads.Learnt,
+) (left-first-at t) left-first.Post
+left-first-returns-2 t c = search (binary-node, simple-evals, deep, sfits-of)
+
+-- src/walk.rt:79:9
+one-sided-number-requires : (t : ℕ) → one-sided-lts.Need-number-requires (
+  number-reads.Asked,
+  number-reads.Learnt,
+  eval-below t,
+  eval.Post,
+  integral-reads.Asked,
+  integral-reads.Learnt,
+  pred-reads.Asked,
+  pred-reads.Learnt,
+  succ-reads.Asked,
+  succ-reads.Learnt,
+  unary-reads.Asked,
+  unary-reads.Learnt,
+) (one-sided-at t) one-sided.Post
+one-sided-number-requires t c κs = search needs
+
+-- src/walk.rt:81:9
+one-sided-returns : (t : ℕ) → one-sided-lts.Need-returns (
+  number-reads.Asked,
+  number-reads.Learnt,
+  eval-below t,
+  eval.Post,
+  integral-reads.Asked,
+  integral-reads.Learnt,
+  pred-reads.Asked,
+  pred-reads.Learnt,
+  succ-reads.Asked,
+  succ-reads.Learnt,
+  unary-reads.Asked,
+  unary-reads.Learnt,
+) (one-sided-at t) one-sided.Post
+one-sided-returns t c = search (evals-none, sfits-of)
+
+-- src/walk.rt:83:52
+one-sided-add-number : (t : ℕ) → one-sided-lts.Need-add-number (
+  number-reads.Asked,
+  number-reads.Learnt,
+  eval-below t,
+  eval.Post,
+  integral-reads.Asked,
+  integral-reads.Learnt,
+  pred-reads.Asked,
+  pred-reads.Learnt,
+  succ-reads.Asked,
+  succ-reads.Learnt,
+  unary-reads.Asked,
+  unary-reads.Learnt,
+) (one-sided-at t) one-sided.Post
+one-sided-add-number t c = search needs
+
+-- src/walk.rt:83:39
+one-sided-number-requires-2 : (t : ℕ) → one-sided-lts.Need-number-requires-2 (
+  number-reads.Asked,
+  number-reads.Learnt,
+  eval-below t,
+  eval.Post,
+  integral-reads.Asked,
+  integral-reads.Learnt,
+  pred-reads.Asked,
+  pred-reads.Learnt,
+  succ-reads.Asked,
+  succ-reads.Learnt,
+  unary-reads.Asked,
+  unary-reads.Learnt,
+) (one-sided-at t) one-sided.Post
+one-sided-number-requires-2 t c κs = search needs
+
+-- src/walk.rt:83:60
+one-sided-sub-eval : (t : ℕ) → one-sided-lts.Need-sub-eval (
+  number-reads.Asked,
+  number-reads.Learnt,
+  eval-below t,
+  eval.Post,
+  integral-reads.Asked,
+  integral-reads.Learnt,
+  pred-reads.Asked,
+  pred-reads.Learnt,
+  succ-reads.Asked,
+  succ-reads.Learnt,
+  unary-reads.Asked,
+  unary-reads.Learnt,
+) (one-sided-at t) one-sided.Post
+one-sided-sub-eval t c = search needs
+
+-- src/walk.rt:83:9
+one-sided-eval-requires : (t : ℕ) → one-sided-lts.Need-eval-requires (
+  number-reads.Asked,
+  number-reads.Learnt,
+  eval-below t,
+  eval.Post,
+  integral-reads.Asked,
+  integral-reads.Learnt,
+  pred-reads.Asked,
+  pred-reads.Learnt,
+  succ-reads.Asked,
+  succ-reads.Learnt,
+  unary-reads.Asked,
+  unary-reads.Learnt,
+) (one-sided-at t) one-sided.Post
+one-sided-eval-requires t c κs = search needs
+
+-- src/walk.rt:85:39
+one-sided-add-integral : (t : ℕ) → one-sided-lts.Need-add-integral (
+  number-reads.Asked,
+  number-reads.Learnt,
+  eval-below t,
+  eval.Post,
+  integral-reads.Asked,
+  integral-reads.Learnt,
+  pred-reads.Asked,
+  pred-reads.Learnt,
+  succ-reads.Asked,
+  succ-reads.Learnt,
+  unary-reads.Asked,
+  unary-reads.Learnt,
+) (one-sided-at t) one-sided.Post
+one-sided-add-integral t c = search needs
+
+-- src/walk.rt:85:24
+one-sided-integral-requires : (t : ℕ) → one-sided-lts.Need-integral-requires (
+  number-reads.Asked,
+  number-reads.Learnt,
+  eval-below t,
+  eval.Post,
+  integral-reads.Asked,
+  integral-reads.Learnt,
+  pred-reads.Asked,
+  pred-reads.Learnt,
+  succ-reads.Asked,
+  succ-reads.Learnt,
+  unary-reads.Asked,
+  unary-reads.Learnt,
+) (one-sided-at t) one-sided.Post
+one-sided-integral-requires t c κs = search needs
+
+-- src/walk.rt:85:62
+one-sided-add-integral-2 : (t : ℕ) → one-sided-lts.Need-add-integral-2 (
+  number-reads.Asked,
+  number-reads.Learnt,
+  eval-below t,
+  eval.Post,
+  integral-reads.Asked,
+  integral-reads.Learnt,
+  pred-reads.Asked,
+  pred-reads.Learnt,
+  succ-reads.Asked,
+  succ-reads.Learnt,
+  unary-reads.Asked,
+  unary-reads.Learnt,
+) (one-sided-at t) one-sided.Post
+one-sided-add-integral-2 t c = search needs
+
+-- src/walk.rt:85:47
+one-sided-integral-requires-2 : (t : ℕ) → one-sided-lts.Need-integral-requires-2 (
+  number-reads.Asked,
+  number-reads.Learnt,
+  eval-below t,
+  eval.Post,
+  integral-reads.Asked,
+  integral-reads.Learnt,
+  pred-reads.Asked,
+  pred-reads.Learnt,
+  succ-reads.Asked,
+  succ-reads.Learnt,
+  unary-reads.Asked,
+  unary-reads.Learnt,
+) (one-sided-at t) one-sided.Post
+one-sided-integral-requires-2 t c κs = search needs
+
+-- src/walk.rt:85:9
+one-sided-pred-requires : (t : ℕ) → one-sided-lts.Need-pred-requires (
+  number-reads.Asked,
+  number-reads.Learnt,
+  eval-below t,
+  eval.Post,
+  integral-reads.Asked,
+  integral-reads.Learnt,
+  pred-reads.Asked,
+  pred-reads.Learnt,
+  succ-reads.Asked,
+  succ-reads.Learnt,
+  unary-reads.Asked,
+  unary-reads.Learnt,
+) (one-sided-at t) one-sided.Post
+one-sided-pred-requires t c κs = search needs
+
+-- src/walk.rt:85:9
+one-sided-returns-2 : (t : ℕ) → one-sided-lts.Need-returns-2 (
+  number-reads.Asked,
+  number-reads.Learnt,
+  eval-below t,
+  eval.Post,
+  integral-reads.Asked,
+  integral-reads.Learnt,
+  pred-reads.Asked,
+  pred-reads.Learnt,
+  succ-reads.Asked,
+  succ-reads.Learnt,
+  unary-reads.Asked,
+  unary-reads.Learnt,
+) (one-sided-at t) one-sided.Post
+one-sided-returns-2 t c = search (evals-pred, sfits-of)
+
+-- src/walk.rt:88:39
+one-sided-add-integral-3 : (t : ℕ) → one-sided-lts.Need-add-integral-3 (
+  number-reads.Asked,
+  number-reads.Learnt,
+  eval-below t,
+  eval.Post,
+  integral-reads.Asked,
+  integral-reads.Learnt,
+  pred-reads.Asked,
+  pred-reads.Learnt,
+  succ-reads.Asked,
+  succ-reads.Learnt,
+  unary-reads.Asked,
+  unary-reads.Learnt,
+) (one-sided-at t) one-sided.Post
+one-sided-add-integral-3 t c = search needs
+
+-- src/walk.rt:88:24
+one-sided-integral-requires-3 : (t : ℕ) → one-sided-lts.Need-integral-requires-3 (
+  number-reads.Asked,
+  number-reads.Learnt,
+  eval-below t,
+  eval.Post,
+  integral-reads.Asked,
+  integral-reads.Learnt,
+  pred-reads.Asked,
+  pred-reads.Learnt,
+  succ-reads.Asked,
+  succ-reads.Learnt,
+  unary-reads.Asked,
+  unary-reads.Learnt,
+) (one-sided-at t) one-sided.Post
+one-sided-integral-requires-3 t c κs = search needs
+
+-- src/walk.rt:88:62
+one-sided-add-integral-4 : (t : ℕ) → one-sided-lts.Need-add-integral-4 (
+  number-reads.Asked,
+  number-reads.Learnt,
+  eval-below t,
+  eval.Post,
+  integral-reads.Asked,
+  integral-reads.Learnt,
+  pred-reads.Asked,
+  pred-reads.Learnt,
+  succ-reads.Asked,
+  succ-reads.Learnt,
+  unary-reads.Asked,
+  unary-reads.Learnt,
+) (one-sided-at t) one-sided.Post
+one-sided-add-integral-4 t c = search needs
+
+-- src/walk.rt:88:47
+one-sided-integral-requires-4 : (t : ℕ) → one-sided-lts.Need-integral-requires-4 (
+  number-reads.Asked,
+  number-reads.Learnt,
+  eval-below t,
+  eval.Post,
+  integral-reads.Asked,
+  integral-reads.Learnt,
+  pred-reads.Asked,
+  pred-reads.Learnt,
+  succ-reads.Asked,
+  succ-reads.Learnt,
+  unary-reads.Asked,
+  unary-reads.Learnt,
+) (one-sided-at t) one-sided.Post
+one-sided-integral-requires-4 t c κs = search needs
+
+-- src/walk.rt:88:9
+one-sided-succ-requires : (t : ℕ) → one-sided-lts.Need-succ-requires (
+  number-reads.Asked,
+  number-reads.Learnt,
+  eval-below t,
+  eval.Post,
+  integral-reads.Asked,
+  integral-reads.Learnt,
+  pred-reads.Asked,
+  pred-reads.Learnt,
+  succ-reads.Asked,
+  succ-reads.Learnt,
+  unary-reads.Asked,
+  unary-reads.Learnt,
+) (one-sided-at t) one-sided.Post
+one-sided-succ-requires t c κs = search needs
+
+-- src/walk.rt:88:9
+one-sided-returns-3 : (t : ℕ) → one-sided-lts.Need-returns-3 (
+  number-reads.Asked,
+  number-reads.Learnt,
+  eval-below t,
+  eval.Post,
+  integral-reads.Asked,
+  integral-reads.Learnt,
+  pred-reads.Asked,
+  pred-reads.Learnt,
+  succ-reads.Asked,
+  succ-reads.Learnt,
+  unary-reads.Asked,
+  unary-reads.Learnt,
+) (one-sided-at t) one-sided.Post
+one-sided-returns-3 t c = search (evals-succ, sfits-of)
+
+-- src/walk.rt:90:5
+one-sided-unary-requires : (t : ℕ) → one-sided-lts.Need-unary-requires (
+  number-reads.Asked,
+  number-reads.Learnt,
+  eval-below t,
+  eval.Post,
+  integral-reads.Asked,
+  integral-reads.Learnt,
+  pred-reads.Asked,
+  pred-reads.Learnt,
+  succ-reads.Asked,
+  succ-reads.Learnt,
+  unary-reads.Asked,
+  unary-reads.Learnt,
+) (one-sided-at t) one-sided.Post
+one-sided-unary-requires t c κs = search needs
+
+-- src/walk.rt:74:1
+one-sided-returns-4 : (t : ℕ) → one-sided-lts.Need-returns-4 (
+  number-reads.Asked,
+  number-reads.Learnt,
+  eval-below t,
+  eval.Post,
+  integral-reads.Asked,
+  integral-reads.Learnt,
+  pred-reads.Asked,
+  pred-reads.Learnt,
+  succ-reads.Asked,
+  succ-reads.Learnt,
+  unary-reads.Asked,
+  unary-reads.Learnt,
+) (one-sided-at t) one-sided.Post
+one-sided-returns-4 t c = search (unary-node, sfits-of)
+
+-- src/walk.rt:158:9
+place-returns : (t : ℕ) → place-lts.Need-returns (
+  number-reads.Asked,
+  number-reads.Learnt,
+  place-form-below t,
+  place-form.Post,
+) (place-at t) place.Post
+place-returns t c = search (finds-zero, sfits-of)
+
+-- src/walk.rt:161:9
+place-number-requires : (t : ℕ) → place-lts.Need-number-requires (
+  number-reads.Asked,
+  number-reads.Learnt,
+  place-form-below t,
+  place-form.Post,
+) (place-at t) place.Post
+place-number-requires t c κs = search needs
+
+-- src/walk.rt:163:29
+place-add-number : (t : ℕ) → place-lts.Need-add-number (
+  number-reads.Asked,
+  number-reads.Learnt,
+  place-form-below t,
+  place-form.Post,
+) (place-at t) place.Post
+place-add-number t c = search needs
+
+-- src/walk.rt:163:16
+place-number-requires-2 : (t : ℕ) → place-lts.Need-number-requires-2 (
+  number-reads.Asked,
+  number-reads.Learnt,
+  place-form-below t,
+  place-form.Post,
+) (place-at t) place.Post
+place-number-requires-2 t c κs = search needs
+
+-- src/walk.rt:163:16
+place-cast-result : (t : ℕ) → place-lts.Need-cast-result (
+  number-reads.Asked,
+  number-reads.Learnt,
+  place-form-below t,
+  place-form.Post,
+) (place-at t) place.Post
+place-cast-result t c = search needs
+
+-- src/walk.rt:163:9
+place-returns-2 : (t : ℕ) → place-lts.Need-returns-2 (
+  number-reads.Asked,
+  number-reads.Learnt,
+  place-form-below t,
+  place-form.Post,
+) (place-at t) place.Post
+place-returns-2 t c = search (finds-cell, deep, needs)
+
+-- src/walk.rt:165:5
+place-place-form-requires : (t : ℕ) → place-lts.Need-place-form-requires (
+  number-reads.Asked,
+  number-reads.Learnt,
+  place-form-below t,
+  place-form.Post,
+) (place-at t) place.Post
+place-place-form-requires t c κs = search needs
+
+-- src/walk.rt:154:1
+place-returns-3 : (t : ℕ) → place-lts.Need-returns-3 (
+  number-reads.Asked,
+  number-reads.Learnt,
+  place-form-below t,
+  place-form.Post,
+) (place-at t) place.Post
+place-returns-3 t c = search (finds-passed, sfits-of)
+
+-- src/walk.rt:173:9
+place-form-returns : (t : ℕ) → place-form-lts.Need-returns (
+  number-reads.Asked,
+  number-reads.Learnt,
+  place-below t,
+  place.Post,
+  eval-below t,
+  eval.Post,
+  distance-reads.Asked,
+  distance-reads.Learnt,
+  element-reads.Asked,
+  element-reads.Learnt,
+  place-form-below t,
+  place-form.Post,
+  shifted-reads.Asked,
+  shifted-reads.Learnt,
+) (place-form-at t) place-form.Post
+place-form-returns t c = search (finds-zero, sfits-of)
+
+-- src/walk.rt:176:9
+place-form-number-requires : (t : ℕ) → place-form-lts.Need-number-requires (
+  number-reads.Asked,
+  number-reads.Learnt,
+  place-below t,
+  place.Post,
+  eval-below t,
+  eval.Post,
+  distance-reads.Asked,
+  distance-reads.Learnt,
+  element-reads.Asked,
+  element-reads.Learnt,
+  place-form-below t,
+  place-form.Post,
+  shifted-reads.Asked,
+  shifted-reads.Learnt,
+) (place-form-at t) place-form.Post
+place-form-number-requires t c κs = search needs
+
+-- src/walk.rt:178:57
+place-form-add-number : (t : ℕ) → place-form-lts.Need-add-number (
+  number-reads.Asked,
+  number-reads.Learnt,
+  place-below t,
+  place.Post,
+  eval-below t,
+  eval.Post,
+  distance-reads.Asked,
+  distance-reads.Learnt,
+  element-reads.Asked,
+  element-reads.Learnt,
+  place-form-below t,
+  place-form.Post,
+  shifted-reads.Asked,
+  shifted-reads.Learnt,
+) (place-form-at t) place-form.Post
+place-form-add-number t c = search needs
+
+-- src/walk.rt:178:44
+place-form-number-requires-2 : (t : ℕ) → place-form-lts.Need-number-requires-2 (
+  number-reads.Asked,
+  number-reads.Learnt,
+  place-below t,
+  place.Post,
+  eval-below t,
+  eval.Post,
+  distance-reads.Asked,
+  distance-reads.Learnt,
+  element-reads.Asked,
+  element-reads.Learnt,
+  place-form-below t,
+  place-form.Post,
+  shifted-reads.Asked,
+  shifted-reads.Learnt,
+) (place-form-at t) place-form.Post
+place-form-number-requires-2 t c κs = search needs
+
+-- src/walk.rt:178:65
+place-form-sub-place : (t : ℕ) → place-form-lts.Need-sub-place (
+  number-reads.Asked,
+  number-reads.Learnt,
+  place-below t,
+  place.Post,
+  eval-below t,
+  eval.Post,
+  distance-reads.Asked,
+  distance-reads.Learnt,
+  element-reads.Asked,
+  element-reads.Learnt,
+  place-form-below t,
+  place-form.Post,
+  shifted-reads.Asked,
+  shifted-reads.Learnt,
+) (place-form-at t) place-form.Post
+place-form-sub-place t c = search needs
+
+-- src/walk.rt:178:13
+place-form-place-requires : (t : ℕ) → place-form-lts.Need-place-requires (
+  number-reads.Asked,
+  number-reads.Learnt,
+  place-below t,
+  place.Post,
+  eval-below t,
+  eval.Post,
+  distance-reads.Asked,
+  distance-reads.Learnt,
+  element-reads.Asked,
+  element-reads.Learnt,
+  place-form-below t,
+  place-form.Post,
+  shifted-reads.Asked,
+  shifted-reads.Learnt,
+) (place-form-at t) place-form.Post
+place-form-place-requires t c κs = search needs
+
+-- src/walk.rt:179:56
+place-form-add-number-2 : (t : ℕ) → place-form-lts.Need-add-number-2 (
+  number-reads.Asked,
+  number-reads.Learnt,
+  place-below t,
+  place.Post,
+  eval-below t,
+  eval.Post,
+  distance-reads.Asked,
+  distance-reads.Learnt,
+  element-reads.Asked,
+  element-reads.Learnt,
+  place-form-below t,
+  place-form.Post,
+  shifted-reads.Asked,
+  shifted-reads.Learnt,
+) (place-form-at t) place-form.Post
+place-form-add-number-2 t c = search needs
+
+-- src/walk.rt:179:43
+place-form-number-requires-3 : (t : ℕ) → place-form-lts.Need-number-requires-3 (
+  number-reads.Asked,
+  number-reads.Learnt,
+  place-below t,
+  place.Post,
+  eval-below t,
+  eval.Post,
+  distance-reads.Asked,
+  distance-reads.Learnt,
+  element-reads.Asked,
+  element-reads.Learnt,
+  place-form-below t,
+  place-form.Post,
+  shifted-reads.Asked,
+  shifted-reads.Learnt,
+) (place-form-at t) place-form.Post
+place-form-number-requires-3 t c κs = search needs
+
+-- src/walk.rt:179:64
+place-form-sub-eval : (t : ℕ) → place-form-lts.Need-sub-eval (
+  number-reads.Asked,
+  number-reads.Learnt,
+  place-below t,
+  place.Post,
+  eval-below t,
+  eval.Post,
+  distance-reads.Asked,
+  distance-reads.Learnt,
+  element-reads.Asked,
+  element-reads.Learnt,
+  place-form-below t,
+  place-form.Post,
+  shifted-reads.Asked,
+  shifted-reads.Learnt,
+) (place-form-at t) place-form.Post
+place-form-sub-eval t c = search needs
+
+-- src/walk.rt:179:13
+place-form-eval-requires : (t : ℕ) → place-form-lts.Need-eval-requires (
+  number-reads.Asked,
+  number-reads.Learnt,
+  place-below t,
+  place.Post,
+  eval-below t,
+  eval.Post,
+  distance-reads.Asked,
+  distance-reads.Learnt,
+  element-reads.Asked,
+  element-reads.Learnt,
+  place-form-below t,
+  place-form.Post,
+  shifted-reads.Asked,
+  shifted-reads.Learnt,
+) (place-form-at t) place-form.Post
+place-form-eval-requires t c κs = search needs
+
+-- src/walk.rt:180:42
+place-form-add-number-3 : (t : ℕ) → place-form-lts.Need-add-number-3 (
+  number-reads.Asked,
+  number-reads.Learnt,
+  place-below t,
+  place.Post,
+  eval-below t,
+  eval.Post,
+  distance-reads.Asked,
+  distance-reads.Learnt,
+  element-reads.Asked,
+  element-reads.Learnt,
+  place-form-below t,
+  place-form.Post,
+  shifted-reads.Asked,
+  shifted-reads.Learnt,
+) (place-form-at t) place-form.Post
+place-form-add-number-3 t c = search needs
+
+-- src/walk.rt:180:29
+place-form-number-requires-4 : (t : ℕ) → place-form-lts.Need-number-requires-4 (
+  number-reads.Asked,
+  number-reads.Learnt,
+  place-below t,
+  place.Post,
+  eval-below t,
+  eval.Post,
+  distance-reads.Asked,
+  distance-reads.Learnt,
+  element-reads.Asked,
+  element-reads.Learnt,
+  place-form-below t,
+  place-form.Post,
+  shifted-reads.Asked,
+  shifted-reads.Learnt,
+) (place-form-at t) place-form.Post
+place-form-number-requires-4 t c κs = search needs
+
+-- src/walk.rt:180:63
+place-form-add-number-4 : (t : ℕ) → place-form-lts.Need-add-number-4 (
+  number-reads.Asked,
+  number-reads.Learnt,
+  place-below t,
+  place.Post,
+  eval-below t,
+  eval.Post,
+  distance-reads.Asked,
+  distance-reads.Learnt,
+  element-reads.Asked,
+  element-reads.Learnt,
+  place-form-below t,
+  place-form.Post,
+  shifted-reads.Asked,
+  shifted-reads.Learnt,
+) (place-form-at t) place-form.Post
+place-form-add-number-4 t c = search needs
+
+-- src/walk.rt:180:50
+place-form-number-requires-5 : (t : ℕ) → place-form-lts.Need-number-requires-5 (
+  number-reads.Asked,
+  number-reads.Learnt,
+  place-below t,
+  place.Post,
+  eval-below t,
+  eval.Post,
+  distance-reads.Asked,
+  distance-reads.Learnt,
+  element-reads.Asked,
+  element-reads.Learnt,
+  place-form-below t,
+  place-form.Post,
+  shifted-reads.Asked,
+  shifted-reads.Learnt,
+) (place-form-at t) place-form.Post
+place-form-number-requires-5 t c κs = search needs
+
+-- src/walk.rt:180:13
+place-form-distance-requires : (t : ℕ) → place-form-lts.Need-distance-requires (
+  number-reads.Asked,
+  number-reads.Learnt,
+  place-below t,
+  place.Post,
+  eval-below t,
+  eval.Post,
+  distance-reads.Asked,
+  distance-reads.Learnt,
+  element-reads.Asked,
+  element-reads.Learnt,
+  place-form-below t,
+  place-form.Post,
+  shifted-reads.Asked,
+  shifted-reads.Learnt,
+) (place-form-at t) place-form.Post
+place-form-distance-requires t c κs = search needs
+
+-- src/walk.rt:181:43
+place-form-add-number-5 : (t : ℕ) → place-form-lts.Need-add-number-5 (
+  number-reads.Asked,
+  number-reads.Learnt,
+  place-below t,
+  place.Post,
+  eval-below t,
+  eval.Post,
+  distance-reads.Asked,
+  distance-reads.Learnt,
+  element-reads.Asked,
+  element-reads.Learnt,
+  place-form-below t,
+  place-form.Post,
+  shifted-reads.Asked,
+  shifted-reads.Learnt,
+) (place-form-at t) place-form.Post
+place-form-add-number-5 t c = search needs
+
+-- src/walk.rt:181:30
+place-form-number-requires-6 : (t : ℕ) → place-form-lts.Need-number-requires-6 (
+  number-reads.Asked,
+  number-reads.Learnt,
+  place-below t,
+  place.Post,
+  eval-below t,
+  eval.Post,
+  distance-reads.Asked,
+  distance-reads.Learnt,
+  element-reads.Asked,
+  element-reads.Learnt,
+  place-form-below t,
+  place-form.Post,
+  shifted-reads.Asked,
+  shifted-reads.Learnt,
+) (place-form-at t) place-form.Post
+place-form-number-requires-6 t c κs = search needs
+
+-- src/walk.rt:181:9
+place-form-element-requires : (t : ℕ) → place-form-lts.Need-element-requires (
+  number-reads.Asked,
+  number-reads.Learnt,
+  place-below t,
+  place.Post,
+  eval-below t,
+  eval.Post,
+  distance-reads.Asked,
+  distance-reads.Learnt,
+  element-reads.Asked,
+  element-reads.Learnt,
+  place-form-below t,
+  place-form.Post,
+  shifted-reads.Asked,
+  shifted-reads.Learnt,
+) (place-form-at t) place-form.Post
+place-form-element-requires t c κs = search needs
+
+-- src/walk.rt:181:9
+place-form-returns-2 : (t : ℕ) → place-form-lts.Need-returns-2 (
+  number-reads.Asked,
+  number-reads.Learnt,
+  place-below t,
+  place.Post,
+  eval-below t,
+  eval.Post,
+  distance-reads.Asked,
+  distance-reads.Learnt,
+  element-reads.Asked,
+  element-reads.Learnt,
+  place-form-below t,
+  place-form.Post,
+  shifted-reads.Asked,
+  shifted-reads.Learnt,
+) (place-form-at t) place-form.Post
+place-form-returns-2 t c = search (finds-element, deep, needs)
+
+-- src/walk.rt:184:62
+place-form-add-number-6 : (t : ℕ) → place-form-lts.Need-add-number-6 (
+  number-reads.Asked,
+  number-reads.Learnt,
+  place-below t,
+  place.Post,
+  eval-below t,
+  eval.Post,
+  distance-reads.Asked,
+  distance-reads.Learnt,
+  element-reads.Asked,
+  element-reads.Learnt,
+  place-form-below t,
+  place-form.Post,
+  shifted-reads.Asked,
+  shifted-reads.Learnt,
+) (place-form-at t) place-form.Post
+place-form-add-number-6 t c = search needs
+
+-- src/walk.rt:184:49
+place-form-number-requires-7 : (t : ℕ) → place-form-lts.Need-number-requires-7 (
+  number-reads.Asked,
+  number-reads.Learnt,
+  place-below t,
+  place.Post,
+  eval-below t,
+  eval.Post,
+  distance-reads.Asked,
+  distance-reads.Learnt,
+  element-reads.Asked,
+  element-reads.Learnt,
+  place-form-below t,
+  place-form.Post,
+  shifted-reads.Asked,
+  shifted-reads.Learnt,
+) (place-form-at t) place-form.Post
+place-form-number-requires-7 t c κs = search needs
+
+-- src/walk.rt:184:70
+place-form-sub-place-form : (t : ℕ) → place-form-lts.Need-sub-place-form (
+  number-reads.Asked,
+  number-reads.Learnt,
+  place-below t,
+  place.Post,
+  eval-below t,
+  eval.Post,
+  distance-reads.Asked,
+  distance-reads.Learnt,
+  element-reads.Asked,
+  element-reads.Learnt,
+  place-form-below t,
+  place-form.Post,
+  shifted-reads.Asked,
+  shifted-reads.Learnt,
+) (place-form-at t) place-form.Post
+place-form-sub-place-form t c = search needs
+
+-- src/walk.rt:184:13
+place-form-place-form-requires : (t : ℕ) → place-form-lts.Need-place-form-requires (
+  number-reads.Asked,
+  number-reads.Learnt,
+  place-below t,
+  place.Post,
+  eval-below t,
+  eval.Post,
+  distance-reads.Asked,
+  distance-reads.Learnt,
+  element-reads.Asked,
+  element-reads.Learnt,
+  place-form-below t,
+  place-form.Post,
+  shifted-reads.Asked,
+  shifted-reads.Learnt,
+) (place-form-at t) place-form.Post
+place-form-place-form-requires t c κs = search needs
+
+-- src/walk.rt:185:40
+place-form-add-number-7 : (t : ℕ) → place-form-lts.Need-add-number-7 (
+  number-reads.Asked,
+  number-reads.Learnt,
+  place-below t,
+  place.Post,
+  eval-below t,
+  eval.Post,
+  distance-reads.Asked,
+  distance-reads.Learnt,
+  element-reads.Asked,
+  element-reads.Learnt,
+  place-form-below t,
+  place-form.Post,
+  shifted-reads.Asked,
+  shifted-reads.Learnt,
+) (place-form-at t) place-form.Post
+place-form-add-number-7 t c = search needs
+
+-- src/walk.rt:185:27
+place-form-number-requires-8 : (t : ℕ) → place-form-lts.Need-number-requires-8 (
+  number-reads.Asked,
+  number-reads.Learnt,
+  place-below t,
+  place.Post,
+  eval-below t,
+  eval.Post,
+  distance-reads.Asked,
+  distance-reads.Learnt,
+  element-reads.Asked,
+  element-reads.Learnt,
+  place-form-below t,
+  place-form.Post,
+  shifted-reads.Asked,
+  shifted-reads.Learnt,
+) (place-form-at t) place-form.Post
+place-form-number-requires-8 t c κs = search needs
+
+-- src/walk.rt:185:9
+place-form-shifted-requires : (t : ℕ) → place-form-lts.Need-shifted-requires (
+  number-reads.Asked,
+  number-reads.Learnt,
+  place-below t,
+  place.Post,
+  eval-below t,
+  eval.Post,
+  distance-reads.Asked,
+  distance-reads.Learnt,
+  element-reads.Asked,
+  element-reads.Learnt,
+  place-form-below t,
+  place-form.Post,
+  shifted-reads.Asked,
+  shifted-reads.Learnt,
+) (place-form-at t) place-form.Post
+place-form-shifted-requires t c κs = search needs
+
+-- src/walk.rt:185:9
+place-form-returns-3 : (t : ℕ) → place-form-lts.Need-returns-3 (
+  number-reads.Asked,
+  number-reads.Learnt,
+  place-below t,
+  place.Post,
+  eval-below t,
+  eval.Post,
+  distance-reads.Asked,
+  distance-reads.Learnt,
+  element-reads.Asked,
+  element-reads.Learnt,
+  place-form-below t,
+  place-form.Post,
+  shifted-reads.Asked,
+  shifted-reads.Learnt,
+) (place-form-at t) place-form.Post
+place-form-returns-3 t c = search (finds-shift, deep, sfits-of)
+
+-- src/walk.rt:188:29
+place-form-add-number-8 : (t : ℕ) → place-form-lts.Need-add-number-8 (
+  number-reads.Asked,
+  number-reads.Learnt,
+  place-below t,
+  place.Post,
+  eval-below t,
+  eval.Post,
+  distance-reads.Asked,
+  distance-reads.Learnt,
+  element-reads.Asked,
+  element-reads.Learnt,
+  place-form-below t,
+  place-form.Post,
+  shifted-reads.Asked,
+  shifted-reads.Learnt,
+) (place-form-at t) place-form.Post
+place-form-add-number-8 t c = search needs
+
+-- src/walk.rt:188:16
+place-form-number-requires-9 : (t : ℕ) → place-form-lts.Need-number-requires-9 (
+  number-reads.Asked,
+  number-reads.Learnt,
+  place-below t,
+  place.Post,
+  eval-below t,
+  eval.Post,
+  distance-reads.Asked,
+  distance-reads.Learnt,
+  element-reads.Asked,
+  element-reads.Learnt,
+  place-form-below t,
+  place-form.Post,
+  shifted-reads.Asked,
+  shifted-reads.Learnt,
+) (place-form-at t) place-form.Post
+place-form-number-requires-9 t c κs = search needs
+
+-- src/walk.rt:188:16
+place-form-cast-result : (t : ℕ) → place-form-lts.Need-cast-result (
+  number-reads.Asked,
+  number-reads.Learnt,
+  place-below t,
+  place.Post,
+  eval-below t,
+  eval.Post,
+  distance-reads.Asked,
+  distance-reads.Learnt,
+  element-reads.Asked,
+  element-reads.Learnt,
+  place-form-below t,
+  place-form.Post,
+  shifted-reads.Asked,
+  shifted-reads.Learnt,
+) (place-form-at t) place-form.Post
+place-form-cast-result t c = search needs
+
+-- src/walk.rt:188:9
+place-form-returns-4 : (t : ℕ) → place-form-lts.Need-returns-4 (
+  number-reads.Asked,
+  number-reads.Learnt,
+  place-below t,
+  place.Post,
+  eval-below t,
+  eval.Post,
+  distance-reads.Asked,
+  distance-reads.Learnt,
+  element-reads.Asked,
+  element-reads.Learnt,
+  place-form-below t,
+  place-form.Post,
+  shifted-reads.Asked,
+  shifted-reads.Learnt,
+) (place-form-at t) place-form.Post
+place-form-returns-4 t c = search (finds-cell, deep, needs)
+
+-- src/walk.rt:169:1
+place-form-returns-5 : (t : ℕ) → place-form-lts.Need-returns-5 (
+  number-reads.Asked,
+  number-reads.Learnt,
+  place-below t,
+  place.Post,
+  eval-below t,
+  eval.Post,
+  distance-reads.Asked,
+  distance-reads.Learnt,
+  element-reads.Asked,
+  element-reads.Learnt,
+  place-form-below t,
+  place-form.Post,
+  shifted-reads.Asked,
+  shifted-reads.Learnt,
+) (place-form-at t) place-form.Post
+place-form-returns-5 t c = search (finds-none, deep, sfits-of)
+
+-- src/walk.rt:136:9
+short-cut-number-requires : (t : ℕ) → short-cut-lts.Need-number-requires (
+  number-reads.Asked,
+  number-reads.Learnt,
+  eval-below t,
+  eval.Post,
+  eval-form-below t,
+  eval-form.Post,
+) (short-cut-at t) short-cut.Post
+short-cut-number-requires t c κs = search needs
+
+-- src/walk.rt:137:52
+short-cut-add-number : (t : ℕ) → short-cut-lts.Need-add-number (
+  number-reads.Asked,
+  number-reads.Learnt,
+  eval-below t,
+  eval.Post,
+  eval-form-below t,
+  eval-form.Post,
+) (short-cut-at t) short-cut.Post
+short-cut-add-number t c = search needs
+
+-- src/walk.rt:137:39
+short-cut-number-requires-2 : (t : ℕ) → short-cut-lts.Need-number-requires-2 (
+  number-reads.Asked,
+  number-reads.Learnt,
+  eval-below t,
+  eval.Post,
+  eval-form-below t,
+  eval-form.Post,
+) (short-cut-at t) short-cut.Post
+short-cut-number-requires-2 t c κs = search needs
+
+-- src/walk.rt:137:60
+short-cut-sub-eval : (t : ℕ) → short-cut-lts.Need-sub-eval (
+  number-reads.Asked,
+  number-reads.Learnt,
+  eval-below t,
+  eval.Post,
+  eval-form-below t,
+  eval-form.Post,
+) (short-cut-at t) short-cut.Post
+short-cut-sub-eval t c = search needs
+
+-- src/walk.rt:137:9
+short-cut-eval-requires : (t : ℕ) → short-cut-lts.Need-eval-requires (
+  number-reads.Asked,
+  number-reads.Learnt,
+  eval-below t,
+  eval.Post,
+  eval-form-below t,
+  eval-form.Post,
+) (short-cut-at t) short-cut.Post
+short-cut-eval-requires t c κs = search needs
+
+-- src/walk.rt:139:9
+short-cut-returns : (t : ℕ) → short-cut-lts.Need-returns (
+  number-reads.Asked,
+  number-reads.Learnt,
+  eval-below t,
+  eval.Post,
+  eval-form-below t,
+  eval-form.Post,
+) (short-cut-at t) short-cut.Post
+short-cut-returns t c = search (short-laws)
+
+-- src/walk.rt:143:64
+short-cut-add-number-2 : (t : ℕ) → short-cut-lts.Need-add-number-2 (
+  number-reads.Asked,
+  number-reads.Learnt,
+  eval-below t,
+  eval.Post,
+  eval-form-below t,
+  eval-form.Post,
+) (short-cut-at t) short-cut.Post
+short-cut-add-number-2 t c = search needs
+
+-- src/walk.rt:143:51
+short-cut-number-requires-3 : (t : ℕ) → short-cut-lts.Need-number-requires-3 (
+  number-reads.Asked,
+  number-reads.Learnt,
+  eval-below t,
+  eval.Post,
+  eval-form-below t,
+  eval-form.Post,
+) (short-cut-at t) short-cut.Post
+short-cut-number-requires-3 t c κs = search needs
+
+-- src/walk.rt:143:72
+short-cut-sub-eval-form : (t : ℕ) → short-cut-lts.Need-sub-eval-form (
+  number-reads.Asked,
+  number-reads.Learnt,
+  eval-below t,
+  eval.Post,
+  eval-form-below t,
+  eval-form.Post,
+) (short-cut-at t) short-cut.Post
+short-cut-sub-eval-form t c = search needs
+
+-- src/walk.rt:143:13
+short-cut-eval-form-requires : (t : ℕ) → short-cut-lts.Need-eval-form-requires (
+  number-reads.Asked,
+  number-reads.Learnt,
+  eval-below t,
+  eval.Post,
+  eval-form-below t,
+  eval-form.Post,
+) (short-cut-at t) short-cut.Post
+short-cut-eval-form-requires t c κs = search needs
+
+-- src/walk.rt:143:13
+short-cut-returns-2 : (t : ℕ) → short-cut-lts.Need-returns-2 (
+  number-reads.Asked,
+  number-reads.Learnt,
+  eval-below t,
+  eval.Post,
+  eval-form-below t,
+  eval-form.Post,
+) (short-cut-at t) short-cut.Post
+short-cut-returns-2 t c = search (short-laws)
+
+-- src/walk.rt:145:9
+short-cut-returns-3 : (t : ℕ) → short-cut-lts.Need-returns-3 (
+  number-reads.Asked,
+  number-reads.Learnt,
+  eval-below t,
+  eval.Post,
+  eval-form-below t,
+  eval-form.Post,
+) (short-cut-at t) short-cut.Post
+short-cut-returns-3 t c = search (short-laws)
+
+-- src/walk.rt:148:9
+short-cut-returns-4 : (t : ℕ) → short-cut-lts.Need-returns-4 (
+  number-reads.Asked,
+  number-reads.Learnt,
+  eval-below t,
+  eval.Post,
+  eval-form-below t,
+  eval-form.Post,
+) (short-cut-at t) short-cut.Post
+short-cut-returns-4 t c = search (short-laws)
+
+-- src/walk.rt:150:49
+short-cut-add-number-3 : (t : ℕ) → short-cut-lts.Need-add-number-3 (
+  number-reads.Asked,
+  number-reads.Learnt,
+  eval-below t,
+  eval.Post,
+  eval-form-below t,
+  eval-form.Post,
+) (short-cut-at t) short-cut.Post
+short-cut-add-number-3 t c = search needs
+
+-- src/walk.rt:150:36
+short-cut-number-requires-4 : (t : ℕ) → short-cut-lts.Need-number-requires-4 (
+  number-reads.Asked,
+  number-reads.Learnt,
+  eval-below t,
+  eval.Post,
+  eval-form-below t,
+  eval-form.Post,
+) (short-cut-at t) short-cut.Post
+short-cut-number-requires-4 t c κs = search needs
+
+-- src/walk.rt:150:57
+short-cut-sub-eval-form-2 : (t : ℕ) → short-cut-lts.Need-sub-eval-form-2 (
+  number-reads.Asked,
+  number-reads.Learnt,
+  eval-below t,
+  eval.Post,
+  eval-form-below t,
+  eval-form.Post,
+) (short-cut-at t) short-cut.Post
+short-cut-sub-eval-form-2 t c = search needs
+
+-- src/walk.rt:150:5
+short-cut-eval-form-requires-2 : (t : ℕ) → short-cut-lts.Need-eval-form-requires-2 (
+  number-reads.Asked,
+  number-reads.Learnt,
+  eval-below t,
+  eval.Post,
+  eval-form-below t,
+  eval-form.Post,
+) (short-cut-at t) short-cut.Post
+short-cut-eval-form-requires-2 t c κs = search needs
+
+-- src/walk.rt:131:1
+short-cut-returns-5 : (t : ℕ) → short-cut-lts.Need-returns-5 (
+  number-reads.Asked,
+  number-reads.Learnt,
+  eval-below t,
+  eval.Post,
+  eval-form-below t,
+  eval-form.Post,
+) (short-cut-at t) short-cut.Post
+short-cut-returns-5 t c = search (short-laws)
+
+pub +eval+eval-form+gather+left-first+one-sided+place+place-form+short-cut-spec :
+    {M : Type 1} → statement M
++eval+eval-form+gather+left-first+one-sided+place+place-form+short-cut-spec =
+    close
+    μ-eval
+    μ-eval-form
+    μ-gather
+    μ-left-first
+    μ-one-sided
+    μ-place
+    μ-place-form
+    μ-short-cut
+    (λ t. eval-lts.spec (
+      eval-form-below t,
+      eval-form.Post,
+      number-reads.Asked,
+      number-reads.Learnt,
+      simple-reads.Asked,
+      simple-reads.Learnt,
+      left-first-below t,
+      left-first.Post,
+      eval-below t,
+      eval.Post,
+      binary-reads.Asked,
+      binary-reads.Learnt,
+      one-sided-below t,
+      one-sided.Post,
+      cell-reads.Asked,
+      cell-reads.Learnt,
+      integral-reads.Asked,
+      integral-reads.Learnt,
+    )
+    (eval-at t)
+    eval.Post
+    (eval-eval-form-requires t)
+    (eval-returns t)
+    (eval-number-requires t)
+    (eval-add-number t)
+    (eval-number-requires-2 t)
+    (eval-simple-requires t)
+    (eval-left-first-requires t)
+    (eval-returns-2 t)
+    (eval-add-number-2 t)
+    (eval-number-requires-3 t)
+    (eval-simple-requires-2 t)
+    (eval-sub-eval t)
+    (eval-eval-requires t)
+    (eval-binary-requires t)
+    (eval-returns-3 t)
+    (eval-binary-requires-2 t)
+    (eval-returns-4 t)
+    (eval-one-sided-requires t)
+    (eval-returns-5 t)
+    (eval-add-number-3 t)
+    (eval-number-requires-4 t)
+    (eval-cast-cell t)
+    (eval-cell-requires t)
+    (eval-returns-6 t)
+    (eval-add-integral t)
+    (eval-integral-requires t)
+    (eval-returns-7 t)
+    (eval-eval-form-requires-2 t)
+    (eval-returns-8 t))
+    (λ t. eval-form-lts.spec (
+      number-reads.Asked,
+      number-reads.Learnt,
+      one-sided-below t,
+      one-sided.Post,
+      eval-below t,
+      eval.Post,
+      binary-reads.Asked,
+      binary-reads.Learnt,
+      short-cut-below t,
+      short-cut.Post,
+      integral-reads.Asked,
+      integral-reads.Learnt,
+      cell-reads.Asked,
+      cell-reads.Learnt,
+      cells-reads.Asked,
+      cells-reads.Learnt,
+      place-below t,
+      place.Post,
+      cells-at-reads.Asked,
+      cells-at-reads.Learnt,
+      gather-below t,
+      gather.Post,
+    )
+    (eval-form-at t)
+    eval-form.Post
+    (eval-form-returns t)
+    (eval-form-number-requires t)
+    (eval-form-one-sided-requires t)
+    (eval-form-returns-2 t)
+    (eval-form-add-number t)
+    (eval-form-number-requires-2 t)
+    (eval-form-sub-eval t)
+    (eval-form-eval-requires t)
+    (eval-form-add-number-2 t)
+    (eval-form-number-requires-3 t)
+    (eval-form-sub-eval-2 t)
+    (eval-form-eval-requires-2 t)
+    (eval-form-binary-requires t)
+    (eval-form-returns-3 t)
+    (eval-form-short-cut-requires t)
+    (eval-form-returns-4 t)
+    (eval-form-add-integral t)
+    (eval-form-integral-requires t)
+    (eval-form-add-number-3 t)
+    (eval-form-number-requires-4 t)
+    (eval-form-cast-cell t)
+    (eval-form-cell-requires t)
+    (eval-form-add-number-4 t)
+    (eval-form-number-requires-5 t)
+    (eval-form-cells-requires t)
+    (eval-form-add-number-5 t)
+    (eval-form-number-requires-6 t)
+    (eval-form-sub-place t)
+    (eval-form-place-requires t)
+    (eval-form-add-number-6 t)
+    (eval-form-number-requires-7 t)
+    (eval-form-cells-at-requires t)
+    (eval-form-sub-gather t)
+    (eval-form-gather-requires t)
+    (eval-form-returns-5 t)
+    (eval-form-returns-6 t)
+    (eval-form-returns-7 t)
+    (eval-form-returns-8 t)
+    (eval-form-returns-9 t)
+    (eval-form-returns-10 t)
+    (eval-form-returns-11 t))
+    (λ t. gather-lts.spec (
+      integral-reads.Asked,
+      integral-reads.Learnt,
+      number-reads.Asked,
+      number-reads.Learnt,
+      value-reads.Asked,
+      value-reads.Learnt,
+      eval-below t,
+      eval.Post,
+      test-reads.Asked,
+      test-reads.Learnt,
+      insert-reads.Asked,
+      insert-reads.Learnt,
+    )
+    (gather-at t)
+    gather.Post
+    gather-Inv-loop
+    gather-μ-loop
+    (gather-add-integral t)
+    (gather-integral-requires t)
+    (gather-add-integral-2 t)
+    (gather-integral-requires-2 t)
+    (gather-add-number t)
+    (gather-number-requires t)
+    (gather-cast-number t)
+    (gather-number-requires-2 t)
+    (gather-loop-holds t)
+    (gather-value-requires t)
+    (gather-returns t)
+    (gather-sub-d t)
+    (gather-cast-number-2 t)
+    (gather-number-requires-3 t)
+    (gather-eval-requires t)
+    (gather-test-requires t)
+    (gather-returns-2 t)
+    (gather-insert-requires t)
+    (gather-cast-number-3 t)
+    (gather-add-number-2 t)
+    (gather-number-requires-4 t)
+    (gather-loop-less t)
+    (gather-loop-again t)
+    (gather-value-requires-2 t)
+    (gather-returns-3 t))
+    (λ t. left-first-lts.spec (
+      number-reads.Asked,
+      number-reads.Learnt,
+      eval-below t,
+      eval.Post,
+      simple-reads.Asked,
+      simple-reads.Learnt,
+      binary-reads.Asked,
+      binary-reads.Learnt,
+    )
+    (left-first-at t)
+    left-first.Post
+    (left-first-number-requires t)
+    (left-first-add-number t)
+    (left-first-number-requires-2 t)
+    (left-first-add-number-2 t)
+    (left-first-number-requires-3 t)
+    (left-first-sub-eval t)
+    (left-first-eval-requires t)
+    (left-first-simple-requires t)
+    (left-first-sub-eval-2 t)
+    (left-first-eval-requires-2 t)
+    (left-first-binary-requires t)
+    (left-first-returns t)
+    (left-first-binary-requires-2 t)
+    (left-first-returns-2 t))
+    (λ t. one-sided-lts.spec (
+      number-reads.Asked,
+      number-reads.Learnt,
+      eval-below t,
+      eval.Post,
+      integral-reads.Asked,
+      integral-reads.Learnt,
+      pred-reads.Asked,
+      pred-reads.Learnt,
+      succ-reads.Asked,
+      succ-reads.Learnt,
+      unary-reads.Asked,
+      unary-reads.Learnt,
+    )
+    (one-sided-at t)
+    one-sided.Post
+    (one-sided-number-requires t)
+    (one-sided-returns t)
+    (one-sided-add-number t)
+    (one-sided-number-requires-2 t)
+    (one-sided-sub-eval t)
+    (one-sided-eval-requires t)
+    (one-sided-add-integral t)
+    (one-sided-integral-requires t)
+    (one-sided-add-integral-2 t)
+    (one-sided-integral-requires-2 t)
+    (one-sided-pred-requires t)
+    (one-sided-returns-2 t)
+    (one-sided-add-integral-3 t)
+    (one-sided-integral-requires-3 t)
+    (one-sided-add-integral-4 t)
+    (one-sided-integral-requires-4 t)
+    (one-sided-succ-requires t)
+    (one-sided-returns-3 t)
+    (one-sided-unary-requires t)
+    (one-sided-returns-4 t))
+    (λ t. place-lts.spec (
+      number-reads.Asked,
+      number-reads.Learnt,
+      place-form-below t,
+      place-form.Post,
+    )
+    (place-at t)
+    place.Post
+    (place-returns t)
+    (place-number-requires t)
+    (place-add-number t)
+    (place-number-requires-2 t)
+    (place-cast-result t)
+    (place-returns-2 t)
+    (place-place-form-requires t)
+    (place-returns-3 t))
+    (λ t. place-form-lts.spec (
+      number-reads.Asked,
+      number-reads.Learnt,
+      place-below t,
+      place.Post,
+      eval-below t,
+      eval.Post,
+      distance-reads.Asked,
+      distance-reads.Learnt,
+      element-reads.Asked,
+      element-reads.Learnt,
+      place-form-below t,
+      place-form.Post,
+      shifted-reads.Asked,
+      shifted-reads.Learnt,
+    )
+    (place-form-at t)
+    place-form.Post
+    (place-form-returns t)
+    (place-form-number-requires t)
+    (place-form-add-number t)
+    (place-form-number-requires-2 t)
+    (place-form-sub-place t)
+    (place-form-place-requires t)
+    (place-form-add-number-2 t)
+    (place-form-number-requires-3 t)
+    (place-form-sub-eval t)
+    (place-form-eval-requires t)
+    (place-form-add-number-3 t)
+    (place-form-number-requires-4 t)
+    (place-form-add-number-4 t)
+    (place-form-number-requires-5 t)
+    (place-form-distance-requires t)
+    (place-form-add-number-5 t)
+    (place-form-number-requires-6 t)
+    (place-form-element-requires t)
+    (place-form-returns-2 t)
+    (place-form-add-number-6 t)
+    (place-form-number-requires-7 t)
+    (place-form-sub-place-form t)
+    (place-form-place-form-requires t)
+    (place-form-add-number-7 t)
+    (place-form-number-requires-8 t)
+    (place-form-shifted-requires t)
+    (place-form-returns-3 t)
+    (place-form-add-number-8 t)
+    (place-form-number-requires-9 t)
+    (place-form-cast-result t)
+    (place-form-returns-4 t)
+    (place-form-returns-5 t))
+    λ t. short-cut-lts.spec (
+      number-reads.Asked,
+      number-reads.Learnt,
+      eval-below t,
+      eval.Post,
+      eval-form-below t,
+      eval-form.Post,
+    )
+    (short-cut-at t)
+    short-cut.Post
+    (short-cut-number-requires t)
+    (short-cut-add-number t)
+    (short-cut-number-requires-2 t)
+    (short-cut-sub-eval t)
+    (short-cut-eval-requires t)
+    (short-cut-returns t)
+    (short-cut-add-number-2 t)
+    (short-cut-number-requires-3 t)
+    (short-cut-sub-eval-form t)
+    (short-cut-eval-form-requires t)
+    (short-cut-returns-2 t)
+    (short-cut-returns-3 t)
+    (short-cut-returns-4 t)
+    (short-cut-add-number-3 t)
+    (short-cut-number-requires-4 t)
+    (short-cut-sub-eval-form-2 t)
+    (short-cut-eval-form-requires-2 t)
+    (short-cut-returns-5 t)

@@ -1,0 +1,130 @@
+-- Results as words, and what is read in one step of the walk over laid code.
+use mathlib.Core.Bool.{Bool, true, false, _&&_}
+use mathlib.Core.List.{List, [], _∷_}
+use mathlib.Core.Path.{_≡_}
+use mathlib.Core.Logic.{_⊎_}
+use Prim.Native.Nat.{ℕ, zero, suc, _+_, _*_, min}
+use lib.Dec.{eqb, ltb}
+use lib.IntN.{ℤ, pos, negsuc, _+ℤ_, _-ℤ_}
+use lib.ListN.{getD, take}
+use lib.Signed.{leZ, ltZ}
+use Rattle.arith.specs.Integers.{inside, least, most}
+use Rattle.semantics.specs.Base.{pick}
+use Rattle.semantics.specs.Calculate.{Result, is, fails, stuck, _>>=_, natOf, tested, numericError, rangeError, undefinedError, compute, compute1}
+use Rattle.semantics.specs.Operators.{Operation, Operation1}
+use Rattle.semantics.specs.Machine.{Store, readCell, sole}
+use Rattle.semantics.specs.Readback.{integerAt}
+
+-- the code that an array of 16,384 numbers holds
+unfoldable pub codeIn : List ℕ → List ℕ
+codeIn l = take 16384 l
+
+-- ---- a value is its own word; a fault's is above every value
+
+unfoldable pub wordOf : Result ℤ → ℤ
+wordOf (is z) = z
+wordOf (fails e) = e +ℤ pos 8589934592
+wordOf stuck = pos 17179869184
+
+unfoldable pub resultOf : ℤ → Result ℤ
+resultOf w = pick (ltZ (pos 4294967295) w) (fails (w -ℤ pos 8589934592)) (is w)
+
+-- an Undefined_Error
+abbrev pub undefinedWord : ℤ
+undefinedWord = pos 8589934488
+
+-- the word of a cell, in an array of 2,048 words
+unfoldable pub storeWord : List ℤ → ℕ → ℤ
+storeWord ws a = pick (ltb a 2048) (getD ws a (pos 0)) undefinedWord
+
+-- what is not read in place
+abbrev pub nested : ℤ
+nested = pos 17179869184
+
+-- an ordinal or a set is a value in this range
+unfoldable pub InRange : ℤ → Type 0
+InRange z = inside (negsuc 2147483647) (pos 4294967295) z ≡ true
+
+-- a value in its range, or one of the exceptions' numbers
+unfoldable pub Ranged : Result ℤ → Type 0
+Ranged (is z) = InRange z
+Ranged (fails e) = (e ≡ numericError) ⊎ ((e ≡ rangeError) ⊎ (e ≡ undefinedError))
+Ranged stuck = ⊥
+
+-- operators on words, the left fault first
+unfoldable pub applied : Operation → ℤ → ℤ → ℤ
+applied c x y = wordOf (resultOf x >>= λ a. resultOf y >>= λ b. compute c a b)
+
+unfoldable pub applied1 : Operation1 → ℤ → ℤ
+applied1 c x = wordOf (resultOf x >>= λ a. compute1 c a)
+
+-- a word tested against bounds
+unfoldable pub testedWord : ℤ → ℤ → ℤ → ℤ
+testedWord lo hi x = wordOf (resultOf x >>= λ z. tested rangeError lo hi z)
+
+-- r is the word of v
+pub record Means (r : ℤ) (v : Result ℤ) : Type 0 where
+  pub word : r ≡ wordOf v
+  pub ranged : Ranged v
+
+-- the first cell of a value
+abbrev pub first : Result (List ℤ) → Result ℤ
+first v = v >>= λ zs. is (sole zs)
+
+-- ---- the store as words: each cell's value, or an Undefined_Error
+
+pub record Holds (ws : List ℤ) (latest : ℤ) (m : Store) : Type 0 where
+  pub cells : (a : ℕ) → Means (storeWord ws a) (readCell a m)
+  pub last : m .latest ≡ latest
+  pub last-ranged : InRange latest
+
+-- n cells from a on are values
+unfoldable pub allValues : List ℤ → ℕ → ℕ → Bool
+allValues ws a zero = true
+allValues ws a (suc n) = leZ (storeWord ws a) (pos 4294967295) && allValues ws (a + 1) n
+
+-- the first of n cells from a on, all of which must be values
+unfoldable pub cellsWord : List ℤ → ℕ → ℕ → ℤ
+cellsWord ws a zero = pos 0
+cellsWord ws a (suc n) = pick (allValues ws a (suc n)) (storeWord ws a) undefinedWord
+
+-- the same by the word of a place; one cell is its word
+unfoldable pub cellsAt : List ℤ → ℤ → ℕ → ℤ
+cellsAt ws w n = pick (ltZ (pos 4294967295) w) w (pick (eqb n 1) (storeWord ws (natOf w)) (cellsWord ws (natOf w) n))
+
+-- ---- numbers and expressions that are read in place
+
+-- r is the integer at a place, which has 32 bits
+pub record Integral (l : List ℕ) (p : ℕ) (r : ℤ) : Type 0 where
+  pub value : r ≡ integerAt l p
+  pub small : inside least most r ≡ true
+
+unfoldable pub simpleWord : List ℕ → List ℤ → ℕ → ℤ
+simpleWord l ws p =
+    pick (eqb (getD l p 0) 2) (storeWord ws (getD l (p + 1) 0))
+    (pick (eqb (getD l p 0) 1) (integerAt l (p + 1)) nested)
+
+-- r is such an expression's word; a literal has 32 bits
+pub record Simple (l : List ℕ) (ws : List ℤ) (p : ℕ) (r : ℤ) : Type 0 where
+  pub value : r ≡ simpleWord l ws p
+  pub small : getD l p 0 ≡ 1 → inside least most r ≡ true
+
+-- ---- places: no store has a cell past the greatest value
+
+unfoldable pub placeWord : Result ℕ → ℤ
+placeWord (is a) = pos (min a 4294967295)
+placeWord (fails e) = e +ℤ pos 8589934592
+placeWord stuck = pos 17179869184
+
+unfoldable pub cellOf : ℤ → Result ℕ
+cellOf w = pick (ltZ (pos 4294967295) w) (fails (w -ℤ pos 8589934592)) (is (natOf w))
+
+-- an index's distance from its lower bound; the places of an element and of a field
+unfoldable pub distanceWord : ℤ → ℤ → ℤ → ℤ
+distanceWord lo hi x = wordOf (resultOf x >>= λ v. tested rangeError lo hi v >>= λ z. is (z -ℤ lo))
+
+unfoldable pub elementWord : ℤ → ℤ → ℕ → ℤ
+elementWord a d n = placeWord (cellOf a >>= λ p. resultOf d >>= λ k. is (p + natOf k * n))
+
+unfoldable pub shiftedWord : ℤ → ℕ → ℤ
+shiftedWord a k = placeWord (cellOf a >>= λ p. is (p + k))

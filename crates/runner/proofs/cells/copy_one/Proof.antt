@@ -1,0 +1,44 @@
+use Rattle.runner.proofs.Storing.{one-laws}
+use borrow.Author.Needs.{needs}
+use Rattle.runner.proofs.cells.copy_one.Statement.{statement}
+use Rattle.runner.proofs.cells.copy_one.Tie as tie
+use Rattle.runner.proofs.cells.copy_one.Reads as reads
+use Rattle.runner.proofs.cells.copy_one.Lts as lts
+use Rattle.evaluate.proofs.cells.cell.Reads as cell-reads
+
+-- src/cells.rt:36:25
+add-cell : tie.Need-add-cell
+add-cell c = search needs
+
+-- src/cells.rt:36:9
+cell-requires : tie.Need-cell-requires
+cell-requires c κs = search needs
+
+-- src/cells.rt:37:13
+add-j : tie.Need-add-j
+add-j c = search needs
+
+-- src/cells.rt:40:13
+mul-z : tie.Need-mul-z
+mul-z c = search needs
+
+-- src/cells.rt:40:13
+element-set-from-z : tie.Need-element-set-from-z
+element-set-from-z c = search needs
+
+-- src/cells.rt:33:1
+returns : tie.Need-returns
+returns c = search (one-laws, needs)
+
+-- src/cells.rt:33:1
+returns-2 : tie.Need-returns-2
+returns-2 c = search (one-laws, needs)
+
+-- src/cells.rt:33:1
+returns-3 : tie.Need-returns-3
+returns-3 c = search (one-laws, needs)
+
+pub copy-one-spec : {M : Type 1} → statement M
+copy-one-spec =
+    tie.close
+    (tie.spec add-cell cell-requires add-j mul-z element-set-from-z returns returns-2 returns-3)
