@@ -9,7 +9,7 @@ use native.Mathlib.Nat.{min-eq-left}
 use borrow.Author.Tests.{le-leb, lt-leb, leb-true, leb-false, eq-eqb, ne-eqb}
 use lib.Dec.{eqb, leb}
 use lib.ListN.{length, getD, take, drop, replicate, drop-of-length-le}
-use lib.Seq.{drop-at, length-front, length-take-le}
+use lib.Seq.{drop-at, take-at, length-front, length-take-le}
 use Rattle.lexis.specs.declared.bytes.Class.{Class}
 use Rattle.lexis.specs.declared.bytes.Class.the-variants.{Feed, Space, Open, Close, Visible, Refused}
 use Rattle.lexis.specs.Bytes.{classOf}
@@ -117,7 +117,7 @@ pub ruleset check-laws = (check-bench, check-length, check-byte, check-rest)
 
 -- ---- the verdict
 
-zeros : (n i : ℕ) → _≡_ {A = ℕ} (getD (replicate n 0) i 0) 0
+pub zeros : (n i : ℕ) → _≡_ {A = ℕ} (getD (replicate n 0) i 0) 0
 zeros zero i = refl
 zeros (suc n) zero = refl
 zeros (suc n) (suc i) = zeros n i
@@ -131,7 +131,13 @@ told-is s l ts (refused m n) c h = rw (ne-eqb (c .refusal) 0 (λ e. omega (arith
 pub part-long : (l : List ℕ) (n : ℕ) → n ≡ min 16384 (length l) → n ≡ length (take n l)
 part-long l n e = sym (length-take-le n l (omega arith))
 
-verdict-same : (s : List ℕ) (n : ℕ) → verdictOf s (min 16384 n) ≡ verdictOf s n
+-- and so of the list as a call has left that part
+pub part-again : (l l′ : List ℕ) (n : ℕ) → n ≡ min 16384 (length l) → length l′ ≡ length (take n l) → n ≡ length (take n (l′ ++ drop n l))
+part-again l l′ n i e = let k = part-long l n i in rw (take-at l′ (drop n l) n (e ∙ sym k)) (k ∙ sym e)
+
+pub ruleset part-laws = (part-long, part-again)
+
+pub verdict-same : (s : List ℕ) (n : ℕ) → verdictOf s (min 16384 n) ≡ verdictOf s n
 unfolding verdictOf judge
 verdict-same s n = go (leb 16384 n) refl
   where

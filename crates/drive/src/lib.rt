@@ -1,4 +1,7 @@
 // A whole text: rows 1 to 9 in their order, and the verdict.
+pub mod counting;
+pub mod running;
+
 use declarations::State;
 use judge::Known;
 use judge::whole::line;
@@ -128,7 +131,7 @@ fn told(c: Checked) -> Verdict
 }
 
 // How many numbers of a working list of n are used.
-fn working(n: usize) -> usize
+pub fn working(n: usize) -> usize
     ensures { λ r. ⌜ r ≡ min 16384 n ⌝ }
 {
     if n < 16384 {

@@ -1,0 +1,4 @@
+pub mod Integers
+pub mod Writing
+pub mod Room
+pub mod Telling

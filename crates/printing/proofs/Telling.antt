@@ -1,0 +1,55 @@
+-- The ways through a report.
+use mathlib.Core.Path.{_≡_, refl, sym, ap, _∙_, subst}
+use mathlib.Core.List.{List, [], _∷_, _++_}
+use Prim.Native.Nat.{ℕ}
+use lib.IntN.{ℤ}
+use mir.Syntax.{w64}
+use mir.Val.{SFits}
+use mir.Facts.{toZ-ofZ}
+use Rattle.arith.proofs.Machine.{wire}
+use Rattle.lexis.specs.Bytes.{bytes}
+use Rattle.semantics.specs.Print.{decimalOf, signedOf, row, outcome, cells}
+use Rattle.chair.specs.declared.Outcome.{Outcome}
+use Rattle.chair.specs.declared.Outcome.the-variants.{Normal, Raised, Spent}
+use Rattle.chair.specs.declared.Answer.{Answer}
+use Rattle.drive.specs.declared.running.Report.{Report}
+use Rattle.drive.specs.declared.running.Report.the-variants.{Refused, Ran}
+use Rattle.printing.specs.Written.{Puts, namesAt}
+use Rattle.chair.specs.Answers.{outcomeOf}
+use Rattle.printing.specs.Told.{answerRow, reportRows}
+use Rattle.printing.proofs.Writing.{puts-then}
+
+module _ (a : Answer) (l : List ℕ) (p r : ℕ) (m : List ℕ) where
+  by : (o : Outcome) → a .outcome ≡ o → Puts (outcome (outcomeOf o) (a .steps)) l p r m → Puts (answerRow a) l p r m
+  unfolding answerRow
+  by o e f = subst (λ (x : Outcome). Puts (outcome (outcomeOf x) (a .steps)) l p r m) (sym e) f
+
+  pub by-normal : a .outcome ≡ Normal → Puts (row (bytes "normal" ∷ decimalOf (a .steps) ∷ [])) l p r m → Puts (answerRow a) l p r m
+  unfolding outcomeOf outcome
+  by-normal e f = by Normal e f
+
+  pub by-spent : a .outcome ≡ Spent → Puts (row (bytes "spent" ∷ decimalOf (a .steps) ∷ [])) l p r m → Puts (answerRow a) l p r m
+  unfolding outcomeOf outcome
+  by-spent e f = by Spent e f
+
+  pub by-raised : (z : ℤ) (n : ℕ) → a .outcome ≡ Raised z n → SFits w64 z → Puts (row (bytes "exception" ∷ signedOf (wire z) ∷ decimalOf n ∷ decimalOf (a .steps) ∷ [])) l p r m
+      → Puts (answerRow a) l p r m
+  unfolding outcomeOf outcome
+  by-raised z n e y f = by (Raised z n) e (subst (λ (x : ℤ). Puts (row (bytes "exception" ∷ signedOf x ∷ decimalOf n ∷ decimalOf (a .steps) ∷ [])) l p r m) (toZ-ofZ y) f)
+
+  pub as-raised : (z : ℤ) (n : ℕ) → a .outcome ≡ Raised z n → Puts (row (bytes "exception" ∷ signedOf z ∷ decimalOf n ∷ decimalOf (a .steps) ∷ [])) l p r m → Puts (answerRow a) l p r m
+  unfolding outcomeOf outcome
+  as-raised z n e f = by (Raised z n) e f
+
+pub ruleset answer-laws = (by-normal, by-spent, by-raised, as-raised)
+
+module _ (s ns : List ℕ) (vs : List ℤ) (ms : List ℕ) (x : Report) (l : List ℕ) (p r : ℕ) (m : List ℕ) where
+  pub report-refused : (n i : ℕ) → x ≡ Refused n i → Puts (row (bytes "refused" ∷ decimalOf n ∷ decimalOf i ∷ [])) l p r m → Puts (reportRows s ns vs ms x) l p r m
+  unfolding reportRows
+  report-refused n i e f = subst (λ (y : Report). Puts (reportRows s ns vs ms y) l p r m) (sym e) f
+
+  pub report-ran : (a : Answer) (q : ℕ) (k : List ℕ) → x ≡ Ran a → Puts (answerRow a) l p q k → Puts (cells 1 (namesAt s ns) vs ms) k q r m → Puts (reportRows s ns vs ms x) l p r m
+  unfolding reportRows
+  report-ran a q k e f g = subst (λ (y : Report). Puts (reportRows s ns vs ms y) l p r m) (sym e) (puts-then (answerRow a) (cells 1 (namesAt s ns) vs ms) l p q k r m f g)
+
+pub ruleset report-laws = (report-refused, report-ran)
