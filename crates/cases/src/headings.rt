@@ -3,7 +3,7 @@ ghost use Prim.Native.Nat.{_≤_, _<_};
 ghost use lib.ListN.{length};
 
 // The smaller of two numbers.
-pub fn least(a: usize, b: usize) -> usize
+pub(crate) fn least(a: usize, b: usize) -> usize
     ensures { λ r. ⌜ (r ≤ a) × (r ≤ b) ⌝ }
 {
     if a < b {
@@ -13,7 +13,7 @@ pub fn least(a: usize, b: usize) -> usize
 }
 
 // The byte at p, a line feed past the end.
-pub fn byte_at(text: &[u8], p: usize) -> u8 {
+pub(crate) fn byte_at(text: &[u8], p: usize) -> u8 {
     if p < text.len() {
         return text[p];
     }
@@ -50,7 +50,7 @@ fn digit_of(b: u8) -> u64
 }
 
 // The number whose digits stand from p on.
-pub fn number_at(text: &[u8], p: usize) -> u64
+pub(crate) fn number_at(text: &[u8], p: usize) -> u64
     ensures { λ r. ⌜ r < 1000000000000000000 ⌝ }
 {
     let mut n = 0;
@@ -92,7 +92,7 @@ fn negative(n: u64) -> i64
 }
 
 // The budget that stands at p.
-pub fn budget_at(text: &[u8], p: usize) -> u32 {
+pub(crate) fn budget_at(text: &[u8], p: usize) -> u32 {
     let n = number_at(text, p);
     if n > 4294967295 {
         return 4294967295;
@@ -110,7 +110,7 @@ fn mark_at(text: &[u8], p: usize) -> u8 {
 }
 
 // The word after the one at p on its line; the line's end if there is none.
-pub fn word_after(text: &[u8], p: usize) -> usize {
+pub(crate) fn word_after(text: &[u8], p: usize) -> usize {
     let mut q = p;
     while q < text.len() {
         if text[q] == 10 {
@@ -139,7 +139,7 @@ fn set_mark(marks: &mut [u8], i: usize, m: u8) {
 }
 
 // Puts the numbers from p on into the store, value and mark by turns; how many numbers there were.
-pub fn lend(text: &[u8], p: usize, values: &mut [i64], marks: &mut [u8]) -> usize {
+pub(crate) fn lend(text: &[u8], p: usize, values: &mut [i64], marks: &mut [u8]) -> usize {
     let mut n = 0;
     let mut q = p;
     while n < 4096 {

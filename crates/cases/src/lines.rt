@@ -3,7 +3,7 @@ ghost use Prim.Native.Nat.{_≤_, _<_};
 ghost use lib.ListN.{length};
 
 // The end of the line at p, its line feed left out.
-pub fn line_end(text: &[u8], p: usize) -> usize
+pub(crate) fn line_end(text: &[u8], p: usize) -> usize
     requires { ⌜ p ≤ length (now text) ⌝ }
     ensures { λ r. ⌜ (p ≤ r) × (r ≤ length (now (text .entry))) ⌝ }
 {
@@ -18,7 +18,7 @@ pub fn line_end(text: &[u8], p: usize) -> usize
 }
 
 // The start of the line after the one at p.
-pub fn line_after(text: &[u8], p: usize) -> usize
+pub(crate) fn line_after(text: &[u8], p: usize) -> usize
     requires { ⌜ p < length (now text) ⌝ }
     ensures { λ r. ⌜ (p < r) × (r ≤ length (now (text .entry))) ⌝ }
 {
@@ -30,7 +30,7 @@ pub fn line_after(text: &[u8], p: usize) -> usize
 }
 
 // Whether these bytes stand at p.
-pub fn stands(text: &[u8], p: usize, bytes: &[u8]) -> bool
+pub(crate) fn stands(text: &[u8], p: usize, bytes: &[u8]) -> bool
     requires { ⌜ p ≤ length (now text) ⌝ }
 {
     if text.len() - p < bytes.len() {
@@ -60,7 +60,7 @@ fn heads(text: &[u8], p: usize) -> bool
 }
 
 // The first line from p on that is the sign between a script and what is expected of it.
-pub fn sign_from(text: &[u8], p: usize) -> usize
+pub(crate) fn sign_from(text: &[u8], p: usize) -> usize
     requires { ⌜ p ≤ length (now text) ⌝ }
     ensures { λ r. ⌜ (p ≤ r) × (r ≤ length (now (text .entry))) ⌝ }
 {
@@ -75,7 +75,7 @@ pub fn sign_from(text: &[u8], p: usize) -> usize
 }
 
 // The first line from p on that begins a case.
-pub fn case_from(text: &[u8], p: usize) -> usize
+pub(crate) fn case_from(text: &[u8], p: usize) -> usize
     requires { ⌜ p ≤ length (now text) ⌝ }
     ensures { λ r. ⌜ (p ≤ r) × (r ≤ length (now (text .entry))) ⌝ }
 {
