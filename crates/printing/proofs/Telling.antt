@@ -8,7 +8,7 @@ use mir.Val.{SFits}
 use mir.Facts.{toZ-ofZ}
 use Rattle.arith.proofs.Machine.{wire}
 use Rattle.lexis.specs.Bytes.{bytes}
-use Rattle.semantics.specs.Print.{decimalOf, signedOf, row, outcome, cells}
+use Rattle.semantics.specs.Print.{decimalOf, signedOf, row, outcome, cells, show}
 use Rattle.chair.specs.declared.Outcome.{Outcome}
 use Rattle.chair.specs.declared.Outcome.the-variants.{Normal, Raised, Spent}
 use Rattle.chair.specs.declared.Answer.{Answer}
@@ -16,6 +16,8 @@ use Rattle.drive.specs.declared.running.Report.{Report}
 use Rattle.drive.specs.declared.running.Report.the-variants.{Refused, Ran}
 use Rattle.printing.specs.Written.{Puts, namesAt}
 use Rattle.chair.specs.Answers.{outcomeOf}
+use Rattle.drive.specs.Running.{endingOf, Reports}
+use Rattle.semantics.specs.Whole as Whole
 use Rattle.printing.specs.Told.{answerRow, reportRows}
 use Rattle.printing.proofs.Writing.{puts-then}
 
@@ -53,3 +55,14 @@ module _ (s ns : List ℕ) (vs : List ℤ) (ms : List ℕ) (x : Report) (l : Lis
   report-ran a q k e f g = subst (λ (y : Report). Puts (reportRows s ns vs ms y) l p r m) (sym e) (puts-then (answerRow a) (cells 1 (namesAt s ns) vs ms) l p q k r m f g)
 
 pub ruleset report-laws = (report-refused, report-ran)
+
+-- ---- a run and its report
+
+shown-is : (s ns : List ℕ) (q : Whole.Report) (x : Report) (vs : List ℤ) (ms : List ℕ) → Reports q x vs ms → reportRows s ns vs ms x ≡ show (namesAt s ns) q
+unfolding reportRows show answerRow endingOf
+shown-is s ns q (Refused n i) vs ms R = rw (← R .ending) refl
+shown-is s ns q (Ran a) vs ms R = rw (← R .ending, ← R .values, ← R .marks) refl
+
+pub script-shown : (s ns : List ℕ) (q : Whole.Report) (x : Report) (vs : List ℤ) (ms l : List ℕ) (p r : ℕ) (m : List ℕ) → Reports q x vs ms → Puts (reportRows s ns vs ms x) l p r m
+    → Puts (show (namesAt s ns) q) l p r m
+script-shown s ns q x vs ms l p r m R f = subst (λ (bs : List ℕ). Puts bs l p r m) (shown-is s ns q x vs ms R) f

@@ -13,7 +13,8 @@ ghost use mathlib.Core.List.{[], _∷_};
 ghost use Prim.Native.Nat.{_+_, _<_};
 ghost use lib.IntN.{pos};
 ghost use lib.ListN.{length, getD};
-ghost use Rattle.semantics.specs.Print.{decimalOf, row, cellValue, cells};
+ghost use Rattle.semantics.specs.Print.{decimalOf, row, cellValue, cells, show};
+ghost use Rattle.semantics.specs.Whole.{runOf};
 ghost use Rattle.printing.specs.Told.{answerRow, reportRows};
 ghost use Rattle.printing.specs.Written.{Puts, nameAt, namesAt};
 
@@ -100,7 +101,7 @@ pub fn shown(
     }
 }
 
-// A script run on a store, and its report.
+// A text run on a lent store, and its report: what document 01 has `runscript` print.
 pub fn scripted(
     out: &mut [u8],
     text: &[u8],
@@ -109,7 +110,9 @@ pub fn scripted(
     values: &mut [i64],
     marks: &mut [u8],
     budget: u32,
-) -> usize {
+) -> usize
+    ensures { λ r. ⌜ Puts (show (namesAt (now (text .entry)) (now (names .entry))) (runOf (now (text .entry)) (length (now (work .entry))) (now (values .entry)) (now (marks .entry)) budget)) (now (out .entry)) 0 r (now (out .exit)) ⌝ }
+{
     let report = run(text, work, values, marks, budget);
     shown(out, text, names, values, marks, report)
 }
