@@ -1,0 +1,27 @@
+use Rattle.hostlink.proofs.Numbers.{count-told}
+use borrow.Author.Needs.{needs}
+use Rattle.hostlink.proofs.drive_cells.Statement.{statement}
+use Rattle.hostlink.proofs.drive_cells.Tie as tie
+use Rattle.hostlink.proofs.drive_cells.Reads as reads
+use Rattle.hostlink.proofs.drive_cells.Lts as lts
+use Rattle.drive.proofs.counting.cells.Reads as cells-reads
+use Rattle.hostlink.proofs.replies.counted.Reads as counted-reads
+
+-- src/lib.rt:33:9
+cells-requires : tie.Need-cells-requires
+cells-requires c κs = search needs
+
+-- src/lib.rt:34:5
+counted-requires : tie.Need-counted-requires
+counted-requires c κs = search needs
+
+-- src/lib.rt:29:1
+same-length : tie.Need-same-length
+same-length c = search needs
+
+-- src/lib.rt:29:1
+returns : tie.Need-returns
+returns c = (search count-told, search needs)
+
+pub drive-cells-spec : {M : Type 1} → statement M
+drive-cells-spec = tie.close (tie.spec cells-requires counted-requires same-length returns)

@@ -1,0 +1,32 @@
+use Rattle.hostlink.proofs.Numbers.{count-told}
+use borrow.Author.Needs.{needs}
+use Rattle.hostlink.proofs.drive_owners.Statement.{statement}
+use Rattle.hostlink.proofs.drive_owners.Tie as tie
+use Rattle.hostlink.proofs.drive_owners.Reads as reads
+use Rattle.hostlink.proofs.drive_owners.Lts as lts
+use Rattle.drive.proofs.counting.owners.Reads as owners-reads
+use Rattle.hostlink.proofs.replies.counted.Reads as counted-reads
+
+-- src/lib.rt:42:9
+owners-requires : tie.Need-owners-requires
+owners-requires c κs = search needs
+
+-- src/lib.rt:43:5
+counted-requires : tie.Need-counted-requires
+counted-requires c κs = search needs
+
+-- src/lib.rt:38:1
+same-length : tie.Need-same-length
+same-length c = search needs
+
+-- src/lib.rt:38:1
+same-length-2 : tie.Need-same-length-2
+same-length-2 c = search needs
+
+-- src/lib.rt:38:1
+returns : tie.Need-returns
+returns c = (search count-told, search needs, search needs)
+
+pub drive-owners-spec : {M : Type 1} → statement M
+drive-owners-spec =
+    tie.close (tie.spec owners-requires counted-requires same-length same-length-2 returns)

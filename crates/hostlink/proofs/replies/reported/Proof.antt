@@ -1,0 +1,43 @@
+use Rattle.hostlink.proofs.Numbers.{report-laws}
+use borrow.Author.Needs.{needs}
+use Rattle.hostlink.proofs.replies.reported.Statement.{statement}
+use Rattle.hostlink.proofs.replies.reported.Tie as tie
+use Rattle.hostlink.proofs.replies.reported.Reads as reads
+use Rattle.hostlink.proofs.replies.reported.Lts as lts
+use Rattle.hostlink.proofs.replies.answered.Reads as answered-reads
+use Rattle.hostlink.proofs.replies.refused.Reads as refused-reads
+
+-- src/replies.rt:107:25
+enum-known-report : tie.Need-enum-known-report
+enum-known-report c = search needs
+
+-- src/replies.rt:107:42
+refused-requires : tie.Need-refused-requires
+refused-requires c κs = search needs
+
+-- src/replies.rt:108:21
+enum-known-report-2 : tie.Need-enum-known-report-2
+enum-known-report-2 c = search needs
+
+-- src/replies.rt:108:32
+answered-requires : tie.Need-answered-requires
+answered-requires c κs = search needs
+
+-- src/replies.rt:103:1
+returns : tie.Need-returns
+returns c = search report-laws
+
+-- src/replies.rt:103:1
+returns-2 : tie.Need-returns-2
+returns-2 c = search report-laws
+
+pub reported-spec : {M : Type 1} → statement M
+reported-spec =
+    tie.close
+    (tie.spec
+    enum-known-report
+    refused-requires
+    enum-known-report-2
+    answered-requires
+    returns
+    returns-2)

@@ -1,0 +1,59 @@
+// The functions that a host in C or Rust calls (include/drive.h): each is one of `drive`, its answer told in numbers.
+pub mod replies;
+
+use crate::replies::Reply;
+use crate::replies::counted;
+use crate::replies::reported;
+use crate::replies::told;
+use drive::counting::cells;
+use drive::counting::owners;
+use drive::running::run;
+use drive::verdict_of;
+ghost use mathlib.Core.Path.{_≡_};
+ghost use lib.ListN.{length};
+ghost use Rattle.semantics.specs.Whole.{verdictOf, runOf, workAfter};
+ghost use Rattle.drive.specs.Answers.{toldVerdict};
+ghost use Rattle.drive.specs.Cells.{cellsTold, Owners};
+ghost use Rattle.hostlink.specs.Replies.{verdictReply, countReply, Replies};
+
+// The verdict on a text.
+#[no_mangle]
+pub extern "C" fn drive_verdict(text: &[u8], work: &mut [u32]) -> Reply
+    ensures { λ r. ⌜ (r ≡ verdictReply (toldVerdict (verdictOf (now (text .entry)) (length (now (work .entry)))))) × (now (work .exit) ≡ workAfter (now (work .entry))) ⌝ }
+{
+    let v = verdict_of(text, work);
+    told(v)
+}
+
+// How many cells a text has.
+#[no_mangle]
+pub extern "C" fn drive_cells(text: &[u8], work: &mut [u32]) -> Reply
+    ensures { λ r. ⌜ (r ≡ countReply (cellsTold (verdictOf (now (text .entry)) (length (now (work .entry)))))) × (now (work .exit) ≡ workAfter (now (work .entry))) ⌝ }
+{
+    let c = cells(text, work);
+    counted(c)
+}
+
+// The same; names[i] becomes the offset of the name of cell i's variable, for each cell that there is room for.
+#[no_mangle]
+pub extern "C" fn drive_owners(text: &[u8], work: &mut [u32], names: &mut [usize]) -> Reply
+    ensures { λ r. ⌜ (r ≡ countReply (cellsTold (verdictOf (now (text .entry)) (length (now (work .entry)))))) × (now (work .exit) ≡ workAfter (now (work .entry))) × Owners (now (text .entry)) (verdictOf (now (text .entry)) (length (now (work .entry)))) (now (names .exit)) ⌝ }
+{
+    let c = owners(text, work, names);
+    counted(c)
+}
+
+// The run of a text on a lent store within a budget.
+#[no_mangle]
+pub extern "C" fn drive_run(
+    text: &[u8],
+    work: &mut [u32],
+    values: &mut [i64],
+    marks: &mut [u8],
+    budget: u32,
+) -> Reply
+    ensures { λ r. ⌜ Replies (runOf (now (text .entry)) (length (now (work .entry))) (now (values .entry)) (now (marks .entry)) budget) r (now (values .exit)) (now (marks .exit)) × (now (work .exit) ≡ workAfter (now (work .entry))) ⌝ }
+{
+    let report = run(text, work, values, marks, budget);
+    reported(report)
+}

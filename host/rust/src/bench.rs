@@ -1,0 +1,203 @@
+//! The calls: a working list, and texts checked and run with it.
+use crate::library::{drive_cells, drive_owners, drive_run, drive_verdict, Reply};
+use crate::{Answer, Exception, Outcome, Refusal, Row, Store};
+
+/// Numbers in a working list.
+pub const WORK: usize = 16_384;
+/// Bytes in the longest text.
+pub const TEXT_MOST: usize = 32_768;
+/// Cells in the largest script.
+pub const CELLS_MOST: usize = 2_048;
+
+/// A working list. It keeps nothing from one call to the next; a thread that checks or runs has its own.
+pub struct Bench {
+    work: Vec<u32>,
+}
+
+impl Default for Bench {
+    fn default() -> Bench {
+        Bench::new()
+    }
+}
+
+impl Bench {
+    /// A working list that is long enough.
+    pub fn new() -> Bench {
+        Bench::of_length(WORK)
+    }
+
+    /// A working list of any length; one shorter than `WORK` has every text refused.
+    pub fn of_length(length: usize) -> Bench {
+        Bench { work: vec![0; length] }
+    }
+
+    /// Whether a text may be loaded.
+    pub fn verdict(&mut self, text: &[u8]) -> Result<(), Refusal> {
+        // SAFETY: each pointer comes from a slice with its length, and only `work` is written.
+        let reply = unsafe { drive_verdict(text.as_ptr(), text.len(), self.work.as_mut_ptr(), self.work.len()) };
+        accepted(reply).map(|_| ())
+    }
+
+    /// How many cells a text has.
+    pub fn cells(&mut self, text: &[u8]) -> Result<usize, Refusal> {
+        // SAFETY: as in `verdict`.
+        let reply = unsafe { drive_cells(text.as_ptr(), text.len(), self.work.as_mut_ptr(), self.work.len()) };
+        accepted(reply).map(|reply| reply.cells)
+    }
+
+    /// The name of each cell's variable, in small letters.
+    pub fn owners(&mut self, text: &[u8]) -> Result<Vec<String>, Refusal> {
+        let mut names = vec![0; CELLS_MOST];
+        // SAFETY: as in `verdict`; `names` is a slice of its own.
+        let reply =
+            unsafe { drive_owners(text.as_ptr(), text.len(), self.work.as_mut_ptr(), self.work.len(), names.as_mut_ptr(), names.len()) };
+        let cells = accepted(reply)?.cells;
+        Ok(names[..cells].iter().map(|&offset| name_at(text, offset)).collect())
+    }
+
+    /// Runs a text on a store within a budget of steps; a refusal leaves the store as it was.
+    pub fn run(&mut self, text: &[u8], store: &mut Store, budget: u32) -> Result<Answer, Refusal> {
+        let Store { values, marks } = store;
+        // SAFETY: as in `verdict`; `values` and `marks` are slices of their own.
+        let reply = unsafe {
+            drive_run(
+                text.as_ptr(),
+                text.len(),
+                self.work.as_mut_ptr(),
+                self.work.len(),
+                values.as_mut_ptr(),
+                values.len(),
+                marks.as_mut_ptr(),
+                marks.len(),
+                budget,
+            )
+        };
+        accepted(reply).map(answer)
+    }
+}
+
+fn accepted(reply: Reply) -> Result<Reply, Refusal> {
+    match reply.refusal {
+        0 => Ok(reply),
+        number => Err(Refusal { row: Row::of_number(number).expect("a refusal is 1 to 11"), line: reply.line }),
+    }
+}
+
+fn answer(reply: Reply) -> Answer {
+    let outcome = match reply.outcome {
+        0 => Outcome::Normal,
+        1 => Outcome::Raised { exception: Exception::of_number(reply.exception), statement: reply.statement },
+        2 => Outcome::Spent,
+        other => unreachable!("outcome {other} of a run"),
+    };
+    Answer { outcome, steps: reply.steps }
+}
+
+/// The word that starts at an offset of an accepted text.
+fn name_at(text: &[u8], offset: usize) -> String {
+    let word = text[offset..].iter().take_while(|&&b| !matches!(b, b' ' | b'\n' | b'(' | b')'));
+    word.map(|b| b.to_ascii_lowercase() as char).collect()
+}
+
+#[cfg(test)]
+mod tests {
+    use super::*;
+
+    const SLOTS: &[u8] =
+        b"(type slot (range 1 4))\n(var At_Slot slot)\n(var sum integer)\n(main (:= at_slot 3) (:= sum (** 2 (+ at_slot 1))))\n";
+
+    fn refused(row: Row, line: usize) -> Refusal {
+        Refusal { row, line }
+    }
+
+    #[test]
+    fn fitting_sheet() {
+        let mut bench = Bench::new();
+        assert_eq!(bench.verdict(SLOTS), Ok(()));
+        assert_eq!(bench.cells(SLOTS), Ok(2));
+        assert_eq!(bench.owners(SLOTS), Ok(vec!["at_slot".to_string(), "sum".to_string()]));
+        let mut store = Store::undefined(2);
+        assert_eq!(bench.run(SLOTS, &mut store, 10_000), Ok(Answer { outcome: Outcome::Normal, steps: 2 }));
+        assert_eq!(store, Store { values: vec![3, 16], marks: vec![1, 1] });
+    }
+
+    #[test]
+    fn spent_keeps_what_was_done() {
+        let mut store = Store::undefined(2);
+        assert_eq!(Bench::new().run(SLOTS, &mut store, 1), Ok(Answer { outcome: Outcome::Spent, steps: 1 }));
+        assert_eq!((store.get(0), store.get(1)), (Some(3), None));
+    }
+
+    #[test]
+    fn exceptions() {
+        let mut bench = Bench::new();
+        let cases: [(&[u8], i64, u32); 4] = [
+            (b"(main (raise 0))\n", -102, 1),
+            (b"(main (raise (- 7)))\n", -7, 1),
+            (b"(main (begin) (raise (div 1 0)))\n", -101, 2),
+            (b"(main (case 1 (arm 2 (begin))))\n", -105, 1),
+        ];
+        for (text, number, statement) in cases {
+            let outcome = Outcome::Raised { exception: Exception::of_number(number), statement };
+            assert_eq!(bench.run(text, &mut Store::default(), 10_000).map(|a| a.outcome), Ok(outcome));
+        }
+    }
+
+    #[test]
+    fn every_row_of_a_text() {
+        let cases: [(&[u8], Row, usize); 8] = [
+            (b"(main)\n\t", Row::Byte, 2),
+            (b"(main", Row::Bracket, 1),
+            (b"(main (raise 2147483648))\n", Row::Word, 1),
+            (b"", Row::Form, 1),
+            (b"(main (call p))\n", Row::Name, 1),
+            (b"(main (raise true))\n", Row::Type, 1),
+            (b"(type a (range 0 300))\n(type b (array a integer))\n(main)\n", Row::Limit, 2),
+            (&[b' '; TEXT_MOST + 1], Row::Length, 0),
+        ];
+        let mut bench = Bench::new();
+        for (text, row, line) in cases {
+            assert_eq!(bench.verdict(text), Err(refused(row, line)));
+            assert_eq!(bench.cells(text), Err(refused(row, line)));
+            assert_eq!(bench.owners(text), Err(refused(row, line)));
+            assert_eq!(bench.run(text, &mut Store::default(), 1), Err(refused(row, line)));
+        }
+    }
+
+    #[test]
+    fn short_and_long_working_lists() {
+        for length in [0, 1, WORK - 1] {
+            let mut bench = Bench::of_length(length);
+            bench.work.fill(7);
+            assert_eq!(bench.verdict(SLOTS), Err(refused(Row::Bench, 0)));
+            assert!(bench.work.iter().all(|&n| n == 0));
+        }
+        let mut bench = Bench::of_length(WORK + 2);
+        bench.work.fill(7);
+        assert_eq!(bench.verdict(SLOTS), Ok(()));
+        assert!(bench.work[..WORK].iter().all(|&n| n == 0));
+        assert_eq!(bench.work[WORK..], [7, 7]);
+    }
+
+    #[test]
+    fn stores_that_do_not_fit() {
+        let mut bench = Bench::new();
+        let store = |values: &[i64], marks: &[u8]| Store { values: values.to_vec(), marks: marks.to_vec() };
+        let cases = [
+            (store(&[], &[]), Row::Store),
+            (store(&[0], &[0]), Row::Store),
+            (store(&[0, 0], &[0]), Row::Store),
+            (store(&[0], &[0, 0]), Row::Store),
+            (store(&[0; 3], &[0; 3]), Row::Store),
+            (store(&[0, 0], &[2, 0]), Row::Cell),
+            (store(&[1, 0], &[0, 0]), Row::Cell),
+            (store(&[5, 0], &[1, 0]), Row::Cell),
+            (store(&[1, 1 << 31], &[1, 1]), Row::Cell),
+        ];
+        for (lent, row) in cases {
+            let mut left = lent.clone();
+            assert_eq!(bench.run(SLOTS, &mut left, 10), Err(refused(row, 0)));
+            assert_eq!(left, lent);
+        }
+    }
+}
