@@ -1,0 +1,216 @@
+/* Measures the stack that a call takes: it runs in a thread whose stack was filled with a pattern, and the bytes that lost the
+   pattern are counted, less those that a thread takes which calls nothing. The texts are the worst that are known.
+   usage: stack LIMIT    exit status 1 if a text takes more than LIMIT bytes */
+#define _GNU_SOURCE
+#include "drive.h"
+#include <pthread.h>
+#include <stdio.h>
+#include <stdlib.h>
+#include <string.h>
+
+#define STACK (8u << 20)
+#define PATTERN 0xa5
+
+static uint8_t stack[STACK] __attribute__((aligned(4096)));
+static uint8_t text[DRIVE_TEXT + 1];
+static size_t len;
+static uint32_t work[DRIVE_WORK];
+static int64_t values[DRIVE_CELLS];
+static uint8_t marks[DRIVE_CELLS];
+static drive_reply reply;
+
+/* ---- the calls, each a thread's work */
+
+static void *call_nothing(void *p)
+{
+    return p;
+}
+
+static void *call_verdict(void *p)
+{
+    reply = drive_verdict(text, len, work, DRIVE_WORK);
+    return p;
+}
+
+static void *call_run(void *p)
+{
+    size_t cells = drive_cells(text, len, work, DRIVE_WORK).cells;
+    memset(values, 0, sizeof values);
+    memset(marks, 0, sizeof marks);
+    reply = drive_run(text, len, work, DRIVE_WORK, values, cells, marks, cells, 100000);
+    return p;
+}
+
+static size_t used_by(void *(*call)(void *))
+{
+    pthread_attr_t attr;
+    pthread_t thread;
+    size_t free = 0;
+    memset(stack, PATTERN, STACK);
+    pthread_attr_init(&attr);
+    if (pthread_attr_setstack(&attr, stack, STACK) != 0 || pthread_create(&thread, &attr, call, NULL) != 0) {
+        fprintf(stderr, "stack: no thread\n");
+        exit(2);
+    }
+    pthread_join(thread, NULL);
+    pthread_attr_destroy(&attr);
+    while (free < STACK && stack[free] == PATTERN)
+        free++;
+    return STACK - free;
+}
+
+/* ---- texts */
+
+static const char declarations[] = "(type t (range 0 9))\n(type s (setof t))\n(type r (array t t))\n(var a integer)\n(var b s)\n(var c r)\n";
+
+static void put(const char *s)
+{
+    size_t n = strlen(s);
+    if (len + n > DRIVE_TEXT) {
+        fprintf(stderr, "stack: a text is too long\n");
+        exit(2);
+    }
+    memcpy(text + len, s, n);
+    len += n;
+}
+
+static void put_number(size_t n)
+{
+    char digits[24];
+    snprintf(digits, sizeof digits, "%zu", n);
+    put(digits);
+}
+
+static void put_times(const char *s, size_t times)
+{
+    for (size_t i = 0; i < times; i++)
+        put(s);
+}
+
+/* A line of one kind of part, many times. */
+static void put_flat(const char *before, const char *part, size_t times, const char *after)
+{
+    put(declarations);
+    put(before);
+    put_times(part, times);
+    put(after);
+}
+
+/* A line of a form within itself. */
+static void put_nested(const char *head, const char *before, size_t times, const char *inmost, const char *after, const char *end)
+{
+    put(head);
+    put_times(before, times);
+    put(inmost);
+    put_times(after, times);
+    put(end);
+}
+
+/* Calls from `main` through 32 procedures, each from within a form that is nested; `head` opens one bracket that stays open. */
+static void put_calls(const char *head, const char *before, size_t times, const char *after)
+{
+    put(declarations);
+    for (size_t i = 1; i <= 33; i++) {
+        put(i <= 32 ? "(proc p" : "(main");
+        if (i <= 32)
+            put_number(i);
+        put(head);
+        put_times(before, times);
+        put(i > 1 ? "(call p" : "(:= a ");
+        put_number(i > 1 ? i - 1 : 1);
+        put(")");
+        put_times(after, times);
+        put("))\n");
+    }
+}
+
+/* ---- the table */
+
+static size_t most, idle;
+
+static void row(const char *what)
+{
+    static const char *const outcomes[] = {"normal", "exception", "spent"};
+    size_t checked = used_by(call_verdict) - idle;
+    size_t ran = used_by(call_run) - idle;
+    printf("%-46s %6zu %9zu %9zu  ", what, len, checked, ran);
+    if (reply.refusal != 0)
+        printf("refused %u %zu\n", (unsigned)reply.refusal, reply.line);
+    else
+        printf("%s %u\n", outcomes[reply.outcome], (unsigned)reply.steps);
+    most = checked > most ? checked : most;
+    most = ran > most ? ran : most;
+    len = 0;
+}
+
+static void rows_of_long_lines(void)
+{
+    put("(main)\n");
+    row("(main)");
+    put_flat("(main (:= b (members s", " 1", 4060, ")))\n");
+    row("4,060 members");
+    put_flat("(main (case a (arm", " 1", 16200, " (begin))))\n");
+    row("16,200 labels");
+    put_flat("(main", " (begin)", 2030, ")\n");
+    row("2,030 statements");
+    put_flat("(main ", "a()", 10850, ")\n");
+    row("21,700 nodes on a line");
+}
+
+static void nested(const char *what, const char *before, size_t times, const char *inmost, const char *after)
+{
+    put(declarations);
+    put_nested("(main ", before, times, inmost, after, ")\n");
+    row(what);
+}
+
+static void expression(const char *what, const char *before, size_t times, const char *inmost, const char *after)
+{
+    put(declarations);
+    put_nested("(main (:= a ", before, times, inmost, after, "))\n");
+    row(what);
+}
+
+static void rows_of_depth(void)
+{
+    nested("15 cases, one in another", "(case 1 (arm 1 ", 15, "(begin)", "))");
+    nested("15 cases, one in another's else", "(case 1 (arm 2 (begin)) (else ", 15, "(begin)", "))");
+    nested("30 ifs", "(if true ", 30, "(begin)", ")");
+    nested("30 ifs, one in another's second part", "(if false (begin) ", 30, "(begin)", ")");
+    nested("30 begins", "(begin ", 30, "(begin)", ")");
+    nested("30 whiles", "(while true ", 30, "(begin)", ")");
+    expression("30 sums", "(+ 1 ", 30, "1", ")");
+    expression("30 minus signs", "(- ", 30, "a", ")");
+    expression("30 indices", "(at c ", 30, "1", ")");
+    expression("15 sets", "(setmin (members s ", 15, "1", "))");
+    expression("a power", "(** 1 2147483647", 1, "", ")");
+}
+
+static void calls(const char *what, const char *head, const char *before, size_t times, const char *after)
+{
+    put_calls(head, before, times, after);
+    row(what);
+}
+
+static void rows_of_calls(void)
+{
+    calls("32 calls", " (begin ", "", 0, "");
+    calls("32 calls, each from a handler", " (raise 1) (exception ", "", 0, "");
+    calls("32 calls, each in 29 begins", " (begin ", "(begin ", 28, ")");
+    calls("32 calls, each in 29 ifs", " (if true ", "(if true ", 28, ")");
+    calls("32 calls, each in 14 cases", " (begin ", "(case 1 (arm 1 ", 14, "))");
+    calls("32 calls, each in 30 whiles", " (while true ", "(while true ", 29, ")");
+    calls("32 calls, each in 29 whiles in a handler", " (raise 1) (exception ", "(while true ", 29, ")");
+}
+
+int main(int argc, char **argv)
+{
+    size_t limit = argc == 2 ? strtoul(argv[1], NULL, 10) : 0;
+    idle = used_by(call_nothing);
+    printf("%-46s %6s %9s %9s  bytes of stack\n", "text", "bytes", "verdict", "run");
+    rows_of_long_lines();
+    rows_of_depth();
+    rows_of_calls();
+    printf("most: %zu\n", most);
+    return most > limit;
+}
