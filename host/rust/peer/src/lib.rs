@@ -7,6 +7,7 @@ mod body;
 pub mod bytes;
 pub mod code;
 pub mod faults;
+pub mod gen;
 pub mod judge;
 mod mark;
 pub mod print;
