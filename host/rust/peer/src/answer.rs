@@ -1,0 +1,28 @@
+//! What the public functions answer.
+
+/// A refusal: its number in the table of document 01, and its line (0 where no line is meant).
+#[derive(Clone, Copy, Debug, PartialEq, Eq, Hash)]
+pub struct Refusal {
+    pub number: u32,
+    pub line: u32,
+}
+
+/// How a run ended.
+#[derive(Clone, Copy, Debug, PartialEq, Eq, Hash)]
+pub enum Outcome {
+    Normal,
+    Exception {
+        number: i64,
+        statement: u32,
+    },
+    Spent,
+    /// Only the marking machine answers this.
+    Stuck,
+}
+
+/// An outcome beside the steps taken.
+#[derive(Clone, Copy, Debug, PartialEq, Eq, Hash)]
+pub struct Answer {
+    pub outcome: Outcome,
+    pub steps: u32,
+}

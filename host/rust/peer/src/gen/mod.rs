@@ -1,0 +1,148 @@
+//! Seeded texts, stores and budgets for comparing implementations of document 01.
+//! About half of the texts are accepted; the rest are near misses of all kinds.
+
+mod bodies;
+mod ceilings;
+mod damage;
+mod exprs;
+mod node;
+mod rng;
+mod scene;
+mod soup;
+mod store;
+
+pub use rng::Rng;
+pub use store::{budget, store, Store};
+
+use crate::answer::{Answer, Outcome, Refusal};
+use crate::bytes::WORK;
+use crate::faults::Fits;
+use crate::judge::judge;
+use bodies::{script, Size};
+
+/// The sorts of text.
+#[derive(Clone, Copy, Debug, PartialEq, Eq, Hash, PartialOrd, Ord)]
+pub enum Sort {
+    Good,
+    Misfit,
+    Damaged,
+    Ceiling,
+    Soup,
+    Bytes,
+}
+
+/// A text of a random sort.
+pub fn text(seed: u64) -> Vec<u8> {
+    sorted_text(seed).1
+}
+
+/// The same text with its sort.
+pub fn sorted_text(seed: u64) -> (Sort, Vec<u8>) {
+    let mut rng = Rng::new(seed);
+    match rng.weighted(&[40, 18, 26, 10, 4, 2]) {
+        0 => (Sort::Good, good(&mut rng, 0)),
+        1 => {
+            let wild = *rng.pick(&[5, 15, 40, 100, 300]);
+            (Sort::Misfit, good(&mut rng, wild))
+        }
+        2 => (Sort::Damaged, damaged(&mut rng)),
+        3 => (Sort::Ceiling, ceilings::text(&mut rng)),
+        4 => (Sort::Soup, soup::words(&mut rng)),
+        _ => (Sort::Bytes, soup::bytes(&mut rng)),
+    }
+}
+
+fn size(rng: &mut Rng, wild: usize) -> Size {
+    let (types, variables, procedures, statements) = match rng.weighted(&[30, 50, 15, 5]) {
+        0 => (4, 4, 2, 6),
+        1 => (10, 10, 5, 25),
+        2 => (24, 30, 10, 80),
+        _ => (60, 120, 31, 300),
+    };
+    Size {
+        types: rng.below(types),
+        variables: 1 + rng.below(variables),
+        procedures: rng.below(procedures),
+        statements: 1 + rng.below(statements),
+        wild,
+    }
+}
+
+fn good(rng: &mut Rng, wild: usize) -> Vec<u8> {
+    let size = size(rng, wild);
+    let scene = script(Rng::new(rng.draw()), size);
+    let style = node::style(rng);
+    node::write(&scene.lines, style, rng)
+}
+
+fn damaged(rng: &mut Rng) -> Vec<u8> {
+    let size = size(rng, 0);
+    let mut lines = script(Rng::new(rng.draw()), size).lines;
+    let kind = rng.weighted(&[3, 2, 4, 5]);
+    match kind {
+        1 => damage::lines(&mut lines, rng),
+        2 => damage::words(&mut lines, rng),
+        3 => damage::forms(&mut lines, rng),
+        _ => {}
+    }
+    let style = node::style(rng);
+    let mut text = node::write(&lines, style, rng);
+    if kind == 0 {
+        damage::bytes(&mut text, rng);
+    }
+    text
+}
+
+/// All that a run or a marking takes.
+#[derive(Clone, Debug)]
+pub struct Case {
+    pub sort: Sort,
+    pub text: Vec<u8>,
+    pub work_len: usize,
+    pub values: Vec<i64>,
+    pub marks: Vec<u8>,
+    pub budget: u32,
+}
+
+/// Steps after which a trial run gives up.
+const TRIAL: u32 = 50_000;
+
+/// A text with a store and a budget. Both machines end within few steps at that budget.
+pub fn case(seed: u64) -> Case {
+    let (sort, text) = sorted_text(seed);
+    let mut rng = Rng::new(seed ^ 6_513_500);
+    let work_len = match rng.below(100) {
+        0 => WORK - 1,
+        1 => rng.below(WORK),
+        2..=5 => WORK + rng.below(9),
+        _ => WORK,
+    };
+    let (values, marks) = match judge(&text, WORK, Fits::LeftOut) {
+        Ok(script) => store(seed, &script),
+        Err(_) => (vec![0; rng.below(4)], vec![0; rng.below(4)]),
+    };
+    let mut case = Case { sort, text, work_len, values, marks, budget: TRIAL };
+    let ends = match case.mark().0 {
+        Ok(Answer { outcome: Outcome::Spent, .. }) => None,
+        Ok(answer) => Some(answer.steps),
+        Err(_) => Some(0),
+    };
+    case.budget = budget(seed, ends);
+    case
+}
+
+impl Case {
+    /// The chair's answer and the store that it leaves.
+    pub fn run(&self) -> (Result<Answer, Refusal>, Store) {
+        let (mut values, mut marks) = (self.values.clone(), self.marks.clone());
+        let answer = crate::run(&self.text, self.work_len, &mut values, &mut marks, self.budget);
+        (answer, (values, marks))
+    }
+
+    /// The marking machine's answer and the store that it leaves.
+    pub fn mark(&self) -> (Result<Answer, Refusal>, Store) {
+        let (mut values, mut marks) = (self.values.clone(), self.marks.clone());
+        let answer = crate::mark(&self.text, self.work_len, &mut values, &mut marks, self.budget);
+        (answer, (values, marks))
+    }
+}
