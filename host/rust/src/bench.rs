@@ -55,7 +55,7 @@ impl Bench {
         Ok(names[..cells].iter().map(|&offset| name_at(text, offset)).collect())
     }
 
-    /// Runs a text on a store within a budget of steps; a refusal leaves the store as it was.
+    /// Runs a text on a store within a budget of steps; a refusal leaves the store as it was. It takes up to 400 KB of stack.
     pub fn run(&mut self, text: &[u8], store: &mut Store, budget: u32) -> Result<Answer, Refusal> {
         let Store { values, marks } = store;
         // SAFETY: as in `verdict`; `values` and `marks` are slices of their own.
@@ -199,5 +199,28 @@ mod tests {
             assert_eq!(bench.run(SLOTS, &mut left, 10), Err(refused(row, 0)));
             assert_eq!(left, lent);
         }
+    }
+    #[test]
+    fn names_as_far_as_there_is_room() {
+        let mut bench = Bench::new();
+        let offsets = [SLOTS.windows(7).position(|w| w == b"At_Slot").unwrap(), SLOTS.windows(3).position(|w| w == b"sum").unwrap()];
+        for room in 0..=2 {
+            let mut names = [usize::MAX; 3];
+            // SAFETY: `room` is at most the length of `names`.
+            let reply =
+                unsafe { drive_owners(SLOTS.as_ptr(), SLOTS.len(), bench.work.as_mut_ptr(), bench.work.len(), names.as_mut_ptr(), room) };
+            assert_eq!((reply.refusal, reply.cells), (0, 2));
+            assert_eq!(names[..room], offsets[..room]);
+            assert!(names[room..].iter().all(|&n| n == usize::MAX));
+        }
+    }
+
+    #[test]
+    fn refused_text_leaves_the_store() {
+        let lent = Store { values: vec![9, -9], marks: vec![7, 1] };
+        let mut left = lent.clone();
+        assert_eq!(Bench::of_length(WORK - 1).run(SLOTS, &mut left, 10), Err(refused(Row::Bench, 0)));
+        assert_eq!(Bench::new().run(b"(main", &mut left, 10), Err(refused(Row::Bracket, 1)));
+        assert_eq!(left, lent);
     }
 }
