@@ -21,6 +21,7 @@ pub fn outcome(answer: &Answer) -> String {
     }
 }
 
+/// The only line for a refused script.
 pub fn refused(refusal: &Refusal) -> String {
     format!("refused {} {}\n", refusal.number, refusal.line)
 }

@@ -19,44 +19,42 @@ pub struct Form {
     pub bad_word: bool,
 }
 
+/// Brackets and longest runs of other visible bytes.
+fn tokens(bytes: &[u8]) -> impl Iterator<Item = &[u8]> {
+    let breaks = |byte: &u8| matches!(byte, b' ' | b'(' | b')');
+    let pieces = bytes.chunk_by(move |left, right| !breaks(left) && !breaks(right));
+    pieces.filter(|piece| *piece != b" ")
+}
+
 /// Reads a line; none if it is not one balanced form, too deep, or has no line feed at its end.
 pub fn form(line: &Line) -> Option<Form> {
     let mut open: Vec<Vec<Tree>> = Vec::new();
-    let mut whole = None;
-    let mut nodes = 0;
-    let mut bad_word = false;
-    let mut at = 0;
-    let bytes = line.bytes;
-    while at < bytes.len() {
-        let start = at;
-        at += 1;
-        match bytes[start] {
-            b' ' => {}
-            b'(' => {
-                if open.len() == DEPTH || whole.is_some() {
-                    return None;
-                }
-                nodes += 1;
-                open.push(Vec::new());
-            }
-            b')' => {
+    let mut form = None;
+    let (mut nodes, mut bad_word) = (0, false);
+    for token in tokens(line.bytes) {
+        // Nothing may stand after the form.
+        if form.is_some() {
+            return None;
+        }
+        match token {
+            b"(" if open.len() == DEPTH => return None,
+            b"(" => open.push(Vec::new()),
+            b")" => {
                 let list = Tree::List(open.pop()?);
+                nodes += 1;
                 match open.last_mut() {
                     Some(outer) => outer.push(list),
-                    None => whole = Some(list),
+                    None => form = Some(list),
                 }
             }
             _ => {
-                while at < bytes.len() && !matches!(bytes[at], b' ' | b'(' | b')') {
-                    at += 1;
-                }
-                let word = word::read(&bytes[start..at]);
+                let word = word::read(token);
                 bad_word |= word == Word::Bad;
                 nodes += 1;
                 open.last_mut()?.push(Tree::Word(word));
             }
         }
     }
-    let tree = whole.filter(|_| open.is_empty() && line.ended)?;
+    let tree = form.filter(|_| line.ended)?;
     Some(Form { tree, nodes, bad_word })
 }

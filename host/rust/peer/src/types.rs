@@ -47,16 +47,19 @@ impl Types {
         Types { list: vec![(integer, 1), (boolean, 1)] }
     }
 
+    /// The number that the next new type gets.
     pub fn next(&self) -> TypeId {
         self.list.len()
     }
 
+    /// Adds a new type.
     pub fn add(&mut self, ty: Type) -> TypeId {
         let cells = self.size(&ty);
         self.list.push((ty, cells));
         self.list.len() - 1
     }
 
+    /// The type with this number.
     pub fn get(&self, id: TypeId) -> &Type {
         &self.list[id].0
     }
@@ -83,6 +86,7 @@ impl Types {
         }
     }
 
+    /// Is it an integer, boolean or enumeration type, or a range of one?
     pub fn is_ordinal(&self, id: TypeId) -> bool {
         self.bounds(id).is_some()
     }
@@ -108,6 +112,7 @@ impl Types {
         }
     }
 
+    /// A field of a record type.
     pub fn field(&self, id: TypeId, name: &str) -> Option<&Field> {
         match self.get(id) {
             Type::Record { fields } => fields.iter().find(|f| f.name == name),

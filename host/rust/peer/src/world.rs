@@ -58,6 +58,7 @@ impl World {
         }
     }
 
+    /// What a name means, if a line before declares it.
     pub fn meaning(&self, name: &str) -> Option<Meaning> {
         self.names.get(name).copied()
     }
@@ -234,6 +235,7 @@ impl World {
         faults.limit |= self.procedures == PROCEDURES;
     }
 
+    /// Makes a procedure known to the lines after its own.
     pub fn declare_proc(&mut self, name: &str) {
         self.declare(name, Meaning::Procedure(self.procedures));
         self.procedures += 1;

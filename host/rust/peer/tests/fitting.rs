@@ -147,3 +147,17 @@ fn store() {
     assert_eq!(number(&[60, 2], &[1, 2]), 11);
     assert_eq!(number(&[60, 2], &[1, 0]), 11);
 }
+
+/// The deepest nesting that a text can ask for: 32 procedures of depth 32 each.
+#[test]
+fn deep_calls() {
+    let wrap = |core: &str| format!("{}{core}{}", "(if true ".repeat(30), ")".repeat(30));
+    let mut text = format!("(proc p0 {})\n", wrap("(raise 5)"));
+    for which in 1..32 {
+        text += &format!("(proc p{which} {})\n", wrap(&format!("(call p{})", which - 1)));
+    }
+    text += &format!("(main {})\n", wrap("(call p31)"));
+    let report = "exception 5 31 1023\n";
+    assert_eq!(runscript(text.as_bytes(), BUDGET), report);
+    assert_eq!(markscript(text.as_bytes(), BUDGET), report);
+}

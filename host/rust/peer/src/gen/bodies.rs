@@ -99,6 +99,7 @@ impl Writer<'_> {
         }
     }
 
+    /// A statement as handlers have them: raising again, keeping the number.
     pub fn in_handler(&mut self) -> Node {
         match self.scene.rng.below(6) {
             0 => {

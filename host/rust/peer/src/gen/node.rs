@@ -8,6 +8,7 @@ pub enum Node {
     List(Vec<Node>),
 }
 
+/// A word, written as it is shown.
 pub fn word(text: impl ToString) -> Node {
     Node::Word(text.to_string())
 }
@@ -52,6 +53,7 @@ impl Node {
         }
     }
 
+    /// Is it a bracket pair with this head word?
     pub fn is_form(&self, head: &str) -> bool {
         match self {
             Node::List(parts) => parts.first() == Some(&word(head)),
@@ -68,6 +70,7 @@ pub enum Style {
     Loose,
 }
 
+/// Most texts are plain.
 pub fn style(rng: &mut Rng) -> Style {
     [Style::Plain, Style::Tight, Style::Loose][rng.weighted(&[8, 1, 1])]
 }

@@ -10,6 +10,7 @@ impl Rng {
         Rng { state: seed }
     }
 
+    /// The next 64 bits.
     pub fn draw(&mut self) -> u64 {
         self.state = self.state.wrapping_add(0x9e37_79b9_7f4a_7c15);
         let mut z = self.state;
@@ -31,10 +32,12 @@ impl Rng {
         low + (self.draw() % (high - low + 1).max(1) as u64) as i64
     }
 
+    /// True so often in a hundred.
     pub fn percent(&mut self, chance: usize) -> bool {
         self.below(100) < chance
     }
 
+    /// One of a list that is not empty.
     pub fn pick<'a, T>(&mut self, list: &'a [T]) -> &'a T {
         &list[self.below(list.len())]
     }

@@ -87,6 +87,7 @@ impl Scene {
         }
     }
 
+    /// Least and greatest value of an ordinal type.
     pub fn bounds(&self, ty: usize) -> Option<(i64, i64)> {
         match &self.types[ty].shape {
             Shape::Integer => Some((LOW, HIGH)),
@@ -102,14 +103,17 @@ impl Scene {
         self.bounds(ty).map(|(low, high)| high - low + 1)
     }
 
+    /// The types that pass a test.
     pub fn types_where(&self, test: impl Fn(&Scene, usize) -> bool) -> Vec<usize> {
         (0..self.types.len()).filter(|ty| test(self, *ty)).collect()
     }
 
+    /// Any type declared so far.
     pub fn any_type(&mut self) -> usize {
         self.rng.below(self.types.len())
     }
 
+    /// The name of a type, as it is written.
     pub fn type_word(&self, ty: usize) -> Node {
         word(&self.types[ty].name)
     }
