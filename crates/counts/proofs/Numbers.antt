@@ -1,0 +1,168 @@
+-- What a walk over statements adds to their numbers: of a part that was read, the number of statements in it.
+use mathlib.Core.Path.{_≡_, refl, sym, ap, subst, _∙_}
+use mathlib.Core.Bool.{Bool, true, false}
+use mathlib.Core.List.{List, [], _∷_}
+use mathlib.Core.Option.{Option, none, some}
+use Prim.Native.Nat.{ℕ, zero, suc, _+_}
+use native.Mathlib.Omega.{arith}
+use lib.IntN.{ℤ}
+use Rattle.lexis.specs.Bytes.{bytes, same}
+use Rattle.lexis.specs.Words.{wordOf}
+use Rattle.semantics.specs.Base.{Name, _>>=_, given}
+use Rattle.semantics.specs.Forms.{ArmHead, Item, Verb, among, armHeads, constant, expr, free, isArm, isElse, isNumber, keyOf, plainBody, stmt, target, typeName}
+use Rattle.semantics.specs.Forms as Forms
+use Rattle.semantics.specs.Syntax.{Arms, Body, Constant, Expr, Exprs, Stmt, Stmts, Target, TypeName, _next_, arm, done, elseArm}
+use Rattle.semantics.specs.Trees.{Tree, word, form, Trees, end, _then_, Run, first, stackAt}
+use Rattle.semantics.specs.Words.{Word, worded, wordedAll, wordBy}
+use Rattle.semantics.proofs.Inversion.{none-some, some-inj, bind-some, given-some}
+use Rattle.shapes.specs.Heads.{verbOf, verbMeant, isException}
+use Rattle.shapes.specs.Parts.{partOf, rest, closed, keyIn, exprIn, targetIn, nameIn, numberIn, typeNameIn, constantIn, stmtIn, exprsIn, stmtsIn, elseIn, armIn, armHeadIn, elseArmIn, armsIn, handlerIn, handling, withFirst, handlerLast, bodyIn}
+use Rattle.shapes.specs.declared.Verb as Heading
+use Rattle.shapes.specs.declared.Verb.the-variants as VB
+use Rattle.shapes.proofs.Heads.{verb-is, exception-is}
+use Rattle.counts.specs.Statements.{oneFor, headVerbs, verbs, verbsIn, CountsStatements}
+use Rattle.counts.proofs.Items.{counted, headItem, verbsItem, verbsItems, bind-of, arm-apart, exception-apart, free-none, number-none, type-none, constant-none, expr-none, target-none, stmt-next}
+
+-- ---- the words read
+
+one-is : (v : Heading.Verb) → oneFor v ≡ counted (verbMeant v)
+one-is VB.Assign = refl
+one-is VB.Begin = refl
+one-is VB.If = refl
+one-is VB.While = refl
+one-is VB.For = refl
+one-is VB.Case = refl
+one-is VB.Call = refl
+one-is VB.Raise = refl
+one-is VB.Nothing = refl
+
+-- a word as a form's head
+word-head : (w : Run) → oneFor (verbOf (wordOf w)) ≡ counted (keyIn w >>= among Forms.verbs)
+word-head w = one-is (verbOf (wordOf w)) ∙ ap counted (sym (verb-is w))
+
+key-read : (w : Run) (v : Word) → wordBy (wordOf w) w ≡ some v → keyIn w ≡ keyOf (word v)
+unfolding keyIn
+key-read w v h = bind-of (wordBy (wordOf w) w) v (λ (x : Word). keyOf (word x)) h
+
+head-read : (ts : Trees Run) (vs : Trees Word) → wordedAll ts ≡ some vs → headVerbs ts ≡ headItem vs
+unfolding headVerbs headItem worded keyOf _>>=_
+head-read end vs h = rw (← some-inj h) refl
+head-read (word w then ts) vs h = go (wordBy (wordOf w) w) refl (wordedAll ts) h
+  where
+    go : (o : Option Word) → wordBy (wordOf w) w ≡ o → (q : Option (Trees Word)) → ((o >>= λ (v : Word). some (word v)) >>= λ (v : Item). q >>= λ (vs : Trees Word). some (v then vs)) ≡ some vs
+        → oneFor (verbOf (wordOf w)) ≡ headItem vs
+    go none e q h = none-some h
+    go (some v) e none h = none-some h
+    go (some v) e (some xs) h = word-head w ∙ rw (← some-inj h) (ap (λ (o : Option Name). counted (o >>= among Forms.verbs)) (key-read w v e))
+head-read (form us then ts) vs h = go (wordedAll us) (wordedAll ts) h
+  where
+    go : (o q : Option (Trees Word)) → ((o >>= λ (xs : Trees Word). some (form xs)) >>= λ (v : Item). q >>= λ (vs : Trees Word). some (v then vs)) ≡ some vs → 0 ≡ headItem vs
+    go none q h = none-some h
+    go (some xs) none h = none-some h
+    go (some xs) (some ys) h = rw (← some-inj h) refl
+
+mutual
+  unfolding verbs verbsItem worded
+  verbs-read : (t : Tree Run) (v : Item) → worded t ≡ some v → verbs t ≡ verbsItem v
+  verbs-read (word w) v h = bind-some h λ x hx e. rw (← some-inj e) refl
+  verbs-read (form ts) v h = bind-some h λ xs hxs e. let a = head-read ts xs hxs in let b = parts-read ts xs hxs in rw (← some-inj e) (omega arith)
+
+  parts-read : (ts : Trees Run) (vs : Trees Word) → wordedAll ts ≡ some vs → verbsIn ts ≡ verbsItems vs
+  parts-read end vs h = rw (← some-inj h) refl
+  parts-read (t then ts) vs h = bind-some h λ x hx h. bind-some h λ xs hxs e. let a = verbs-read t x hx in let b = parts-read ts xs hxs in rw (← some-inj e) (omega arith)
+
+-- ---- a part that was read
+
+-- f gives something of a tree's words: what holds of these holds of the tree
+read-part : {A P : Type 0} (f : Item → Option A) (t : Tree Run) (a : A) → (worded t >>= f) ≡ some a → ((v : Item) → verbs t ≡ verbsItem v → f v ≡ some a → P) → P
+read-part f t a h k = bind-some h λ v hv e. k v (verbs-read t v hv) e
+
+module _ (d : ℕ) (t : Tree Run) where
+  expr-holds : (e : Expr) → (worded t >>= expr d) ≡ some e → verbs t ≡ 0
+  expr-holds e h = read-part (expr d) t e h λ v i g. i ∙ expr-none d v e g
+
+  target-holds : (g : Target) → (worded t >>= target d) ≡ some g → verbs t ≡ 0
+  target-holds g h = read-part (target d) t g h λ v i e. i ∙ target-none d v g e
+
+  stmt-holds : (n : ℕ) (p : Stmt × ℕ) → (worded t >>= stmt d n) ≡ some p → p .1 ≡ n + verbs t
+  stmt-holds n p h = read-part (stmt d n) t p h λ v i g. let a = stmt-next d n v p g in omega arith
+
+constant-holds : (t : Tree Run) (c : Constant) → (worded t >>= constant) ≡ some c → verbs t ≡ 0
+constant-holds t c h = read-part constant t c h λ v i g. i ∙ constant-none v c g
+
+-- what has been read as an expression, a target, a label or a name holds no statement
+module _ (t : Tree Run) (ts : Trees Run) where
+  pub expr-zero : (d : ℕ) (e : Expr) → exprIn d (t then ts) ≡ some e → verbs t ≡ 0
+  unfolding exprIn partOf
+  expr-zero d e h = expr-holds d t e h
+
+  pub target-zero : (d : ℕ) (g : Target) → targetIn d (t then ts) ≡ some g → verbs t ≡ 0
+  unfolding targetIn partOf
+  target-zero d g h = target-holds d t g h
+
+  pub constant-zero : (c : Constant) → constantIn (t then ts) ≡ some c → verbs t ≡ 0
+  unfolding constantIn partOf
+  constant-zero c h = constant-holds t c h
+
+  pub type-zero : (n : TypeName) → typeNameIn (t then ts) ≡ some n → verbs t ≡ 0
+  unfolding typeNameIn partOf
+  type-zero n h = read-part typeName t n h λ v i g. i ∙ type-none v n g
+
+  pub name-zero : (n : Name) → nameIn (t then ts) ≡ some n → verbs t ≡ 0
+  unfolding nameIn partOf
+  name-zero n h = read-part free t n h λ v i g. i ∙ free-none v n g
+
+  pub number-zero : (z : ℤ) → numberIn (t then ts) ≡ some z → verbs t ≡ 0
+  unfolding numberIn partOf
+  number-zero z h = read-part isNumber t z h λ v i g. i ∙ number-none v z g
+
+  -- after a statement the number of the last one is by the statements in it higher
+  pub stmt-number : (d n : ℕ) (p : Stmt × ℕ) → stmtIn d n (t then ts) ≡ some p → p .1 ≡ n + verbs t
+  unfolding stmtIn partOf
+  stmt-number d n p h = stmt-holds d t n p h
+
+pub exprs-zero : (d : ℕ) (us : Trees Run) (es : Exprs) → exprsIn d us ≡ some es → verbsIn us ≡ 0
+unfolding exprsIn verbs
+exprs-zero d end es h = refl
+exprs-zero d (t then ts) es h = bind-some h λ e he h. bind-some h λ xs hxs _. let a = expr-holds d t e he in let b = exprs-zero d ts xs hxs in omega arith
+
+-- ---- statements in a row
+
+-- the first of them, and the others from its number on
+pub stmts-first : {P : Type 0} (d n : ℕ) (t : Tree Run) (ts : Trees Run) (p : Stmts × ℕ) → stmtsIn d n (t then ts) ≡ some p
+    → ((a : Stmt) (q : Stmts × ℕ) → stmtIn d n (t then ts) ≡ some (a, n + verbs t) → stmtsIn d (n + verbs t) ts ≡ some q → (a next q .0, q .1) ≡ p → P) → P
+unfolding stmtsIn stmtIn partOf
+stmts-first d n t ts p h k = bind-some h λ a ha h. bind-some h λ q hq e.
+    let i = stmt-holds d t n a ha in
+    k (a .0) q (ha ∙ ap (λ (m : ℕ). some (a .0, m)) i) (subst (λ (m : ℕ). stmtsIn d m ts ≡ some q) i hq) (some-inj e)
+
+pub stmts-number : (d n : ℕ) (us : Trees Run) (p : Stmts × ℕ) → stmtsIn d n us ≡ some p → p .1 ≡ n + verbsIn us
+unfolding stmtsIn verbs
+stmts-number d n end p h = rw (← some-inj h) (omega arith)
+stmts-number d n (t then ts) p h = bind-some h λ a ha h. bind-some h λ q hq e.
+    let i = stmt-holds d t n a ha in let j = stmts-number d (a .1) ts q hq in rw (← some-inj e) (omega arith)
+
+-- the last part of an `if`: the second branch is numbered from where the first ended, which `stmt-number` tells
+pub else-number : (d n : ℕ) (us : Trees Run) (p : Stmt × ℕ) → elseIn d n us ≡ some p → p .1 ≡ n + verbsIn us
+unfolding elseIn closed verbs
+else-number d n end p h = rw (← some-inj h) (omega arith)
+else-number d n (t then end) p h = bind-some h λ a ha e. let i = stmt-holds d t n a ha in rw (← some-inj e) (omega arith)
+else-number d n (t then (u then us)) p h = bind-some h λ a ha e. none-some e
+
+-- ---- arms
+
+-- a form's head that is an arm's is no statement's
+arm-head : (w : Run) (us : Trees Run) (h : ArmHead) → armHeadIn w ≡ some h → verbs (form (word w then us)) ≡ verbsIn us
+unfolding armHeadIn verbs headVerbs
+arm-head w us h e = bind-some e λ k hk g.
+    let a : oneFor (verbOf (wordOf w)) ≡ 0 = word-head w ∙ ap counted (bind-of (keyIn w) k (among Forms.verbs) hk ∙ arm-apart k h g) in
+    omega arith
+
+pub arm-number : (d n : ℕ) (us : Trees Run) (p : List Constant × (Stmt × ℕ)) → armIn d n us ≡ some p → p .1 .1 ≡ n + verbsIn us
+unfolding armIn verbs
+arm-number d n end p h = none-some h
+arm-number d n (t then end) p h = none-some h
+arm-number d n (t then (u then end)) p h = bind-some h λ c hc h. bind-some h λ a ha e.
+    let i = constant-holds t c hc in let j = stmt-holds d u n a ha in rw (← some-inj e) (omega arith)
+arm-number d n (t then (u then (v then ts))) p h = bind-some h λ c hc h. bind-some h λ a ha e.
+    let i = constant-holds t c hc in let j = arm-number d n (u then (v then ts)) a ha in rw (← some-inj e) (omega arith)
