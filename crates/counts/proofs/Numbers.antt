@@ -63,6 +63,7 @@ head-read (form us then ts) vs h = go (wordedAll us) (wordedAll ts) h
 
 mutual
   unfolding verbs verbsItem worded
+
   verbs-read : (t : Tree Run) (v : Item) → worded t ≡ some v → verbs t ≡ verbsItem v
   verbs-read (word w) v h = bind-some h λ x hx e. rw (← some-inj e) refl
   verbs-read (form ts) v h = bind-some h λ xs hxs e. let a = head-read ts xs hxs in let b = parts-read ts xs hxs in rw (← some-inj e) (omega arith)
@@ -166,3 +167,77 @@ arm-number d n (t then (u then end)) p h = bind-some h λ c hc h. bind-some h λ
     let i = constant-holds t c hc in let j = stmt-holds d u n a ha in rw (← some-inj e) (omega arith)
 arm-number d n (t then (u then (v then ts))) p h = bind-some h λ c hc h. bind-some h λ a ha e.
     let i = constant-holds t c hc in let j = arm-number d n (u then (v then ts)) a ha in rw (← some-inj e) (omega arith)
+
+-- the first arm, and the others from the number after it
+pub arms-first : {P : Type 0} (d n : ℕ) (w : Run) (us ts : Trees Run) (p : Arms × ℕ) → armHeadIn w ≡ some isArm → armsIn d n (form (word w then us) then ts) ≡ some p
+    → ((cs : List Constant) (a : Stmt) (q : Arms × ℕ) → armIn d n us ≡ some (cs, (a, n + verbs (form (word w then us)))) → armsIn d (n + verbs (form (word w then us))) ts ≡ some q → (arm cs a (q .0), q .1) ≡ p → P) → P
+unfolding armsIn
+arms-first d n w us ts p e h k = bind-some (sym (bind-of (armHeadIn w) isArm _ e) ∙ h) λ a ha h. bind-some h λ q hq g.
+    let i : a .1 .1 ≡ n + verbs (form (word w then us)) = arm-number d n us a ha ∙ ap (λ (m : ℕ). n + m) (sym (arm-head w us isArm e)) in
+    k (a .0) (a .1 .0) q (ha ∙ ap (λ (m : ℕ). some (a .0, (a .1 .0, m))) i) (subst (λ (m : ℕ). armsIn d m ts ≡ some q) i hq) (some-inj g)
+
+else-arm-number : (d n : ℕ) (us ts : Trees Run) (p : Arms × ℕ) → elseArmIn d n us ts ≡ some p → p .1 ≡ n + (verbsIn us + verbsIn ts)
+unfolding elseArmIn partOf closed verbs
+else-arm-number d n end end p h = bind-some h λ a ha e. bind-some ha λ v hv _. none-some hv
+else-arm-number d n (t then end) end p h = bind-some h λ a ha e. let i = stmt-holds d t n a ha in rw (← some-inj e) (omega arith)
+else-arm-number d n (t then (u then us)) end p h = bind-some h λ a ha e. none-some e
+else-arm-number d n us (t then ts) p h = none-some h
+
+pub arms-number : (d n : ℕ) (us : Trees Run) (p : Arms × ℕ) → armsIn d n us ≡ some p → p .1 ≡ n + verbsIn us
+unfolding armsIn verbs
+arms-number d n end p h = rw (← some-inj h) (omega arith)
+arms-number d n (word w then ts) p h = none-some h
+arms-number d n (form end then ts) p h = none-some h
+arms-number d n (form (form us then vs) then ts) p h = none-some h
+arms-number d n (form (word w then us) then ts) p h = bind-some h λ k hk h. by-head k (arm-head w us k hk) h (λ m q hq. arms-number d m ts q hq)
+  where
+    by-head : (k : ArmHead) → verbs (form (word w then us)) ≡ verbsIn us
+        → elim k [
+          | isArm ↦ armIn d n us >>= λ a. armsIn d (a .1 .1) ts >>= λ bs. some (arm (a .0) (a .1 .0) (bs .0), bs .1)
+          | isElse ↦ elseArmIn d n us ts
+        ] ≡ some p
+        → ((m : ℕ) (q : Arms × ℕ) → armsIn d m ts ≡ some q → q .1 ≡ m + verbsIn ts) → p .1 ≡ n + (verbs (form (word w then us)) + verbsIn ts)
+    by-head isArm i h again = bind-some h λ a ha h. bind-some h λ q hq e.
+        let j = arm-number d n us a ha in let l = again (a .1 .1) q hq in rw (← some-inj e) (omega arith)
+    by-head isElse i h again = let j = else-arm-number d n us ts p h in omega arith
+
+-- ---- bodies
+
+-- the head of a handler is no statement's
+pub handler-verbs : (t : Tree Run) (us : Trees Run) → handlerIn t ≡ some us → verbs t ≡ verbsIn us
+unfolding handlerIn verbs headVerbs
+handler-verbs (word w) us h = none-some h
+handler-verbs (form end) us h = none-some h
+handler-verbs (form (form vs then ts)) us h = none-some h
+handler-verbs (form (word w then vs)) us h = bind-some (exception-is vs w ∙ h) λ k hk g. given-some g λ f e.
+    let a : oneFor (verbOf (wordOf w)) ≡ 0 = word-head w ∙ ap counted (bind-of (keyIn w) k (among Forms.verbs) hk ∙ exception-apart k f) in
+    rw (← e) (omega arith)
+
+-- the statements of a handler, which is the last part
+pub body-handler : {P : Type 0} (n : ℕ) (t : Tree Run) (us ts : Trees Run) (p : Body × ℕ) → handlerIn t ≡ some us → bodyIn n (t then ts) ≡ some p
+    → ((q : Stmts × ℕ) → ts ≡ end → stmtsIn 33 n us ≡ some q → (handling (q .0), q .1) ≡ p → P) → P
+unfolding bodyIn handlerLast
+body-handler n t us end p e h k = bind-some (rw (e, bodyIn) at h) λ q hq g. k q refl hq (some-inj g)
+body-handler n t us (u then ts) p e h k = none-some (rw (e, bodyIn) at h)
+
+-- the first statement of a body, and the other parts from its number on
+pub body-first : {P : Type 0} (n : ℕ) (t : Tree Run) (ts : Trees Run) (p : Body × ℕ) → handlerIn t ≡ none → bodyIn n (t then ts) ≡ some p
+    → ((a : Stmt) (q : Body × ℕ) → stmtIn 33 n (t then ts) ≡ some (a, n + verbs t) → bodyIn (n + verbs t) ts ≡ some q → (withFirst a (q .0), q .1) ≡ p → P) → P
+unfolding bodyIn stmtIn partOf
+body-first n t ts p e h k = bind-some (rw (e, bodyIn) at h) λ a ha h. bind-some h λ q hq g.
+    let i = stmt-holds 33 t n a ha in
+    k (a .0) q (ha ∙ ap (λ (m : ℕ). some (a .0, m)) i) (subst (λ (m : ℕ). bodyIn m ts ≡ some q) i hq) (some-inj g)
+
+body-end : (n : ℕ) (p : Body × ℕ) → bodyIn n end ≡ some p → p .1 ≡ n
+unfolding bodyIn
+body-end n p h = rw (← some-inj h) refl
+
+pub body-number : (n : ℕ) (us : Trees Run) (p : Body × ℕ) → bodyIn n us ≡ some p → p .1 ≡ n + verbsIn us
+unfolding verbs
+body-number n end p h = let e = body-end n p h in omega arith
+body-number n (t then ts) p h = by-handler (handlerIn t) refl (λ m q hq. body-number m ts q hq)
+  where
+    by-handler : (o : Option (Trees Run)) → handlerIn t ≡ o → ((m : ℕ) (q : Body × ℕ) → bodyIn m ts ≡ some q → q .1 ≡ m + verbsIn ts) → p .1 ≡ n + (verbs t + verbsIn ts)
+    by-handler (some us) e again = body-handler n t us ts p e h λ q z hq g.
+        let a = handler-verbs t us e in let b = stmts-number 33 n us q hq in let c : verbsIn ts ≡ 0 = ap verbsIn z in rw (← g) (omega arith)
+    by-handler none e again = body-first n t ts p e h λ a q ha hq g. let b = again (n + verbs t) q hq in rw (← g) (omega arith)
