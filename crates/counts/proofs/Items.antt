@@ -9,14 +9,14 @@ use native.Mathlib.Omega.{arith}
 use lib.IntN.{ℤ}
 use Rattle.lexis.proofs.Same.{same-equal}
 use Rattle.lexis.specs.Bytes.{bytes, same}
-use Rattle.semantics.specs.Base.{Name, _>>=_, each, either, given}
-use Rattle.semantics.specs.Forms.{ArmHead, Head, Item, Reader, Verb, among, armHeads, arms, armsFirst, atForm, body, caseForm, constant, dotForm, elseOf, ending, expr, exprForm, first?, forForm, free, hAt, hBound, hDot, hFun, hLazy, hMembers, hMinus, hOp, handlerOf, headed, heads, ifForm, isArm, isElse, isNumber, keyOf, minusNumber, one, oneArm, oneSided, some?, stmt, stmtForm, stmts, target, targetForm, two, twoSided, typeName, vAssign, vBegin, vCall, vCase, vFor, vIf, vRaise, vWhile}
+use Rattle.semantics.specs.Base.{Name, _>>=_, each, either}
+use Rattle.semantics.specs.Forms.{ArmHead, Head, Item, Reader, Verb, among, armHeads, arms, atForm, caseForm, constant, dotForm, elseOf, ending, expr, exprForm, first?, forForm, free, hAt, hBound, hDot, hFun, hLazy, hMembers, hMinus, hOp, headed, heads, ifForm, isArm, isElse, isNumber, keyOf, minusNumber, one, oneArm, oneSided, stmt, stmtForm, stmts, target, targetForm, two, twoSided, typeName, vAssign, vBegin, vCall, vCase, vFor, vIf, vRaise, vWhile}
 use Rattle.semantics.specs.Forms as Forms
 use Rattle.semantics.specs.Operators.{Fun}
 use Rattle.semantics.specs.Syntax as S
-use Rattle.semantics.specs.Trees.{Tree, word, form, Trees, end, _then_, list}
-use Rattle.semantics.specs.Words.{Word, number, name, key}
-use Rattle.semantics.proofs.Inversion.{none-some, some-inj, bind-some, given-some, either-some, and-true}
+use Rattle.semantics.specs.Trees.{word, form, Trees, end, _then_, list}
+use Rattle.semantics.specs.Words.{Word}
+use Rattle.semantics.proofs.Inversion.{none-some, some-inj, bind-some, either-some, and-true}
 
 pub bind-of : {A B : Type 0} (o : Option A) (a : A) (f : A → Option B) → o ≡ some a → (o >>= f) ≡ f a
 unfolding _>>=_

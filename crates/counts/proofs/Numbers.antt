@@ -1,26 +1,24 @@
 -- What a walk over statements adds to their numbers: of a part that was read, the number of statements in it.
 use mathlib.Core.Path.{_≡_, refl, sym, ap, subst, _∙_}
-use mathlib.Core.Bool.{Bool, true, false}
-use mathlib.Core.List.{List, [], _∷_}
+use mathlib.Core.List.{List}
 use mathlib.Core.Option.{Option, none, some}
-use Prim.Native.Nat.{ℕ, zero, suc, _+_}
+use Prim.Native.Nat.{ℕ, _+_}
 use native.Mathlib.Omega.{arith}
 use lib.IntN.{ℤ}
-use Rattle.lexis.specs.Bytes.{bytes, same}
 use Rattle.lexis.specs.Words.{wordOf}
-use Rattle.semantics.specs.Base.{Name, _>>=_, given}
-use Rattle.semantics.specs.Forms.{ArmHead, Item, Verb, among, armHeads, constant, expr, free, isArm, isElse, isNumber, keyOf, plainBody, stmt, target, typeName}
+use Rattle.semantics.specs.Base.{Name, _>>=_}
+use Rattle.semantics.specs.Forms.{ArmHead, Item, Verb, among, constant, expr, free, isArm, isElse, isNumber, keyOf, stmt, target, typeName}
 use Rattle.semantics.specs.Forms as Forms
-use Rattle.semantics.specs.Syntax.{Arms, Body, Constant, Expr, Exprs, Stmt, Stmts, Target, TypeName, _next_, arm, done, elseArm}
-use Rattle.semantics.specs.Trees.{Tree, word, form, Trees, end, _then_, Run, first, stackAt}
+use Rattle.semantics.specs.Syntax.{Arms, Body, Constant, Expr, Exprs, Stmt, Stmts, Target, TypeName, _next_, arm}
+use Rattle.semantics.specs.Trees.{Tree, word, form, Trees, end, _then_, Run}
 use Rattle.semantics.specs.Words.{Word, worded, wordedAll, wordBy}
 use Rattle.semantics.proofs.Inversion.{none-some, some-inj, bind-some, given-some}
-use Rattle.shapes.specs.Heads.{verbOf, verbMeant, isException}
-use Rattle.shapes.specs.Parts.{partOf, rest, closed, keyIn, exprIn, targetIn, nameIn, numberIn, typeNameIn, constantIn, stmtIn, exprsIn, stmtsIn, elseIn, armIn, armHeadIn, elseArmIn, armsIn, handlerIn, handling, withFirst, handlerLast, bodyIn}
+use Rattle.shapes.specs.Heads.{verbOf, verbMeant}
+use Rattle.shapes.specs.Parts.{partOf, closed, keyIn, exprIn, targetIn, nameIn, numberIn, typeNameIn, constantIn, stmtIn, exprsIn, stmtsIn, elseIn, armIn, armHeadIn, elseArmIn, armsIn, handlerIn, handling, withFirst, handlerLast, bodyIn}
 use Rattle.shapes.specs.declared.Verb as Heading
 use Rattle.shapes.specs.declared.Verb.the-variants as VB
 use Rattle.shapes.proofs.Heads.{verb-is, exception-is}
-use Rattle.counts.specs.Statements.{oneFor, headVerbs, verbs, verbsIn, CountsStatements}
+use Rattle.counts.specs.Statements.{oneFor, headVerbs, verbs, verbsIn}
 use Rattle.counts.proofs.Items.{counted, headItem, verbsItem, verbsItems, bind-of, arm-apart, exception-apart, free-none, number-none, type-none, constant-none, expr-none, target-none, stmt-next}
 
 -- ---- the words read

@@ -3,14 +3,14 @@ use mathlib.Core.Path.{_≡_, refl, sym, ap, subst, _∙_}
 use mathlib.Core.List.{List}
 use mathlib.Core.Option.{none, some}
 use Prim.Native.Nat.{ℕ, _+_}
-use Rattle.semantics.specs.Forms.{ArmHead, isArm}
+use Rattle.semantics.specs.Forms.{isArm}
 use Rattle.semantics.specs.Syntax.{Arms, Body, Constant, Stmt, Stmts, _next_, arm}
 use Rattle.semantics.specs.Trees.{Tree, word, form, Trees, end, _then_, Run, first, stackAt}
 use Rattle.semantics.proofs.Inversion.{none-some}
 use Rattle.parts.specs.Parts.{Before}
 use Rattle.shapes.specs.Parts.{stmtIn, stmtsIn, armHeadIn, armIn, armsIn, handlerIn, withFirst, bodyIn}
 use Rattle.shapes.proofs.Statements.{stmt-end}
-use Rattle.counts.specs.Statements.{verbs, CountsStatements}
+use Rattle.counts.specs.Statements.{CountsStatements}
 use Rattle.counts.proofs.Numbers.{stmt-number, stmts-first, arms-first, body-first}
 
 module _ (s : List ℕ) (at r : ℕ) (C : CountsStatements s at r) where
