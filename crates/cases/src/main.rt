@@ -23,7 +23,7 @@ use lines::line_end;
 use lines::sign_from;
 use lines::stands;
 use printing::reports::scripted;
-use printing::rows::refused;
+use writing::rows::refused;
 ghost use Prim.Native.Nat.{_≤_, _<_};
 ghost use lib.ListN.{length};
 

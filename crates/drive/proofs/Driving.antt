@@ -15,8 +15,8 @@ use Rattle.semantics.specs.Verdict as Meaning
 use Rattle.semantics.specs.Verdict.{Judged, good, bad, Read, has, accepted, refused, must, onward, strictly, judgeLine, judgeLines}
 use Rattle.reader.specs.Passes.{lineAt, afterLine}
 use Rattle.reader.proofs.Ties.{lines-cons, lines-at}
-use Rattle.judge.specs.declared.Known.{Known}
-use Rattle.judge.specs.declared.Judgement.{Judgement}
+use Rattle.judgements.specs.declared.Known.{Known}
+use Rattle.judgements.specs.declared.Judgement.{Judgement}
 use Rattle.judge.specs.Judging.{Standing, JudgedBy, JudgesLine}
 use Rattle.drive.specs.declared.Checked.{Checked}
 use Rattle.drive.specs.Answers.{CheckedBy, ChecksLines, endsBy, refusedBy}

@@ -4,7 +4,7 @@ use mathlib.Core.Bool.{Bool, true, false}
 use Prim.Native.Nat.{ℕ}
 use borrow.Author.Tests.{eq-eqb, ne-eqb}
 use Rattle.declarations.specs.State.{startState}
-use Rattle.judge.specs.declared.Known.{Known}
+use Rattle.judgements.specs.declared.Known.{Known}
 use Rattle.drive.specs.declared.Checked.{Checked}
 use Rattle.drive.specs.declared.Verdict.the-variants.{Accepted, Refused}
 use Rattle.drive.specs.Answers.{endsBy, refusedBy, startKnown, toldBy}

@@ -19,7 +19,7 @@ use Rattle.semantics.proofs.Demand3 as Demand3
 use Rattle.semantics.proofs.LinesCover.{text-covered}
 use Rattle.semantics.proofs.LinesMeasured.{text-measured}
 use Rattle.stores.specs.Stores.{StoreFault, rowNumber}
-use Rattle.judge.specs.declared.Known.{Known}
+use Rattle.judgements.specs.declared.Known.{Known}
 use Rattle.judge.specs.Judging.{Standing}
 use Rattle.chair.specs.declared.Answer.{Answer as Told}
 use Rattle.chair.specs.Answers.{outcomeOf, Answers, Running}

@@ -25,7 +25,7 @@ use Rattle.semantics.proofs.TextRoom.{room-start}
 use Rattle.reader.specs.Passes.{lineOr}
 use Rattle.declarations.specs.State.{startState}
 use Rattle.declarations.proofs.Starting.{holds-start}
-use Rattle.judge.specs.declared.Known.{Known}
+use Rattle.judgements.specs.declared.Known.{Known}
 use Rattle.judge.specs.Judging.{Standing}
 use Rattle.drive.specs.declared.Checked.{Checked}
 use Rattle.drive.specs.declared.Verdict.{Verdict}

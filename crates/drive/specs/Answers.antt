@@ -10,7 +10,7 @@ use Rattle.semantics.specs.Verdict as Meaning
 use Rattle.semantics.specs.Verdict.{Read, accepted, refused, strictly, judgeLines}
 use Rattle.semantics.specs.Whole.{verdictOf}
 use Rattle.declarations.specs.State.{startState}
-use Rattle.judge.specs.declared.Known.{Known}
+use Rattle.judgements.specs.declared.Known.{Known}
 use Rattle.judge.specs.Judging.{Standing}
 use Rattle.drive.specs.declared.Checked.{Checked}
 use Rattle.drive.specs.declared.Verdict.{Verdict}

@@ -7,7 +7,7 @@ use lib.ListN.{length}
 use Rattle.semantics.specs.Verdict.{Read, accepted}
 use Rattle.semantics.specs.Whole as Whole
 use Rattle.semantics.specs.Whole.{Ending, refusal, ran, verdictOf, runAll, onStore, unless}
-use Rattle.judge.specs.declared.Known.{Known}
+use Rattle.judgements.specs.declared.Known.{Known}
 use Rattle.judge.specs.Judging.{Standing}
 use Rattle.chair.specs.Answers.{outcomeOf}
 use Rattle.drive.specs.declared.Checked.{Checked}

@@ -3,8 +3,8 @@ pub mod counting;
 pub mod running;
 
 use declarations::State;
-use judge::Known;
 use judge::whole::line;
+use judgements::Known;
 use reader::lines::next_line;
 use reader::lines::refused_line;
 use worklist::clear;

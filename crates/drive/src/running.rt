@@ -4,7 +4,7 @@ use crate::check;
 use crate::working;
 use chair::Answer;
 use chair::run as run_code;
-use judge::Known;
+use judgements::Known;
 use stores::store_fault;
 use worklist::clear;
 ghost use mathlib.Core.Path.{_≡_};

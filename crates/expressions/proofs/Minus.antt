@@ -27,7 +27,8 @@ use Rattle.parts.specs.Got.{isForm, failedGot}
 use Rattle.parts.specs.Parts.{Closes, Shuts}
 use Rattle.exprnodes.specs.declared.words.Alone.{Alone}
 use Rattle.exprnodes.specs.declared.words.Alone.the-variants as alone
-use Rattle.exprnodes.specs.Nodes.{Makes, literalMade, paired, applied}
+use Rattle.exprnodes.specs.Nodes.{Makes, literalMade}
+use Rattle.compounds.specs.Operators.{paired, applied}
 use Rattle.expressions.specs.Sides.{GivesSecond}
 use Rattle.expressions.specs.Walks.{GivesExpr, formIn, GivesForm}
 use Rattle.expressions.specs.MinusForm.{GivesMinus}

@@ -46,7 +46,8 @@ use Rattle.tables.proofs.Telling.{kinded, side-in, low-told, high-told}
 use Rattle.parts.specs.declared.Got.{Got}
 use Rattle.parts.specs.Got.{lowest, isForm, faultOf, failedGot, Told}
 use Rattle.parts.specs.Parts.{Before, Closes}
-use Rattle.exprnodes.specs.Nodes.{Made, Makes, failedMade, nodeMade, ifClear, ruledNode, operated, paired, lazily, shorted, ruledNode1, appliedClear, applied}
+use Rattle.exprnodes.specs.Nodes.{Made, Makes, failedMade, nodeMade, ifClear}
+use Rattle.compounds.specs.Operators.{ruledNode, operated, paired, lazily, shorted, ruledNode1, appliedClear, applied}
 use Rattle.expressions.specs.Sides.{GivesSecond}
 use Rattle.expressions.specs.Walks.{Moves, Leaves, ExprTold, GivesExpr, formIn, GivesForm}
 use Rattle.expressions.proofs.Joining.{told-wrong, told-join, told-one, told-or}

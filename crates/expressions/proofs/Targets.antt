@@ -41,7 +41,8 @@ use Rattle.tables.proofs.Telling.{shape-array, shape-record, low-told, high-tol
 use Rattle.parts.specs.declared.Got.{Got}
 use Rattle.parts.specs.Got.{lowest, isForm, faultOf, failedGot, Told}
 use Rattle.parts.specs.Parts.{Before, Closes}
-use Rattle.exprnodes.specs.Nodes.{Made, Makes, failedMade, nodeMade, ifClear, loaded, elementKind, element, indexed, fieldMade, selectedMade, Selects}
+use Rattle.exprnodes.specs.Nodes.{Made, Makes, failedMade, nodeMade, ifClear}
+use Rattle.compounds.specs.Targets.{loaded, elementKind, element, indexed, fieldMade, selectedMade, Selects}
 use Rattle.exprnodes.specs.declared.fields.Sole.{Sole}
 use Rattle.exprnodes.specs.declared.fields.Sole.the-variants as sole
 use Rattle.exprnodes.specs.Fields.{SoleName}

@@ -3,7 +3,8 @@ use mathlib.Core.List.{List}
 use Prim.Native.Nat.{ℕ}
 use Rattle.parts.specs.declared.Got.{Got}
 use Rattle.parts.specs.Parts.{Closes}
-use Rattle.exprnodes.specs.Nodes.{Makes, paired}
+use Rattle.exprnodes.specs.Nodes.{Makes}
+use Rattle.compounds.specs.Operators.{paired}
 use Rattle.expressions.specs.Walks.{GivesExpr}
 
 -- a is the first side

@@ -44,8 +44,8 @@ use Rattle.statements.specs.Walks.{GivesBody, BodyTold, bare}
 use Rattle.declarations.specs.declared.State.{State}
 use Rattle.declarations.specs.State.{Holds}
 use Rattle.declarations.proofs.Growing.{laid-same}
-use Rattle.judge.specs.declared.Known.{Known}
-use Rattle.judge.specs.declared.Entered.{Entered}
+use Rattle.judgements.specs.declared.Known.{Known}
+use Rattle.judgements.specs.declared.Entered.{Entered}
 use Rattle.judge.specs.Answers.{bodyState, mainEntry, procState, procNumbers, procEntry}
 use Rattle.judge.specs.Entering.{EntryStands, lastOf, EntryTold, ProcLaid}
 use Rattle.judge.specs.Judging.{Standing}

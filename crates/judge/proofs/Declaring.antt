@@ -34,9 +34,9 @@ use Rattle.declarations.specs.Lines.{lineOf, entryStaged, LineTold, GivesLine}
 use Rattle.declarations.specs.State.{Holds}
 use Rattle.expressions.proofs.Targets.{fits-inv}
 use Rattle.expressions.proofs.Joining.{wrong-fits, unnamed-fits, unfit-fits, fits-inj}
-use Rattle.judge.specs.declared.Known.{Known}
-use Rattle.judge.specs.declared.Entered.{Entered}
-use Rattle.judge.specs.Answers.{declaredEntry}
+use Rattle.judgements.specs.declared.Known.{Known}
+use Rattle.judgements.specs.declared.Entered.{Entered}
+use Rattle.judgements.specs.Answers.{declaredEntry}
 use Rattle.judge.specs.Entering.{EntryStands, lastOf, EntryTold, Enters}
 use Rattle.judge.specs.Judging.{Standing}
 use Rattle.judge.specs.Whole.{headIn, wholeStaged}

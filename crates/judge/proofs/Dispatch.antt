@@ -39,10 +39,11 @@ use Rattle.declarations.specs.declared.Naming.{Naming}
 use Rattle.declarations.specs.declared.Naming.the-variants as naming
 use Rattle.declarations.specs.Names.{GivesName, newFault}
 use Rattle.expressions.proofs.Joining.{wrong-fits}
-use Rattle.judge.specs.declared.Known.{Known}
-use Rattle.judge.specs.declared.Judgement.{Judgement}
-use Rattle.judge.specs.declared.Entered.{Entered}
-use Rattle.judge.specs.Answers.{refusedJudgement, judgement, declaredEntry, mainEntry, procNumbers, procEntry, failedEntry}
+use Rattle.judgements.specs.declared.Known.{Known}
+use Rattle.judgements.specs.declared.Judgement.{Judgement}
+use Rattle.judgements.specs.declared.Entered.{Entered}
+use Rattle.judgements.specs.Answers.{refusedJudgement, judgement, declaredEntry}
+use Rattle.judge.specs.Answers.{mainEntry, procNumbers, procEntry, failedEntry}
 use Rattle.judge.specs.Entering.{EntryTold, Enters, ProcLaid, ProcEnds, ProcNamed}
 use Rattle.judge.specs.Forms.{LineIs, JudgesForm}
 use Rattle.judge.specs.Judging.{Standing}

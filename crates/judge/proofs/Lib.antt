@@ -1,5 +1,4 @@
 pub mod Lines
-pub mod Rows
 pub mod Stepping
 pub mod Declaring
 pub mod Bodies

@@ -18,9 +18,9 @@ use Rattle.reader.proofs.Ties.{formed, unformed, worded-some, worded-none, line
 use Rattle.parts.specs.declared.Part.{Part}
 use Rattle.parts.specs.declared.Part.the-variants as part
 use Rattle.parts.specs.Parts.{FormAt, Stands}
-use Rattle.judge.specs.declared.Known.{Known}
-use Rattle.judge.specs.declared.Judgement.{Judgement}
-use Rattle.judge.specs.Answers.{refusedJudgement}
+use Rattle.judgements.specs.declared.Known.{Known}
+use Rattle.judgements.specs.declared.Judgement.{Judgement}
+use Rattle.judgements.specs.Answers.{refusedJudgement}
 use Rattle.judge.specs.Forms.{LineIs, JudgesForm, KnownLine, JudgesKnown}
 use Rattle.judge.specs.Judging.{Standing, JudgedBy, JudgesLine}
 use Rattle.judge.proofs.Counts.{nodes-short}

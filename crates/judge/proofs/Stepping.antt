@@ -32,15 +32,15 @@ use Rattle.semantics.proofs.Weights.{line-weighs, worded-nodes}
 use Rattle.tables.specs.declared.Fault.the-variants.{Clear, Kind, Name, Form}
 use Rattle.parts.specs.Got.{faultOf}
 use Rattle.expressions.proofs.Targets.{fits-inv}
-use Rattle.judge.specs.declared.Known.{Known}
-use Rattle.judge.specs.declared.Judgement.{Judgement}
-use Rattle.judge.specs.declared.Entered.{Entered}
-use Rattle.judge.specs.Answers.{refusedJudgement, goodJudgement, ninthJudgement, judgement}
+use Rattle.judgements.specs.declared.Known.{Known}
+use Rattle.judgements.specs.declared.Judgement.{Judgement}
+use Rattle.judgements.specs.declared.Entered.{Entered}
+use Rattle.judgements.specs.Answers.{refusedJudgement, goodJudgement, ninthJudgement, judgement}
 use Rattle.judge.specs.Entering.{EntryStands, lastOf, EntryTold}
 use Rattle.judge.specs.Judging.{Standing, JudgedBy}
 use Rattle.judge.specs.Whole.{lineIn, wholeStaged}
 use Rattle.judge.proofs.Lines.{ninth, line-judged, line-in}
-use Rattle.judge.proofs.Rows.{fits-nodes, good-nodes}
+use Rattle.judgements.proofs.Rows.{fits-nodes, good-nodes}
 
 declared-stmts : (k : Declared) (e : Entry) (s n : ℕ) → declareLine k e s n .stmts ≡ s
 unfolding declareLine

@@ -30,8 +30,8 @@ use Rattle.declarations.specs.Names.{newFault}
 use Rattle.shapes.specs.declared.LineHead.{LineHead}
 use Rattle.shapes.specs.Heads.{lineHeadMeant}
 use Rattle.declarations.specs.State.{Holds}
-use Rattle.judge.specs.declared.Known.{Known}
-use Rattle.judge.specs.declared.Entered.{Entered}
+use Rattle.judgements.specs.declared.Known.{Known}
+use Rattle.judgements.specs.declared.Entered.{Entered}
 use Rattle.judge.specs.Answers.{procNumbers, procEntry}
 use Rattle.judge.specs.Judging.{Standing}
 use Rattle.judge.specs.Whole.{headIn, wholeStaged}

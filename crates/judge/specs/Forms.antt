@@ -11,8 +11,8 @@ use Rattle.semantics.specs.Trees.{Tree, form, nodes, formOf, first, stackAt, be
 use Rattle.semantics.specs.Verdict.{Read, strictly, judgeLine}
 use Rattle.semantics.specs.Words.{Word, worded}
 use Rattle.reader.specs.Passes.{lineAt, balancedFrom, knownAll}
-use Rattle.judge.specs.declared.Known.{Known}
-use Rattle.judge.specs.declared.Judgement.{Judgement}
+use Rattle.judgements.specs.declared.Known.{Known}
+use Rattle.judgements.specs.declared.Judgement.{Judgement}
 use Rattle.judge.specs.Judging.{Standing, JudgedBy}
 
 -- the line ln is the form whose parts begin at p; its words are known, it has n brackets and words, and `main` has not come

@@ -13,8 +13,8 @@ use Rattle.semantics.proofs.LinesMeasured.{Measured}
 use Rattle.semantics.proofs.TextRoom.{Room}
 use Rattle.reader.specs.Passes.{lineAt}
 use Rattle.declarations.specs.State.{Holds}
-use Rattle.judge.specs.declared.Known.{Known}
-use Rattle.judge.specs.declared.Judgement.{Judgement}
+use Rattle.judgements.specs.declared.Known.{Known}
+use Rattle.judgements.specs.declared.Judgement.{Judgement}
 
 -- the tables hold what the lines so far declared, and the code of their bodies stands at the places bs
 pub record Standing (s l ts : List ℕ) (kn : Known) (r : Read) (bs : List ℕ) : Type 0 where

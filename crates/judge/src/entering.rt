@@ -1,13 +1,13 @@
 // A line's parts after its head word.
-use crate::Entered;
-use crate::Known;
-use crate::judging::declared;
 use declarations::Naming;
 use declarations::State;
 use declarations::name_at;
 use declarations::named_fault;
 use declarations::narrow;
 use declarations::var_line;
+use judgements::Entered;
+use judgements::Known;
+use judgements::judging::declared;
 use parts::Got;
 use parts::is_clear;
 use parts::lowest;

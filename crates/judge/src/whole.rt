@@ -1,9 +1,9 @@
 // A line at an offset: rows 4 to 9.
-use crate::Judgement;
-use crate::Known;
 use crate::entering::enter;
-use crate::judging::judge;
-use crate::judging::refused;
+use judgements::Judgement;
+use judgements::Known;
+use judgements::judging::judge;
+use judgements::judging::refused;
 use parts::Part;
 use parts::part_at;
 use reader::lines::balance;

@@ -1,9 +1,9 @@
 -- Document 01, "The text": the reserved words stand in one fixed table, case ignored; the operators.
 use mathlib.Core.Bool.{Bool, cond}
 use mathlib.Core.List.{List, [], _∷_, _++_, map}
-use Prim.Native.Nat.{ℕ, suc}
+use Prim.Native.Nat.{ℕ, suc, _-_}
 use Prim.Native.String.{String}
-use lib.ListN.{length, getD}
+use lib.ListN.{length, getD, replicate}
 use Rattle.lexis.specs.Bytes.{bytes, small, same}
 
 -- all head words, and `integer`, `boolean`, `true`, `false`, `else`, `error_number`
@@ -28,6 +28,13 @@ letter k i = getD (getD fixed k []) i 0
 
 unfoldable pub letters : ℕ → ℕ
 letters k = length (getD fixed k [])
+
+-- the table as the code holds it: each word filled up with zeros to twelve bytes, and how many bytes each has
+unfoldable pub rows : List (List ℕ)
+rows = map (λ (w : List ℕ). w ++ replicate (12 - length w) 0) fixed
+
+unfoldable pub lengths : List ℕ
+lengths = map (λ (w : List ℕ). length w) fixed
 
 -- the place of the first list that is the same as w, or how many lists there are
 unfoldable pub position : List ℕ → List (List ℕ) → ℕ

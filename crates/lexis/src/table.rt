@@ -2,7 +2,7 @@
 use crate::bytes::small_of;
 ghost use mathlib.Core.Path.{_≡_};
 ghost use Prim.Native.Nat.{_<_};
-ghost use Rattle.lexis.specs.Table.{letter, letters, isFixed, placeOf};
+ghost use Rattle.lexis.specs.Table.{letter, letters, rows, lengths, isFixed, placeOf};
 
 // How many reserved words there are, and how many words in the table.
 pub(crate) const RESERVED: usize = 46;
@@ -132,33 +132,33 @@ const LENGTHS: [usize; 57] = [
 ];
 
 // The byte at place i of the word k of the table. `is_fixed` passes an i below that word's length.
-fn letter_at(k: usize, i: usize) -> u8
-    requires { ⌜ (k < 57) × (i < 12) ⌝ }
+fn letter_at(table: &[[u8; 12]; 57], k: usize, i: usize) -> u8
+    requires { ⌜ (k < 57) × (i < 12) × (now table ≡ rows) ⌝ }
     ensures { λ r. ⌜ r ≡ letter k i ⌝ }
 {
-    TABLE[k][i]
+    table[k][i]
 }
 
 // How many bytes the word k of the table has. `is_fixed` passes its own k.
-fn length_at(k: usize) -> usize
-    requires { ⌜ k < 57 ⌝ }
+fn length_at(sizes: &[usize; 57], k: usize) -> usize
+    requires { ⌜ (k < 57) × (now sizes ≡ lengths) ⌝ }
     ensures { λ r. ⌜ r ≡ letters k ⌝ }
 {
-    LENGTHS[k]
+    sizes[k]
 }
 
-// Whether w is the word k of the table, case ignored. `place_of` counts k up to 57.
-fn is_fixed(w: &[u8], k: usize) -> bool
-    requires { ⌜ k < 57 ⌝ }
+// Whether w is the word k of the table, case ignored. `place_in` counts k up to 57.
+fn is_fixed(w: &[u8], table: &[[u8; 12]; 57], sizes: &[usize; 57], k: usize) -> bool
+    requires { ⌜ (k < 57) × (now table ≡ rows) × (now sizes ≡ lengths) ⌝ }
     ensures { λ r. ⌜ r ≡ isFixed (now (w .entry)) k ⌝ }
 {
-    let n = length_at(k);
+    let n = length_at(sizes, k);
     if w.len() != n {
         return false;
     }
     let mut i = 0;
     while i < n {
-        if small_of(w[i]) != letter_at(k, i) {
+        if small_of(w[i]) != letter_at(table, k, i) {
             return false;
         }
         i += 1;
@@ -166,16 +166,24 @@ fn is_fixed(w: &[u8], k: usize) -> bool
     true
 }
 
-// The place of w in the table, case ignored, or 57.
-pub fn place_of(w: &[u8]) -> usize
+// The place of w in the table, case ignored, or 57. `place_of` lends both constants once: a constant read in a loop is copied at each step.
+fn place_in(w: &[u8], table: &[[u8; 12]; 57], sizes: &[usize; 57]) -> usize
+    requires { ⌜ (now table ≡ rows) × (now sizes ≡ lengths) ⌝ }
     ensures { λ r. ⌜ r ≡ placeOf (now (w .entry)) ⌝ }
 {
     let mut k = 0;
     while k < FIXED {
-        if is_fixed(w, k) {
+        if is_fixed(w, table, sizes, k) {
             return k;
         }
         k += 1;
     }
     FIXED
+}
+
+// The place of w in the table, case ignored, or 57.
+pub fn place_of(w: &[u8]) -> usize
+    ensures { λ r. ⌜ r ≡ placeOf (now (w .entry)) ⌝ }
+{
+    place_in(w, &TABLE, &LENGTHS)
 }

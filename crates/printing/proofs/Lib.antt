@@ -1,4 +1,1 @@
-pub mod Integers
-pub mod Writing
-pub mod Room
 pub mod Telling

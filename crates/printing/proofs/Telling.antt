@@ -14,12 +14,12 @@ use Rattle.chair.specs.declared.Outcome.the-variants.{Normal, Raised, Spent}
 use Rattle.chair.specs.declared.Answer.{Answer}
 use Rattle.drive.specs.declared.running.Report.{Report}
 use Rattle.drive.specs.declared.running.Report.the-variants.{Refused, Ran}
-use Rattle.printing.specs.Written.{Puts, namesAt}
+use Rattle.writing.specs.Written.{Puts, namesAt}
 use Rattle.chair.specs.Answers.{outcomeOf}
 use Rattle.drive.specs.Running.{endingOf, Reports}
 use Rattle.semantics.specs.Whole as Whole
 use Rattle.printing.specs.Told.{answerRow, reportRows}
-use Rattle.printing.proofs.Writing.{puts-then}
+use Rattle.writing.proofs.Writing.{puts-then}
 
 module _ (a : Answer) (l : List ℕ) (p r : ℕ) (m : List ℕ) where
   by : (o : Outcome) → a .outcome ≡ o → Puts (outcome (outcomeOf o) (a .steps)) l p r m → Puts (answerRow a) l p r m

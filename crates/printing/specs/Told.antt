@@ -8,7 +8,7 @@ use Rattle.chair.specs.Answers.{outcomeOf}
 use Rattle.chair.specs.declared.Answer.{Answer}
 use Rattle.drive.specs.declared.running.Report.{Report}
 use Rattle.drive.specs.declared.running.Report.the-variants.{Refused, Ran}
-use Rattle.printing.specs.Written.{namesAt}
+use Rattle.writing.specs.Written.{namesAt}
 
 -- the row of an answer
 unfoldable pub answerRow : Answer → List ℕ

@@ -1,4 +1,2 @@
 // What `runscript` prints, written into lent bytes.
-pub mod putting;
 pub mod reports;
-pub mod rows;

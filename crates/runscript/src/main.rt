@@ -5,7 +5,7 @@ use input::Input;
 use input::read_text;
 use libc::STDOUT_FILENO;
 use printing::reports::scripted;
-use printing::rows::refused;
+use writing::rows::refused;
 ghost use Prim.Native.Nat.{_≤_};
 ghost use lib.ListN.{length};
 

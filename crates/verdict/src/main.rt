@@ -2,37 +2,12 @@
 // the line's text if there is such a line.
 use drive::Verdict;
 use drive::verdict_of;
-use libc::STDIN_FILENO;
+use input::Input;
+use input::read_text;
 use libc::STDOUT_FILENO;
 use reader::lines::next_line;
 ghost use Prim.Native.Nat.{_≤_};
 ghost use lib.ListN.{length};
-ghost use Rattle.verdict.specs.Input.{Within};
-
-// What came from standard input: so many bytes, or a read failed.
-enum Input {
-    Failed,
-    Came(usize),
-}
-
-// Reads to the end of standard input, or until text is full.
-fn read_text(text: &mut [u8]) -> Input
-    ensures { λ r. ⌜ Within r (length (now (text .exit))) ⌝ }
-{
-    let mut n = 0;
-    while n < text.len() {
-        let got = libc::read(STDIN_FILENO, &mut text[n..]);
-        if got < 0 {
-            return Input::Failed;
-        }
-        let k = io::count(got, &text[n..]);
-        if k == 0 {
-            return Input::Came(n);
-        }
-        n += k;
-    }
-    Input::Came(n)
-}
 
 // Prints the word of a refusal; whether it was written.
 fn print_word(number: u32) -> bool {

@@ -9,7 +9,7 @@ use Rattle.declarations.proofs.var_line.Reads as var-line-reads
 use Rattle.judge.proofs.entering.faulty.Reads as faulty-reads
 use Rattle.judge.proofs.entering.main_line.Reads as main-line-reads
 use Rattle.judge.proofs.entering.proc_line.Reads as proc-line-reads
-use Rattle.judge.proofs.judging.declared.Reads as declared-reads
+use Rattle.judgements.proofs.judging.declared.Reads as declared-reads
 
 -- src/entering.rt:139:56
 enum-told : tie.Need-enum-told

@@ -5,8 +5,8 @@ use Rattle.judge.proofs.whole.form_line.Tie as tie
 use Rattle.judge.proofs.whole.form_line.Reads as reads
 use Rattle.judge.proofs.whole.form_line.Lts as lts
 use Rattle.judge.proofs.entering.enter.Reads as enter-reads
-use Rattle.judge.proofs.judging.judge.Reads as judge-reads
-use Rattle.judge.proofs.judging.refused.Reads as refused-reads
+use Rattle.judgements.proofs.judging.judge.Reads as judge-reads
+use Rattle.judgements.proofs.judging.refused.Reads as refused-reads
 use Rattle.parts.proofs.part_at.Reads as part-at-reads
 use Rattle.shapes.proofs.line_head.Reads as line-head-reads
 

@@ -4,7 +4,7 @@ use Rattle.judge.proofs.whole.known_line.Statement.{statement}
 use Rattle.judge.proofs.whole.known_line.Tie as tie
 use Rattle.judge.proofs.whole.known_line.Reads as reads
 use Rattle.judge.proofs.whole.known_line.Lts as lts
-use Rattle.judge.proofs.judging.refused.Reads as refused-reads
+use Rattle.judgements.proofs.judging.refused.Reads as refused-reads
 use Rattle.judge.proofs.whole.form_line.Reads as form-line-reads
 use Rattle.parts.proofs.part_at.Reads as part-at-reads
 use Rattle.reader.proofs.lines.count_nodes.Reads as count-nodes-reads

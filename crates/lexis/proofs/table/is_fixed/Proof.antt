@@ -7,10 +7,10 @@ use Rattle.lexis.proofs.table.is_fixed.Statement.{statement}
 use Rattle.lexis.proofs.table.is_fixed.Tie as tie
 
 abbrev Inv-loop : tie.InvT-loop
-Inv-loop w k n i₀ i = (i ≤ n) × Spells w k i
+Inv-loop w table sizes k n i₀ i = (i ≤ n) × Spells w k i
 
 abbrev μ-loop : tie.MeasureT-loop
-μ-loop w k n i₀ i = n - i
+μ-loop w table sizes k n i₀ i = n - i
 
 length-at-requires : tie.Need-length-at-requires Inv-loop μ-loop
 length-at-requires c κs = search needs

@@ -1,8 +1,6 @@
--- `lexis::table::letter_at` meets its contract. The constant is `rows` by computation. Assumes nothing.
+-- `lexis::table::letter_at` meets its contract. Assumes nothing.
 use borrow.Author.Needs.{needs}
-use Rattle.lexis.specs.Bytes.{bytes}
-use Rattle.lexis.specs.Table.{reserved, operators, fixed}
-use Rattle.lexis.proofs.Rows.{rows, row-letter}
+use Rattle.lexis.proofs.Rows.{letter-in}
 use Rattle.lexis.proofs.table.letter_at.Statement.{statement}
 use Rattle.lexis.proofs.table.letter_at.Tie as tie
 
@@ -16,8 +14,7 @@ index-2-result : tie.Need-index-2-result
 index-2-result c = search needs
 
 returns : tie.Need-returns
-unfolding rows fixed reserved operators bytes
-returns c = row-letter (c .before .args .k) (c .before .args .i)
+returns c = search letter-in
 
 pub letter-at-spec : {M : Type 1} → statement M
 letter-at-spec = tie.close (tie.spec mul-result index-1-result index-2-result returns)

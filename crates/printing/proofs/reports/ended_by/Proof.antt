@@ -5,9 +5,9 @@ use Rattle.printing.proofs.reports.ended_by.Statement.{statement}
 use Rattle.printing.proofs.reports.ended_by.Tie as tie
 use Rattle.printing.proofs.reports.ended_by.Reads as reads
 use Rattle.printing.proofs.reports.ended_by.Lts as lts
-use Rattle.printing.proofs.rows.exception.Reads as exception-reads
-use Rattle.printing.proofs.rows.normal.Reads as normal-reads
-use Rattle.printing.proofs.rows.spent.Reads as spent-reads
+use Rattle.writing.proofs.rows.exception.Reads as exception-reads
+use Rattle.writing.proofs.rows.normal.Reads as normal-reads
+use Rattle.writing.proofs.rows.spent.Reads as spent-reads
 
 -- src/reports.rt:27:35
 enum-told : tie.Need-enum-told

@@ -4,9 +4,9 @@ use Rattle.printing.proofs.reports.shown.Statement.{statement}
 use Rattle.printing.proofs.reports.shown.Tie as tie
 use Rattle.printing.proofs.reports.shown.Reads as reads
 use Rattle.printing.proofs.reports.shown.Lts as lts
-use Rattle.printing.proofs.reports.cell_rows.Reads as cell-rows-reads
+use Rattle.writing.proofs.rows.cell_rows.Reads as cell-rows-reads
 use Rattle.printing.proofs.reports.ended_by.Reads as ended-by-reads
-use Rattle.printing.proofs.rows.refused.Reads as refused-reads
+use Rattle.writing.proofs.rows.refused.Reads as refused-reads
 
 -- src/reports.rt:95:25
 enum-known-report : tie.Need-enum-known-report

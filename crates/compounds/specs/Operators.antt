@@ -1,0 +1,45 @@
+-- The nodes of operators and functions, as the code makes them from the answers for their sides.
+use mathlib.Core.Bool.{Bool, cond, _&&_}
+use mathlib.Core.List.{List, [], _∷_}
+use Prim.Native.Nat.{ℕ}
+use lib.Dec.{eqb, ltb}
+use Rattle.semantics.specs.Layout.{lay, both}
+use Rattle.kinds.specs.Kinds.{ruling2}
+use Rattle.kinds.specs.Functions.{ruling1}
+use Rattle.kinds.specs.declared.Ruling.{Ruling}
+use Rattle.kinds.specs.declared.Ruling.the-variants.{Misfit, Fits}
+use Rattle.tables.specs.declared.Fault.the-variants.{Kind}
+use Rattle.tables.specs.declared.Info.{Info}
+use Rattle.tables.specs.Descriptions.{infoOf}
+use Rattle.tables.specs.Sides.{sideIn}
+use Rattle.parts.specs.declared.Got.{Got}
+use Rattle.parts.specs.Got.{lowest}
+use Rattle.exprnodes.specs.Nodes.{Made, failedMade, nodeMade, ifClear}
+
+unfoldable pub ruledNode : Ruling → ℕ → ℕ → ℕ → ℕ → List ℕ → Made
+ruledNode Misfit x y q t l = failedMade Kind 0 q t l
+ruledNode (Fits n k) x y q t l = nodeMade k q (lay (n ∷ x ∷ y ∷ []) t l)
+
+unfoldable pub operated : List ℕ → List ℕ → ℕ → Got → Got → Made
+operated l ts op a b = ruledNode (ruling2 op (sideIn l ts (a .kind)) (sideIn l ts (b .kind))) (a .place) (b .place) (b .next) (b .top) l
+
+unfoldable pub paired : List ℕ → List ℕ → ℕ → Got → Got → Made
+paired l ts op a b = ifClear (lowest (a .fault) (b .fault)) 0 (b .next) (b .top) l (operated l ts op a b)
+
+-- `and_then`, `or_else`
+unfoldable pub lazily : List ℕ → Bool → Got → Got → Made
+lazily l q a b = cond (eqb (a .kind) 1 && eqb (b .kind) 1) (nodeMade 1 (b .next) (lay (both q ∷ a .place ∷ b .place ∷ []) (b .top) l)) (failedMade Kind 0 (b .next) (b .top) l)
+
+unfoldable pub shorted : List ℕ → Bool → Got → Got → Made
+shorted l q a b = ifClear (lowest (a .fault) (b .fault)) 0 (b .next) (b .top) l (lazily l q a b)
+
+-- one side; `pred` and `succ`, nodes 38 and 39, have their bounds
+unfoldable pub ruledNode1 : Ruling → Info → ℕ → ℕ → ℕ → List ℕ → Made
+ruledNode1 Misfit i x q t l = failedMade Kind 0 q t l
+ruledNode1 (Fits n k) i x q t l = nodeMade k q (lay (cond (ltb n 38) (n ∷ x ∷ []) (n ∷ x ∷ i .low ∷ i .high ∷ [])) t l)
+
+unfoldable pub appliedClear : List ℕ → List ℕ → ℕ → Got → Made
+appliedClear l ts f a = ruledNode1 (ruling1 f (sideIn l ts (a .kind))) (infoOf l ts (a .kind)) (a .place) (a .next) (a .top) l
+
+unfoldable pub applied : List ℕ → List ℕ → ℕ → Got → Made
+applied l ts f a = ifClear (a .fault) 0 (a .next) (a .top) l (appliedClear l ts f a)

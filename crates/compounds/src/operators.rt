@@ -1,0 +1,120 @@
+// The nodes of operators and functions, from the answers for their sides.
+use exprnodes::nodes::node;
+use kinds::Ruling;
+use kinds::one_sided;
+use kinds::two_sided;
+use parts::Got;
+use parts::failed;
+use parts::is_clear;
+use parts::lowest;
+use tables::Fault;
+use tables::Info;
+use tables::describe;
+use tables::side_of;
+ghost use mathlib.Core.Path.{_≡_};
+ghost use Rattle.semantics.specs.Layout.{both};
+ghost use Rattle.kinds.specs.declared.Ruling.the-variants.{Fits};
+ghost use Rattle.exprnodes.specs.Nodes.{Makes};
+ghost use Rattle.compounds.specs.Operators.{operated, paired, lazily, shorted, ruledNode1, appliedClear, applied};
+
+// A two-sided operator whose sides have no fault.
+fn operate(work: &mut [u32], types: &[u32], op: usize, a: Got, b: Got) -> Got
+    ensures { λ r. ⌜ Makes (operated (now (work .entry)) (now (types .entry)) op a b) r (now (work .exit)) ⌝ }
+{
+    let x = two_sided(
+        op,
+        side_of(work, types, a.kind),
+        side_of(work, types, b.kind),
+    );
+    match x {
+        Ruling::Misfit => failed(Fault::Kind, 0, b.next, b.top),
+        Ruling::Fits(n, k) => {
+            let ns = [n, a.place, b.place];
+            node(work, k, b.next, b.top, &ns)
+        }
+    }
+}
+
+// A two-sided operator.
+pub fn pair(work: &mut [u32], types: &[u32], op: usize, a: Got, b: Got) -> Got
+    ensures { λ r. ⌜ Makes (paired (now (work .entry)) (now (types .entry)) op a b) r (now (work .exit)) ⌝ }
+{
+    let c = a.fault;
+    let d = b.fault;
+    let f = lowest(c, d);
+    if is_clear(f) {
+        return operate(work, types, op, a, b);
+    }
+    failed(f, 0, b.next, b.top)
+}
+
+// `and_then` or `or_else` whose sides have no fault.
+fn short(work: &mut [u32], every: bool, a: Got, b: Got) -> Got
+    ensures { λ r. ⌜ Makes (lazily (now (work .entry)) every a b) r (now (work .exit)) ⌝ }
+{
+    if a.kind != 1 {
+        return failed(Fault::Kind, 0, b.next, b.top);
+    }
+    if b.kind != 1 {
+        return failed(Fault::Kind, 0, b.next, b.top);
+    }
+    let ns = [short_node(every), a.place, b.place];
+    node(work, 1, b.next, b.top, &ns)
+}
+
+// The number of that node.
+fn short_node(every: bool) -> u32
+    ensures { λ r. ⌜ r ≡ both every ⌝ }
+{
+    if every {
+        return 7;
+    }
+    8
+}
+
+// `and_then` or `or_else`.
+pub fn short_pair(work: &mut [u32], every: bool, a: Got, b: Got) -> Got
+    ensures { λ r. ⌜ Makes (shorted (now (work .entry)) every a b) r (now (work .exit)) ⌝ }
+{
+    let c = a.fault;
+    let d = b.fault;
+    let f = lowest(c, d);
+    if is_clear(f) {
+        return short(work, every, a, b);
+    }
+    failed(f, 0, b.next, b.top)
+}
+
+// A node of one part: `pred` and `succ` have their bounds.
+fn node_one(work: &mut [u32], i: Info, n: u32, kind: u32, a: Got) -> Got
+    ensures { λ r. ⌜ Makes (ruledNode1 (Fits n kind) i (a .place) (a .next) (a .top) (now (work .entry))) r (now (work .exit)) ⌝ }
+{
+    if n < 38 {
+        let ns = [n, a.place];
+        return node(work, kind, a.next, a.top, &ns);
+    }
+    let ns = [n, a.place, i.low, i.high];
+    node(work, kind, a.next, a.top, &ns)
+}
+
+// A one-sided operator or function whose side has no fault.
+fn operate_one(work: &mut [u32], types: &[u32], f: usize, a: Got) -> Got
+    ensures { λ r. ⌜ Makes (appliedClear (now (work .entry)) (now (types .entry)) f a) r (now (work .exit)) ⌝ }
+{
+    let x = one_sided(f, side_of(work, types, a.kind));
+    match x {
+        Ruling::Misfit => failed(Fault::Kind, 0, a.next, a.top),
+        Ruling::Fits(n, k) => node_one(work, describe(work, types, a.kind), n, k, a),
+    }
+}
+
+// A one-sided operator or function.
+pub fn apply(work: &mut [u32], types: &[u32], f: usize, a: Got) -> Got
+    ensures { λ r. ⌜ Makes (applied (now (work .entry)) (now (types .entry)) f a) r (now (work .exit)) ⌝ }
+{
+    let c = a.fault;
+    if is_clear(c) {
+        return operate_one(work, types, f, a);
+    }
+    failed(c, 0, a.next, a.top)
+}
