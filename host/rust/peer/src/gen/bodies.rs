@@ -1,6 +1,6 @@
 //! Random statements and bodies, and whole scripts made of them.
 
-use super::exprs::Writer;
+use super::exprs::{Writer, SMOOTH};
 use super::node::{form, word, Node};
 use super::rng::Rng;
 use super::scene::{Scene, BOOLEAN, INTEGER};
@@ -47,7 +47,7 @@ pub fn script(rng: Rng, size: Size) -> Scene {
 
 fn body(scene: &mut Scene, room: usize, wild: usize) -> Vec<Node> {
     let handled = scene.rng.percent(35);
-    let mut writer = Writer { scene, wild, controls: Vec::new(), room };
+    let mut writer = Writer { scene, wild, rough: SMOOTH, controls: Vec::new(), room };
     let mut parts = Vec::new();
     while writer.room > 0 {
         parts.push(writer.statement(DEPTH));
@@ -69,7 +69,7 @@ fn starts(scene: &mut Scene, wild: usize) -> Vec<Node> {
     for place in 0..scene.variables.len().min(20) {
         let (name, ty) = scene.variables[place].clone();
         if scene.bounds(ty).is_some() && scene.rng.percent(85) {
-            let mut writer = Writer { scene, wild, controls: Vec::new(), room: 1 };
+            let mut writer = Writer { scene, wild, rough: SMOOTH, controls: Vec::new(), room: 1 };
             let value = writer.constant(ty);
             parts.push(form(":=", vec![word(name), value]));
         }
@@ -83,7 +83,7 @@ impl Writer<'_> {
         if depth < 5 || self.room == 0 {
             return self.assign(depth.min(3));
         }
-        match self.scene.rng.weighted(&[40, 6, 14, 5, 9, 9, 8, 2, 1]) {
+        match self.scene.rng.weighted(&[40, 6, 14, 5, 9, 9, 8, 2, 2, 1]) {
             0 => self.assign(5),
             1 => {
                 let parts = (0..self.scene.rng.below(4)).map(|_| self.statement(depth - 1));
@@ -95,6 +95,7 @@ impl Writer<'_> {
             5 => self.case(depth),
             6 => self.call(),
             7 => form("raise", vec![self.expr(INTEGER, 3)]),
+            8 => self.clash(depth),
             _ => form("begin", vec![]),
         }
     }
@@ -131,6 +132,19 @@ impl Writer<'_> {
         };
         let value = self.fitting(ty, depth);
         form(":=", vec![target, value])
+    }
+
+    /// A statement of which several parts raise: the first one counts.
+    fn clash(&mut self, depth: usize) -> Node {
+        let before = std::mem::replace(&mut self.rough, 35);
+        let statement = match self.scene.rng.below(6) {
+            0 => self.count(depth),
+            1 => self.case(depth),
+            2 => self.choice(depth),
+            _ => self.assign(5),
+        };
+        self.rough = before;
+        statement
     }
 
     fn is_control(&self, node: &Node) -> bool {
@@ -184,7 +198,7 @@ impl Writer<'_> {
     fn rounds(&mut self, ty: usize) -> (Node, Node) {
         let host = self.scene.host(ty);
         let (low, high) = self.scene.bounds(ty).unwrap_or((0, 0));
-        if self.scene.rng.percent(10) {
+        if self.rough > SMOOTH || self.scene.rng.percent(10) {
             return (self.fitting(ty, 3), self.fitting(ty, 3));
         }
         let start = match self.scene.rng.below(5) {

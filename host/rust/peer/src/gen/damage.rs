@@ -1,5 +1,6 @@
 //! One damage to a script: to its bytes, its lines, its words or its forms.
 
+use super::exprs::{FUNCTIONS, TWO_SIDED};
 use super::node::{form, word, Node};
 use super::rng::Rng;
 use crate::word::{OPERATORS, RESERVED};
@@ -138,13 +139,15 @@ fn choose(spots: &[Spot], rng: &mut Rng) -> Option<Spot> {
 
 /// Changes one form of a script.
 pub fn forms(lines: &mut [Node], rng: &mut Rng) {
-    match rng.below(10) {
+    match rng.below(13) {
         0 => label(lines, rng),
         1 | 2 => control(lines, rng),
         3 => reverse(lines, rng),
         4 => minus(lines, rng),
         5 => field(lines, rng),
         6 | 7 => parts(lines, rng),
+        8 => own_name(lines, rng),
+        9 | 10 => operator(lines, rng),
         _ => exchange(lines, rng),
     }
 }
@@ -184,6 +187,32 @@ fn control(lines: &mut [Node], rng: &mut Rng) {
             parts.push(new.clone());
         }
     });
+}
+
+/// Uses the name that a line declares inside that line.
+fn own_name(lines: &mut [Node], rng: &mut Rng) {
+    let line = rng.below(lines.len());
+    let Node::List(parts) = &lines[line] else { return };
+    let Some(name) = parts.get(1).cloned() else { return };
+    let spots = collect(&lines[line..line + 1], &|node| matches!(node, Node::Word(_)));
+    if let Some((_, place, _)) = choose(&spots[2.min(spots.len())..], rng) {
+        lines[line].change(place, &mut |node| *node = name.clone());
+    }
+}
+
+/// Puts another operator or function in the place of one.
+fn operator(lines: &mut [Node], rng: &mut Rng) {
+    let heads = if rng.percent(60) { &TWO_SIDED[..] } else { &FUNCTIONS[..] };
+    let length = if heads.len() == TWO_SIDED.len() { 3 } else { 2 };
+    let fits = |node: &Node| {
+        matches!(node, Node::List(parts) if parts.len() == length)
+            && heads.iter().any(|head| node.is_form(head))
+    };
+    let Some((line, place, _)) = choose(&collect(lines, &fits), rng) else {
+        return parts(lines, rng);
+    };
+    let head = word(*rng.pick(heads));
+    lines[line].change(place + 1, &mut |node| *node = head.clone());
 }
 
 fn reverse(lines: &mut [Node], rng: &mut Rng) {

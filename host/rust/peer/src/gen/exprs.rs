@@ -8,6 +8,8 @@ pub struct Writer<'a> {
     pub scene: &'a mut Scene,
     /// In 1,000: how often an expression of another type is written than the one wanted.
     pub wild: usize,
+    /// In 100: how often an ordinal expression is one that raises.
+    pub rough: usize,
     /// Control variables of the loops around.
     pub controls: Vec<usize>,
     /// Statements that may still be written.
@@ -18,6 +20,23 @@ const EDGES: [i64; 14] = [
     0, 1, 2, 3, 7, 31, 32, 46_340, 46_341, 65_536, 2_147_483_646, 2_147_483_647, -2_147_483_648,
     -2_147_483_647,
 ];
+
+/// The two-sided operators.
+pub const TWO_SIDED: [&str; 17] = [
+    "+", "-", "*", "**", "div", "mod", "=", "<>", "<", "<=", ">", ">=", "in", "and", "or",
+    "and_then", "or_else",
+];
+
+/// The one-sided operators and the functions.
+pub const FUNCTIONS: [&str; 11] =
+    ["-", "not", "abs", "sqr", "odd", "ord", "pred", "succ", "card", "setmin", "setmax"];
+
+/// Integer expressions that raise -101 or -103, each written like one word.
+const RAISING: [&str; 5] =
+    ["(div 1 0)", "(mod 5 0)", "(** 0 0)", "(succ 2147483647)", "(pred (first integer))"];
+
+/// How rough most bodies are.
+pub const SMOOTH: usize = 1;
 
 impl Writer<'_> {
     /// Is a misfit to be written here?
@@ -44,7 +63,8 @@ impl Writer<'_> {
     /// An expression that is most often a value of this type, not only of its host.
     pub fn fitting(&mut self, ty: usize, depth: usize) -> Node {
         let host = self.scene.host(ty);
-        let (Some((low, high)), true) = (self.scene.bounds(ty), self.scene.rng.percent(85)) else {
+        let kept = self.scene.rng.percent(85) && self.rough == SMOOTH;
+        let (Some((low, high)), true) = (self.scene.bounds(ty), kept) else {
             return self.expr(host, depth);
         };
         match self.scene.rng.below(10) {
@@ -92,6 +112,7 @@ impl Writer<'_> {
     fn one(&mut self, heads: &[&str], ty: usize, depth: usize) -> Node {
         let part = self.expr(ty, depth - 1);
         let least = part == word("#80000000");
+        let heads = if self.is_wild() { &FUNCTIONS[..] } else { heads };
         match *self.scene.rng.pick(heads) {
             // `(- #80000000)` would be a constant past the integers.
             "-" if least => form("-", vec![form("abs", vec![part])]),
@@ -100,12 +121,16 @@ impl Writer<'_> {
     }
 
     fn two(&mut self, heads: &[&str], ty: usize, depth: usize) -> Node {
+        let heads = if self.is_wild() { &TWO_SIDED[..] } else { heads };
         let head = *self.scene.rng.pick(heads);
         let left = self.expr(ty, depth - 1);
         form(head, vec![left, self.expr(ty, depth - 1)])
     }
 
     fn integer(&mut self, depth: usize) -> Node {
+        if self.scene.rng.percent(self.rough) {
+            return word(self.scene.rng.pick(&RAISING));
+        }
         if depth < 2 || self.scene.rng.percent(25) {
             return self.number();
         }
@@ -168,6 +193,9 @@ impl Writer<'_> {
 
     /// Forms that every ordinal type has.
     fn ordinal(&mut self, host: usize, depth: usize) -> Node {
+        if depth > 1 && self.scene.rng.percent(self.rough) {
+            return form("succ", vec![form("last", vec![self.scene.type_word(host)])]);
+        }
         if depth < 2 {
             return self.constant(host);
         }
