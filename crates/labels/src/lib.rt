@@ -157,7 +157,7 @@ fn arm_in(text: &[u8], p: usize) -> Hop
 }
 
 // Into the arm at an offset.
-fn arm_hop(text: &[u8], at: usize) -> Hop
+pub fn arm_hop(text: &[u8], at: usize) -> Hop
     ensures { λ r. ⌜ EntersArm (now (text .entry)) at r ⌝ }
 {
     let part = part_at(text, at);
@@ -181,7 +181,7 @@ fn hop_at(text: &[u8], at: usize) -> Hop
 }
 
 // The next label from an offset inside an arm.
-fn next_label(text: &[u8], at: usize) -> Next
+pub fn next_label(text: &[u8], at: usize) -> Next
     ensures { λ r. ⌜ Nexts (now (text .entry)) at r ⌝ }
 {
     let mut p = at;
@@ -232,7 +232,7 @@ fn ordinal_in(m: Meaning) -> i64
 }
 
 // The value of a label.
-fn value_of(text: &[u8], work: &[u32], count: u32, newest: u32, m: Mark) -> i64
+pub fn value_of(text: &[u8], work: &[u32], count: u32, newest: u32, m: Mark) -> i64
     ensures { λ r. ⌜ r ≡ valueAt (now (text .entry)) (now (work .entry)) count newest m ⌝ }
 {
     match m {
@@ -254,7 +254,7 @@ fn next_value(text: &[u8], work: &[u32], count: u32, newest: u32, at: usize) -> 
 }
 
 // Whether two integers are the same.
-fn same_number(x: i64, y: i64) -> bool
+pub fn same_number(x: i64, y: i64) -> bool
     ensures { λ r. ⌜ r ≡ equalZ x y ⌝ }
 {
     if x == y {
