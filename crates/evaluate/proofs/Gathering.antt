@@ -46,7 +46,7 @@ or-turn false true false = refl
 or-turn false false true = refl
 or-turn false false false = refl
 
-joined-turn : (z w t : ℤ) → joined z (joined w t) ≡ joined w (joined z t)
+pub joined-turn : (z w t : ℤ) → joined z (joined w t) ≡ joined w (joined z t)
 unfolding joined added
 joined-turn z w t =
     ap setValue (those-same _ _ 0 32 (λ j h k.
@@ -54,7 +54,7 @@ joined-turn z w t =
     ∙ or-turn (has j (membersOf t)) (holds w (j ∷ [])) (holds z (j ∷ []))
     ∙ ap (λ (b : Bool). b || holds w (j ∷ [])) (sym (has-joined (λ i. has i (membersOf t) || holds z (i ∷ [])) j k))))
 
-joined-set : (z : ℤ) (s r : ℕ) → s < 4294967296 → r ≡ valueOf (added z (members s)) → pos r ≡ joined z (pos s)
+pub joined-set : (z : ℤ) (s r : ℕ) → s < 4294967296 → r ≡ valueOf (added z (members s)) → pos r ≡ joined z (pos s)
 unfolding joined setValue membersOf patternOf
 joined-set z s r h e = ap pos (e ∙ ap (λ (n : ℕ). valueOf (added z (members n))) (sym (mod-eq-of-lt {n = s} {m = 4294967296} h)))
 
@@ -84,12 +84,12 @@ rest-more zero l q h n = absurd (omega arith)
 rest-more (suc d) l q h n = rw (ne-eqb q 0 n, sub-one (suc d))
 
 -- ---- what the loop has done
-bind-id : (v : Result ℤ) → v ≡ (v >>= λ t. is t)
+pub bind-id : (v : Result ℤ) → v ≡ (v >>= λ t. is t)
 bind-id (is z) = refl
 bind-id (fails e) = refl
 bind-id stuck = refl
 
-bind-twice : (v : Result ℤ) (f g : ℤ → ℤ) → ((v >>= λ t. is (f t)) >>= λ t. is (g t)) ≡ (v >>= λ t. is (g (f t)))
+pub bind-twice : (v : Result ℤ) (f g : ℤ → ℤ) → ((v >>= λ t. is (f t)) >>= λ t. is (g t)) ≡ (v >>= λ t. is (g (f t)))
 bind-twice (is z) f g = refl
 bind-twice (fails e) f g = refl
 bind-twice stuck f g = refl

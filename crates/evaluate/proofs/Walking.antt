@@ -284,7 +284,7 @@ module _ (ws : List ℤ) (m : Store) (h : Holds ws m) where
   cell-past : (a : ℕ) → 2048 ≤ a → readCell a m ≡ fails undefinedError
   cell-past a e = cell-none a (rw (past-word ws a e))
 
-  capped-cells : (a n : ℕ) → readCells (min a 4294967295) n m ≡ readCells a n m
+  pub capped-cells : (a n : ℕ) → readCells (min a 4294967295) n m ≡ readCells a n m
   unfolding readCells
   capped-cells a zero = refl
   capped-cells a (suc n) = go (leb a 4294967295) refl
@@ -331,10 +331,10 @@ short-when q t v w x h k g =
     let s = value-means x v h k in
     ap (λ (v : Result (List ℤ)). v >>= λ u. shortCircuited q (isTrue (sole u)) w) (s .1 .0) ∙ ap (λ (z : ℤ). shortCircuited q (isTrue z) w) (s .1 .1) ∙ ap (λ (b : Bool). shortCircuited q b w) g
 
-le-ltb-cap : (a : ℕ) → ltb 4294967295 (min a 4294967295) ≡ false
+pub le-ltb-cap : (a : ℕ) → ltb 4294967295 (min a 4294967295) ≡ false
 le-ltb-cap a = le-ltb 4294967295 (min a 4294967295) (omega arith)
 
-cap-add : (a t : ℕ) → min (min a 4294967295 + t) 4294967295 ≡ min (a + t) 4294967295
+pub cap-add : (a t : ℕ) → min (min a 4294967295 + t) 4294967295 ≡ min (a + t) 4294967295
 cap-add a t = omega arith
 
 -- r is the word of the place v
@@ -367,7 +367,7 @@ up-range : (z : ℤ) → mag z ≤ 4294967295 → nonNeg z ≡ true → InRange 
 up-range (pos n) h k = low-range n h
 up-range (negsuc n) h k = absurd (true≢false (sym k))
 
-one-or-more : (ws : List ℤ) (m : Store) → Holds ws m → (a c : ℕ) → Means (pick (eqb c 1) (storeWord ws a) (cellsWord ws a c)) (first (readCells a c m))
+pub one-or-more : (ws : List ℤ) (m : Store) → Holds ws m → (a c : ℕ) → Means (pick (eqb c 1) (storeWord ws a) (cellsWord ws a c)) (first (readCells a c m))
 unfolding pick
 one-or-more ws m h a c = go (eqb c 1) refl
   where
@@ -582,7 +582,7 @@ fault-index w x (fails e) u f h k g q = absurd (true≢false (above-fault e (g .
 fault-index w x stuck u f h k g q = absurd (g .found)
 
 -- an index's distance
-test-cases : (lo hi u : ℤ) → inside least most lo ≡ true → inside least most hi ≡ true → Ranged (tested rangeError lo hi u >>= λ z. is (z -ℤ lo))
+pub test-cases : (lo hi u : ℤ) → inside least most lo ≡ true → inside least most hi ≡ true → Ranged (tested rangeError lo hi u >>= λ z. is (z -ℤ lo))
 unfolding tested pick Ranged
 test-cases lo hi u p q = go (inside lo hi u) refl
   where
