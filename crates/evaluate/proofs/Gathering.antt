@@ -46,7 +46,7 @@ or-turn false true false = refl
 or-turn false false true = refl
 or-turn false false false = refl
 
-joined-turn : (z w t : ℤ) → joined z (joined w t) ≡ joined w (joined z t)
+pub joined-turn : (z w t : ℤ) → joined z (joined w t) ≡ joined w (joined z t)
 unfolding joined added
 joined-turn z w t =
     ap setValue (those-same _ _ 0 32 (λ j h k.
@@ -54,7 +54,7 @@ joined-turn z w t =
     ∙ or-turn (has j (membersOf t)) (holds w (j ∷ [])) (holds z (j ∷ []))
     ∙ ap (λ (b : Bool). b || holds w (j ∷ [])) (sym (has-joined (λ i. has i (membersOf t) || holds z (i ∷ [])) j k))))
 
-joined-set : (z : ℤ) (s r : ℕ) → s < 4294967296 → r ≡ valueOf (added z (members s)) → pos r ≡ joined z (pos s)
+pub joined-set : (z : ℤ) (s r : ℕ) → s < 4294967296 → r ≡ valueOf (added z (members s)) → pos r ≡ joined z (pos s)
 unfolding joined setValue membersOf patternOf
 joined-set z s r h e = ap pos (e ∙ ap (λ (n : ℕ). valueOf (added z (members n))) (sym (mod-eq-of-lt {n = s} {m = 4294967296} h)))
 
@@ -84,12 +84,12 @@ rest-more zero l q h n = absurd (omega arith)
 rest-more (suc d) l q h n = rw (ne-eqb q 0 n, sub-one (suc d))
 
 -- ---- what the loop has done
-bind-id : (v : Result ℤ) → v ≡ (v >>= λ t. is t)
+pub bind-id : (v : Result ℤ) → v ≡ (v >>= λ t. is t)
 bind-id (is z) = refl
 bind-id (fails e) = refl
 bind-id stuck = refl
 
-bind-twice : (v : Result ℤ) (f g : ℤ → ℤ) → ((v >>= λ t. is (f t)) >>= λ t. is (g t)) ≡ (v >>= λ t. is (g (f t)))
+pub bind-twice : (v : Result ℤ) (f g : ℤ → ℤ) → ((v >>= λ t. is (f t)) >>= λ t. is (g t)) ≡ (v >>= λ t. is (g (f t)))
 bind-twice (is z) f g = refl
 bind-twice (fails e) f g = refl
 bind-twice stuck f g = refl
@@ -130,19 +130,19 @@ fault-through z (is u) g f h k m = fault-on z (g (sole u)) f h k m
 fault-through z (fails q) g f h k m = m
 fault-through z stuck g f h k m = m
 
-pub record Gathering (l : List ℕ) (ws : List ℤ) (k : ℤ) (p depth : ℕ) (lo hi : ℤ) (s d q : ℕ) : Type 0 where
+pub record Gathering (l : List ℕ) (ws : List ℤ) (p depth : ℕ) (lo hi : ℤ) (s d q : ℕ) : Type 0 where
   pub low : Integral l (p + 1) lo
   pub high : Integral l (p + 2) hi
   pub shallow : d ≤ depth
   pub small-set : s < 4294967296
   pub small-link : q < 4294967296
   pub seen : ℤ → ℤ
-  pub whole : (m : Store) → Holds ws k m → gatherCodes lo hi (readCodes depth l (getD l (p + 3) 0)) m ≡ (gatherCodes lo hi (restOf d l q) m >>= λ t. is (seen t))
+  pub whole : (m : Store) → Holds ws m → gatherCodes lo hi (readCodes depth l (getD l (p + 3) 0)) m ≡ (gatherCodes lo hi (restOf d l q) m >>= λ t. is (seen t))
   pub set : pos s ≡ seen (pos 0)
   pub turns : (z t : ℤ) → seen (joined z t) ≡ joined z (seen t)
 
-module _ (l : List ℕ) (ws : List ℤ) (k : ℤ) (p depth : ℕ) (lo hi : ℤ) where
-  pub gather-start : (a q : ℕ) → SFits w64 lo → SFits w64 hi → Integral l (p + 1) lo → Integral l (p + 2) hi → a ≡ getD l (p + 3) 0 → q ≡ getD l a 0 → Fits w32 q → Gathering l ws k p depth (wire lo) (wire hi) 0 depth q
+module _ (l : List ℕ) (ws : List ℤ) (p depth : ℕ) (lo hi : ℤ) where
+  pub gather-start : (a q : ℕ) → SFits w64 lo → SFits w64 hi → Integral l (p + 1) lo → Integral l (p + 2) hi → a ≡ getD l (p + 3) 0 → q ≡ getD l a 0 → Fits w32 q → Gathering l ws p depth (wire lo) (wire hi) 0 depth q
   gather-start a q fl fh i j e f g =
       rw (toZ-ofZ fl, toZ-ofZ fh)
       (record {
@@ -157,29 +157,26 @@ module _ (l : List ℕ) (ws : List ℤ) (k : ℤ) (p depth : ℕ) (lo hi : ℤ) 
         turns = λ z t. refl;
       })
 
-  module _ (s d q : ℕ) (h : Gathering l ws (wire k) p depth lo hi s d q) (fk : SFits w64 k) where
-    as-wire : {m : Store} → Holds ws k m → Holds ws (wire k) m
-    as-wire {m} g = subst (λ (c : ℤ). Holds ws c m) (sym (toZ-ofZ fk)) g
-
-    done-means : restOf d l q ≡ noCodes → s < 4294967296 → (m : Store) → Holds ws k m → Means (pos s) (gatherCodes (integerAt l (p + 1)) (integerAt l (p + 2)) (readCodes depth l (getD l (p + 3) 0)) m)
+  module _ (s d q : ℕ) (h : Gathering l ws p depth lo hi s d q) where
+    done-means : restOf d l q ≡ noCodes → s < 4294967296 → (m : Store) → Holds ws m → Means (pos s) (gatherCodes (integerAt l (p + 1)) (integerAt l (p + 2)) (readCodes depth l (getD l (p + 3) 0)) m)
     unfolding gatherCodes wordOf Ranged
     done-means e f m g =
         rw (← h .low .value, ← h .high .value)
-        (subst (λ (v : Result ℤ). Means (pos s) v) (sym (h .whole m (as-wire g) ∙ ap (λ (c : Codes). gatherCodes lo hi c m >>= λ t. is (h .seen t)) e ∙ ap is (sym (h .set)))) (record { word = refl; ranged = low-range s (omega arith) }))
+        (subst (λ (v : Result ℤ). Means (pos s) v) (sym (h .whole m g ∙ ap (λ (c : Codes). gatherCodes lo hi c m >>= λ t. is (h .seen t)) e ∙ ap is (sym (h .set)))) (record { word = refl; ranged = low-range s (omega arith) }))
 
     module _ (z : ℤ) (e : z ≡ pos (valueOf (members s))) (g : SFits w64 z) where
       set-word : wire z ≡ pos s
       set-word = toZ-ofZ g ∙ e ∙ ap pos (value-is s (h .small-set))
 
-      pub gather-done : q ≡ 0 → Gathers l ws k (integerAt l (p + 1)) (integerAt l (p + 2)) (getD l (p + 3) 0) depth (wire z)
+      pub gather-done : q ≡ 0 → Gathers l ws (integerAt l (p + 1)) (integerAt l (p + 2)) (getD l (p + 3) 0) depth (wire z)
       gather-done o = rw set-word (record { says = λ m y. done-means (rest-none d l q o) (h .small-set) m y })
 
-      pub gather-end : d ≤ 0 → Gathers l ws k (integerAt l (p + 1)) (integerAt l (p + 2)) (getD l (p + 3) 0) depth (wire z)
+      pub gather-end : d ≤ 0 → Gathers l ws (integerAt l (p + 1)) (integerAt l (p + 2)) (getD l (p + 3) 0) depth (wire z)
       gather-end o = rw set-word (record { says = λ m y. done-means (rest-end d l q o) (h .small-set) m y })
 
-  module _ (s d q : ℕ) (h : Gathering l ws k p depth lo hi s d q) (dp : 0 < d) (nq : (q ≡ 0) → ⊥) (a : ℕ) (x z : ℤ) (e : a ≡ getD l q 0) (r : Evaluates l ws k a (d - 1) x) (fx : SFits w64 x) (fz : SFits w64 z)
+  module _ (s d q : ℕ) (h : Gathering l ws p depth lo hi s d q) (dp : 0 < d) (nq : (q ≡ 0) → ⊥) (a : ℕ) (x z : ℤ) (e : a ≡ getD l q 0) (r : Evaluates l ws a (d - 1) x) (fx : SFits w64 x) (fz : SFits w64 z)
       (y : z ≡ testedWord lo hi (wire x)) where
-    test-means : (m : Store) → Holds ws k m → Means z (first (evalCode (readCode (d - 1) l (getD l q 0)) m) >>= λ u. tested rangeError lo hi u)
+    test-means : (m : Store) → Holds ws m → Means z (first (evalCode (readCode (d - 1) l (getD l q 0)) m) >>= λ u. tested rangeError lo hi u)
     test-means m g =
         tested-means lo hi x z (first (evalCode (readCode (d - 1) l (getD l q 0)) m))
         (subst (λ (b : ℕ). Means x (first (evalCode (readCode (d - 1) l b) m))) e (r .says m g))
@@ -189,13 +186,16 @@ module _ (l : List ℕ) (ws : List ℤ) (k : ℤ) (p depth : ℕ) (lo hi : ℤ) 
     unfolding gatherCodes
     more m = rw (rest-more d l q dp nq)
 
-    fault-means : ltZ (pos 4294967295) (wire z) ≡ true → (m : Store) → Holds ws k m → Means z (gatherCodes (integerAt l (p + 1)) (integerAt l (p + 2)) (readCodes depth l (getD l (p + 3) 0)) m)
+    fault-means : ltZ (pos 4294967295) (wire z) ≡ true → (m : Store) → Holds ws m → Means z (gatherCodes (integerAt l (p + 1)) (integerAt l (p + 2)) (readCodes depth l (getD l (p + 3) 0)) m)
     fault-means o m g =
         rw (← h .low .value, ← h .high .value)
         (subst (λ (v : Result ℤ). Means z v) (sym (h .whole m g ∙ ap (λ (v : Result ℤ). v >>= λ t. is (h .seen t)) (more m)))
         (fault-through z (evalCode (readCode (d - 1) l (getD l q 0)) m) (λ u. tested rangeError lo hi u) (λ v. gatherCodes lo hi (readCodes (d - 1) l (q + 1)) m >>= λ zs. is (joined v zs)) (λ t. is (h .seen t)) (rw (toZ-ofZ fz) at o) (test-means m g)))
 
-    pub gather-step : (s′ q′ : ℕ) → Fits w32 s′ → Fits w32 q′ → ltZ (pos 4294967295) (wire z) ≡ false → s′ ≡ valueOf (added (wire z) (members s)) → q′ ≡ getD l (q + 1) 0 → Gathering l ws k p depth lo hi s′ (d - 1) q′
+    pub gather-fault : ltZ (pos 4294967295) (wire z) ≡ true → Gathers l ws (integerAt l (p + 1)) (integerAt l (p + 2)) (getD l (p + 3) 0) depth (wire z)
+    gather-fault o = rw (toZ-ofZ fz) (record { says = λ m g. fault-means o m g })
+
+    pub gather-step : (s′ q′ : ℕ) → Fits w32 s′ → Fits w32 q′ → ltZ (pos 4294967295) (wire z) ≡ false → s′ ≡ valueOf (added (wire z) (members s)) → q′ ≡ getD l (q + 1) 0 → Gathering l ws p depth lo hi s′ (d - 1) q′
     gather-step s′ q′ f f′ o i j =
         record {
           low = h .low;
@@ -211,13 +211,8 @@ module _ (l : List ℕ) (ws : List ℤ) (k : ℤ) (p depth : ℕ) (lo hi : ℤ) 
           turns = λ w t. ap (h .seen) (joined-turn z w t) ∙ h .turns w (joined z t);
         }
 
-pub gather-fault : (l : List ℕ) (ws : List ℤ) (k : ℤ) (p depth : ℕ) (lo hi : ℤ) (s d q : ℕ) → Gathering l ws (wire k) p depth lo hi s d q → SFits w64 k → 0 < d → ((q ≡ 0) → ⊥) → (a : ℕ) (x z : ℤ) → a ≡ getD l q 0 → Evaluates l ws (wire k) a (d - 1) x
-    → SFits w64 x → SFits w64 z → z ≡ testedWord lo hi (wire x) → ltZ (pos 4294967295) (wire z) ≡ true → Gathers l ws k (integerAt l (p + 1)) (integerAt l (p + 2)) (getD l (p + 3) 0) depth (wire z)
-gather-fault l ws k p depth lo hi s d q h fk dp nq a x z e r fx fz y o =
-    rw (toZ-ofZ fz) (record { says = λ m g. fault-means l ws (wire k) p depth lo hi s d q h dp nq a x z e r fx fz y o m (subst (λ (c : ℤ). Holds ws c m) (sym (toZ-ofZ fk)) g) })
-
 -- a link's place
-module _ (l : List ℕ) (ws : List ℤ) (k : ℤ) (p depth : ℕ) (lo hi : ℤ) (s d q : ℕ) (h : Gathering l ws k p depth lo hi s d q) where
+module _ (l : List ℕ) (ws : List ℤ) (p depth : ℕ) (lo hi : ℤ) (s d q : ℕ) (h : Gathering l ws p depth lo hi s d q) where
   pub link-fits : Fits w64 q
   link-fits = record { fits = omega (arith, h .small-link) }
 

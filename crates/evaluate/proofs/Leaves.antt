@@ -24,9 +24,9 @@ use Rattle.lexis.proofs.DecimalHex.{signed-low, signed-fits, signed-high, below
 use Rattle.semantics.specs.Calculate.{truth, natOf}
 use Rattle.semantics.specs.Base.{pick}
 use Rattle.semantics.specs.Readback.{integerAt}
-use Rattle.evaluate.specs.Words.{codeIn, storeWord, undefinedWord, nested, simpleWord, allValues, cellsWord, cellsAt, Integral, Simple}
+use Rattle.evaluate.specs.Words.{codeIn, storeWord, latestIn, undefinedWord, allValues, cellsWord, cellsAt, Integral}
 
--- ---- `number`, `cell`
+-- ---- `number`, `cell`, `latest`
 past-take : {A : Type 0} (n : ℕ) (l : List A) (i : ℕ) (d : A) → n ≤ i → getD (take n l) i d ≡ d
 past-take n l i d h = List·getD-eq-default (take n l) d (omega (arith, length-take n l))
 
@@ -45,6 +45,10 @@ cell-here l a h f = toZ-ofZ f ∙ rw (lt-ltb a 2048 h)
 pub cell-past : (l : List ℤ) (a : ℕ) → 2048 ≤ a → pos 8589934488 ≡ storeWord l a
 unfolding storeWord pick
 cell-past l a h = rw (le-ltb a 2048 h)
+
+pub latest-here : (l : List ℤ) → SFits w64 (getD l 2048 (pos 0)) → wire (getD l 2048 (pos 0)) ≡ latestIn l
+unfolding latestIn
+latest-here l f = toZ-ofZ f
 
 -- ---- `signed_of`, `integer`, `truth_of`
 module _ (n : ℕ) (f : Fits w32 n) where
@@ -108,23 +112,6 @@ capped-past a h = ap pos (omega arith)
 
 pub capped-here : (a : ℕ) → a ≤ 4294967295 → toZ w64 a ≡ pos (min a 4294967295)
 capped-here a h = toZ-pos w64 {n = a} (omega arith) ∙ ap pos (omega arith)
-
--- ---- `simple`
-module _ (l : List ℕ) (ws : List ℤ) (p n : ℕ) (e : n ≡ getD l p 0) where
-  pub simple-cell : (a : ℕ) (z : ℤ) → n ≡ 2 → a ≡ getD l (p + 1) 0 → z ≡ storeWord ws a → SFits w64 z → Simple l ws p (wire z)
-  unfolding simpleWord pick
-  simple-cell a z o f g s =
-      rw (toZ-ofZ s) (record { value = g ∙ rw (f, ← e, o); small = λ q. absurd (omega (arith, e, o, q)) })
-
-  pub simple-literal : (z : ℤ) → n ≡ 1 → Integral l (p + 1) z → SFits w64 z → Simple l ws p (wire z)
-  unfolding simpleWord pick
-  simple-literal z o g s = rw (toZ-ofZ s) (record { value = g .value ∙ rw (← e, o); small = λ q. g .small })
-
-  pub simple-not : ((n ≡ 2) → ⊥) → ((n ≡ 1) → ⊥) → Simple l ws p (pos 17179869184)
-  unfolding simpleWord pick
-  simple-not h k = record { value = rw (← e, ne-eqb n 2 h, ne-eqb n 1 k); small = λ q. absurd (k (e ∙ q)) }
-
-pub ruleset simple-laws = (simple-cell, simple-literal, simple-not, sfits-of)
 
 -- ---- `cells`, `cells_at`
 pub natural-small : (z : ℤ) → ltZ (pos 4294967295) z ≡ false → natOf z ≤ 4294967295

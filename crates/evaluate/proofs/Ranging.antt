@@ -25,7 +25,7 @@ use Rattle.sets.specs.declared.Member.the-variants.{Ordinal, Empty}
 use Rattle.sets.proofs.Digits.{value-lt, members-length}
 use Rattle.sets.proofs.Base.{least-lt, greatest-lt}
 use Rattle.semantics.specs.Base.{pick}
-use Rattle.semantics.specs.Calculate.{Result, is, fails, stuck, _>>=_, integer, exceptionOf, memberIn, truth, isTrue, equalZ, setValue, tested, rangeError, compute, compute1}
+use Rattle.semantics.specs.Calculate.{Result, is, fails, stuck, _>>=_, integer, exceptionOf, memberIn, truth, isTrue, equalZ, setValue, tested, numericError, rangeError, undefinedError, compute, compute1}
 use Rattle.semantics.specs.Machine.{sole, oneCell}
 use Rattle.semantics.specs.Operators.{Operation, intAdd, intSub, intMul, intPower, intDiv, intMod, setUnion, setDifference, setIntersection, numEqual, numUnequal, numLess, numAtMost, numGreater, numAtLeast, setWithin, setHolds, memberOf, boolAnd, boolOr, Operation1, intNegate, boolNot, intAbs, intSqr, intOdd, ordinalOf, predIn, succIn, setCard, setLeast, setGreatest}
 use Rattle.semantics.specs.Readback.{operations1, operation1At}
@@ -211,8 +211,7 @@ unary-means c x z v b h e =
     subst (λ (u : Result ℤ). Means z u) (join1 (λ a. compute1 c a) v)
     (record { word = e ∙ rw (decoded x (first v) h); ranged = bind-ranged (first v) (λ a. compute1 c a) (h .ranged) (λ a p. compute1-ranged c a b p) })
 
-above-fault : (e : ℤ) → Ranged (fails e) → true ≡ ltZ (pos 4294967295) (e +ℤ pos 8589934592)
-unfolding Ranged
+pub above-fault : (e : ℤ) → (e ≡ numericError) ⊎ ((e ≡ rangeError) ⊎ (e ≡ undefinedError)) → true ≡ ltZ (pos 4294967295) (e +ℤ pos 8589934592)
 above-fault e (inl q) = rw q
 above-fault e (inr (inl q)) = rw q
 above-fault e (inr (inr q)) = rw q

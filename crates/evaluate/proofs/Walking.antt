@@ -34,11 +34,11 @@ use Rattle.semantics.specs.Code.{Code, literal, load, lastNumber, makeSet, calc
 use Rattle.semantics.specs.Machine.{Store, readCell, readCells, sole, oneCell, shortCircuited, defined, undefined}
 use Rattle.semantics.specs.Operators.{predIn, succIn}
 use Rattle.semantics.specs.Readback.{codeOps, codeOp, placeOp, operationAt, operation1At, integerAt, codeFrom, placeFrom, readCode, readPlace, readCodes}
-use Rattle.evaluate.specs.Words.{wordOf, resultOf, applied, applied1, InRange, Ranged, Means, Holds, first, nested, undefinedWord, storeWord, simpleWord, allValues, cellsWord, cellsAt, Integral, Simple, placeWord, cellOf, distanceWord, elementWord, shiftedWord}
+use Rattle.evaluate.specs.Words.{wordOf, resultOf, applied, applied1, InRange, Ranged, Means, Holds, first, undefinedWord, storeWord, latestIn, allValues, cellsWord, cellsAt, Integral, placeWord, cellOf, distanceWord, elementWord, shiftedWord}
 use Rattle.evaluate.specs.Walks.{Evaluates, Places, Gathers, capped}
 use Rattle.evaluate.proofs.Leaves.{small-signed}
 use Rattle.evaluate.proofs.Placing.{index-span, index-up}
-use Rattle.evaluate.proofs.Ranging.{Bounded, plain, wide, low-range, range-value, decoded, binary-means, unary-means, fault-means, value-means}
+use Rattle.evaluate.proofs.Ranging.{Bounded, plain, wide, low-range, range-value, above-fault, decoded, binary-means, unary-means, fault-means, value-means}
 
 -- ---- what a node is
 binary-op : (n : ℕ) → 8 < n → n < 29 → codeOp n ≡ Binary (n - 9)
@@ -226,7 +226,7 @@ past-word : (ws : List ℤ) (a : ℕ) → 2048 ≤ a → storeWord ws a ≡ unde
 unfolding storeWord pick
 past-word ws a e = rw (le-ltb a 2048 e)
 
-module _ (ws : List ℤ) (k : ℤ) (m : Store) (h : Holds ws k m) where
+module _ (ws : List ℤ) (m : Store) (h : Holds ws m) where
   cell-is : (a : ℕ) → leZ (storeWord ws a) (pos 4294967295) ≡ true → readCell a m ≡ is (storeWord ws a)
   cell-is a e = go (readCell a m) (h .cells a)
     where
@@ -284,7 +284,7 @@ module _ (ws : List ℤ) (k : ℤ) (m : Store) (h : Holds ws k m) where
   cell-past : (a : ℕ) → 2048 ≤ a → readCell a m ≡ fails undefinedError
   cell-past a e = cell-none a (rw (past-word ws a e))
 
-  capped-cells : (a n : ℕ) → readCells (min a 4294967295) n m ≡ readCells a n m
+  pub capped-cells : (a n : ℕ) → readCells (min a 4294967295) n m ≡ readCells a n m
   unfolding readCells
   capped-cells a zero = refl
   capped-cells a (suc n) = go (leb a 4294967295) refl
@@ -323,11 +323,6 @@ nought (suc (suc (suc (suc (suc (suc (suc n))))))) h a b c d e f = absurd (omega
 pub deep-not : (d : ℕ) → ((d ≡ 0) → ⊥) → 1 ≤ d
 deep-not d h = omega arith
 
-pub deep-two : (d : ℕ) → 2 ≤ d → 1 ≤ d
-deep-two d h = omega arith
-
-pub ruleset deep = (deep-not, deep-two)
-
 eight : (n : ℕ) → ((n ≡ 7) → ⊥) → 6 < n → n < 9 → n ≡ 8
 eight n h a b = omega arith
 
@@ -336,10 +331,10 @@ short-when q t v w x h k g =
     let s = value-means x v h k in
     ap (λ (v : Result (List ℤ)). v >>= λ u. shortCircuited q (isTrue (sole u)) w) (s .1 .0) ∙ ap (λ (z : ℤ). shortCircuited q (isTrue z) w) (s .1 .1) ∙ ap (λ (b : Bool). shortCircuited q b w) g
 
-le-ltb-cap : (a : ℕ) → ltb 4294967295 (min a 4294967295) ≡ false
+pub le-ltb-cap : (a : ℕ) → ltb 4294967295 (min a 4294967295) ≡ false
 le-ltb-cap a = le-ltb 4294967295 (min a 4294967295) (omega arith)
 
-cap-add : (a t : ℕ) → min (min a 4294967295 + t) 4294967295 ≡ min (a + t) 4294967295
+pub cap-add : (a t : ℕ) → min (min a 4294967295 + t) 4294967295 ≡ min (a + t) 4294967295
 cap-add a t = omega arith
 
 -- r is the word of the place v
@@ -372,13 +367,13 @@ up-range : (z : ℤ) → mag z ≤ 4294967295 → nonNeg z ≡ true → InRange 
 up-range (pos n) h k = low-range n h
 up-range (negsuc n) h k = absurd (true≢false (sym k))
 
-one-or-more : (ws : List ℤ) (k : ℤ) (m : Store) → Holds ws k m → (a c : ℕ) → Means (pick (eqb c 1) (storeWord ws a) (cellsWord ws a c)) (first (readCells a c m))
+pub one-or-more : (ws : List ℤ) (m : Store) → Holds ws m → (a c : ℕ) → Means (pick (eqb c 1) (storeWord ws a) (cellsWord ws a c)) (first (readCells a c m))
 unfolding pick
-one-or-more ws k m h a c = go (eqb c 1) refl
+one-or-more ws m h a c = go (eqb c 1) refl
   where
     go : (t : Bool) → eqb c 1 ≡ t → Means (pick t (storeWord ws a) (cellsWord ws a c)) (first (readCells a c m))
     go true q = rw (eqb-true c 1 q, ← cell-read a m) (h .cells a)
-    go false q = cells-word ws k m h a c
+    go false q = cells-word ws m h a c
 
 at-fault : (y e : ℤ) → (e ≡ numericError) ⊎ ((e ≡ rangeError) ⊎ (e ≡ undefinedError)) → pick (ltZ (pos 4294967295) (e +ℤ pos 8589934592)) (e +ℤ pos 8589934592) y ≡ e +ℤ pos 8589934592
 unfolding pick
@@ -386,13 +381,13 @@ at-fault y e (inl q) = rw q
 at-fault y e (inr (inl q)) = rw q
 at-fault y e (inr (inr q)) = rw q
 
-at-means : (ws : List ℤ) (k : ℤ) (m : Store) → Holds ws k m → (w z : ℤ) (c : ℕ) (v : Result ℕ) → Located w v → z ≡ cellsAt ws w c → Means z (first (v >>= λ a. readCells a c m))
+at-means : (ws : List ℤ) (m : Store) → Holds ws m → (w z : ℤ) (c : ℕ) (v : Result ℕ) → Located w v → z ≡ cellsAt ws w c → Means z (first (v >>= λ a. readCells a c m))
 unfolding cellsAt placeWord Found Ranged wordOf pick
-at-means ws k m h w z c (is a) q e =
-    subst (λ (u : Result (List ℤ)). Means z (first u)) (capped-cells ws k m h a c)
-    (subst (λ (x : ℤ). Means x (first (readCells (min a 4294967295) c m))) (sym (e ∙ rw (q .word, le-ltb-cap a))) (one-or-more ws k m h (min a 4294967295) c))
-at-means ws k m h w z c (fails x) q e = record { word = e ∙ rw (q .word) (at-fault _ x (q .found)); ranged = q .found }
-at-means ws k m h w z c stuck q e = absurd (q .found)
+at-means ws m h w z c (is a) q e =
+    subst (λ (u : Result (List ℤ)). Means z (first u)) (capped-cells ws m h a c)
+    (subst (λ (x : ℤ). Means x (first (readCells (min a 4294967295) c m))) (sym (e ∙ rw (q .word, le-ltb-cap a))) (one-or-more ws m h (min a 4294967295) c))
+at-means ws m h w z c (fails x) q e = record { word = e ∙ rw (q .word) (at-fault _ x (q .found)); ranged = q .found }
+at-means ws m h w z c stuck q e = absurd (q .found)
 
 -- ---- expressions
 module _ (l : List ℕ) (ws : List ℤ) (p d n : ℕ) (dp : 1 ≤ d) (e : n ≡ getD l p 0) where
@@ -404,139 +399,109 @@ module _ (l : List ℕ) (ws : List ℤ) (p d n : ℕ) (dp : 1 ≤ d) (e : n ≡ 
   unfolding codeFrom evalCode
   none-means m f = rw (is-op code.Nothing f) (record { word = zero-word; ranged = zero-ranged })
 
-  cell-means : (k : ℤ) (m : Store) → Holds ws k m → n ≡ 2 → Means (storeWord ws (getD l (p + 1) 0)) (first (evalCode (readCode d l p) m))
+  cell-means : (m : Store) → Holds ws m → n ≡ 2 → Means (storeWord ws (getD l (p + 1) 0)) (first (evalCode (readCode d l p) m))
   unfolding codeFrom evalCode placeCode codeOp codeOps
-  cell-means k m h o = rw (is-op LoadCell (rw o), ← cell-read (getD l (p + 1) 0) m) (h .cells (getD l (p + 1) 0))
+  cell-means m h o = rw (is-op LoadCell (rw o), ← cell-read (getD l (p + 1) 0) m) (h .cells (getD l (p + 1) 0))
 
   literal-means : (m : Store) (z : ℤ) → n ≡ 1 → z ≡ integerAt l (p + 1) → inside least most z ≡ true → Means z (first (evalCode (readCode d l p) m))
   unfolding codeFrom evalCode codeOp codeOps wordOf Ranged
   literal-means m z o f g = rw (is-op Literal (rw o)) (record { word = f; ranged = subst InRange f (wide z g) })
 
--- an operand that is read in place
-module _ (l : List ℕ) (ws : List ℤ) (k : ℤ) where
-  simple-means : (p d : ℕ) (x : ℤ) (m : Store) → 1 ≤ d → Simple l ws p x → ((x ≡ nested) → ⊥) → Holds ws k m → Means x (first (evalCode (readCode d l p) m))
-  unfolding simpleWord pick
-  simple-means p d x m dp s q h = go (eqb (getD l p 0) 2) refl (eqb (getD l p 0) 1) refl (s .value)
-    where
-      go : (t : Bool) → eqb (getD l p 0) 2 ≡ t → (u : Bool) → eqb (getD l p 0) 1 ≡ u
-          → x ≡ pick t (storeWord ws (getD l (p + 1) 0)) (pick u (integerAt l (p + 1)) nested) → Means x (first (evalCode (readCode d l p) m))
-      go true a u b f = subst (λ (z : ℤ). Means z (first (evalCode (readCode d l p) m))) (sym f) (cell-means l ws p d (getD l p 0) dp refl k m h (eqb-true (getD l p 0) 2 a))
-      go false a true b f = literal-means l ws p d (getD l p 0) dp refl m x (eqb-true (getD l p 0) 1 b) f (s .small (eqb-true (getD l p 0) 1 b))
-      go false a false b f = absurd (q f)
+module _ (l : List ℕ) (ws : List ℤ) (p d : ℕ) where
+  pub evals-passed : (z : ℤ) → Evaluates l ws p d z → SFits w64 z → Evaluates l ws p d (wire z)
+  evals-passed z h f = rw (toZ-ofZ f) h
 
-  pub simple-evals : (p d : ℕ) (x : ℤ) → 2 ≤ d → Simple l ws p x → ((ofZ w64 x ≡ 17179869184) → ⊥) → Evaluates l ws k p (d - 1) x
-  simple-evals p d x dp s q = record { says = λ m h. simple-means p (d - 1) x m (omega arith) s (λ e. q (ap (ofZ w64) e)) h }
-
-module _ (l : List ℕ) (ws : List ℤ) (k : ℤ) (fk : SFits w64 k) (p d : ℕ) where
-  pub evals-passed : (z : ℤ) → Evaluates l ws (wire k) p d z → SFits w64 z → Evaluates l ws k p d (wire z)
-  evals-passed z h f = rw (toZ-ofZ f) (record { says = λ m g. h .says m (subst (λ (q : ℤ). Holds ws q m) (sym (toZ-ofZ fk)) g) })
-
-  pub evals-zero : d ≡ 0 → Evaluates l ws k p d (pos 0)
+  pub evals-zero : d ≡ 0 → Evaluates l ws p d (pos 0)
   unfolding readCode evalCode
   evals-zero e = record { says = λ m h. rw e (record { word = zero-word; ranged = zero-ranged }) }
 
   module _ (n : ℕ) (dp : 1 ≤ d) (e : n ≡ getD l p 0) where
-    under : {m : Store} → Holds ws k m → Holds ws (wire k) m
-    under {m} g = subst (λ (q : ℤ). Holds ws q m) (sym (toZ-ofZ fk)) g
-
-    pub evals-none : 39 < n → Evaluates l ws k p d (pos 0)
+    pub evals-none : 39 < n → Evaluates l ws p d (pos 0)
     evals-none f = record { says = λ m h. none-means l ws p d n dp e m (past-op n f) }
 
-    pub evals-nothing : n ≡ 0 → Evaluates l ws k p d (pos 0)
+    pub evals-nothing : n ≡ 0 → Evaluates l ws p d (pos 0)
     unfolding codeOp codeOps
     evals-nothing f = record { says = λ m h. none-means l ws p d n dp e m (rw f) }
 
-    pub evals-cell : (a : ℕ) (z : ℤ) → n ≡ 2 → a ≡ getD l (p + 1) 0 → z ≡ storeWord ws a → SFits w64 z → Evaluates l ws k p d (wire z)
-    evals-cell a z o f g s = rw (toZ-ofZ s) (record { says = λ m h. subst (λ (q : ℤ). Means q (first (evalCode (readCode d l p) m))) (sym (g ∙ ap (storeWord ws) f)) (cell-means l ws p d n dp e k m h o) })
+    pub evals-cell : (a : ℕ) (z : ℤ) → n ≡ 2 → a ≡ getD l (p + 1) 0 → z ≡ storeWord ws a → SFits w64 z → Evaluates l ws p d (wire z)
+    evals-cell a z o f g s = rw (toZ-ofZ s) (record { says = λ m h. subst (λ (q : ℤ). Means q (first (evalCode (readCode d l p) m))) (sym (g ∙ ap (storeWord ws) f)) (cell-means l ws p d n dp e m h o) })
 
-    pub evals-literal : (z : ℤ) → n ≡ 1 → Integral l (p + 1) z → SFits w64 z → Evaluates l ws k p d (wire z)
+    pub evals-literal : (z : ℤ) → n ≡ 1 → Integral l (p + 1) z → SFits w64 z → Evaluates l ws p d (wire z)
     evals-literal z o g s = rw (toZ-ofZ s) (record { says = λ m h. literal-means l ws p d n dp e m z o (g .value) (g .small) })
 
-    pub evals-cells : (b : ℕ) (z : ℤ) → n ≡ 3 → b ≡ getD l (p + 1) 0 → z ≡ cellsWord ws (b % 4096) (b / 4096) → SFits w64 z → Evaluates l ws k p d (wire z)
+    pub evals-cells : (b : ℕ) (z : ℤ) → n ≡ 3 → b ≡ getD l (p + 1) 0 → z ≡ cellsWord ws (b % 4096) (b / 4096) → SFits w64 z → Evaluates l ws p d (wire z)
     unfolding codeFrom evalCode placeCode codeOp codeOps
     evals-cells b z o f g s =
-        rw (toZ-ofZ s) (record { says = λ m h. rw (is-op l ws p d n dp e LoadCells (rw o), ← f) (subst (λ (q : ℤ). Means q (first (readCells (b % 4096) (b / 4096) m))) (sym g) (cells-word ws k m h (b % 4096) (b / 4096))) })
+        rw (toZ-ofZ s) (record { says = λ m h. rw (is-op l ws p d n dp e LoadCells (rw o), ← f) (subst (λ (q : ℤ). Means q (first (readCells (b % 4096) (b / 4096) m))) (sym g) (cells-word ws m h (b % 4096) (b / 4096))) })
 
-    pub evals-last : n ≡ 5 → Evaluates l ws k p d (wire k)
+    pub evals-last : (z : ℤ) → n ≡ 5 → z ≡ latestIn ws → SFits w64 z → Evaluates l ws p d (wire z)
     unfolding codeFrom evalCode codeOp codeOps wordOf Ranged
-    evals-last o =
-        rw (toZ-ofZ fk) (record { says = λ m h. rw (is-op l ws p d n dp e LastNumber (rw o)) (record { word = sym (h .last); ranged = subst InRange (sym (h .last)) (h .last-ranged) }) })
+    evals-last z o f s =
+        rw (toZ-ofZ s, f) (record { says = λ m h. rw (is-op l ws p d n dp e LastNumber (rw o)) (record { word = sym (h .last); ranged = subst InRange (sym (h .last)) (h .last-ranged) }) })
 
-    pub evals-gather : (z : ℤ) → n ≡ 6 → Gathers l ws (wire k) (integerAt l (p + 1)) (integerAt l (p + 2)) (getD l (p + 3) 0) (d - 1) z → SFits w64 z → Evaluates l ws k p d (wire z)
+    pub evals-gather : (z : ℤ) → n ≡ 6 → Gathers l ws (integerAt l (p + 1)) (integerAt l (p + 2)) (getD l (p + 3) 0) (d - 1) z → SFits w64 z → Evaluates l ws p d (wire z)
     unfolding codeFrom evalCode codeOp codeOps
     evals-gather z o g s =
-        rw (toZ-ofZ s) (record { says = λ m h. rw (is-op l ws p d n dp e MakeSet (rw o)) (subst (λ (u : Result ℤ). Means z u) (one-result (gatherCodes (integerAt l (p + 1)) (integerAt l (p + 2)) (readCodes (d - 1) l (getD l (p + 3) 0)) m)) (g .says m (under h))) })
+        rw (toZ-ofZ s) (record { says = λ m h. rw (is-op l ws p d n dp e MakeSet (rw o)) (subst (λ (u : Result ℤ). Means z u) (one-result (gatherCodes (integerAt l (p + 1)) (integerAt l (p + 2)) (readCodes (d - 1) l (getD l (p + 3) 0)) m)) (g .says m h)) })
 
-    pub evals-at : (a c : ℕ) (w z : ℤ) → n ≡ 4 → a ≡ getD l (p + 1) 0 → c ≡ getD l (p + 2) 0 → Places l ws (wire k) a (d - 1) w → SFits w64 w → z ≡ cellsAt ws (wire w) c → SFits w64 z → Evaluates l ws k p d (wire z)
+    pub evals-at : (a c : ℕ) (w z : ℤ) → n ≡ 4 → a ≡ getD l (p + 1) 0 → c ≡ getD l (p + 2) 0 → Places l ws a (d - 1) w → SFits w64 w → z ≡ cellsAt ws (wire w) c → SFits w64 z → Evaluates l ws p d (wire z)
     unfolding codeFrom evalCode codeOp codeOps
     evals-at a c w z o f g r fw y s =
         rw (toZ-ofZ s) (record {
           says = λ m h. rw (is-op l ws p d n dp e LoadAt (rw o), ← f, ← g)
-              (at-means ws k m h w z c (placeCode (readPlace (d - 1) l a) m) (located w (placeCode (readPlace (d - 1) l a) m) (r .says m (under h))) (y ∙ ap (λ (q : ℤ). cellsAt ws q c) (toZ-ofZ fw)));
+              (at-means ws m h w z c (placeCode (readPlace (d - 1) l a) m) (located w (placeCode (readPlace (d - 1) l a) m) (r .says m h)) (y ∙ ap (λ (q : ℤ). cellsAt ws q c) (toZ-ofZ fw)));
         })
 
     -- one part
-    module _ (a : ℕ) (x z : ℤ) (f : a ≡ getD l (p + 1) 0) (r : Evaluates l ws (wire k) a (d - 1) x) (fx : SFits w64 x) (s : SFits w64 z) where
-      pub evals-unary : 28 < n → n ≤ 39 → ((n ≡ 38) → ⊥) → ((n ≡ 39) → ⊥) → z ≡ applied1 (operation1At (n - 29)) (wire x) → Evaluates l ws k p d (wire z)
+    module _ (a : ℕ) (x z : ℤ) (f : a ≡ getD l (p + 1) 0) (r : Evaluates l ws a (d - 1) x) (fx : SFits w64 x) (s : SFits w64 z) where
+      pub evals-unary : 28 < n → n ≤ 39 → ((n ≡ 38) → ⊥) → ((n ≡ 39) → ⊥) → z ≡ applied1 (operation1At (n - 29)) (wire x) → Evaluates l ws p d (wire z)
       unfolding codeFrom evalCode
       evals-unary h1 h2 h3 h4 g =
           rw (toZ-ofZ s) (record {
             says = λ m h. rw (is-op l ws p d n dp e (Unary (n - 29)) (unary-op n h1 (below-38 n h2 h3 h4)), ← f)
-                (unary-means (operation1At (n - 29)) x z (evalCode (readCode (d - 1) l a) m) (plain (n - 29)) (r .says m (under h)) (g ∙ ap (applied1 (operation1At (n - 29))) (toZ-ofZ fx)));
+                (unary-means (operation1At (n - 29)) x z (evalCode (readCode (d - 1) l a) m) (plain (n - 29)) (r .says m h) (g ∙ ap (applied1 (operation1At (n - 29))) (toZ-ofZ fx)));
           })
 
       module _ (lo hi : ℤ) (il : Integral l (p + 2) lo) (ih : Integral l (p + 3) hi) (fl : SFits w64 lo) (fh : SFits w64 hi) where
-        pub evals-pred : n ≡ 38 → z ≡ applied1 (predIn (wire lo) (wire hi)) (wire x) → Evaluates l ws k p d (wire z)
+        pub evals-pred : n ≡ 38 → z ≡ applied1 (predIn (wire lo) (wire hi)) (wire x) → Evaluates l ws p d (wire z)
         unfolding codeFrom evalCode codeOp codeOps
         evals-pred o g =
             rw (toZ-ofZ s) (record {
               says = λ m h. rw (is-op l ws p d n dp e Pred (rw o), ← f, ← il .value, ← ih .value)
-                  (unary-means (predIn lo hi) x z (evalCode (readCode (d - 1) l a) m) (il .small, ih .small) (r .says m (under h)) (g ∙ rw (toZ-ofZ fx, toZ-ofZ fl, toZ-ofZ fh)));
+                  (unary-means (predIn lo hi) x z (evalCode (readCode (d - 1) l a) m) (il .small, ih .small) (r .says m h) (g ∙ rw (toZ-ofZ fx, toZ-ofZ fl, toZ-ofZ fh)));
             })
 
-        pub evals-succ : n ≡ 39 → z ≡ applied1 (succIn (wire lo) (wire hi)) (wire x) → Evaluates l ws k p d (wire z)
+        pub evals-succ : n ≡ 39 → z ≡ applied1 (succIn (wire lo) (wire hi)) (wire x) → Evaluates l ws p d (wire z)
         unfolding codeFrom evalCode codeOp codeOps
         evals-succ o g =
             rw (toZ-ofZ s) (record {
               says = λ m h. rw (is-op l ws p d n dp e Succ (rw o), ← f, ← il .value, ← ih .value)
-                  (unary-means (succIn lo hi) x z (evalCode (readCode (d - 1) l a) m) (il .small, ih .small) (r .says m (under h)) (g ∙ rw (toZ-ofZ fx, toZ-ofZ fl, toZ-ofZ fh)));
+                  (unary-means (succIn lo hi) x z (evalCode (readCode (d - 1) l a) m) (il .small, ih .small) (r .says m h) (g ∙ rw (toZ-ofZ fx, toZ-ofZ fl, toZ-ofZ fh)));
             })
 
     -- two parts
-    pub evals-binary : (a b : ℕ) (x y z : ℤ) → 8 < n → n < 29 → a ≡ getD l (p + 1) 0 → b ≡ getD l (p + 2) 0 → Evaluates l ws (wire k) a (d - 1) x → Evaluates l ws (wire k) b (d - 1) y
-        → SFits w64 x → SFits w64 y → SFits w64 z → z ≡ applied (operationAt (n - 9)) (wire x) (wire y) → Evaluates l ws k p d (wire z)
+    pub evals-binary : (a b : ℕ) (x y z : ℤ) → 8 < n → n < 29 → a ≡ getD l (p + 1) 0 → b ≡ getD l (p + 2) 0 → Evaluates l ws a (d - 1) x → Evaluates l ws b (d - 1) y
+        → SFits w64 x → SFits w64 y → SFits w64 z → z ≡ applied (operationAt (n - 9)) (wire x) (wire y) → Evaluates l ws p d (wire z)
     unfolding codeFrom evalCode
     evals-binary a b x y z h1 h2 f g r t fx fy s v =
         rw (toZ-ofZ s) (record {
           says = λ m h. rw (is-op l ws p d n dp e (Binary (n - 9)) (binary-op n h1 h2), ← f, ← g)
-              (binary-means (operationAt (n - 9)) x y z (evalCode (readCode (d - 1) l a) m) (evalCode (readCode (d - 1) l b) m) (r .says m (under h)) (t .says m (under h)) (v ∙ rw (toZ-ofZ fx, toZ-ofZ fy)));
+              (binary-means (operationAt (n - 9)) x y z (evalCode (readCode (d - 1) l a) m) (evalCode (readCode (d - 1) l b) m) (r .says m h) (t .says m h) (v ∙ rw (toZ-ofZ fx, toZ-ofZ fy)));
         })
 
-    pub binary-form : (a b : ℕ) (x y z : ℤ) → 8 < n → n ≤ 28 → a ≡ getD l (p + 1) 0 → b ≡ getD l (p + 2) 0 → Evaluates l ws (wire k) a (d - 1) x → Evaluates l ws (wire k) b (d - 1) y
-        → SFits w64 x → SFits w64 y → SFits w64 z → z ≡ applied (operationAt (n - 9)) (wire x) (wire y) → Evaluates l ws k p d (wire z)
+    pub binary-form : (a b : ℕ) (x y z : ℤ) → 8 < n → n ≤ 28 → a ≡ getD l (p + 1) 0 → b ≡ getD l (p + 2) 0 → Evaluates l ws a (d - 1) x → Evaluates l ws b (d - 1) y
+        → SFits w64 x → SFits w64 y → SFits w64 z → z ≡ applied (operationAt (n - 9)) (wire x) (wire y) → Evaluates l ws p d (wire z)
     binary-form a b x y z h1 h2 f g r t fx fy s v = evals-binary a b x y z h1 (omega arith) f g r t fx fy s v
 
-    pub binary-node : (a b : ℕ) (x y z : ℤ) → 8 < getD l p 0 → getD l p 0 < 29 → a ≡ getD l (p + 1) 0 → b ≡ getD l (p + 2) 0 → Evaluates l ws (wire k) a (d - 1) x → Evaluates l ws (wire k) b (d - 1) y
-        → SFits w64 x → SFits w64 y → SFits w64 z → z ≡ applied (operationAt (n - 9)) (wire x) (wire y) → Evaluates l ws k p d (wire z)
-    binary-node a b x y z h1 h2 f g r t fx fy s v = evals-binary a b x y z (omega (arith, e)) (omega (arith, e)) f g r t fx fy s v
-
-    pub unary-node : (a : ℕ) (x z : ℤ) → 28 < getD l p 0 → n ≤ 39 → ((n ≡ 38) → ⊥) → ((n ≡ 39) → ⊥) → a ≡ getD l (p + 1) 0 → Evaluates l ws (wire k) a (d - 1) x → SFits w64 x → SFits w64 z
-        → z ≡ applied1 (operation1At (n - 29)) (wire x) → Evaluates l ws k p d (wire z)
+    pub unary-node : (a : ℕ) (x z : ℤ) → 28 < getD l p 0 → n ≤ 39 → ((n ≡ 38) → ⊥) → ((n ≡ 39) → ⊥) → a ≡ getD l (p + 1) 0 → Evaluates l ws a (d - 1) x → SFits w64 x → SFits w64 z
+        → z ≡ applied1 (operation1At (n - 29)) (wire x) → Evaluates l ws p d (wire z)
     unary-node a x z h1 h2 h3 h4 f r fx s g = evals-unary a x z f r fx s (omega (arith, e)) h2 h3 h4 g
 
-    pub two-simple : (a b : ℕ) (x y z : ℤ) → 2 ≤ d → 8 < n → n < 29 → a ≡ getD l (p + 1) 0 → b ≡ getD l (p + 2) 0 → Simple l ws a x → ((ofZ w64 x ≡ 17179869184) → ⊥) → Simple l ws b y → ((ofZ w64 y ≡ 17179869184) → ⊥)
-        → SFits w64 x → SFits w64 y → SFits w64 z → z ≡ applied (operationAt (n - 9)) (wire x) (wire y) → Evaluates l ws k p d (wire z)
-    two-simple a b x y z dd h1 h2 f g r nr t nt fx fy s v =
-        evals-binary a b x y z h1 h2 f g (simple-evals l ws (wire k) a d x dd r nr) (simple-evals l ws (wire k) b d y dd t nt) fx fy s v
-
-    pub nothing-node : n ≤ 6 → ((n ≡ 1) → ⊥) → ((n ≡ 2) → ⊥) → ((n ≡ 3) → ⊥) → ((n ≡ 4) → ⊥) → ((n ≡ 5) → ⊥) → ((n ≡ 6) → ⊥) → Evaluates l ws k p d (pos 0)
+    pub nothing-node : n ≤ 6 → ((n ≡ 1) → ⊥) → ((n ≡ 2) → ⊥) → ((n ≡ 3) → ⊥) → ((n ≡ 4) → ⊥) → ((n ≡ 5) → ⊥) → ((n ≡ 6) → ⊥) → Evaluates l ws p d (pos 0)
     nothing-node h a b c f g q = evals-nothing (nought n h a b c f g q)
 
   -- the short-circuiting ones
-  module _ (n a : ℕ) (x : ℤ) (dp : 1 ≤ d) (e : n ≡ getD l p 0) (f : a ≡ getD l (p + 1) 0) (r : Evaluates l ws (wire k) a (d - 1) x) (fx : SFits w64 x) (h1 : 6 < getD l p 0) (h2 : getD l p 0 < 9) where
-    under′ : {m : Store} → Holds ws k m → Holds ws (wire k) m
-    under′ {m} g = subst (λ (q : ℤ). Holds ws q m) (sym (toZ-ofZ fk)) g
-
+  module _ (n a : ℕ) (x : ℤ) (dp : 1 ≤ d) (e : n ≡ getD l p 0) (f : a ≡ getD l (p + 1) 0) (r : Evaluates l ws a (d - 1) x) (fx : SFits w64 x) (h1 : 6 < getD l p 0) (h2 : getD l p 0 < 9) where
     and-read : (m : Store) → n ≡ 7 → evalCode (readCode d l p) m ≡ (evalCode (readCode (d - 1) l a) m >>= λ u. shortCircuited true (isTrue (sole u)) (evalCode (readCode (d - 1) l (getD l (p + 2) 0)) m))
     unfolding codeFrom evalCode codeOp codeOps
     and-read m o = rw (is-op l ws p d n dp e AndThen (rw o), ← f)
@@ -545,32 +510,32 @@ module _ (l : List ℕ) (ws : List ℤ) (k : ℤ) (fk : SFits w64 k) (p d : ℕ)
     unfolding codeFrom evalCode codeOp codeOps
     or-read m o = rw (is-op l ws p d n dp e OrElse (rw o), ← f)
 
-    pub short-fault : ltZ (pos 4294967295) (wire x) ≡ true → Evaluates l ws k p d (wire x)
+    pub short-fault : ltZ (pos 4294967295) (wire x) ≡ true → Evaluates l ws p d (wire x)
     short-fault g = rw (toZ-ofZ fx) (record { says = λ m h. go m h (eqb n 7) refl })
       where
-        go : (m : Store) → Holds ws k m → (t : Bool) → eqb n 7 ≡ t → Means x (first (evalCode (readCode d l p) m))
+        go : (m : Store) → Holds ws m → (t : Bool) → eqb n 7 ≡ t → Means x (first (evalCode (readCode d l p) m))
         go m h true q =
             rw (and-read m (eqb-true n 7 q))
-            (fault-means x (evalCode (readCode (d - 1) l a) m) (λ u. shortCircuited true (isTrue (sole u)) (evalCode (readCode (d - 1) l (getD l (p + 2) 0)) m)) (rw (toZ-ofZ fx) at g) (r .says m (under′ h)))
+            (fault-means x (evalCode (readCode (d - 1) l a) m) (λ u. shortCircuited true (isTrue (sole u)) (evalCode (readCode (d - 1) l (getD l (p + 2) 0)) m)) (rw (toZ-ofZ fx) at g) (r .says m h))
         go m h false q =
             rw (or-read m (eight n (eqb-false n 7 q) (omega (arith, e, h1)) (omega (arith, e, h2))))
-            (fault-means x (evalCode (readCode (d - 1) l a) m) (λ u. shortCircuited false (isTrue (sole u)) (evalCode (readCode (d - 1) l (getD l (p + 2) 0)) m)) (rw (toZ-ofZ fx) at g) (r .says m (under′ h)))
+            (fault-means x (evalCode (readCode (d - 1) l a) m) (λ u. shortCircuited false (isTrue (sole u)) (evalCode (readCode (d - 1) l (getD l (p + 2) 0)) m)) (rw (toZ-ofZ fx) at g) (r .says m h))
 
     module _ (v : ltZ (pos 4294967295) (wire x) ≡ false) where
-      short-is : (q t : Bool) (m : Store) → Holds ws k m → ltZ (pos 0) (wire x) ≡ t → (evalCode (readCode (d - 1) l a) m >>= λ u. shortCircuited q (isTrue (sole u)) (evalCode (readCode (d - 1) l (getD l (p + 2) 0)) m)) ≡ shortCircuited q t (evalCode (readCode (d - 1) l (getD l (p + 2) 0)) m)
-      short-is q t m h g = short-when q t (evalCode (readCode (d - 1) l a) m) (evalCode (readCode (d - 1) l (getD l (p + 2) 0)) m) x (rw (toZ-ofZ fx) at v) (r .says m (under′ h)) (rw (toZ-ofZ fx) at g)
+      short-is : (q t : Bool) (m : Store) → Holds ws m → ltZ (pos 0) (wire x) ≡ t → (evalCode (readCode (d - 1) l a) m >>= λ u. shortCircuited q (isTrue (sole u)) (evalCode (readCode (d - 1) l (getD l (p + 2) 0)) m)) ≡ shortCircuited q t (evalCode (readCode (d - 1) l (getD l (p + 2) 0)) m)
+      short-is q t m h g = short-when q t (evalCode (readCode (d - 1) l a) m) (evalCode (readCode (d - 1) l (getD l (p + 2) 0)) m) x (rw (toZ-ofZ fx) at v) (r .says m h) (rw (toZ-ofZ fx) at g)
 
-      pub and-right : (b : ℕ) (y : ℤ) → n ≡ 7 → ltZ (pos 0) (wire x) ≡ true → b ≡ getD l (p + 2) 0 → Evaluates l ws (wire k) b (d - 1) y → SFits w64 y → Evaluates l ws k p d (wire y)
-      and-right b y o g c t s = rw (toZ-ofZ s) (record { says = λ m h. rw (and-read m o ∙ short-is true true m h g, ← c) (t .says m (under′ h)) })
+      pub and-right : (b : ℕ) (y : ℤ) → n ≡ 7 → ltZ (pos 0) (wire x) ≡ true → b ≡ getD l (p + 2) 0 → Evaluates l ws b (d - 1) y → SFits w64 y → Evaluates l ws p d (wire y)
+      and-right b y o g c t s = rw (toZ-ofZ s) (record { says = λ m h. rw (and-read m o ∙ short-is true true m h g, ← c) (t .says m h) })
 
-      pub and-stop : n ≡ 7 → ltZ (pos 0) (wire x) ≡ false → Evaluates l ws k p d (pos 0)
+      pub and-stop : n ≡ 7 → ltZ (pos 0) (wire x) ≡ false → Evaluates l ws p d (pos 0)
       and-stop o g = record { says = λ m h. rw (and-read m o ∙ short-is true false m h g) (record { word = zero-word; ranged = zero-ranged }) }
 
-      pub or-stop : ((n ≡ 7) → ⊥) → ltZ (pos 0) (wire x) ≡ true → Evaluates l ws k p d (pos 1)
+      pub or-stop : ((n ≡ 7) → ⊥) → ltZ (pos 0) (wire x) ≡ true → Evaluates l ws p d (pos 1)
       or-stop o g = record { says = λ m h. rw (or-read m (eight n o (omega (arith, e, h1)) (omega (arith, e, h2))) ∙ short-is false true m h g) (record { word = one-word; ranged = one-ranged }) }
 
-      pub or-right : (b : ℕ) (y : ℤ) → ((n ≡ 7) → ⊥) → ltZ (pos 0) (wire x) ≡ false → b ≡ getD l (p + 2) 0 → Evaluates l ws (wire k) b (d - 1) y → SFits w64 y → Evaluates l ws k p d (wire y)
-      or-right b y o g c t s = rw (toZ-ofZ s) (record { says = λ m h. rw (or-read m (eight n o (omega (arith, e, h1)) (omega (arith, e, h2))) ∙ short-is false false m h g, ← c) (t .says m (under′ h)) })
+      pub or-right : (b : ℕ) (y : ℤ) → ((n ≡ 7) → ⊥) → ltZ (pos 0) (wire x) ≡ false → b ≡ getD l (p + 2) 0 → Evaluates l ws b (d - 1) y → SFits w64 y → Evaluates l ws p d (wire y)
+      or-right b y o g c t s = rw (toZ-ofZ s) (record { says = λ m h. rw (or-read m (eight n o (omega (arith, e, h1)) (omega (arith, e, h2))) ∙ short-is false false m h g, ← c) (t .says m h) })
 
 pub ruleset short-laws = (short-fault, and-right, and-stop, or-stop, or-right, sfits-of)
 
@@ -600,8 +565,24 @@ element-means w y z c (is a) stuck h g e = absurd (g .ranged)
 element-means w y z c (fails q) u h g e = record { word = e ∙ rw (cell-decoded w (fails q) h); found = h .found }
 element-means w y z c stuck u h g e = absurd (h .found)
 
+-- a fault of the array's place, and then one of the index, is the element's
+fault-place : (w : ℤ) (v : Result ℕ) (f : ℕ → Result ℕ) → ltZ (pos 4294967295) w ≡ true → Located w v → Located w (v >>= f)
+unfolding placeWord Found
+fault-place w (is a) f h g = absurd (true≢false (sym h ∙ ap (ltZ (pos 4294967295)) (g .word) ∙ le-ltb-cap a))
+fault-place w (fails e) f h g = record { word = g .word; found = g .found }
+fault-place w stuck f h g = absurd (g .found)
+
+fault-index : (w x : ℤ) (v : Result ℕ) (u : Result (List ℤ)) (f : ℕ → List ℤ → Result ℕ) → ltZ (pos 4294967295) w ≡ false → ltZ (pos 4294967295) x ≡ true → Located w v → Means x (first u)
+    → Located x (v >>= λ a. u >>= λ z. f a z)
+unfolding placeWord Found wordOf Ranged
+fault-index w x (is a) (is z) f h k g q = absurd (true≢false (sym k ∙ ap (ltZ (pos 4294967295)) (q .word) ∙ range-value (sole z) (q .ranged)))
+fault-index w x (is a) (fails e) f h k g q = record { word = q .word; found = q .ranged }
+fault-index w x (is a) stuck f h k g q = absurd (q .ranged)
+fault-index w x (fails e) u f h k g q = absurd (true≢false (above-fault e (g .found) ∙ sym (ap (ltZ (pos 4294967295)) (g .word)) ∙ h))
+fault-index w x stuck u f h k g q = absurd (g .found)
+
 -- an index's distance
-test-cases : (lo hi u : ℤ) → inside least most lo ≡ true → inside least most hi ≡ true → Ranged (tested rangeError lo hi u >>= λ z. is (z -ℤ lo))
+pub test-cases : (lo hi u : ℤ) → inside least most lo ≡ true → inside least most hi ≡ true → Ranged (tested rangeError lo hi u >>= λ z. is (z -ℤ lo))
 unfolding tested pick Ranged
 test-cases lo hi u p q = go (inside lo hi u) refl
   where
@@ -629,50 +610,66 @@ index-join lo hi c (is a) stuck = refl
 index-join lo hi c (fails e) u = refl
 index-join lo hi c stuck u = refl
 
-module _ (l : List ℕ) (ws : List ℤ) (k : ℤ) (fk : SFits w64 k) (p d : ℕ) where
-  pub finds-passed : (z : ℤ) → Places l ws (wire k) p d z → SFits w64 z → Places l ws k p d (wire z)
-  finds-passed z h f = rw (toZ-ofZ f) (record { says = λ m g. h .says m (subst (λ (q : ℤ). Holds ws q m) (sym (toZ-ofZ fk)) g) })
+module _ (l : List ℕ) (ws : List ℤ) (p d : ℕ) where
+  pub finds-passed : (z : ℤ) → Places l ws p d z → SFits w64 z → Places l ws p d (wire z)
+  finds-passed z h f = rw (toZ-ofZ f) h
 
-  pub finds-zero : d ≡ 0 → Places l ws k p d (pos 0)
+  pub finds-zero : d ≡ 0 → Places l ws p d (pos 0)
   unfolding readPlace placeCode
   finds-zero e = record { says = λ m h. rw e (means-place (pos 0) (is 0) place-zero) }
 
   module _ (n : ℕ) (dp : 1 ≤ d) (e : n ≡ getD l p 0) where
-    below-k : {m : Store} → Holds ws k m → Holds ws (wire k) m
-    below-k {m} g = subst (λ (q : ℤ). Holds ws q m) (sym (toZ-ofZ fk)) g
-
     place-is : (o : PlaceOp) → placeOp n ≡ o → readPlace d l p ≡ placeFrom o l p (λ q. readCode (d - 1) l q) (λ q. readPlace (d - 1) l q)
     place-is o f = place-step d l p dp ∙ ap (λ (o : PlaceOp). placeFrom o l p (λ q. readCode (d - 1) l q) (λ q. readPlace (d - 1) l q)) (ap placeOp (sym e) ∙ f)
 
-    pub finds-none : ((n ≡ 41) → ⊥) → ((n ≡ 42) → ⊥) → ((n ≡ 40) → ⊥) → Places l ws k p d (pos 0)
+    pub finds-none : ((n ≡ 41) → ⊥) → ((n ≡ 42) → ⊥) → ((n ≡ 40) → ⊥) → Places l ws p d (pos 0)
     unfolding placeFrom placeCode
     finds-none b c a = record { says = λ m h. rw (place-is place.Nothing (place-op n a b c)) (means-place (pos 0) (is 0) place-zero) }
 
-    pub finds-cell : (a : ℕ) → n ≡ 40 → a ≡ getD l (p + 1) 0 → Fits w32 a → Places l ws k p d (toZ w64 a)
+    pub finds-cell : (a : ℕ) → n ≡ 40 → a ≡ getD l (p + 1) 0 → Fits w32 a → Places l ws p d (toZ w64 a)
     unfolding placeFrom placeCode placeOp placeWord Found
     finds-cell a o f g =
         rw (toZ-pos w64 {n = a} (omega (arith, g .fits)))
         (record { says = λ m h. rw (place-is Cell (rw o), ← f) (means-place (pos a) (is a) (record { word = ap pos (omega (arith, g .fits)); found = tt })) })
 
-    pub finds-shift : (a c : ℕ) (w z : ℤ) → n ≡ 42 → a ≡ getD l (p + 1) 0 → c ≡ getD l (p + 2) 0 → Places l ws (wire k) a (d - 1) w → SFits w64 w → z ≡ shiftedWord (wire w) c → SFits w64 z → Places l ws k p d (wire z)
+    pub finds-shift : (a c : ℕ) (w z : ℤ) → n ≡ 42 → a ≡ getD l (p + 1) 0 → c ≡ getD l (p + 2) 0 → Places l ws a (d - 1) w → SFits w64 w → z ≡ shiftedWord (wire w) c → SFits w64 z → Places l ws p d (wire z)
     unfolding placeFrom placeCode placeOp
     finds-shift a c w z o f g r fw v s =
         rw (toZ-ofZ s) (record {
           says = λ m h. rw (place-is Shift (rw o), ← f, ← g)
               (means-place z (placeCode (readPlace (d - 1) l a) m >>= λ q. is (q + c))
-              (shift-means w z c (placeCode (readPlace (d - 1) l a) m) (located w (placeCode (readPlace (d - 1) l a) m) (r .says m (below-k h))) (v ∙ ap (λ (q : ℤ). shiftedWord q c) (toZ-ofZ fw))));
+              (shift-means w z c (placeCode (readPlace (d - 1) l a) m) (located w (placeCode (readPlace (d - 1) l a) m) (r .says m h)) (v ∙ ap (λ (q : ℤ). shiftedWord q c) (toZ-ofZ fw))));
         })
 
     pub finds-element : (a b i j c : ℕ) (w x y z : ℤ) → n ≡ 41 → a ≡ getD l (p + 1) 0 → b ≡ getD l (p + 2) 0 → i ≡ getD l (p + 3) 0 → j ≡ getD l (p + 4) 0 → c ≡ getD l (p + 5) 0
-        → Places l ws (wire k) a (d - 1) w → Evaluates l ws (wire k) b (d - 1) x → y ≡ distanceWord (signed i) (signed j) (wire x) → z ≡ elementWord (wire w) (wire y) c
-        → Fits w32 i → Fits w32 j → SFits w64 w → SFits w64 x → SFits w64 y → SFits w64 z → Places l ws k p d (wire z)
+        → Places l ws a (d - 1) w → Evaluates l ws b (d - 1) x → y ≡ distanceWord (signed i) (signed j) (wire x) → z ≡ elementWord (wire w) (wire y) c
+        → Fits w32 i → Fits w32 j → SFits w64 w → SFits w64 x → SFits w64 y → SFits w64 z → Places l ws p d (wire z)
     unfolding placeFrom placeCode placeOp integerAt
     finds-element a b i j c w x y z o fa fb fi fj fc r t u v gi gj fw fx fy s =
         rw (toZ-ofZ s) (record {
           says = λ m h. rw (place-is Index (rw o), ← fa, ← fb, ← fi, ← fj, ← fc)
               (subst (λ (q : Result ℕ). Means z (capped q)) (index-join (signed i) (signed j) c (placeCode (readPlace (d - 1) l a) m) (evalCode (readCode (d - 1) l b) m))
               (means-place z (placeCode (readPlace (d - 1) l a) m >>= λ q. (first (evalCode (readCode (d - 1) l b) m) >>= λ q. tested rangeError (signed i) (signed j) q >>= λ g. is (g -ℤ signed i)) >>= λ g. is (q + natOf g * c))
-              (element-means w y z c (placeCode (readPlace (d - 1) l a) m) (first (evalCode (readCode (d - 1) l b) m) >>= λ q. tested rangeError (signed i) (signed j) q >>= λ g. is (g -ℤ signed i)) (located w (placeCode (readPlace (d - 1) l a) m) (r .says m (below-k h)))
-              (distance-means (signed i) (signed j) x y (first (evalCode (readCode (d - 1) l b) m)) (small-signed i gi) (small-signed j gj) (t .says m (below-k h)) (u ∙ ap (distanceWord (signed i) (signed j)) (toZ-ofZ fx)))
+              (element-means w y z c (placeCode (readPlace (d - 1) l a) m) (first (evalCode (readCode (d - 1) l b) m) >>= λ q. tested rangeError (signed i) (signed j) q >>= λ g. is (g -ℤ signed i)) (located w (placeCode (readPlace (d - 1) l a) m) (r .says m h))
+              (distance-means (signed i) (signed j) x y (first (evalCode (readCode (d - 1) l b) m)) (small-signed i gi) (small-signed j gj) (t .says m h) (u ∙ ap (distanceWord (signed i) (signed j)) (toZ-ofZ fx)))
               (v ∙ rw (toZ-ofZ fw, toZ-ofZ fy)))));
+        })
+
+    pub finds-left : (a : ℕ) (w : ℤ) → n ≡ 41 → a ≡ getD l (p + 1) 0 → Places l ws a (d - 1) w → SFits w64 w → ltZ (pos 4294967295) (wire w) ≡ true → Places l ws p d (wire w)
+    unfolding placeFrom placeCode placeOp
+    finds-left a w o fa r fw g =
+        rw (toZ-ofZ fw) (record {
+          says = λ m h. rw (place-is Index (rw o), ← fa)
+              (means-place w _ (fault-place w (placeCode (readPlace (d - 1) l a) m) _ (rw (toZ-ofZ fw) at g) (located w (placeCode (readPlace (d - 1) l a) m) (r .says m h))));
+        })
+
+    pub finds-right : (a b : ℕ) (w x : ℤ) → n ≡ 41 → a ≡ getD l (p + 1) 0 → b ≡ getD l (p + 2) 0 → Places l ws a (d - 1) w → Evaluates l ws b (d - 1) x
+        → SFits w64 w → SFits w64 x → ltZ (pos 4294967295) (wire w) ≡ false → ltZ (pos 4294967295) (wire x) ≡ true → Places l ws p d (wire x)
+    unfolding placeFrom placeCode placeOp
+    finds-right a b w x o fa fb r t fw fx g k =
+        rw (toZ-ofZ fx) (record {
+          says = λ m h. rw (place-is Index (rw o), ← fa, ← fb)
+              (means-place x _
+              (fault-index w x (placeCode (readPlace (d - 1) l a) m) (evalCode (readCode (d - 1) l b) m) (λ q z. tested rangeError (integerAt l (p + 3)) (integerAt l (p + 4)) (sole z) >>= λ y. is (q + natOf (y -ℤ integerAt l (p + 3)) * getD l (p + 5) 0))
+              (rw (toZ-ofZ fw) at g) (rw (toZ-ofZ fx) at k) (located w (placeCode (readPlace (d - 1) l a) m) (r .says m h)) (t .says m h)));
         })

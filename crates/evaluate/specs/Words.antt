@@ -33,13 +33,16 @@ resultOf w = pick (ltZ (pos 4294967295) w) (fails (w -ℤ pos 8589934592)) (is w
 abbrev pub undefinedWord : ℤ
 undefinedWord = pos 8589934488
 
--- the word of a cell, in an array of 2,048 words
+-- the store is an array of 2,056 words: the cells' at 0 to 2047; at 2048 the last exception's number, 0 before any, at 2049 its
+-- statement; at 2050 how many cells there are; the rest is not used
+
+-- the word of a cell
 unfoldable pub storeWord : List ℤ → ℕ → ℤ
 storeWord ws a = pick (ltb a 2048) (getD ws a (pos 0)) undefinedWord
 
--- what is not read in place
-abbrev pub nested : ℤ
-nested = pos 17179869184
+-- the last exception's number
+unfoldable pub latestIn : List ℤ → ℤ
+latestIn ws = getD ws 2048 (pos 0)
 
 -- an ordinal or a set is a value in this range
 unfoldable pub InRange : ℤ → Type 0
@@ -71,12 +74,12 @@ pub record Means (r : ℤ) (v : Result ℤ) : Type 0 where
 abbrev pub first : Result (List ℤ) → Result ℤ
 first v = v >>= λ zs. is (sole zs)
 
--- ---- the store as words: each cell's value, or an Undefined_Error
+-- ---- the store as words: each cell's value, or an Undefined_Error, and the last exception
 
-pub record Holds (ws : List ℤ) (latest : ℤ) (m : Store) : Type 0 where
+pub record Holds (ws : List ℤ) (m : Store) : Type 0 where
   pub cells : (a : ℕ) → Means (storeWord ws a) (readCell a m)
-  pub last : m .latest ≡ latest
-  pub last-ranged : InRange latest
+  pub last : m .latest ≡ latestIn ws
+  pub last-ranged : InRange (latestIn ws)
 
 -- n cells from a on are values
 unfoldable pub allValues : List ℤ → ℕ → ℕ → Bool
@@ -92,22 +95,12 @@ cellsWord ws a (suc n) = pick (allValues ws a (suc n)) (storeWord ws a) undefine
 unfoldable pub cellsAt : List ℤ → ℤ → ℕ → ℤ
 cellsAt ws w n = pick (ltZ (pos 4294967295) w) w (pick (eqb n 1) (storeWord ws (natOf w)) (cellsWord ws (natOf w) n))
 
--- ---- numbers and expressions that are read in place
+-- ---- a number of the code
 
 -- r is the integer at a place, which has 32 bits
 pub record Integral (l : List ℕ) (p : ℕ) (r : ℤ) : Type 0 where
   pub value : r ≡ integerAt l p
   pub small : inside least most r ≡ true
-
-unfoldable pub simpleWord : List ℕ → List ℤ → ℕ → ℤ
-simpleWord l ws p =
-    pick (eqb (getD l p 0) 2) (storeWord ws (getD l (p + 1) 0))
-    (pick (eqb (getD l p 0) 1) (integerAt l (p + 1)) nested)
-
--- r is such an expression's word; a literal has 32 bits
-pub record Simple (l : List ℕ) (ws : List ℤ) (p : ℕ) (r : ℤ) : Type 0 where
-  pub value : r ≡ simpleWord l ws p
-  pub small : getD l p 0 ≡ 1 → inside least most r ≡ true
 
 -- ---- places: no store has a cell past the greatest value
 

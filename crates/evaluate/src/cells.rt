@@ -1,15 +1,12 @@
-// The store as words: a cell holds its value, or the word of an Undefined_Error.
+// The store as words: a cell holds its value, or the word of an Undefined_Error. Above the cells stand what else a run needs.
 use crate::words::GREATEST;
-use crate::words::NESTED;
 use crate::words::UNDEFINED;
-use crate::words::integral;
 use crate::words::natural;
-use crate::words::number;
 ghost use mathlib.Core.Path.{_≡_};
-ghost use Rattle.evaluate.specs.Words.{codeIn, storeWord, cellsWord, cellsAt, Simple};
+ghost use Rattle.evaluate.specs.Words.{storeWord, latestIn, cellsWord, cellsAt};
 
 // The word of a cell.
-pub fn cell(store: &[i64; 2048], a: usize) -> i64
+pub fn cell(store: &[i64; 2056], a: usize) -> i64
     ensures { λ r. ⌜ r ≡ storeWord (now (store .entry)) a ⌝ }
 {
     if a < 2048 {
@@ -18,8 +15,15 @@ pub fn cell(store: &[i64; 2048], a: usize) -> i64
     UNDEFINED
 }
 
+// The last exception's number, 0 before any.
+pub fn latest(store: &[i64; 2056]) -> i64
+    ensures { λ r. ⌜ r ≡ latestIn (now (store .entry)) ⌝ }
+{
+    store[2048]
+}
+
 // The first of n cells from a on, all of which must be defined; 0 for no cell.
-pub fn cells(store: &[i64; 2048], a: u32, n: u32) -> i64
+pub fn cells(store: &[i64; 2056], a: u32, n: u32) -> i64
     ensures { λ r. ⌜ r ≡ cellsWord (now (store .entry)) a n ⌝ }
 {
     if n == 0 {
@@ -37,7 +41,7 @@ pub fn cells(store: &[i64; 2048], a: u32, n: u32) -> i64
 }
 
 // The same by the word of a place.
-pub fn cells_at(store: &[i64; 2048], place: i64, n: u32) -> i64
+pub fn cells_at(store: &[i64; 2056], place: i64, n: u32) -> i64
     ensures { λ r. ⌜ r ≡ cellsAt (now (store .entry)) place n ⌝ }
 {
     if place > GREATEST {
@@ -48,19 +52,4 @@ pub fn cells_at(store: &[i64; 2048], place: i64, n: u32) -> i64
         return cell(store, a as usize);
     }
     cells(store, a, n)
-}
-
-// An expression that is read in place: a literal, or a whole variable of one cell; NESTED for any other.
-pub fn simple(code: &[u32; 16384], store: &[i64; 2048], pc: u32) -> i64
-    ensures { λ r. ⌜ Simple (codeIn (now (code .entry))) (now (store .entry)) pc r ⌝ }
-{
-    let p = pc as usize;
-    let op = number(code, p);
-    if op == 2 {
-        return cell(store, number(code, p + 1) as usize);
-    }
-    if op == 1 {
-        return integral(code, p + 1);
-    }
-    NESTED
 }

@@ -2,7 +2,7 @@
 use crate::cells::cell;
 use crate::cells::cells;
 use crate::cells::cells_at;
-use crate::cells::simple;
+use crate::cells::latest;
 use crate::operators::binary;
 use crate::operators::distance;
 use crate::operators::element;
@@ -12,7 +12,6 @@ use crate::operators::succ;
 use crate::operators::test;
 use crate::operators::unary;
 use crate::words::GREATEST;
-use crate::words::NESTED;
 use crate::words::integral;
 use crate::words::number;
 ghost use Prim.Native.Nat.{_+_, _<_};
@@ -21,29 +20,26 @@ ghost use Rattle.semantics.specs.Readback.{integerAt};
 ghost use Rattle.evaluate.specs.Words.{codeIn};
 ghost use Rattle.evaluate.specs.Walks.{Evaluates, Places, Gathers};
 
-// The value of the expression at pc: the most common ones here, in ways that need no stack.
-pub fn eval(code: &[u32; 16384], store: &[i64; 2048], latest: i64, pc: u32, depth: u32) -> i64
-    ensures { λ r. ⌜ Evaluates (codeIn (now (code .entry))) (now (store .entry)) latest pc depth r ⌝ }
+// The value of the expression at pc: the most common ones here, in ways that need no stack. Past 16,376 a node may reach over
+// the code's end; below it the compiler needs no such test.
+pub fn eval(code: &[u32; 16384], store: &[i64; 2056], pc: u32, depth: u32) -> i64
+    ensures { λ r. ⌜ Evaluates (codeIn (now (code .entry))) (now (store .entry)) pc depth r ⌝ }
 {
-    if depth < 2 {
-        return eval_form(code, store, latest, pc, depth);
+    if depth == 0 {
+        return 0;
+    }
+    if pc > 16376 {
+        return eval_form(code, store, pc, depth);
     }
     let p = pc as usize;
     let op = number(code, p);
     if op > 8 {
         if op < 29 {
-            let x = simple(code, store, number(code, p + 1));
-            if x == NESTED {
-                return left_first(code, store, latest, pc, depth);
-            }
-            let b = number(code, p + 2);
-            let y = simple(code, store, b);
-            if y == NESTED {
-                return binary(op, x, eval(code, store, latest, b, depth - 1));
-            }
+            let x = operand(code, store, number(code, p + 1), depth - 1);
+            let y = operand(code, store, number(code, p + 2), depth - 1);
             return binary(op, x, y);
         }
-        return one_sided(code, store, latest, pc, depth);
+        return one_sided(code, store, pc, depth);
     }
     if op == 2 {
         return cell(store, number(code, p + 1) as usize);
@@ -51,36 +47,45 @@ pub fn eval(code: &[u32; 16384], store: &[i64; 2048], latest: i64, pc: u32, dept
     if op == 1 {
         return integral(code, p + 1);
     }
-    eval_form(code, store, latest, pc, depth)
+    if op == 4 {
+        let a = place(code, store, number(code, p + 1), depth - 1);
+        return cells_at(store, a, number(code, p + 2));
+    }
+    eval_form(code, store, pc, depth)
 }
 
-// A two-sided operator at pc, whose left side is not simple.
-fn left_first(code: &[u32; 16384], store: &[i64; 2048], latest: i64, pc: u32, depth: u32) -> i64
-    requires { ⌜ (1 < depth) × ((8 < getD (codeIn (now code)) pc 0) × (getD (codeIn (now code)) pc 0 < 29)) ⌝ }
-    ensures { λ r. ⌜ Evaluates (codeIn (now (code .entry))) (now (store .entry)) latest pc depth r ⌝ }
+// The same of an operand: a literal or a whole variable of one cell is read here, which saves a call.
+fn operand(code: &[u32; 16384], store: &[i64; 2056], pc: u32, depth: u32) -> i64
+    ensures { λ r. ⌜ Evaluates (codeIn (now (code .entry))) (now (store .entry)) pc depth r ⌝ }
 {
+    if depth == 0 {
+        return 0;
+    }
+    if pc > 16376 {
+        return eval_form(code, store, pc, depth);
+    }
     let p = pc as usize;
     let op = number(code, p);
-    let b = number(code, p + 2);
-    let x = eval(code, store, latest, number(code, p + 1), depth - 1);
-    let y = simple(code, store, b);
-    if y == NESTED {
-        return binary(op, x, eval(code, store, latest, b, depth - 1));
+    if op == 2 {
+        return cell(store, number(code, p + 1) as usize);
     }
-    binary(op, x, y)
+    if op == 1 {
+        return integral(code, p + 1);
+    }
+    eval(code, store, pc, depth)
 }
 
 // A one-sided operator at pc, or no expression.
-fn one_sided(code: &[u32; 16384], store: &[i64; 2048], latest: i64, pc: u32, depth: u32) -> i64
+fn one_sided(code: &[u32; 16384], store: &[i64; 2056], pc: u32, depth: u32) -> i64
     requires { ⌜ (0 < depth) × (28 < getD (codeIn (now code)) pc 0) ⌝ }
-    ensures { λ r. ⌜ Evaluates (codeIn (now (code .entry))) (now (store .entry)) latest pc depth r ⌝ }
+    ensures { λ r. ⌜ Evaluates (codeIn (now (code .entry))) (now (store .entry)) pc depth r ⌝ }
 {
     let p = pc as usize;
     let op = number(code, p);
     if op > 39 {
         return 0;
     }
-    let x = eval(code, store, latest, number(code, p + 1), depth - 1);
+    let x = operand(code, store, number(code, p + 1), depth - 1);
     if op == 38 {
         return pred(x, integral(code, p + 2), integral(code, p + 3));
     }
@@ -91,8 +96,8 @@ fn one_sided(code: &[u32; 16384], store: &[i64; 2048], latest: i64, pc: u32, dep
 }
 
 // The value of any expression at pc.
-fn eval_form(code: &[u32; 16384], store: &[i64; 2048], latest: i64, pc: u32, depth: u32) -> i64
-    ensures { λ r. ⌜ Evaluates (codeIn (now (code .entry))) (now (store .entry)) latest pc depth r ⌝ }
+fn eval_form(code: &[u32; 16384], store: &[i64; 2056], pc: u32, depth: u32) -> i64
+    ensures { λ r. ⌜ Evaluates (codeIn (now (code .entry))) (now (store .entry)) pc depth r ⌝ }
 {
     if depth == 0 {
         return 0;
@@ -100,15 +105,15 @@ fn eval_form(code: &[u32; 16384], store: &[i64; 2048], latest: i64, pc: u32, dep
     let p = pc as usize;
     let op = number(code, p);
     if op > 28 {
-        return one_sided(code, store, latest, pc, depth);
+        return one_sided(code, store, pc, depth);
     }
     if op > 8 {
-        let x = eval(code, store, latest, number(code, p + 1), depth - 1);
-        let y = eval(code, store, latest, number(code, p + 2), depth - 1);
+        let x = eval(code, store, number(code, p + 1), depth - 1);
+        let y = eval(code, store, number(code, p + 2), depth - 1);
         return binary(op, x, y);
     }
     if op > 6 {
-        return short_cut(code, store, latest, pc, depth);
+        return short_cut(code, store, pc, depth);
     }
     match op {
         1 => integral(code, p + 1),
@@ -118,56 +123,86 @@ fn eval_form(code: &[u32; 16384], store: &[i64; 2048], latest: i64, pc: u32, dep
             cells(store, n % 4096, n / 4096)
         }
         4 => {
-            let a = place(code, store, latest, number(code, p + 1), depth - 1);
+            let a = place(code, store, number(code, p + 1), depth - 1);
             cells_at(store, a, number(code, p + 2))
         }
-        5 => latest,
-        6 => gather(code, store, latest, pc, depth - 1),
+        5 => latest(store),
+        6 => gather(code, store, pc, depth - 1),
         _ => 0,
     }
 }
 
 // `and_then` and `or_else` at pc: the right side is worked out only if the left leaves it open.
-fn short_cut(code: &[u32; 16384], store: &[i64; 2048], latest: i64, pc: u32, depth: u32) -> i64
+fn short_cut(code: &[u32; 16384], store: &[i64; 2056], pc: u32, depth: u32) -> i64
     requires { ⌜ (0 < depth) × ((6 < getD (codeIn (now code)) pc 0) × (getD (codeIn (now code)) pc 0 < 9)) ⌝ }
-    ensures { λ r. ⌜ Evaluates (codeIn (now (code .entry))) (now (store .entry)) latest pc depth r ⌝ }
+    ensures { λ r. ⌜ Evaluates (codeIn (now (code .entry))) (now (store .entry)) pc depth r ⌝ }
 {
     let p = pc as usize;
     let op = number(code, p);
-    let x = eval(code, store, latest, number(code, p + 1), depth - 1);
+    let x = eval(code, store, number(code, p + 1), depth - 1);
     if x > GREATEST {
         return x;
     }
     if op == 7 {
         if x > 0 {
-            return eval_form(code, store, latest, number(code, p + 2), depth - 1);
+            return eval_form(code, store, number(code, p + 2), depth - 1);
         }
         return 0;
     }
     if x > 0 {
         return 1;
     }
-    eval_form(code, store, latest, number(code, p + 2), depth - 1)
+    eval_form(code, store, number(code, p + 2), depth - 1)
 }
 
 // The first cell of the place at pc: a whole variable's here.
-pub fn place(code: &[u32; 16384], store: &[i64; 2048], latest: i64, pc: u32, depth: u32) -> i64
-    ensures { λ r. ⌜ Places (codeIn (now (code .entry))) (now (store .entry)) latest pc depth r ⌝ }
+pub fn place(code: &[u32; 16384], store: &[i64; 2056], pc: u32, depth: u32) -> i64
+    ensures { λ r. ⌜ Places (codeIn (now (code .entry))) (now (store .entry)) pc depth r ⌝ }
 {
     if depth == 0 {
         return 0;
+    }
+    if pc > 16376 {
+        return place_form(code, store, pc, depth);
     }
     let p = pc as usize;
     let op = number(code, p);
     if op == 40 {
         return number(code, p + 1) as i64;
     }
-    place_form(code, store, latest, pc, depth)
+    component(code, store, pc, depth)
+}
+
+// The same of a component: an element's here, and a fault at once.
+fn component(code: &[u32; 16384], store: &[i64; 2056], pc: u32, depth: u32) -> i64
+    ensures { λ r. ⌜ Places (codeIn (now (code .entry))) (now (store .entry)) pc depth r ⌝ }
+{
+    if depth == 0 {
+        return 0;
+    }
+    if pc > 16376 {
+        return place_form(code, store, pc, depth);
+    }
+    let p = pc as usize;
+    let op = number(code, p);
+    if op == 41 {
+        let a = place(code, store, number(code, p + 1), depth - 1);
+        if a > GREATEST {
+            return a;
+        }
+        let x = operand(code, store, number(code, p + 2), depth - 1);
+        if x > GREATEST {
+            return x;
+        }
+        let d = distance(x, number(code, p + 3), number(code, p + 4));
+        return element(a, d, number(code, p + 5));
+    }
+    place_form(code, store, pc, depth)
 }
 
 // The first cell of any place at pc.
-fn place_form(code: &[u32; 16384], store: &[i64; 2048], latest: i64, pc: u32, depth: u32) -> i64
-    ensures { λ r. ⌜ Places (codeIn (now (code .entry))) (now (store .entry)) latest pc depth r ⌝ }
+fn place_form(code: &[u32; 16384], store: &[i64; 2056], pc: u32, depth: u32) -> i64
+    ensures { λ r. ⌜ Places (codeIn (now (code .entry))) (now (store .entry)) pc depth r ⌝ }
 {
     if depth == 0 {
         return 0;
@@ -175,13 +210,13 @@ fn place_form(code: &[u32; 16384], store: &[i64; 2048], latest: i64, pc: u32, de
     let p = pc as usize;
     let op = number(code, p);
     if op == 41 {
-        let a = place(code, store, latest, number(code, p + 1), depth - 1);
-        let x = eval(code, store, latest, number(code, p + 2), depth - 1);
+        let a = place(code, store, number(code, p + 1), depth - 1);
+        let x = eval(code, store, number(code, p + 2), depth - 1);
         let d = distance(x, number(code, p + 3), number(code, p + 4));
         return element(a, d, number(code, p + 5));
     }
     if op == 42 {
-        let a = place_form(code, store, latest, number(code, p + 1), depth - 1);
+        let a = place(code, store, number(code, p + 1), depth - 1);
         return shifted(a, number(code, p + 2));
     }
     if op == 40 {
@@ -191,8 +226,8 @@ fn place_form(code: &[u32; 16384], store: &[i64; 2048], latest: i64, pc: u32, de
 }
 
 // The set of the members of the node at pc.
-fn gather(code: &[u32; 16384], store: &[i64; 2048], latest: i64, pc: u32, depth: u32) -> i64
-    ensures { λ r. ⌜ Gathers (codeIn (now (code .entry))) (now (store .entry)) latest (integerAt (codeIn (now (code .entry))) (pc + 1)) (integerAt (codeIn (now (code .entry))) (pc + 2)) (getD (codeIn (now (code .entry))) (pc + 3) 0) depth r ⌝ }
+fn gather(code: &[u32; 16384], store: &[i64; 2056], pc: u32, depth: u32) -> i64
+    ensures { λ r. ⌜ Gathers (codeIn (now (code .entry))) (now (store .entry)) (integerAt (codeIn (now (code .entry))) (pc + 1)) (integerAt (codeIn (now (code .entry))) (pc + 2)) (getD (codeIn (now (code .entry))) (pc + 3) 0) depth r ⌝ }
 {
     let p = pc as usize;
     let lo = integral(code, p + 1);
@@ -205,7 +240,7 @@ fn gather(code: &[u32; 16384], store: &[i64; 2048], latest: i64, pc: u32, depth:
             return sets::value(s);
         }
         d -= 1;
-        let x = eval(code, store, latest, number(code, q as usize), d);
+        let x = eval(code, store, number(code, q as usize), d);
         let z = test(x, lo, hi);
         if z > GREATEST {
             return z;

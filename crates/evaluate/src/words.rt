@@ -19,9 +19,6 @@ pub const RANGE: i64 = 8589934489;
 
 pub const UNDEFINED: i64 = 8589934488;
 
-// No result: the expression is not read in place.
-pub const NESTED: i64 = 17179869184;
-
 // The number at a place, 0 outside the list.
 pub fn number(code: &[u32; 16384], p: usize) -> u32
     ensures { λ r. ⌜ r ≡ getD (codeIn (now (code .entry))) p 0 ⌝ }

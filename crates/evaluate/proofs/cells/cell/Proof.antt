@@ -5,19 +5,19 @@ use Rattle.evaluate.proofs.cells.cell.Tie as tie
 use Rattle.evaluate.proofs.cells.cell.Reads as reads
 use Rattle.evaluate.proofs.cells.cell.Lts as lts
 
--- src/cells.rt:16:16
+-- src/cells.rt:13:16
 mul-result : tie.Need-mul-result
 mul-result c = search needs
 
--- src/cells.rt:16:16
+-- src/cells.rt:13:16
 element-copy-out-result : tie.Need-element-copy-out-result
 element-copy-out-result c = search needs
 
--- src/cells.rt:16:9
+-- src/cells.rt:13:9
 returns : tie.Need-returns
 returns c = search (cell-here, cell-past, needs)
 
--- src/cells.rt:12:1
+-- src/cells.rt:9:1
 returns-2 : tie.Need-returns-2
 returns-2 c = search (cell-here, cell-past, needs)
 

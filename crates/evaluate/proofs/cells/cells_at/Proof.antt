@@ -8,35 +8,35 @@ use Rattle.evaluate.proofs.cells.cell.Reads as cell-reads
 use Rattle.evaluate.proofs.cells.cells.Reads as cells-reads
 use Rattle.evaluate.proofs.words.natural.Reads as natural-reads
 
--- src/cells.rt:44:9
+-- src/cells.rt:48:9
 returns : tie.Need-returns
 returns c = search at-laws
 
--- src/cells.rt:46:13
+-- src/cells.rt:50:13
 natural-requires : tie.Need-natural-requires
 natural-requires c κs = search needs
 
--- src/cells.rt:46:13
+-- src/cells.rt:50:13
 cast-a : tie.Need-cast-a
 cast-a c = search (at-fits, needs)
 
--- src/cells.rt:48:28
+-- src/cells.rt:52:28
 cast-cell : tie.Need-cast-cell
 cast-cell c = search needs
 
--- src/cells.rt:48:9
+-- src/cells.rt:52:9
 cell-requires : tie.Need-cell-requires
 cell-requires c κs = search needs
 
--- src/cells.rt:48:9
+-- src/cells.rt:52:9
 returns-2 : tie.Need-returns-2
 returns-2 c = search at-laws
 
--- src/cells.rt:50:5
+-- src/cells.rt:54:5
 cells-requires : tie.Need-cells-requires
 cells-requires c κs = search needs
 
--- src/cells.rt:40:1
+-- src/cells.rt:44:1
 returns-3 : tie.Need-returns-3
 returns-3 c = search at-laws
 

@@ -4,11 +4,11 @@ use Rattle.evaluate.proofs.operators.at_most.Tie as tie
 use Rattle.evaluate.proofs.operators.at_most.Reads as reads
 use Rattle.evaluate.proofs.operators.at_most.Lts as lts
 
--- src/operators.rt:117:9
+-- src/operators.rt:121:9
 returns : tie.Need-returns
 returns c = search compare-laws
 
--- src/operators.rt:113:1
+-- src/operators.rt:117:1
 returns-2 : tie.Need-returns-2
 returns-2 c = search compare-laws
 

@@ -6,19 +6,19 @@ use Rattle.evaluate.proofs.operators.binary.Reads as reads
 use Rattle.evaluate.proofs.operators.binary.Lts as lts
 use Rattle.evaluate.proofs.operators.combine.Reads as combine-reads
 
--- src/operators.rt:175:9
+-- src/operators.rt:179:9
 returns : tie.Need-returns
 returns c = search binary-laws
 
--- src/operators.rt:178:9
+-- src/operators.rt:182:9
 returns-2 : tie.Need-returns-2
 returns-2 c = search binary-laws
 
--- src/operators.rt:180:5
+-- src/operators.rt:184:5
 combine-requires : tie.Need-combine-requires
 combine-requires c κs = search needs
 
--- src/operators.rt:171:1
+-- src/operators.rt:175:1
 returns-3 : tie.Need-returns-3
 returns-3 c = search binary-laws
 

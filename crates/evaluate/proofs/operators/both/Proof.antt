@@ -6,15 +6,15 @@ use Rattle.evaluate.proofs.operators.both.Reads as reads
 use Rattle.evaluate.proofs.operators.both.Lts as lts
 use Rattle.evaluate.proofs.operators.less.Reads as less-reads
 
--- src/operators.rt:127:9
+-- src/operators.rt:131:9
 less-requires : tie.Need-less-requires
 less-requires c κs = search needs
 
--- src/operators.rt:127:9
+-- src/operators.rt:131:9
 returns : tie.Need-returns
 returns c = search compare-laws
 
--- src/operators.rt:123:1
+-- src/operators.rt:127:1
 returns-2 : tie.Need-returns-2
 returns-2 c = search compare-laws
 

@@ -8,19 +8,19 @@ use Rattle.evaluate.proofs.words.truth_of.Reads as truth-of-reads
 use Rattle.sets.proofs.contains.Reads as contains-reads
 use Rattle.sets.proofs.pattern.Reads as pattern-reads
 
--- src/operators.rt:79:29
+-- src/operators.rt:83:29
 pattern-requires : tie.Need-pattern-requires
 pattern-requires c κs = search needs
 
--- src/operators.rt:79:14
+-- src/operators.rt:83:14
 contains-requires : tie.Need-contains-requires
 contains-requires c κs = search needs
 
--- src/operators.rt:79:5
+-- src/operators.rt:83:5
 truth-of-requires : tie.Need-truth-of-requires
 truth-of-requires c κs = search needs
 
--- src/operators.rt:76:1
+-- src/operators.rt:80:1
 returns : tie.Need-returns
 returns c = search set-laws
 

@@ -8,23 +8,23 @@ use Rattle.sets.proofs.difference.Reads as difference-reads
 use Rattle.sets.proofs.pattern.Reads as pattern-reads
 use Rattle.sets.proofs.value.Reads as value-reads
 
--- src/operators.rt:56:30
+-- src/operators.rt:60:30
 pattern-requires : tie.Need-pattern-requires
 pattern-requires c κs = search needs
 
--- src/operators.rt:56:48
+-- src/operators.rt:60:48
 pattern-requires-2 : tie.Need-pattern-requires-2
 pattern-requires-2 c κs = search needs
 
--- src/operators.rt:56:9
+-- src/operators.rt:60:9
 difference-requires : tie.Need-difference-requires
 difference-requires c κs = search needs
 
--- src/operators.rt:57:5
+-- src/operators.rt:61:5
 value-requires : tie.Need-value-requires
 value-requires c κs = search needs
 
--- src/operators.rt:53:1
+-- src/operators.rt:57:1
 returns : tie.Need-returns
 returns c = search (difference-word, needs)
 

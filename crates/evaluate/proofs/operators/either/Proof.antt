@@ -6,15 +6,15 @@ use Rattle.evaluate.proofs.operators.either.Reads as reads
 use Rattle.evaluate.proofs.operators.either.Lts as lts
 use Rattle.evaluate.proofs.operators.less.Reads as less-reads
 
--- src/operators.rt:137:9
+-- src/operators.rt:141:9
 returns : tie.Need-returns
 returns c = search compare-laws
 
--- src/operators.rt:139:5
+-- src/operators.rt:143:5
 less-requires : tie.Need-less-requires
 less-requires c κs = search needs
 
--- src/operators.rt:133:1
+-- src/operators.rt:137:1
 returns-2 : tie.Need-returns-2
 returns-2 c = search compare-laws
 

@@ -4,11 +4,11 @@ use Rattle.evaluate.proofs.operators.equal.Tie as tie
 use Rattle.evaluate.proofs.operators.equal.Reads as reads
 use Rattle.evaluate.proofs.operators.equal.Lts as lts
 
--- src/operators.rt:87:9
+-- src/operators.rt:91:9
 returns : tie.Need-returns
 returns c = search compare-laws
 
--- src/operators.rt:83:1
+-- src/operators.rt:87:1
 returns-2 : tie.Need-returns-2
 returns-2 c = search compare-laws
 

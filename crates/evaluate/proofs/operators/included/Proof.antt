@@ -8,23 +8,23 @@ use Rattle.evaluate.proofs.words.truth_of.Reads as truth-of-reads
 use Rattle.sets.proofs.included.Reads as included-reads
 use Rattle.sets.proofs.pattern.Reads as pattern-reads
 
--- src/operators.rt:72:29
+-- src/operators.rt:76:29
 pattern-requires : tie.Need-pattern-requires
 pattern-requires c κs = search needs
 
--- src/operators.rt:72:47
+-- src/operators.rt:76:47
 pattern-requires-2 : tie.Need-pattern-requires-2
 pattern-requires-2 c κs = search needs
 
--- src/operators.rt:72:14
+-- src/operators.rt:76:14
 included-requires : tie.Need-included-requires
 included-requires c κs = search needs
 
--- src/operators.rt:72:5
+-- src/operators.rt:76:5
 truth-of-requires : tie.Need-truth-of-requires
 truth-of-requires c κs = search needs
 
--- src/operators.rt:69:1
+-- src/operators.rt:73:1
 returns : tie.Need-returns
 returns c = search set-laws
 

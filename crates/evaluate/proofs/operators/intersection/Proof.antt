@@ -8,23 +8,23 @@ use Rattle.sets.proofs.intersection.Reads as intersection-reads
 use Rattle.sets.proofs.pattern.Reads as pattern-reads
 use Rattle.sets.proofs.value.Reads as value-reads
 
--- src/operators.rt:64:32
+-- src/operators.rt:68:32
 pattern-requires : tie.Need-pattern-requires
 pattern-requires c κs = search needs
 
--- src/operators.rt:64:50
+-- src/operators.rt:68:50
 pattern-requires-2 : tie.Need-pattern-requires-2
 pattern-requires-2 c κs = search needs
 
--- src/operators.rt:64:9
+-- src/operators.rt:68:9
 intersection-requires : tie.Need-intersection-requires
 intersection-requires c κs = search needs
 
--- src/operators.rt:65:5
+-- src/operators.rt:69:5
 value-requires : tie.Need-value-requires
 value-requires c κs = search needs
 
--- src/operators.rt:61:1
+-- src/operators.rt:65:1
 returns : tie.Need-returns
 returns c = search (intersection-word, needs)
 

@@ -4,11 +4,11 @@ use Rattle.evaluate.proofs.operators.less.Tie as tie
 use Rattle.evaluate.proofs.operators.less.Reads as reads
 use Rattle.evaluate.proofs.operators.less.Lts as lts
 
--- src/operators.rt:107:9
+-- src/operators.rt:111:9
 returns : tie.Need-returns
 returns c = search compare-laws
 
--- src/operators.rt:103:1
+-- src/operators.rt:107:1
 returns-2 : tie.Need-returns-2
 returns-2 c = search compare-laws
 

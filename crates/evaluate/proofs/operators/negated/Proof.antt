@@ -4,11 +4,11 @@ use Rattle.evaluate.proofs.operators.negated.Tie as tie
 use Rattle.evaluate.proofs.operators.negated.Reads as reads
 use Rattle.evaluate.proofs.operators.negated.Lts as lts
 
--- src/operators.rt:188:9
+-- src/operators.rt:192:9
 returns : tie.Need-returns
 returns c = search negated-laws
 
--- src/operators.rt:184:1
+-- src/operators.rt:188:1
 returns-2 : tie.Need-returns-2
 returns-2 c = search negated-laws
 

@@ -7,19 +7,19 @@ use Rattle.evaluate.proofs.operators.pred.Lts as lts
 use Rattle.arith.proofs.pred.Reads as pred-reads
 use Rattle.evaluate.proofs.operators.word.Reads as word-reads
 
--- src/operators.rt:225:9
+-- src/operators.rt:229:9
 returns : tie.Need-returns
 returns c = search unary-laws
 
--- src/operators.rt:227:10
+-- src/operators.rt:231:10
 pred-requires : tie.Need-pred-requires
 pred-requires c κs = search needs
 
--- src/operators.rt:227:5
+-- src/operators.rt:231:5
 word-requires : tie.Need-word-requires
 word-requires c κs = search needs
 
--- src/operators.rt:221:1
+-- src/operators.rt:225:1
 returns-2 : tie.Need-returns-2
 returns-2 c = search unary-laws
 

@@ -7,19 +7,19 @@ use Rattle.evaluate.proofs.operators.succ.Lts as lts
 use Rattle.arith.proofs.succ.Reads as succ-reads
 use Rattle.evaluate.proofs.operators.word.Reads as word-reads
 
--- src/operators.rt:235:9
+-- src/operators.rt:239:9
 returns : tie.Need-returns
 returns c = search unary-laws
 
--- src/operators.rt:237:10
+-- src/operators.rt:241:10
 succ-requires : tie.Need-succ-requires
 succ-requires c κs = search needs
 
--- src/operators.rt:237:5
+-- src/operators.rt:241:5
 word-requires : tie.Need-word-requires
 word-requires c κs = search needs
 
--- src/operators.rt:231:1
+-- src/operators.rt:235:1
 returns-2 : tie.Need-returns-2
 returns-2 c = search unary-laws
 

@@ -6,19 +6,19 @@ use Rattle.evaluate.proofs.operators.test.Reads as reads
 use Rattle.evaluate.proofs.operators.test.Lts as lts
 use Rattle.arith.proofs.in_range.Reads as in-range-reads
 
--- src/operators.rt:245:9
+-- src/operators.rt:249:9
 returns : tie.Need-returns
 returns c = search test-laws
 
--- src/operators.rt:247:8
+-- src/operators.rt:251:8
 in-range-requires : tie.Need-in-range-requires
 in-range-requires c κs = search needs
 
--- src/operators.rt:248:9
+-- src/operators.rt:252:9
 returns-2 : tie.Need-returns-2
 returns-2 c = search test-laws
 
--- src/operators.rt:241:1
+-- src/operators.rt:245:1
 returns-3 : tie.Need-returns-3
 returns-3 c = search test-laws
 

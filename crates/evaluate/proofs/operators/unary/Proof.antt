@@ -6,15 +6,15 @@ use Rattle.evaluate.proofs.operators.unary.Reads as reads
 use Rattle.evaluate.proofs.operators.unary.Lts as lts
 use Rattle.evaluate.proofs.operators.change.Reads as change-reads
 
--- src/operators.rt:215:9
+-- src/operators.rt:219:9
 returns : tie.Need-returns
 returns c = search unary-laws
 
--- src/operators.rt:217:5
+-- src/operators.rt:221:5
 change-requires : tie.Need-change-requires
 change-requires c κs = search needs
 
--- src/operators.rt:211:1
+-- src/operators.rt:215:1
 returns-2 : tie.Need-returns-2
 returns-2 c = search unary-laws
 

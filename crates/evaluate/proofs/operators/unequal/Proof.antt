@@ -4,11 +4,11 @@ use Rattle.evaluate.proofs.operators.unequal.Tie as tie
 use Rattle.evaluate.proofs.operators.unequal.Reads as reads
 use Rattle.evaluate.proofs.operators.unequal.Lts as lts
 
--- src/operators.rt:97:9
+-- src/operators.rt:101:9
 returns : tie.Need-returns
 returns c = search compare-laws
 
--- src/operators.rt:93:1
+-- src/operators.rt:97:1
 returns-2 : tie.Need-returns-2
 returns-2 c = search compare-laws
 

@@ -8,23 +8,23 @@ use Rattle.sets.proofs.pattern.Reads as pattern-reads
 use Rattle.sets.proofs.union.Reads as union-reads
 use Rattle.sets.proofs.value.Reads as value-reads
 
--- src/operators.rt:48:25
+-- src/operators.rt:52:25
 pattern-requires : tie.Need-pattern-requires
 pattern-requires c κs = search needs
 
--- src/operators.rt:48:43
+-- src/operators.rt:52:43
 pattern-requires-2 : tie.Need-pattern-requires-2
 pattern-requires-2 c κs = search needs
 
--- src/operators.rt:48:9
+-- src/operators.rt:52:9
 union-requires : tie.Need-union-requires
 union-requires c κs = search needs
 
--- src/operators.rt:49:5
+-- src/operators.rt:53:5
 value-requires : tie.Need-value-requires
 value-requires c κs = search needs
 
--- src/operators.rt:45:1
+-- src/operators.rt:49:1
 returns : tie.Need-returns
 returns c = search (union-word, needs)
 

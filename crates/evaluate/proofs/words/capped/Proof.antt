@@ -5,15 +5,15 @@ use Rattle.evaluate.proofs.words.capped.Tie as tie
 use Rattle.evaluate.proofs.words.capped.Reads as reads
 use Rattle.evaluate.proofs.words.capped.Lts as lts
 
--- src/words.rt:84:9
+-- src/words.rt:81:9
 returns : tie.Need-returns
 returns c = search (capped-past, capped-here)
 
--- src/words.rt:86:5
+-- src/words.rt:83:5
 cast-result : tie.Need-cast-result
 cast-result c = search needs
 
--- src/words.rt:80:1
+-- src/words.rt:77:1
 returns-2 : tie.Need-returns-2
 returns-2 c = search (capped-past, capped-here)
 

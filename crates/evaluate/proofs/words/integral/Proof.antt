@@ -7,15 +7,15 @@ use Rattle.evaluate.proofs.words.integral.Lts as lts
 use Rattle.evaluate.proofs.words.number.Reads as number-reads
 use Rattle.evaluate.proofs.words.signed_of.Reads as signed-of-reads
 
--- src/words.rt:49:15
+-- src/words.rt:46:15
 number-requires : tie.Need-number-requires
 number-requires c κs = search needs
 
--- src/words.rt:49:5
+-- src/words.rt:46:5
 signed-of-requires : tie.Need-signed-of-requires
 signed-of-requires c κs = search needs
 
--- src/words.rt:46:1
+-- src/words.rt:43:1
 returns : tie.Need-returns
 returns c = search (integral-is, needs)
 

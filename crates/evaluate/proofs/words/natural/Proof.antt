@@ -6,15 +6,15 @@ use Rattle.evaluate.proofs.words.natural.Tie as tie
 use Rattle.evaluate.proofs.words.natural.Reads as reads
 use Rattle.evaluate.proofs.words.natural.Lts as lts
 
--- src/words.rt:74:9
+-- src/words.rt:71:9
 returns : tie.Need-returns
 returns c = search (natural-none, natural-is, needs)
 
--- src/words.rt:76:5
+-- src/words.rt:73:5
 cast-result : tie.Need-cast-result
 cast-result c = raise-cast (c .before .args .z) (c .before .fits .z) (c .if1 .left)
 
--- src/words.rt:70:1
+-- src/words.rt:67:1
 returns-2 : tie.Need-returns-2
 returns-2 c = search (natural-none, natural-is, needs)
 

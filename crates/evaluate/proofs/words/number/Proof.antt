@@ -5,19 +5,19 @@ use Rattle.evaluate.proofs.words.number.Tie as tie
 use Rattle.evaluate.proofs.words.number.Reads as reads
 use Rattle.evaluate.proofs.words.number.Lts as lts
 
--- src/words.rt:30:16
+-- src/words.rt:27:16
 mul-result : tie.Need-mul-result
 mul-result c = search needs
 
--- src/words.rt:30:16
+-- src/words.rt:27:16
 element-copy-out-result : tie.Need-element-copy-out-result
 element-copy-out-result c = search needs
 
--- src/words.rt:30:9
+-- src/words.rt:27:9
 returns : tie.Need-returns
 returns c = search (number-here, number-past, needs)
 
--- src/words.rt:26:1
+-- src/words.rt:23:1
 returns-2 : tie.Need-returns-2
 returns-2 c = search (number-here, number-past, needs)
 

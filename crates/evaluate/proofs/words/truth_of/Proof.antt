@@ -4,11 +4,11 @@ use Rattle.evaluate.proofs.words.truth_of.Tie as tie
 use Rattle.evaluate.proofs.words.truth_of.Reads as reads
 use Rattle.evaluate.proofs.words.truth_of.Lts as lts
 
--- src/words.rt:64:9
+-- src/words.rt:61:9
 returns : tie.Need-returns
 returns c = search truth-yes
 
--- src/words.rt:60:1
+-- src/words.rt:57:1
 returns-2 : tie.Need-returns-2
 returns-2 c = search truth-not
 

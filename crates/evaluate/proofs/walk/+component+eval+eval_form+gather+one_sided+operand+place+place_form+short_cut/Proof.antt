@@ -6,38 +6,41 @@ use Rattle.evaluate.specs.Words.{codeIn}
 use Rattle.evaluate.proofs.Gathering.{Gathering}
 use borrow.Author.Needs.{needs}
 use Rattle.evaluate.proofs.Gathering.{gather-done, gather-end, gather-fault, gather-start, gather-step, link-laws}
-use Rattle.evaluate.proofs.Walking.{binary-form, binary-node, deep, evals-at, evals-binary, evals-cell, evals-cells, evals-gather, evals-last, evals-literal, evals-none, evals-passed, evals-pred, evals-succ, evals-zero, finds-cell, finds-element, finds-none, finds-passed, finds-shift, finds-zero, nothing-node, short-laws, simple-evals, two-simple, unary-node}
+use Rattle.evaluate.proofs.Walking.{binary-form, deep-not, evals-at, evals-binary, evals-cell, evals-cells, evals-gather, evals-last, evals-literal, evals-none, evals-passed, evals-pred, evals-succ, evals-zero, finds-cell, finds-element, finds-left, finds-none, finds-passed, finds-right, finds-shift, finds-zero, nothing-node, short-laws, unary-node}
 use Prim.Native.Nat.{ℕ, _<_, _≤_, _+_, _*_, _-_}
 use borrow.Fn.Kinds.{In}
 use borrow.Fn.PlainCycle.{Measures, is, falls, and}
+use Rattle.evaluate.proofs.walk.component.Reads as component
+use Rattle.evaluate.proofs.walk.component.Kinds as component-kinds
+use Rattle.evaluate.proofs.walk.+component+eval+eval_form+gather+one_sided+operand+place+place_form+short_cut.Lts-component as component-lts
 use Rattle.evaluate.proofs.walk.eval.Reads as eval
 use Rattle.evaluate.proofs.walk.eval.Kinds as eval-kinds
-use Rattle.evaluate.proofs.walk.+eval+eval_form+gather+left_first+one_sided+place+place_form+short_cut.Lts-eval as eval-lts
+use Rattle.evaluate.proofs.walk.+component+eval+eval_form+gather+one_sided+operand+place+place_form+short_cut.Lts-eval as eval-lts
 use Rattle.evaluate.proofs.walk.eval_form.Reads as eval-form
 use Rattle.evaluate.proofs.walk.eval_form.Kinds as eval-form-kinds
-use Rattle.evaluate.proofs.walk.+eval+eval_form+gather+left_first+one_sided+place+place_form+short_cut.Lts-eval_form as eval-form-lts
+use Rattle.evaluate.proofs.walk.+component+eval+eval_form+gather+one_sided+operand+place+place_form+short_cut.Lts-eval_form as eval-form-lts
 use Rattle.evaluate.proofs.walk.gather.Reads as gather
 use Rattle.evaluate.proofs.walk.gather.Kinds as gather-kinds
-use Rattle.evaluate.proofs.walk.+eval+eval_form+gather+left_first+one_sided+place+place_form+short_cut.Lts-gather as gather-lts
-use Rattle.evaluate.proofs.walk.left_first.Reads as left-first
-use Rattle.evaluate.proofs.walk.left_first.Kinds as left-first-kinds
-use Rattle.evaluate.proofs.walk.+eval+eval_form+gather+left_first+one_sided+place+place_form+short_cut.Lts-left_first as left-first-lts
+use Rattle.evaluate.proofs.walk.+component+eval+eval_form+gather+one_sided+operand+place+place_form+short_cut.Lts-gather as gather-lts
 use Rattle.evaluate.proofs.walk.one_sided.Reads as one-sided
 use Rattle.evaluate.proofs.walk.one_sided.Kinds as one-sided-kinds
-use Rattle.evaluate.proofs.walk.+eval+eval_form+gather+left_first+one_sided+place+place_form+short_cut.Lts-one_sided as one-sided-lts
+use Rattle.evaluate.proofs.walk.+component+eval+eval_form+gather+one_sided+operand+place+place_form+short_cut.Lts-one_sided as one-sided-lts
+use Rattle.evaluate.proofs.walk.operand.Reads as operand
+use Rattle.evaluate.proofs.walk.operand.Kinds as operand-kinds
+use Rattle.evaluate.proofs.walk.+component+eval+eval_form+gather+one_sided+operand+place+place_form+short_cut.Lts-operand as operand-lts
 use Rattle.evaluate.proofs.walk.place.Reads as place
 use Rattle.evaluate.proofs.walk.place.Kinds as place-kinds
-use Rattle.evaluate.proofs.walk.+eval+eval_form+gather+left_first+one_sided+place+place_form+short_cut.Lts-place as place-lts
+use Rattle.evaluate.proofs.walk.+component+eval+eval_form+gather+one_sided+operand+place+place_form+short_cut.Lts-place as place-lts
 use Rattle.evaluate.proofs.walk.place_form.Reads as place-form
 use Rattle.evaluate.proofs.walk.place_form.Kinds as place-form-kinds
-use Rattle.evaluate.proofs.walk.+eval+eval_form+gather+left_first+one_sided+place+place_form+short_cut.Lts-place_form as place-form-lts
+use Rattle.evaluate.proofs.walk.+component+eval+eval_form+gather+one_sided+operand+place+place_form+short_cut.Lts-place_form as place-form-lts
 use Rattle.evaluate.proofs.walk.short_cut.Reads as short-cut
 use Rattle.evaluate.proofs.walk.short_cut.Kinds as short-cut-kinds
-use Rattle.evaluate.proofs.walk.+eval+eval_form+gather+left_first+one_sided+place+place_form+short_cut.Lts-short_cut as short-cut-lts
+use Rattle.evaluate.proofs.walk.+component+eval+eval_form+gather+one_sided+operand+place+place_form+short_cut.Lts-short_cut as short-cut-lts
 use Rattle.evaluate.proofs.cells.cell.Reads as cell-reads
 use Rattle.evaluate.proofs.cells.cells.Reads as cells-reads
 use Rattle.evaluate.proofs.cells.cells_at.Reads as cells-at-reads
-use Rattle.evaluate.proofs.cells.simple.Reads as simple-reads
+use Rattle.evaluate.proofs.cells.latest.Reads as latest-reads
 use Rattle.evaluate.proofs.operators.binary.Reads as binary-reads
 use Rattle.evaluate.proofs.operators.distance.Reads as distance-reads
 use Rattle.evaluate.proofs.operators.element.Reads as element-reads
@@ -50,36 +53,46 @@ use Rattle.evaluate.proofs.words.integral.Reads as integral-reads
 use Rattle.evaluate.proofs.words.number.Reads as number-reads
 use Rattle.sets.proofs.insert.Reads as insert-reads
 use Rattle.sets.proofs.value.Reads as value-reads
-use Rattle.evaluate.proofs.walk.+eval+eval_form+gather+left_first+one_sided+place+place_form+short_cut.{
+use Rattle.evaluate.proofs.walk.+component+eval+eval_form+gather+one_sided+operand+place+place_form+short_cut.{
   statement,
 }
-use Rattle.evaluate.proofs.walk.+eval+eval_form+gather+left_first+one_sided+place+place_form+short_cut.Tie.{
+use Rattle.evaluate.proofs.walk.+component+eval+eval_form+gather+one_sided+operand+place+place_form+short_cut.Tie.{
   close,
 }
 
+abbrev μ-component : Measures 2 component-kinds.ps ℕ
+μ-component κs a = 4 * a .1 .1 .1 .0 + 1
+
 abbrev μ-eval : Measures 2 eval-kinds.ps ℕ
-μ-eval κs a = 3 * a .1 .1 .1 .1 .0 + 2
+μ-eval κs a = 4 * a .1 .1 .1 .0 + 2
 
 abbrev μ-eval-form : Measures 2 eval-form-kinds.ps ℕ
-μ-eval-form κs a = 3 * a .1 .1 .1 .1 .0 + 1
+μ-eval-form κs a = 4 * a .1 .1 .1 .0 + 1
 
 abbrev μ-gather : Measures 2 gather-kinds.ps ℕ
-μ-gather κs a = 3 * a .1 .1 .1 .1 .0
-
-abbrev μ-left-first : Measures 2 left-first-kinds.ps ℕ
-μ-left-first κs a = 3 * a .1 .1 .1 .1 .0
+μ-gather κs a = 4 * a .1 .1 .1 .0
 
 abbrev μ-one-sided : Measures 2 one-sided-kinds.ps ℕ
-μ-one-sided κs a = 3 * a .1 .1 .1 .1 .0
+μ-one-sided κs a = 4 * a .1 .1 .1 .0
+
+abbrev μ-operand : Measures 2 operand-kinds.ps ℕ
+μ-operand κs a = 4 * a .1 .1 .1 .0 + 3
 
 abbrev μ-place : Measures 2 place-kinds.ps ℕ
-μ-place κs a = 3 * a .1 .1 .1 .1 .0 + 1
+μ-place κs a = 4 * a .1 .1 .1 .0 + 2
 
 abbrev μ-place-form : Measures 2 place-form-kinds.ps ℕ
-μ-place-form κs a = 3 * a .1 .1 .1 .1 .0
+μ-place-form κs a = 4 * a .1 .1 .1 .0
 
 abbrev μ-short-cut : Measures 2 short-cut-kinds.ps ℕ
-μ-short-cut κs a = 3 * a .1 .1 .1 .1 .0
+μ-short-cut κs a = 4 * a .1 .1 .1 .0
+
+abbrev component-at : ℕ → In 2 component-kinds.ps
+component-at t = and 2 component-kinds.ps (is 2 component-kinds.ps μ-component t) component.Pre
+
+abbrev component-below : ℕ → In 2 component-kinds.ps
+component-below t =
+    and 2 component-kinds.ps (falls 2 component-kinds.ps _<_ μ-component t) component.Pre
 
 abbrev eval-at : ℕ → In 2 eval-kinds.ps
 eval-at t = and 2 eval-kinds.ps (is 2 eval-kinds.ps μ-eval t) eval.Pre
@@ -100,20 +113,18 @@ gather-at t = and 2 gather-kinds.ps (is 2 gather-kinds.ps μ-gather t) gather.Pr
 abbrev gather-below : ℕ → In 2 gather-kinds.ps
 gather-below t = and 2 gather-kinds.ps (falls 2 gather-kinds.ps _<_ μ-gather t) gather.Pre
 
-abbrev left-first-at : ℕ → In 2 left-first-kinds.ps
-left-first-at t =
-    and 2 left-first-kinds.ps (is 2 left-first-kinds.ps μ-left-first t) left-first.Pre
-
-abbrev left-first-below : ℕ → In 2 left-first-kinds.ps
-left-first-below t =
-    and 2 left-first-kinds.ps (falls 2 left-first-kinds.ps _<_ μ-left-first t) left-first.Pre
-
 abbrev one-sided-at : ℕ → In 2 one-sided-kinds.ps
 one-sided-at t = and 2 one-sided-kinds.ps (is 2 one-sided-kinds.ps μ-one-sided t) one-sided.Pre
 
 abbrev one-sided-below : ℕ → In 2 one-sided-kinds.ps
 one-sided-below t =
     and 2 one-sided-kinds.ps (falls 2 one-sided-kinds.ps _<_ μ-one-sided t) one-sided.Pre
+
+abbrev operand-at : ℕ → In 2 operand-kinds.ps
+operand-at t = and 2 operand-kinds.ps (is 2 operand-kinds.ps μ-operand t) operand.Pre
+
+abbrev operand-below : ℕ → In 2 operand-kinds.ps
+operand-below t = and 2 operand-kinds.ps (falls 2 operand-kinds.ps _<_ μ-operand t) operand.Pre
 
 abbrev place-at : ℕ → In 2 place-kinds.ps
 place-at t = and 2 place-kinds.ps (is 2 place-kinds.ps μ-place t) place.Pre
@@ -136,28 +147,430 @@ abbrev short-cut-below : ℕ → In 2 short-cut-kinds.ps
 short-cut-below t =
     and 2 short-cut-kinds.ps (falls 2 short-cut-kinds.ps _<_ μ-short-cut t) short-cut.Pre
 
--- src/walk.rt:29:9
-eval-eval-form-requires : (t : ℕ) → eval-lts.Need-eval-form-requires (
-  eval-form-below t,
-  eval-form.Post,
+-- src/walk.rt:181:9
+component-returns : (t : ℕ) → component-lts.Need-returns (
+  place-form-below t,
+  place-form.Post,
   number-reads.Asked,
   number-reads.Learnt,
-  simple-reads.Asked,
-  simple-reads.Learnt,
-  left-first-below t,
-  left-first.Post,
-  eval-below t,
-  eval.Post,
-  binary-reads.Asked,
-  binary-reads.Learnt,
-  one-sided-below t,
-  one-sided.Post,
-  cell-reads.Asked,
-  cell-reads.Learnt,
-  integral-reads.Asked,
-  integral-reads.Learnt,
-) (eval-at t) eval.Post
-eval-eval-form-requires t c κs = search needs
+  place-below t,
+  place.Post,
+  operand-below t,
+  operand.Post,
+  distance-reads.Asked,
+  distance-reads.Learnt,
+  element-reads.Asked,
+  element-reads.Learnt,
+) (component-at t) component.Post
+component-returns t c = search (finds-zero)
+
+-- src/walk.rt:184:9
+component-place-form-requires : (t : ℕ) → component-lts.Need-place-form-requires (
+  place-form-below t,
+  place-form.Post,
+  number-reads.Asked,
+  number-reads.Learnt,
+  place-below t,
+  place.Post,
+  operand-below t,
+  operand.Post,
+  distance-reads.Asked,
+  distance-reads.Learnt,
+  element-reads.Asked,
+  element-reads.Learnt,
+) (component-at t) component.Post
+component-place-form-requires t c κs = search needs
+
+-- src/walk.rt:184:9
+component-returns-2 : (t : ℕ) → component-lts.Need-returns-2 (
+  place-form-below t,
+  place-form.Post,
+  number-reads.Asked,
+  number-reads.Learnt,
+  place-below t,
+  place.Post,
+  operand-below t,
+  operand.Post,
+  distance-reads.Asked,
+  distance-reads.Learnt,
+  element-reads.Asked,
+  element-reads.Learnt,
+) (component-at t) component.Post
+component-returns-2 t c = search (finds-passed, sfits-of)
+
+-- src/walk.rt:187:9
+component-number-requires : (t : ℕ) → component-lts.Need-number-requires (
+  place-form-below t,
+  place-form.Post,
+  number-reads.Asked,
+  number-reads.Learnt,
+  place-below t,
+  place.Post,
+  operand-below t,
+  operand.Post,
+  distance-reads.Asked,
+  distance-reads.Learnt,
+  element-reads.Asked,
+  element-reads.Learnt,
+) (component-at t) component.Post
+component-number-requires t c κs = search needs
+
+-- src/walk.rt:189:49
+component-add-number : (t : ℕ) → component-lts.Need-add-number (
+  place-form-below t,
+  place-form.Post,
+  number-reads.Asked,
+  number-reads.Learnt,
+  place-below t,
+  place.Post,
+  operand-below t,
+  operand.Post,
+  distance-reads.Asked,
+  distance-reads.Learnt,
+  element-reads.Asked,
+  element-reads.Learnt,
+) (component-at t) component.Post
+component-add-number t c = search needs
+
+-- src/walk.rt:189:36
+component-number-requires-2 : (t : ℕ) → component-lts.Need-number-requires-2 (
+  place-form-below t,
+  place-form.Post,
+  number-reads.Asked,
+  number-reads.Learnt,
+  place-below t,
+  place.Post,
+  operand-below t,
+  operand.Post,
+  distance-reads.Asked,
+  distance-reads.Learnt,
+  element-reads.Asked,
+  element-reads.Learnt,
+) (component-at t) component.Post
+component-number-requires-2 t c κs = search needs
+
+-- src/walk.rt:189:57
+component-sub-place : (t : ℕ) → component-lts.Need-sub-place (
+  place-form-below t,
+  place-form.Post,
+  number-reads.Asked,
+  number-reads.Learnt,
+  place-below t,
+  place.Post,
+  operand-below t,
+  operand.Post,
+  distance-reads.Asked,
+  distance-reads.Learnt,
+  element-reads.Asked,
+  element-reads.Learnt,
+) (component-at t) component.Post
+component-sub-place t c = search needs
+
+-- src/walk.rt:189:13
+component-place-requires : (t : ℕ) → component-lts.Need-place-requires (
+  place-form-below t,
+  place-form.Post,
+  number-reads.Asked,
+  number-reads.Learnt,
+  place-below t,
+  place.Post,
+  operand-below t,
+  operand.Post,
+  distance-reads.Asked,
+  distance-reads.Learnt,
+  element-reads.Asked,
+  element-reads.Learnt,
+) (component-at t) component.Post
+component-place-requires t c κs = search needs
+
+-- src/walk.rt:191:13
+component-returns-3 : (t : ℕ) → component-lts.Need-returns-3 (
+  place-form-below t,
+  place-form.Post,
+  number-reads.Asked,
+  number-reads.Learnt,
+  place-below t,
+  place.Post,
+  operand-below t,
+  operand.Post,
+  distance-reads.Asked,
+  distance-reads.Learnt,
+  element-reads.Asked,
+  element-reads.Learnt,
+) (component-at t) component.Post
+component-returns-3 t c = search (finds-left, deep-not, sfits-of)
+
+-- src/walk.rt:193:51
+component-add-number-2 : (t : ℕ) → component-lts.Need-add-number-2 (
+  place-form-below t,
+  place-form.Post,
+  number-reads.Asked,
+  number-reads.Learnt,
+  place-below t,
+  place.Post,
+  operand-below t,
+  operand.Post,
+  distance-reads.Asked,
+  distance-reads.Learnt,
+  element-reads.Asked,
+  element-reads.Learnt,
+) (component-at t) component.Post
+component-add-number-2 t c = search needs
+
+-- src/walk.rt:193:38
+component-number-requires-3 : (t : ℕ) → component-lts.Need-number-requires-3 (
+  place-form-below t,
+  place-form.Post,
+  number-reads.Asked,
+  number-reads.Learnt,
+  place-below t,
+  place.Post,
+  operand-below t,
+  operand.Post,
+  distance-reads.Asked,
+  distance-reads.Learnt,
+  element-reads.Asked,
+  element-reads.Learnt,
+) (component-at t) component.Post
+component-number-requires-3 t c κs = search needs
+
+-- src/walk.rt:193:59
+component-sub-operand : (t : ℕ) → component-lts.Need-sub-operand (
+  place-form-below t,
+  place-form.Post,
+  number-reads.Asked,
+  number-reads.Learnt,
+  place-below t,
+  place.Post,
+  operand-below t,
+  operand.Post,
+  distance-reads.Asked,
+  distance-reads.Learnt,
+  element-reads.Asked,
+  element-reads.Learnt,
+) (component-at t) component.Post
+component-sub-operand t c = search needs
+
+-- src/walk.rt:193:13
+component-operand-requires : (t : ℕ) → component-lts.Need-operand-requires (
+  place-form-below t,
+  place-form.Post,
+  number-reads.Asked,
+  number-reads.Learnt,
+  place-below t,
+  place.Post,
+  operand-below t,
+  operand.Post,
+  distance-reads.Asked,
+  distance-reads.Learnt,
+  element-reads.Asked,
+  element-reads.Learnt,
+) (component-at t) component.Post
+component-operand-requires t c κs = search needs
+
+-- src/walk.rt:195:13
+component-returns-4 : (t : ℕ) → component-lts.Need-returns-4 (
+  place-form-below t,
+  place-form.Post,
+  number-reads.Asked,
+  number-reads.Learnt,
+  place-below t,
+  place.Post,
+  operand-below t,
+  operand.Post,
+  distance-reads.Asked,
+  distance-reads.Learnt,
+  element-reads.Asked,
+  element-reads.Learnt,
+) (component-at t) component.Post
+component-returns-4 t c = search (finds-right, deep-not, sfits-of)
+
+-- src/walk.rt:197:42
+component-add-number-3 : (t : ℕ) → component-lts.Need-add-number-3 (
+  place-form-below t,
+  place-form.Post,
+  number-reads.Asked,
+  number-reads.Learnt,
+  place-below t,
+  place.Post,
+  operand-below t,
+  operand.Post,
+  distance-reads.Asked,
+  distance-reads.Learnt,
+  element-reads.Asked,
+  element-reads.Learnt,
+) (component-at t) component.Post
+component-add-number-3 t c = search needs
+
+-- src/walk.rt:197:29
+component-number-requires-4 : (t : ℕ) → component-lts.Need-number-requires-4 (
+  place-form-below t,
+  place-form.Post,
+  number-reads.Asked,
+  number-reads.Learnt,
+  place-below t,
+  place.Post,
+  operand-below t,
+  operand.Post,
+  distance-reads.Asked,
+  distance-reads.Learnt,
+  element-reads.Asked,
+  element-reads.Learnt,
+) (component-at t) component.Post
+component-number-requires-4 t c κs = search needs
+
+-- src/walk.rt:197:63
+component-add-number-4 : (t : ℕ) → component-lts.Need-add-number-4 (
+  place-form-below t,
+  place-form.Post,
+  number-reads.Asked,
+  number-reads.Learnt,
+  place-below t,
+  place.Post,
+  operand-below t,
+  operand.Post,
+  distance-reads.Asked,
+  distance-reads.Learnt,
+  element-reads.Asked,
+  element-reads.Learnt,
+) (component-at t) component.Post
+component-add-number-4 t c = search needs
+
+-- src/walk.rt:197:50
+component-number-requires-5 : (t : ℕ) → component-lts.Need-number-requires-5 (
+  place-form-below t,
+  place-form.Post,
+  number-reads.Asked,
+  number-reads.Learnt,
+  place-below t,
+  place.Post,
+  operand-below t,
+  operand.Post,
+  distance-reads.Asked,
+  distance-reads.Learnt,
+  element-reads.Asked,
+  element-reads.Learnt,
+) (component-at t) component.Post
+component-number-requires-5 t c κs = search needs
+
+-- src/walk.rt:197:13
+component-distance-requires : (t : ℕ) → component-lts.Need-distance-requires (
+  place-form-below t,
+  place-form.Post,
+  number-reads.Asked,
+  number-reads.Learnt,
+  place-below t,
+  place.Post,
+  operand-below t,
+  operand.Post,
+  distance-reads.Asked,
+  distance-reads.Learnt,
+  element-reads.Asked,
+  element-reads.Learnt,
+) (component-at t) component.Post
+component-distance-requires t c κs = search needs
+
+-- src/walk.rt:198:43
+component-add-number-5 : (t : ℕ) → component-lts.Need-add-number-5 (
+  place-form-below t,
+  place-form.Post,
+  number-reads.Asked,
+  number-reads.Learnt,
+  place-below t,
+  place.Post,
+  operand-below t,
+  operand.Post,
+  distance-reads.Asked,
+  distance-reads.Learnt,
+  element-reads.Asked,
+  element-reads.Learnt,
+) (component-at t) component.Post
+component-add-number-5 t c = search needs
+
+-- src/walk.rt:198:30
+component-number-requires-6 : (t : ℕ) → component-lts.Need-number-requires-6 (
+  place-form-below t,
+  place-form.Post,
+  number-reads.Asked,
+  number-reads.Learnt,
+  place-below t,
+  place.Post,
+  operand-below t,
+  operand.Post,
+  distance-reads.Asked,
+  distance-reads.Learnt,
+  element-reads.Asked,
+  element-reads.Learnt,
+) (component-at t) component.Post
+component-number-requires-6 t c κs = search needs
+
+-- src/walk.rt:198:9
+component-element-requires : (t : ℕ) → component-lts.Need-element-requires (
+  place-form-below t,
+  place-form.Post,
+  number-reads.Asked,
+  number-reads.Learnt,
+  place-below t,
+  place.Post,
+  operand-below t,
+  operand.Post,
+  distance-reads.Asked,
+  distance-reads.Learnt,
+  element-reads.Asked,
+  element-reads.Learnt,
+) (component-at t) component.Post
+component-element-requires t c κs = search needs
+
+-- src/walk.rt:198:9
+component-returns-5 : (t : ℕ) → component-lts.Need-returns-5 (
+  place-form-below t,
+  place-form.Post,
+  number-reads.Asked,
+  number-reads.Learnt,
+  place-below t,
+  place.Post,
+  operand-below t,
+  operand.Post,
+  distance-reads.Asked,
+  distance-reads.Learnt,
+  element-reads.Asked,
+  element-reads.Learnt,
+) (component-at t) component.Post
+component-returns-5 t c = search (finds-element, deep-not, needs)
+
+-- src/walk.rt:200:5
+component-place-form-requires-2 : (t : ℕ) → component-lts.Need-place-form-requires-2 (
+  place-form-below t,
+  place-form.Post,
+  number-reads.Asked,
+  number-reads.Learnt,
+  place-below t,
+  place.Post,
+  operand-below t,
+  operand.Post,
+  distance-reads.Asked,
+  distance-reads.Learnt,
+  element-reads.Asked,
+  element-reads.Learnt,
+) (component-at t) component.Post
+component-place-form-requires-2 t c κs = search needs
+
+-- src/walk.rt:177:1
+component-returns-6 : (t : ℕ) → component-lts.Need-returns-6 (
+  place-form-below t,
+  place-form.Post,
+  number-reads.Asked,
+  number-reads.Learnt,
+  place-below t,
+  place.Post,
+  operand-below t,
+  operand.Post,
+  distance-reads.Asked,
+  distance-reads.Learnt,
+  element-reads.Asked,
+  element-reads.Learnt,
+) (component-at t) component.Post
+component-returns-6 t c = search (finds-passed, sfits-of)
 
 -- src/walk.rt:29:9
 eval-returns : (t : ℕ) → eval-lts.Need-returns (
@@ -165,12 +578,8 @@ eval-returns : (t : ℕ) → eval-lts.Need-returns (
   eval-form.Post,
   number-reads.Asked,
   number-reads.Learnt,
-  simple-reads.Asked,
-  simple-reads.Learnt,
-  left-first-below t,
-  left-first.Post,
-  eval-below t,
-  eval.Post,
+  operand-below t,
+  operand.Post,
   binary-reads.Asked,
   binary-reads.Learnt,
   one-sided-below t,
@@ -179,21 +588,21 @@ eval-returns : (t : ℕ) → eval-lts.Need-returns (
   cell-reads.Learnt,
   integral-reads.Asked,
   integral-reads.Learnt,
+  place-below t,
+  place.Post,
+  cells-at-reads.Asked,
+  cells-at-reads.Learnt,
 ) (eval-at t) eval.Post
-eval-returns t c = search (evals-passed, sfits-of)
+eval-returns t c = search (evals-zero)
 
 -- src/walk.rt:32:9
-eval-number-requires : (t : ℕ) → eval-lts.Need-number-requires (
+eval-eval-form-requires : (t : ℕ) → eval-lts.Need-eval-form-requires (
   eval-form-below t,
   eval-form.Post,
   number-reads.Asked,
   number-reads.Learnt,
-  simple-reads.Asked,
-  simple-reads.Learnt,
-  left-first-below t,
-  left-first.Post,
-  eval-below t,
-  eval.Post,
+  operand-below t,
+  operand.Post,
   binary-reads.Asked,
   binary-reads.Learnt,
   one-sided-below t,
@@ -202,113 +611,21 @@ eval-number-requires : (t : ℕ) → eval-lts.Need-number-requires (
   cell-reads.Learnt,
   integral-reads.Asked,
   integral-reads.Learnt,
+  place-below t,
+  place.Post,
+  cells-at-reads.Asked,
+  cells-at-reads.Learnt,
 ) (eval-at t) eval.Post
-eval-number-requires t c κs = search needs
+eval-eval-form-requires t c κs = search needs
 
--- src/walk.rt:35:54
-eval-add-number : (t : ℕ) → eval-lts.Need-add-number (
-  eval-form-below t,
-  eval-form.Post,
-  number-reads.Asked,
-  number-reads.Learnt,
-  simple-reads.Asked,
-  simple-reads.Learnt,
-  left-first-below t,
-  left-first.Post,
-  eval-below t,
-  eval.Post,
-  binary-reads.Asked,
-  binary-reads.Learnt,
-  one-sided-below t,
-  one-sided.Post,
-  cell-reads.Asked,
-  cell-reads.Learnt,
-  integral-reads.Asked,
-  integral-reads.Learnt,
-) (eval-at t) eval.Post
-eval-add-number t c = search needs
-
--- src/walk.rt:35:41
-eval-number-requires-2 : (t : ℕ) → eval-lts.Need-number-requires-2 (
-  eval-form-below t,
-  eval-form.Post,
-  number-reads.Asked,
-  number-reads.Learnt,
-  simple-reads.Asked,
-  simple-reads.Learnt,
-  left-first-below t,
-  left-first.Post,
-  eval-below t,
-  eval.Post,
-  binary-reads.Asked,
-  binary-reads.Learnt,
-  one-sided-below t,
-  one-sided.Post,
-  cell-reads.Asked,
-  cell-reads.Learnt,
-  integral-reads.Asked,
-  integral-reads.Learnt,
-) (eval-at t) eval.Post
-eval-number-requires-2 t c κs = search needs
-
--- src/walk.rt:35:17
-eval-simple-requires : (t : ℕ) → eval-lts.Need-simple-requires (
-  eval-form-below t,
-  eval-form.Post,
-  number-reads.Asked,
-  number-reads.Learnt,
-  simple-reads.Asked,
-  simple-reads.Learnt,
-  left-first-below t,
-  left-first.Post,
-  eval-below t,
-  eval.Post,
-  binary-reads.Asked,
-  binary-reads.Learnt,
-  one-sided-below t,
-  one-sided.Post,
-  cell-reads.Asked,
-  cell-reads.Learnt,
-  integral-reads.Asked,
-  integral-reads.Learnt,
-) (eval-at t) eval.Post
-eval-simple-requires t c κs = search needs
-
--- src/walk.rt:37:17
-eval-left-first-requires : (t : ℕ) → eval-lts.Need-left-first-requires (
-  eval-form-below t,
-  eval-form.Post,
-  number-reads.Asked,
-  number-reads.Learnt,
-  simple-reads.Asked,
-  simple-reads.Learnt,
-  left-first-below t,
-  left-first.Post,
-  eval-below t,
-  eval.Post,
-  binary-reads.Asked,
-  binary-reads.Learnt,
-  one-sided-below t,
-  one-sided.Post,
-  cell-reads.Asked,
-  cell-reads.Learnt,
-  integral-reads.Asked,
-  integral-reads.Learnt,
-) (eval-at t) eval.Post
-eval-left-first-requires t c κs = search needs
-
--- src/walk.rt:37:17
+-- src/walk.rt:32:9
 eval-returns-2 : (t : ℕ) → eval-lts.Need-returns-2 (
   eval-form-below t,
   eval-form.Post,
   number-reads.Asked,
   number-reads.Learnt,
-  simple-reads.Asked,
-  simple-reads.Learnt,
-  left-first-below t,
-  left-first.Post,
-  eval-below t,
-  eval.Post,
+  operand-below t,
+  operand.Post,
   binary-reads.Asked,
   binary-reads.Learnt,
   one-sided-below t,
@@ -317,21 +634,136 @@ eval-returns-2 : (t : ℕ) → eval-lts.Need-returns-2 (
   cell-reads.Learnt,
   integral-reads.Asked,
   integral-reads.Learnt,
+  place-below t,
+  place.Post,
+  cells-at-reads.Asked,
+  cells-at-reads.Learnt,
 ) (eval-at t) eval.Post
 eval-returns-2 t c = search (evals-passed, sfits-of)
 
--- src/walk.rt:39:34
+-- src/walk.rt:35:9
+eval-number-requires : (t : ℕ) → eval-lts.Need-number-requires (
+  eval-form-below t,
+  eval-form.Post,
+  number-reads.Asked,
+  number-reads.Learnt,
+  operand-below t,
+  operand.Post,
+  binary-reads.Asked,
+  binary-reads.Learnt,
+  one-sided-below t,
+  one-sided.Post,
+  cell-reads.Asked,
+  cell-reads.Learnt,
+  integral-reads.Asked,
+  integral-reads.Learnt,
+  place-below t,
+  place.Post,
+  cells-at-reads.Asked,
+  cells-at-reads.Learnt,
+) (eval-at t) eval.Post
+eval-number-requires t c κs = search needs
+
+-- src/walk.rt:38:55
+eval-add-number : (t : ℕ) → eval-lts.Need-add-number (
+  eval-form-below t,
+  eval-form.Post,
+  number-reads.Asked,
+  number-reads.Learnt,
+  operand-below t,
+  operand.Post,
+  binary-reads.Asked,
+  binary-reads.Learnt,
+  one-sided-below t,
+  one-sided.Post,
+  cell-reads.Asked,
+  cell-reads.Learnt,
+  integral-reads.Asked,
+  integral-reads.Learnt,
+  place-below t,
+  place.Post,
+  cells-at-reads.Asked,
+  cells-at-reads.Learnt,
+) (eval-at t) eval.Post
+eval-add-number t c = search needs
+
+-- src/walk.rt:38:42
+eval-number-requires-2 : (t : ℕ) → eval-lts.Need-number-requires-2 (
+  eval-form-below t,
+  eval-form.Post,
+  number-reads.Asked,
+  number-reads.Learnt,
+  operand-below t,
+  operand.Post,
+  binary-reads.Asked,
+  binary-reads.Learnt,
+  one-sided-below t,
+  one-sided.Post,
+  cell-reads.Asked,
+  cell-reads.Learnt,
+  integral-reads.Asked,
+  integral-reads.Learnt,
+  place-below t,
+  place.Post,
+  cells-at-reads.Asked,
+  cells-at-reads.Learnt,
+) (eval-at t) eval.Post
+eval-number-requires-2 t c κs = search needs
+
+-- src/walk.rt:38:63
+eval-sub-operand : (t : ℕ) → eval-lts.Need-sub-operand (
+  eval-form-below t,
+  eval-form.Post,
+  number-reads.Asked,
+  number-reads.Learnt,
+  operand-below t,
+  operand.Post,
+  binary-reads.Asked,
+  binary-reads.Learnt,
+  one-sided-below t,
+  one-sided.Post,
+  cell-reads.Asked,
+  cell-reads.Learnt,
+  integral-reads.Asked,
+  integral-reads.Learnt,
+  place-below t,
+  place.Post,
+  cells-at-reads.Asked,
+  cells-at-reads.Learnt,
+) (eval-at t) eval.Post
+eval-sub-operand t c = search needs
+
+-- src/walk.rt:38:17
+eval-operand-requires : (t : ℕ) → eval-lts.Need-operand-requires (
+  eval-form-below t,
+  eval-form.Post,
+  number-reads.Asked,
+  number-reads.Learnt,
+  operand-below t,
+  operand.Post,
+  binary-reads.Asked,
+  binary-reads.Learnt,
+  one-sided-below t,
+  one-sided.Post,
+  cell-reads.Asked,
+  cell-reads.Learnt,
+  integral-reads.Asked,
+  integral-reads.Learnt,
+  place-below t,
+  place.Post,
+  cells-at-reads.Asked,
+  cells-at-reads.Learnt,
+) (eval-at t) eval.Post
+eval-operand-requires t c κs = search needs
+
+-- src/walk.rt:39:55
 eval-add-number-2 : (t : ℕ) → eval-lts.Need-add-number-2 (
   eval-form-below t,
   eval-form.Post,
   number-reads.Asked,
   number-reads.Learnt,
-  simple-reads.Asked,
-  simple-reads.Learnt,
-  left-first-below t,
-  left-first.Post,
-  eval-below t,
-  eval.Post,
+  operand-below t,
+  operand.Post,
   binary-reads.Asked,
   binary-reads.Learnt,
   one-sided-below t,
@@ -340,21 +772,21 @@ eval-add-number-2 : (t : ℕ) → eval-lts.Need-add-number-2 (
   cell-reads.Learnt,
   integral-reads.Asked,
   integral-reads.Learnt,
+  place-below t,
+  place.Post,
+  cells-at-reads.Asked,
+  cells-at-reads.Learnt,
 ) (eval-at t) eval.Post
 eval-add-number-2 t c = search needs
 
--- src/walk.rt:39:17
+-- src/walk.rt:39:42
 eval-number-requires-3 : (t : ℕ) → eval-lts.Need-number-requires-3 (
   eval-form-below t,
   eval-form.Post,
   number-reads.Asked,
   number-reads.Learnt,
-  simple-reads.Asked,
-  simple-reads.Learnt,
-  left-first-below t,
-  left-first.Post,
-  eval-below t,
-  eval.Post,
+  operand-below t,
+  operand.Post,
   binary-reads.Asked,
   binary-reads.Learnt,
   one-sided-below t,
@@ -363,21 +795,21 @@ eval-number-requires-3 : (t : ℕ) → eval-lts.Need-number-requires-3 (
   cell-reads.Learnt,
   integral-reads.Asked,
   integral-reads.Learnt,
+  place-below t,
+  place.Post,
+  cells-at-reads.Asked,
+  cells-at-reads.Learnt,
 ) (eval-at t) eval.Post
 eval-number-requires-3 t c κs = search needs
 
--- src/walk.rt:40:17
-eval-simple-requires-2 : (t : ℕ) → eval-lts.Need-simple-requires-2 (
+-- src/walk.rt:39:63
+eval-sub-operand-2 : (t : ℕ) → eval-lts.Need-sub-operand-2 (
   eval-form-below t,
   eval-form.Post,
   number-reads.Asked,
   number-reads.Learnt,
-  simple-reads.Asked,
-  simple-reads.Learnt,
-  left-first-below t,
-  left-first.Post,
-  eval-below t,
-  eval.Post,
+  operand-below t,
+  operand.Post,
   binary-reads.Asked,
   binary-reads.Learnt,
   one-sided-below t,
@@ -386,21 +818,21 @@ eval-simple-requires-2 : (t : ℕ) → eval-lts.Need-simple-requires-2 (
   cell-reads.Learnt,
   integral-reads.Asked,
   integral-reads.Learnt,
+  place-below t,
+  place.Post,
+  cells-at-reads.Asked,
+  cells-at-reads.Learnt,
 ) (eval-at t) eval.Post
-eval-simple-requires-2 t c κs = search needs
+eval-sub-operand-2 t c = search needs
 
--- src/walk.rt:42:67
-eval-sub-eval : (t : ℕ) → eval-lts.Need-sub-eval (
+-- src/walk.rt:39:17
+eval-operand-requires-2 : (t : ℕ) → eval-lts.Need-operand-requires-2 (
   eval-form-below t,
   eval-form.Post,
   number-reads.Asked,
   number-reads.Learnt,
-  simple-reads.Asked,
-  simple-reads.Learnt,
-  left-first-below t,
-  left-first.Post,
-  eval-below t,
-  eval.Post,
+  operand-below t,
+  operand.Post,
   binary-reads.Asked,
   binary-reads.Learnt,
   one-sided-below t,
@@ -409,44 +841,21 @@ eval-sub-eval : (t : ℕ) → eval-lts.Need-sub-eval (
   cell-reads.Learnt,
   integral-reads.Asked,
   integral-reads.Learnt,
+  place-below t,
+  place.Post,
+  cells-at-reads.Asked,
+  cells-at-reads.Learnt,
 ) (eval-at t) eval.Post
-eval-sub-eval t c = search needs
+eval-operand-requires-2 t c κs = search needs
 
--- src/walk.rt:42:38
-eval-eval-requires : (t : ℕ) → eval-lts.Need-eval-requires (
-  eval-form-below t,
-  eval-form.Post,
-  number-reads.Asked,
-  number-reads.Learnt,
-  simple-reads.Asked,
-  simple-reads.Learnt,
-  left-first-below t,
-  left-first.Post,
-  eval-below t,
-  eval.Post,
-  binary-reads.Asked,
-  binary-reads.Learnt,
-  one-sided-below t,
-  one-sided.Post,
-  cell-reads.Asked,
-  cell-reads.Learnt,
-  integral-reads.Asked,
-  integral-reads.Learnt,
-) (eval-at t) eval.Post
-eval-eval-requires t c κs = search needs
-
--- src/walk.rt:42:17
+-- src/walk.rt:40:13
 eval-binary-requires : (t : ℕ) → eval-lts.Need-binary-requires (
   eval-form-below t,
   eval-form.Post,
   number-reads.Asked,
   number-reads.Learnt,
-  simple-reads.Asked,
-  simple-reads.Learnt,
-  left-first-below t,
-  left-first.Post,
-  eval-below t,
-  eval.Post,
+  operand-below t,
+  operand.Post,
   binary-reads.Asked,
   binary-reads.Learnt,
   one-sided-below t,
@@ -455,21 +864,21 @@ eval-binary-requires : (t : ℕ) → eval-lts.Need-binary-requires (
   cell-reads.Learnt,
   integral-reads.Asked,
   integral-reads.Learnt,
+  place-below t,
+  place.Post,
+  cells-at-reads.Asked,
+  cells-at-reads.Learnt,
 ) (eval-at t) eval.Post
 eval-binary-requires t c κs = search needs
 
--- src/walk.rt:42:17
+-- src/walk.rt:40:13
 eval-returns-3 : (t : ℕ) → eval-lts.Need-returns-3 (
   eval-form-below t,
   eval-form.Post,
   number-reads.Asked,
   number-reads.Learnt,
-  simple-reads.Asked,
-  simple-reads.Learnt,
-  left-first-below t,
-  left-first.Post,
-  eval-below t,
-  eval.Post,
+  operand-below t,
+  operand.Post,
   binary-reads.Asked,
   binary-reads.Learnt,
   one-sided-below t,
@@ -478,67 +887,21 @@ eval-returns-3 : (t : ℕ) → eval-lts.Need-returns-3 (
   cell-reads.Learnt,
   integral-reads.Asked,
   integral-reads.Learnt,
+  place-below t,
+  place.Post,
+  cells-at-reads.Asked,
+  cells-at-reads.Learnt,
 ) (eval-at t) eval.Post
-eval-returns-3 t c = search (evals-binary, simple-evals, deep, sfits-of)
+eval-returns-3 t c = search (evals-binary, deep-not, sfits-of)
 
--- src/walk.rt:44:13
-eval-binary-requires-2 : (t : ℕ) → eval-lts.Need-binary-requires-2 (
-  eval-form-below t,
-  eval-form.Post,
-  number-reads.Asked,
-  number-reads.Learnt,
-  simple-reads.Asked,
-  simple-reads.Learnt,
-  left-first-below t,
-  left-first.Post,
-  eval-below t,
-  eval.Post,
-  binary-reads.Asked,
-  binary-reads.Learnt,
-  one-sided-below t,
-  one-sided.Post,
-  cell-reads.Asked,
-  cell-reads.Learnt,
-  integral-reads.Asked,
-  integral-reads.Learnt,
-) (eval-at t) eval.Post
-eval-binary-requires-2 t c κs = search needs
-
--- src/walk.rt:44:13
-eval-returns-4 : (t : ℕ) → eval-lts.Need-returns-4 (
-  eval-form-below t,
-  eval-form.Post,
-  number-reads.Asked,
-  number-reads.Learnt,
-  simple-reads.Asked,
-  simple-reads.Learnt,
-  left-first-below t,
-  left-first.Post,
-  eval-below t,
-  eval.Post,
-  binary-reads.Asked,
-  binary-reads.Learnt,
-  one-sided-below t,
-  one-sided.Post,
-  cell-reads.Asked,
-  cell-reads.Learnt,
-  integral-reads.Asked,
-  integral-reads.Learnt,
-) (eval-at t) eval.Post
-eval-returns-4 t c = search (two-simple, deep, sfits-of)
-
--- src/walk.rt:46:9
+-- src/walk.rt:42:9
 eval-one-sided-requires : (t : ℕ) → eval-lts.Need-one-sided-requires (
   eval-form-below t,
   eval-form.Post,
   number-reads.Asked,
   number-reads.Learnt,
-  simple-reads.Asked,
-  simple-reads.Learnt,
-  left-first-below t,
-  left-first.Post,
-  eval-below t,
-  eval.Post,
+  operand-below t,
+  operand.Post,
   binary-reads.Asked,
   binary-reads.Learnt,
   one-sided-below t,
@@ -547,21 +910,21 @@ eval-one-sided-requires : (t : ℕ) → eval-lts.Need-one-sided-requires (
   cell-reads.Learnt,
   integral-reads.Asked,
   integral-reads.Learnt,
+  place-below t,
+  place.Post,
+  cells-at-reads.Asked,
+  cells-at-reads.Learnt,
 ) (eval-at t) eval.Post
 eval-one-sided-requires t c κs = search needs
 
--- src/walk.rt:46:9
-eval-returns-5 : (t : ℕ) → eval-lts.Need-returns-5 (
+-- src/walk.rt:42:9
+eval-returns-4 : (t : ℕ) → eval-lts.Need-returns-4 (
   eval-form-below t,
   eval-form.Post,
   number-reads.Asked,
   number-reads.Learnt,
-  simple-reads.Asked,
-  simple-reads.Learnt,
-  left-first-below t,
-  left-first.Post,
-  eval-below t,
-  eval.Post,
+  operand-below t,
+  operand.Post,
   binary-reads.Asked,
   binary-reads.Learnt,
   one-sided-below t,
@@ -570,21 +933,21 @@ eval-returns-5 : (t : ℕ) → eval-lts.Need-returns-5 (
   cell-reads.Learnt,
   integral-reads.Asked,
   integral-reads.Learnt,
+  place-below t,
+  place.Post,
+  cells-at-reads.Asked,
+  cells-at-reads.Learnt,
 ) (eval-at t) eval.Post
-eval-returns-5 t c = search (evals-passed, sfits-of)
+eval-returns-4 t c = search (evals-passed, sfits-of)
 
--- src/walk.rt:49:41
+-- src/walk.rt:45:41
 eval-add-number-3 : (t : ℕ) → eval-lts.Need-add-number-3 (
   eval-form-below t,
   eval-form.Post,
   number-reads.Asked,
   number-reads.Learnt,
-  simple-reads.Asked,
-  simple-reads.Learnt,
-  left-first-below t,
-  left-first.Post,
-  eval-below t,
-  eval.Post,
+  operand-below t,
+  operand.Post,
   binary-reads.Asked,
   binary-reads.Learnt,
   one-sided-below t,
@@ -593,21 +956,21 @@ eval-add-number-3 : (t : ℕ) → eval-lts.Need-add-number-3 (
   cell-reads.Learnt,
   integral-reads.Asked,
   integral-reads.Learnt,
+  place-below t,
+  place.Post,
+  cells-at-reads.Asked,
+  cells-at-reads.Learnt,
 ) (eval-at t) eval.Post
 eval-add-number-3 t c = search needs
 
--- src/walk.rt:49:28
+-- src/walk.rt:45:28
 eval-number-requires-4 : (t : ℕ) → eval-lts.Need-number-requires-4 (
   eval-form-below t,
   eval-form.Post,
   number-reads.Asked,
   number-reads.Learnt,
-  simple-reads.Asked,
-  simple-reads.Learnt,
-  left-first-below t,
-  left-first.Post,
-  eval-below t,
-  eval.Post,
+  operand-below t,
+  operand.Post,
   binary-reads.Asked,
   binary-reads.Learnt,
   one-sided-below t,
@@ -616,21 +979,21 @@ eval-number-requires-4 : (t : ℕ) → eval-lts.Need-number-requires-4 (
   cell-reads.Learnt,
   integral-reads.Asked,
   integral-reads.Learnt,
+  place-below t,
+  place.Post,
+  cells-at-reads.Asked,
+  cells-at-reads.Learnt,
 ) (eval-at t) eval.Post
 eval-number-requires-4 t c κs = search needs
 
--- src/walk.rt:49:28
+-- src/walk.rt:45:28
 eval-cast-cell : (t : ℕ) → eval-lts.Need-cast-cell (
   eval-form-below t,
   eval-form.Post,
   number-reads.Asked,
   number-reads.Learnt,
-  simple-reads.Asked,
-  simple-reads.Learnt,
-  left-first-below t,
-  left-first.Post,
-  eval-below t,
-  eval.Post,
+  operand-below t,
+  operand.Post,
   binary-reads.Asked,
   binary-reads.Learnt,
   one-sided-below t,
@@ -639,21 +1002,21 @@ eval-cast-cell : (t : ℕ) → eval-lts.Need-cast-cell (
   cell-reads.Learnt,
   integral-reads.Asked,
   integral-reads.Learnt,
+  place-below t,
+  place.Post,
+  cells-at-reads.Asked,
+  cells-at-reads.Learnt,
 ) (eval-at t) eval.Post
 eval-cast-cell t c = search needs
 
--- src/walk.rt:49:9
+-- src/walk.rt:45:9
 eval-cell-requires : (t : ℕ) → eval-lts.Need-cell-requires (
   eval-form-below t,
   eval-form.Post,
   number-reads.Asked,
   number-reads.Learnt,
-  simple-reads.Asked,
-  simple-reads.Learnt,
-  left-first-below t,
-  left-first.Post,
-  eval-below t,
-  eval.Post,
+  operand-below t,
+  operand.Post,
   binary-reads.Asked,
   binary-reads.Learnt,
   one-sided-below t,
@@ -662,21 +1025,21 @@ eval-cell-requires : (t : ℕ) → eval-lts.Need-cell-requires (
   cell-reads.Learnt,
   integral-reads.Asked,
   integral-reads.Learnt,
+  place-below t,
+  place.Post,
+  cells-at-reads.Asked,
+  cells-at-reads.Learnt,
 ) (eval-at t) eval.Post
 eval-cell-requires t c κs = search needs
 
--- src/walk.rt:49:9
-eval-returns-6 : (t : ℕ) → eval-lts.Need-returns-6 (
+-- src/walk.rt:45:9
+eval-returns-5 : (t : ℕ) → eval-lts.Need-returns-5 (
   eval-form-below t,
   eval-form.Post,
   number-reads.Asked,
   number-reads.Learnt,
-  simple-reads.Asked,
-  simple-reads.Learnt,
-  left-first-below t,
-  left-first.Post,
-  eval-below t,
-  eval.Post,
+  operand-below t,
+  operand.Post,
   binary-reads.Asked,
   binary-reads.Learnt,
   one-sided-below t,
@@ -685,21 +1048,21 @@ eval-returns-6 : (t : ℕ) → eval-lts.Need-returns-6 (
   cell-reads.Learnt,
   integral-reads.Asked,
   integral-reads.Learnt,
+  place-below t,
+  place.Post,
+  cells-at-reads.Asked,
+  cells-at-reads.Learnt,
 ) (eval-at t) eval.Post
-eval-returns-6 t c = search (evals-cell, deep, sfits-of)
+eval-returns-5 t c = search (evals-cell, deep-not, sfits-of)
 
--- src/walk.rt:52:31
+-- src/walk.rt:48:31
 eval-add-integral : (t : ℕ) → eval-lts.Need-add-integral (
   eval-form-below t,
   eval-form.Post,
   number-reads.Asked,
   number-reads.Learnt,
-  simple-reads.Asked,
-  simple-reads.Learnt,
-  left-first-below t,
-  left-first.Post,
-  eval-below t,
-  eval.Post,
+  operand-below t,
+  operand.Post,
   binary-reads.Asked,
   binary-reads.Learnt,
   one-sided-below t,
@@ -708,21 +1071,21 @@ eval-add-integral : (t : ℕ) → eval-lts.Need-add-integral (
   cell-reads.Learnt,
   integral-reads.Asked,
   integral-reads.Learnt,
+  place-below t,
+  place.Post,
+  cells-at-reads.Asked,
+  cells-at-reads.Learnt,
 ) (eval-at t) eval.Post
 eval-add-integral t c = search needs
 
--- src/walk.rt:52:9
+-- src/walk.rt:48:9
 eval-integral-requires : (t : ℕ) → eval-lts.Need-integral-requires (
   eval-form-below t,
   eval-form.Post,
   number-reads.Asked,
   number-reads.Learnt,
-  simple-reads.Asked,
-  simple-reads.Learnt,
-  left-first-below t,
-  left-first.Post,
-  eval-below t,
-  eval.Post,
+  operand-below t,
+  operand.Post,
   binary-reads.Asked,
   binary-reads.Learnt,
   one-sided-below t,
@@ -731,8 +1094,196 @@ eval-integral-requires : (t : ℕ) → eval-lts.Need-integral-requires (
   cell-reads.Learnt,
   integral-reads.Asked,
   integral-reads.Learnt,
+  place-below t,
+  place.Post,
+  cells-at-reads.Asked,
+  cells-at-reads.Learnt,
 ) (eval-at t) eval.Post
 eval-integral-requires t c κs = search needs
+
+-- src/walk.rt:48:9
+eval-returns-6 : (t : ℕ) → eval-lts.Need-returns-6 (
+  eval-form-below t,
+  eval-form.Post,
+  number-reads.Asked,
+  number-reads.Learnt,
+  operand-below t,
+  operand.Post,
+  binary-reads.Asked,
+  binary-reads.Learnt,
+  one-sided-below t,
+  one-sided.Post,
+  cell-reads.Asked,
+  cell-reads.Learnt,
+  integral-reads.Asked,
+  integral-reads.Learnt,
+  place-below t,
+  place.Post,
+  cells-at-reads.Asked,
+  cells-at-reads.Learnt,
+) (eval-at t) eval.Post
+eval-returns-6 t c = search (evals-literal, deep-not, sfits-of)
+
+-- src/walk.rt:51:49
+eval-add-number-4 : (t : ℕ) → eval-lts.Need-add-number-4 (
+  eval-form-below t,
+  eval-form.Post,
+  number-reads.Asked,
+  number-reads.Learnt,
+  operand-below t,
+  operand.Post,
+  binary-reads.Asked,
+  binary-reads.Learnt,
+  one-sided-below t,
+  one-sided.Post,
+  cell-reads.Asked,
+  cell-reads.Learnt,
+  integral-reads.Asked,
+  integral-reads.Learnt,
+  place-below t,
+  place.Post,
+  cells-at-reads.Asked,
+  cells-at-reads.Learnt,
+) (eval-at t) eval.Post
+eval-add-number-4 t c = search needs
+
+-- src/walk.rt:51:36
+eval-number-requires-5 : (t : ℕ) → eval-lts.Need-number-requires-5 (
+  eval-form-below t,
+  eval-form.Post,
+  number-reads.Asked,
+  number-reads.Learnt,
+  operand-below t,
+  operand.Post,
+  binary-reads.Asked,
+  binary-reads.Learnt,
+  one-sided-below t,
+  one-sided.Post,
+  cell-reads.Asked,
+  cell-reads.Learnt,
+  integral-reads.Asked,
+  integral-reads.Learnt,
+  place-below t,
+  place.Post,
+  cells-at-reads.Asked,
+  cells-at-reads.Learnt,
+) (eval-at t) eval.Post
+eval-number-requires-5 t c κs = search needs
+
+-- src/walk.rt:51:57
+eval-sub-place : (t : ℕ) → eval-lts.Need-sub-place (
+  eval-form-below t,
+  eval-form.Post,
+  number-reads.Asked,
+  number-reads.Learnt,
+  operand-below t,
+  operand.Post,
+  binary-reads.Asked,
+  binary-reads.Learnt,
+  one-sided-below t,
+  one-sided.Post,
+  cell-reads.Asked,
+  cell-reads.Learnt,
+  integral-reads.Asked,
+  integral-reads.Learnt,
+  place-below t,
+  place.Post,
+  cells-at-reads.Asked,
+  cells-at-reads.Learnt,
+) (eval-at t) eval.Post
+eval-sub-place t c = search needs
+
+-- src/walk.rt:51:13
+eval-place-requires : (t : ℕ) → eval-lts.Need-place-requires (
+  eval-form-below t,
+  eval-form.Post,
+  number-reads.Asked,
+  number-reads.Learnt,
+  operand-below t,
+  operand.Post,
+  binary-reads.Asked,
+  binary-reads.Learnt,
+  one-sided-below t,
+  one-sided.Post,
+  cell-reads.Asked,
+  cell-reads.Learnt,
+  integral-reads.Asked,
+  integral-reads.Learnt,
+  place-below t,
+  place.Post,
+  cells-at-reads.Asked,
+  cells-at-reads.Learnt,
+) (eval-at t) eval.Post
+eval-place-requires t c κs = search needs
+
+-- src/walk.rt:52:48
+eval-add-number-5 : (t : ℕ) → eval-lts.Need-add-number-5 (
+  eval-form-below t,
+  eval-form.Post,
+  number-reads.Asked,
+  number-reads.Learnt,
+  operand-below t,
+  operand.Post,
+  binary-reads.Asked,
+  binary-reads.Learnt,
+  one-sided-below t,
+  one-sided.Post,
+  cell-reads.Asked,
+  cell-reads.Learnt,
+  integral-reads.Asked,
+  integral-reads.Learnt,
+  place-below t,
+  place.Post,
+  cells-at-reads.Asked,
+  cells-at-reads.Learnt,
+) (eval-at t) eval.Post
+eval-add-number-5 t c = search needs
+
+-- src/walk.rt:52:35
+eval-number-requires-6 : (t : ℕ) → eval-lts.Need-number-requires-6 (
+  eval-form-below t,
+  eval-form.Post,
+  number-reads.Asked,
+  number-reads.Learnt,
+  operand-below t,
+  operand.Post,
+  binary-reads.Asked,
+  binary-reads.Learnt,
+  one-sided-below t,
+  one-sided.Post,
+  cell-reads.Asked,
+  cell-reads.Learnt,
+  integral-reads.Asked,
+  integral-reads.Learnt,
+  place-below t,
+  place.Post,
+  cells-at-reads.Asked,
+  cells-at-reads.Learnt,
+) (eval-at t) eval.Post
+eval-number-requires-6 t c κs = search needs
+
+-- src/walk.rt:52:9
+eval-cells-at-requires : (t : ℕ) → eval-lts.Need-cells-at-requires (
+  eval-form-below t,
+  eval-form.Post,
+  number-reads.Asked,
+  number-reads.Learnt,
+  operand-below t,
+  operand.Post,
+  binary-reads.Asked,
+  binary-reads.Learnt,
+  one-sided-below t,
+  one-sided.Post,
+  cell-reads.Asked,
+  cell-reads.Learnt,
+  integral-reads.Asked,
+  integral-reads.Learnt,
+  place-below t,
+  place.Post,
+  cells-at-reads.Asked,
+  cells-at-reads.Learnt,
+) (eval-at t) eval.Post
+eval-cells-at-requires t c κs = search needs
 
 -- src/walk.rt:52:9
 eval-returns-7 : (t : ℕ) → eval-lts.Need-returns-7 (
@@ -740,12 +1291,8 @@ eval-returns-7 : (t : ℕ) → eval-lts.Need-returns-7 (
   eval-form.Post,
   number-reads.Asked,
   number-reads.Learnt,
-  simple-reads.Asked,
-  simple-reads.Learnt,
-  left-first-below t,
-  left-first.Post,
-  eval-below t,
-  eval.Post,
+  operand-below t,
+  operand.Post,
   binary-reads.Asked,
   binary-reads.Learnt,
   one-sided-below t,
@@ -754,8 +1301,12 @@ eval-returns-7 : (t : ℕ) → eval-lts.Need-returns-7 (
   cell-reads.Learnt,
   integral-reads.Asked,
   integral-reads.Learnt,
+  place-below t,
+  place.Post,
+  cells-at-reads.Asked,
+  cells-at-reads.Learnt,
 ) (eval-at t) eval.Post
-eval-returns-7 t c = search (evals-literal, deep, sfits-of)
+eval-returns-7 t c = search (evals-at, deep-not, sfits-of)
 
 -- src/walk.rt:54:5
 eval-eval-form-requires-2 : (t : ℕ) → eval-lts.Need-eval-form-requires-2 (
@@ -763,12 +1314,8 @@ eval-eval-form-requires-2 : (t : ℕ) → eval-lts.Need-eval-form-requires-2 (
   eval-form.Post,
   number-reads.Asked,
   number-reads.Learnt,
-  simple-reads.Asked,
-  simple-reads.Learnt,
-  left-first-below t,
-  left-first.Post,
-  eval-below t,
-  eval.Post,
+  operand-below t,
+  operand.Post,
   binary-reads.Asked,
   binary-reads.Learnt,
   one-sided-below t,
@@ -777,6 +1324,10 @@ eval-eval-form-requires-2 : (t : ℕ) → eval-lts.Need-eval-form-requires-2 (
   cell-reads.Learnt,
   integral-reads.Asked,
   integral-reads.Learnt,
+  place-below t,
+  place.Post,
+  cells-at-reads.Asked,
+  cells-at-reads.Learnt,
 ) (eval-at t) eval.Post
 eval-eval-form-requires-2 t c κs = search needs
 
@@ -786,12 +1337,8 @@ eval-returns-8 : (t : ℕ) → eval-lts.Need-returns-8 (
   eval-form.Post,
   number-reads.Asked,
   number-reads.Learnt,
-  simple-reads.Asked,
-  simple-reads.Learnt,
-  left-first-below t,
-  left-first.Post,
-  eval-below t,
-  eval.Post,
+  operand-below t,
+  operand.Post,
   binary-reads.Asked,
   binary-reads.Learnt,
   one-sided-below t,
@@ -800,10 +1347,14 @@ eval-returns-8 : (t : ℕ) → eval-lts.Need-returns-8 (
   cell-reads.Learnt,
   integral-reads.Asked,
   integral-reads.Learnt,
+  place-below t,
+  place.Post,
+  cells-at-reads.Asked,
+  cells-at-reads.Learnt,
 ) (eval-at t) eval.Post
 eval-returns-8 t c = search (evals-passed, sfits-of)
 
--- src/walk.rt:98:9
+-- src/walk.rt:103:9
 eval-form-returns : (t : ℕ) → eval-form-lts.Need-returns (
   number-reads.Asked,
   number-reads.Learnt,
@@ -825,12 +1376,14 @@ eval-form-returns : (t : ℕ) → eval-form-lts.Need-returns (
   place.Post,
   cells-at-reads.Asked,
   cells-at-reads.Learnt,
+  latest-reads.Asked,
+  latest-reads.Learnt,
   gather-below t,
   gather.Post,
 ) (eval-form-at t) eval-form.Post
-eval-form-returns t c = search (evals-zero, sfits-of)
+eval-form-returns t c = search (evals-zero)
 
--- src/walk.rt:101:9
+-- src/walk.rt:106:9
 eval-form-number-requires : (t : ℕ) → eval-form-lts.Need-number-requires (
   number-reads.Asked,
   number-reads.Learnt,
@@ -852,12 +1405,14 @@ eval-form-number-requires : (t : ℕ) → eval-form-lts.Need-number-requires (
   place.Post,
   cells-at-reads.Asked,
   cells-at-reads.Learnt,
+  latest-reads.Asked,
+  latest-reads.Learnt,
   gather-below t,
   gather.Post,
 ) (eval-form-at t) eval-form.Post
 eval-form-number-requires t c κs = search needs
 
--- src/walk.rt:103:9
+-- src/walk.rt:108:9
 eval-form-one-sided-requires : (t : ℕ) → eval-form-lts.Need-one-sided-requires (
   number-reads.Asked,
   number-reads.Learnt,
@@ -879,12 +1434,14 @@ eval-form-one-sided-requires : (t : ℕ) → eval-form-lts.Need-one-sided-requir
   place.Post,
   cells-at-reads.Asked,
   cells-at-reads.Learnt,
+  latest-reads.Asked,
+  latest-reads.Learnt,
   gather-below t,
   gather.Post,
 ) (eval-form-at t) eval-form.Post
 eval-form-one-sided-requires t c κs = search needs
 
--- src/walk.rt:103:9
+-- src/walk.rt:108:9
 eval-form-returns-2 : (t : ℕ) → eval-form-lts.Need-returns-2 (
   number-reads.Asked,
   number-reads.Learnt,
@@ -906,12 +1463,14 @@ eval-form-returns-2 : (t : ℕ) → eval-form-lts.Need-returns-2 (
   place.Post,
   cells-at-reads.Asked,
   cells-at-reads.Learnt,
+  latest-reads.Asked,
+  latest-reads.Learnt,
   gather-below t,
   gather.Post,
 ) (eval-form-at t) eval-form.Post
 eval-form-returns-2 t c = search (evals-passed, sfits-of)
 
--- src/walk.rt:106:56
+-- src/walk.rt:111:48
 eval-form-add-number : (t : ℕ) → eval-form-lts.Need-add-number (
   number-reads.Asked,
   number-reads.Learnt,
@@ -933,12 +1492,14 @@ eval-form-add-number : (t : ℕ) → eval-form-lts.Need-add-number (
   place.Post,
   cells-at-reads.Asked,
   cells-at-reads.Learnt,
+  latest-reads.Asked,
+  latest-reads.Learnt,
   gather-below t,
   gather.Post,
 ) (eval-form-at t) eval-form.Post
 eval-form-add-number t c = search needs
 
--- src/walk.rt:106:43
+-- src/walk.rt:111:35
 eval-form-number-requires-2 : (t : ℕ) → eval-form-lts.Need-number-requires-2 (
   number-reads.Asked,
   number-reads.Learnt,
@@ -960,12 +1521,14 @@ eval-form-number-requires-2 : (t : ℕ) → eval-form-lts.Need-number-requires-2
   place.Post,
   cells-at-reads.Asked,
   cells-at-reads.Learnt,
+  latest-reads.Asked,
+  latest-reads.Learnt,
   gather-below t,
   gather.Post,
 ) (eval-form-at t) eval-form.Post
 eval-form-number-requires-2 t c κs = search needs
 
--- src/walk.rt:106:64
+-- src/walk.rt:111:56
 eval-form-sub-eval : (t : ℕ) → eval-form-lts.Need-sub-eval (
   number-reads.Asked,
   number-reads.Learnt,
@@ -987,12 +1550,14 @@ eval-form-sub-eval : (t : ℕ) → eval-form-lts.Need-sub-eval (
   place.Post,
   cells-at-reads.Asked,
   cells-at-reads.Learnt,
+  latest-reads.Asked,
+  latest-reads.Learnt,
   gather-below t,
   gather.Post,
 ) (eval-form-at t) eval-form.Post
 eval-form-sub-eval t c = search needs
 
--- src/walk.rt:106:13
+-- src/walk.rt:111:13
 eval-form-eval-requires : (t : ℕ) → eval-form-lts.Need-eval-requires (
   number-reads.Asked,
   number-reads.Learnt,
@@ -1014,12 +1579,14 @@ eval-form-eval-requires : (t : ℕ) → eval-form-lts.Need-eval-requires (
   place.Post,
   cells-at-reads.Asked,
   cells-at-reads.Learnt,
+  latest-reads.Asked,
+  latest-reads.Learnt,
   gather-below t,
   gather.Post,
 ) (eval-form-at t) eval-form.Post
 eval-form-eval-requires t c κs = search needs
 
--- src/walk.rt:107:56
+-- src/walk.rt:112:48
 eval-form-add-number-2 : (t : ℕ) → eval-form-lts.Need-add-number-2 (
   number-reads.Asked,
   number-reads.Learnt,
@@ -1041,12 +1608,14 @@ eval-form-add-number-2 : (t : ℕ) → eval-form-lts.Need-add-number-2 (
   place.Post,
   cells-at-reads.Asked,
   cells-at-reads.Learnt,
+  latest-reads.Asked,
+  latest-reads.Learnt,
   gather-below t,
   gather.Post,
 ) (eval-form-at t) eval-form.Post
 eval-form-add-number-2 t c = search needs
 
--- src/walk.rt:107:43
+-- src/walk.rt:112:35
 eval-form-number-requires-3 : (t : ℕ) → eval-form-lts.Need-number-requires-3 (
   number-reads.Asked,
   number-reads.Learnt,
@@ -1068,12 +1637,14 @@ eval-form-number-requires-3 : (t : ℕ) → eval-form-lts.Need-number-requires-3
   place.Post,
   cells-at-reads.Asked,
   cells-at-reads.Learnt,
+  latest-reads.Asked,
+  latest-reads.Learnt,
   gather-below t,
   gather.Post,
 ) (eval-form-at t) eval-form.Post
 eval-form-number-requires-3 t c κs = search needs
 
--- src/walk.rt:107:64
+-- src/walk.rt:112:56
 eval-form-sub-eval-2 : (t : ℕ) → eval-form-lts.Need-sub-eval-2 (
   number-reads.Asked,
   number-reads.Learnt,
@@ -1095,12 +1666,14 @@ eval-form-sub-eval-2 : (t : ℕ) → eval-form-lts.Need-sub-eval-2 (
   place.Post,
   cells-at-reads.Asked,
   cells-at-reads.Learnt,
+  latest-reads.Asked,
+  latest-reads.Learnt,
   gather-below t,
   gather.Post,
 ) (eval-form-at t) eval-form.Post
 eval-form-sub-eval-2 t c = search needs
 
--- src/walk.rt:107:13
+-- src/walk.rt:112:13
 eval-form-eval-requires-2 : (t : ℕ) → eval-form-lts.Need-eval-requires-2 (
   number-reads.Asked,
   number-reads.Learnt,
@@ -1122,12 +1695,14 @@ eval-form-eval-requires-2 : (t : ℕ) → eval-form-lts.Need-eval-requires-2 (
   place.Post,
   cells-at-reads.Asked,
   cells-at-reads.Learnt,
+  latest-reads.Asked,
+  latest-reads.Learnt,
   gather-below t,
   gather.Post,
 ) (eval-form-at t) eval-form.Post
 eval-form-eval-requires-2 t c κs = search needs
 
--- src/walk.rt:108:9
+-- src/walk.rt:113:9
 eval-form-binary-requires : (t : ℕ) → eval-form-lts.Need-binary-requires (
   number-reads.Asked,
   number-reads.Learnt,
@@ -1149,12 +1724,14 @@ eval-form-binary-requires : (t : ℕ) → eval-form-lts.Need-binary-requires (
   place.Post,
   cells-at-reads.Asked,
   cells-at-reads.Learnt,
+  latest-reads.Asked,
+  latest-reads.Learnt,
   gather-below t,
   gather.Post,
 ) (eval-form-at t) eval-form.Post
 eval-form-binary-requires t c κs = search needs
 
--- src/walk.rt:108:9
+-- src/walk.rt:113:9
 eval-form-returns-3 : (t : ℕ) → eval-form-lts.Need-returns-3 (
   number-reads.Asked,
   number-reads.Learnt,
@@ -1176,12 +1753,14 @@ eval-form-returns-3 : (t : ℕ) → eval-form-lts.Need-returns-3 (
   place.Post,
   cells-at-reads.Asked,
   cells-at-reads.Learnt,
+  latest-reads.Asked,
+  latest-reads.Learnt,
   gather-below t,
   gather.Post,
 ) (eval-form-at t) eval-form.Post
-eval-form-returns-3 t c = search (binary-form, deep, sfits-of)
+eval-form-returns-3 t c = search (binary-form, deep-not, sfits-of)
 
--- src/walk.rt:111:9
+-- src/walk.rt:116:9
 eval-form-short-cut-requires : (t : ℕ) → eval-form-lts.Need-short-cut-requires (
   number-reads.Asked,
   number-reads.Learnt,
@@ -1203,12 +1782,14 @@ eval-form-short-cut-requires : (t : ℕ) → eval-form-lts.Need-short-cut-requir
   place.Post,
   cells-at-reads.Asked,
   cells-at-reads.Learnt,
+  latest-reads.Asked,
+  latest-reads.Learnt,
   gather-below t,
   gather.Post,
 ) (eval-form-at t) eval-form.Post
 eval-form-short-cut-requires t c κs = search needs
 
--- src/walk.rt:111:9
+-- src/walk.rt:116:9
 eval-form-returns-4 : (t : ℕ) → eval-form-lts.Need-returns-4 (
   number-reads.Asked,
   number-reads.Learnt,
@@ -1230,12 +1811,14 @@ eval-form-returns-4 : (t : ℕ) → eval-form-lts.Need-returns-4 (
   place.Post,
   cells-at-reads.Asked,
   cells-at-reads.Learnt,
+  latest-reads.Asked,
+  latest-reads.Learnt,
   gather-below t,
   gather.Post,
 ) (eval-form-at t) eval-form.Post
 eval-form-returns-4 t c = search (evals-passed, sfits-of)
 
--- src/walk.rt:114:29
+-- src/walk.rt:119:29
 eval-form-add-integral : (t : ℕ) → eval-form-lts.Need-add-integral (
   number-reads.Asked,
   number-reads.Learnt,
@@ -1257,12 +1840,14 @@ eval-form-add-integral : (t : ℕ) → eval-form-lts.Need-add-integral (
   place.Post,
   cells-at-reads.Asked,
   cells-at-reads.Learnt,
+  latest-reads.Asked,
+  latest-reads.Learnt,
   gather-below t,
   gather.Post,
 ) (eval-form-at t) eval-form.Post
 eval-form-add-integral t c = search needs
 
--- src/walk.rt:114:14
+-- src/walk.rt:119:14
 eval-form-integral-requires : (t : ℕ) → eval-form-lts.Need-integral-requires (
   number-reads.Asked,
   number-reads.Learnt,
@@ -1284,12 +1869,14 @@ eval-form-integral-requires : (t : ℕ) → eval-form-lts.Need-integral-requires
   place.Post,
   cells-at-reads.Asked,
   cells-at-reads.Learnt,
+  latest-reads.Asked,
+  latest-reads.Learnt,
   gather-below t,
   gather.Post,
 ) (eval-form-at t) eval-form.Post
 eval-form-integral-requires t c κs = search needs
 
--- src/walk.rt:115:39
+-- src/walk.rt:120:39
 eval-form-add-number-3 : (t : ℕ) → eval-form-lts.Need-add-number-3 (
   number-reads.Asked,
   number-reads.Learnt,
@@ -1311,12 +1898,14 @@ eval-form-add-number-3 : (t : ℕ) → eval-form-lts.Need-add-number-3 (
   place.Post,
   cells-at-reads.Asked,
   cells-at-reads.Learnt,
+  latest-reads.Asked,
+  latest-reads.Learnt,
   gather-below t,
   gather.Post,
 ) (eval-form-at t) eval-form.Post
 eval-form-add-number-3 t c = search needs
 
--- src/walk.rt:115:26
+-- src/walk.rt:120:26
 eval-form-number-requires-4 : (t : ℕ) → eval-form-lts.Need-number-requires-4 (
   number-reads.Asked,
   number-reads.Learnt,
@@ -1338,12 +1927,14 @@ eval-form-number-requires-4 : (t : ℕ) → eval-form-lts.Need-number-requires-4
   place.Post,
   cells-at-reads.Asked,
   cells-at-reads.Learnt,
+  latest-reads.Asked,
+  latest-reads.Learnt,
   gather-below t,
   gather.Post,
 ) (eval-form-at t) eval-form.Post
 eval-form-number-requires-4 t c κs = search needs
 
--- src/walk.rt:115:26
+-- src/walk.rt:120:26
 eval-form-cast-cell : (t : ℕ) → eval-form-lts.Need-cast-cell (
   number-reads.Asked,
   number-reads.Learnt,
@@ -1365,12 +1956,14 @@ eval-form-cast-cell : (t : ℕ) → eval-form-lts.Need-cast-cell (
   place.Post,
   cells-at-reads.Asked,
   cells-at-reads.Learnt,
+  latest-reads.Asked,
+  latest-reads.Learnt,
   gather-below t,
   gather.Post,
 ) (eval-form-at t) eval-form.Post
 eval-form-cast-cell t c = search needs
 
--- src/walk.rt:115:14
+-- src/walk.rt:120:14
 eval-form-cell-requires : (t : ℕ) → eval-form-lts.Need-cell-requires (
   number-reads.Asked,
   number-reads.Learnt,
@@ -1392,12 +1985,14 @@ eval-form-cell-requires : (t : ℕ) → eval-form-lts.Need-cell-requires (
   place.Post,
   cells-at-reads.Asked,
   cells-at-reads.Learnt,
+  latest-reads.Asked,
+  latest-reads.Learnt,
   gather-below t,
   gather.Post,
 ) (eval-form-at t) eval-form.Post
 eval-form-cell-requires t c κs = search needs
 
--- src/walk.rt:117:34
+-- src/walk.rt:122:34
 eval-form-add-number-4 : (t : ℕ) → eval-form-lts.Need-add-number-4 (
   number-reads.Asked,
   number-reads.Learnt,
@@ -1419,12 +2014,14 @@ eval-form-add-number-4 : (t : ℕ) → eval-form-lts.Need-add-number-4 (
   place.Post,
   cells-at-reads.Asked,
   cells-at-reads.Learnt,
+  latest-reads.Asked,
+  latest-reads.Learnt,
   gather-below t,
   gather.Post,
 ) (eval-form-at t) eval-form.Post
 eval-form-add-number-4 t c = search needs
 
--- src/walk.rt:117:17
+-- src/walk.rt:122:17
 eval-form-number-requires-5 : (t : ℕ) → eval-form-lts.Need-number-requires-5 (
   number-reads.Asked,
   number-reads.Learnt,
@@ -1446,12 +2043,14 @@ eval-form-number-requires-5 : (t : ℕ) → eval-form-lts.Need-number-requires-5
   place.Post,
   cells-at-reads.Asked,
   cells-at-reads.Learnt,
+  latest-reads.Asked,
+  latest-reads.Learnt,
   gather-below t,
   gather.Post,
 ) (eval-form-at t) eval-form.Post
 eval-form-number-requires-5 t c κs = search needs
 
--- src/walk.rt:118:13
+-- src/walk.rt:123:13
 eval-form-cells-requires : (t : ℕ) → eval-form-lts.Need-cells-requires (
   number-reads.Asked,
   number-reads.Learnt,
@@ -1473,12 +2072,14 @@ eval-form-cells-requires : (t : ℕ) → eval-form-lts.Need-cells-requires (
   place.Post,
   cells-at-reads.Asked,
   cells-at-reads.Learnt,
+  latest-reads.Asked,
+  latest-reads.Learnt,
   gather-below t,
   gather.Post,
 ) (eval-form-at t) eval-form.Post
 eval-form-cells-requires t c κs = search needs
 
--- src/walk.rt:121:61
+-- src/walk.rt:126:53
 eval-form-add-number-5 : (t : ℕ) → eval-form-lts.Need-add-number-5 (
   number-reads.Asked,
   number-reads.Learnt,
@@ -1500,12 +2101,14 @@ eval-form-add-number-5 : (t : ℕ) → eval-form-lts.Need-add-number-5 (
   place.Post,
   cells-at-reads.Asked,
   cells-at-reads.Learnt,
+  latest-reads.Asked,
+  latest-reads.Learnt,
   gather-below t,
   gather.Post,
 ) (eval-form-at t) eval-form.Post
 eval-form-add-number-5 t c = search needs
 
--- src/walk.rt:121:48
+-- src/walk.rt:126:40
 eval-form-number-requires-6 : (t : ℕ) → eval-form-lts.Need-number-requires-6 (
   number-reads.Asked,
   number-reads.Learnt,
@@ -1527,12 +2130,14 @@ eval-form-number-requires-6 : (t : ℕ) → eval-form-lts.Need-number-requires-6
   place.Post,
   cells-at-reads.Asked,
   cells-at-reads.Learnt,
+  latest-reads.Asked,
+  latest-reads.Learnt,
   gather-below t,
   gather.Post,
 ) (eval-form-at t) eval-form.Post
 eval-form-number-requires-6 t c κs = search needs
 
--- src/walk.rt:121:69
+-- src/walk.rt:126:61
 eval-form-sub-place : (t : ℕ) → eval-form-lts.Need-sub-place (
   number-reads.Asked,
   number-reads.Learnt,
@@ -1554,12 +2159,14 @@ eval-form-sub-place : (t : ℕ) → eval-form-lts.Need-sub-place (
   place.Post,
   cells-at-reads.Asked,
   cells-at-reads.Learnt,
+  latest-reads.Asked,
+  latest-reads.Learnt,
   gather-below t,
   gather.Post,
 ) (eval-form-at t) eval-form.Post
 eval-form-sub-place t c = search needs
 
--- src/walk.rt:121:17
+-- src/walk.rt:126:17
 eval-form-place-requires : (t : ℕ) → eval-form-lts.Need-place-requires (
   number-reads.Asked,
   number-reads.Learnt,
@@ -1581,12 +2188,14 @@ eval-form-place-requires : (t : ℕ) → eval-form-lts.Need-place-requires (
   place.Post,
   cells-at-reads.Asked,
   cells-at-reads.Learnt,
+  latest-reads.Asked,
+  latest-reads.Learnt,
   gather-below t,
   gather.Post,
 ) (eval-form-at t) eval-form.Post
 eval-form-place-requires t c κs = search needs
 
--- src/walk.rt:122:45
+-- src/walk.rt:127:45
 eval-form-add-number-6 : (t : ℕ) → eval-form-lts.Need-add-number-6 (
   number-reads.Asked,
   number-reads.Learnt,
@@ -1608,12 +2217,14 @@ eval-form-add-number-6 : (t : ℕ) → eval-form-lts.Need-add-number-6 (
   place.Post,
   cells-at-reads.Asked,
   cells-at-reads.Learnt,
+  latest-reads.Asked,
+  latest-reads.Learnt,
   gather-below t,
   gather.Post,
 ) (eval-form-at t) eval-form.Post
 eval-form-add-number-6 t c = search needs
 
--- src/walk.rt:122:32
+-- src/walk.rt:127:32
 eval-form-number-requires-7 : (t : ℕ) → eval-form-lts.Need-number-requires-7 (
   number-reads.Asked,
   number-reads.Learnt,
@@ -1635,12 +2246,14 @@ eval-form-number-requires-7 : (t : ℕ) → eval-form-lts.Need-number-requires-7
   place.Post,
   cells-at-reads.Asked,
   cells-at-reads.Learnt,
+  latest-reads.Asked,
+  latest-reads.Learnt,
   gather-below t,
   gather.Post,
 ) (eval-form-at t) eval-form.Post
 eval-form-number-requires-7 t c κs = search needs
 
--- src/walk.rt:122:13
+-- src/walk.rt:127:13
 eval-form-cells-at-requires : (t : ℕ) → eval-form-lts.Need-cells-at-requires (
   number-reads.Asked,
   number-reads.Learnt,
@@ -1662,12 +2275,43 @@ eval-form-cells-at-requires : (t : ℕ) → eval-form-lts.Need-cells-at-requires
   place.Post,
   cells-at-reads.Asked,
   cells-at-reads.Learnt,
+  latest-reads.Asked,
+  latest-reads.Learnt,
   gather-below t,
   gather.Post,
 ) (eval-form-at t) eval-form.Post
 eval-form-cells-at-requires t c κs = search needs
 
--- src/walk.rt:125:46
+-- src/walk.rt:129:14
+eval-form-latest-requires : (t : ℕ) → eval-form-lts.Need-latest-requires (
+  number-reads.Asked,
+  number-reads.Learnt,
+  one-sided-below t,
+  one-sided.Post,
+  eval-below t,
+  eval.Post,
+  binary-reads.Asked,
+  binary-reads.Learnt,
+  short-cut-below t,
+  short-cut.Post,
+  integral-reads.Asked,
+  integral-reads.Learnt,
+  cell-reads.Asked,
+  cell-reads.Learnt,
+  cells-reads.Asked,
+  cells-reads.Learnt,
+  place-below t,
+  place.Post,
+  cells-at-reads.Asked,
+  cells-at-reads.Learnt,
+  latest-reads.Asked,
+  latest-reads.Learnt,
+  gather-below t,
+  gather.Post,
+) (eval-form-at t) eval-form.Post
+eval-form-latest-requires t c κs = search needs
+
+-- src/walk.rt:130:38
 eval-form-sub-gather : (t : ℕ) → eval-form-lts.Need-sub-gather (
   number-reads.Asked,
   number-reads.Learnt,
@@ -1689,12 +2333,14 @@ eval-form-sub-gather : (t : ℕ) → eval-form-lts.Need-sub-gather (
   place.Post,
   cells-at-reads.Asked,
   cells-at-reads.Learnt,
+  latest-reads.Asked,
+  latest-reads.Learnt,
   gather-below t,
   gather.Post,
 ) (eval-form-at t) eval-form.Post
 eval-form-sub-gather t c = search needs
 
--- src/walk.rt:125:14
+-- src/walk.rt:130:14
 eval-form-gather-requires : (t : ℕ) → eval-form-lts.Need-gather-requires (
   number-reads.Asked,
   number-reads.Learnt,
@@ -1716,12 +2362,14 @@ eval-form-gather-requires : (t : ℕ) → eval-form-lts.Need-gather-requires (
   place.Post,
   cells-at-reads.Asked,
   cells-at-reads.Learnt,
+  latest-reads.Asked,
+  latest-reads.Learnt,
   gather-below t,
   gather.Post,
 ) (eval-form-at t) eval-form.Post
 eval-form-gather-requires t c κs = search needs
 
--- src/walk.rt:94:1
+-- src/walk.rt:99:1
 eval-form-returns-5 : (t : ℕ) → eval-form-lts.Need-returns-5 (
   number-reads.Asked,
   number-reads.Learnt,
@@ -1743,12 +2391,14 @@ eval-form-returns-5 : (t : ℕ) → eval-form-lts.Need-returns-5 (
   place.Post,
   cells-at-reads.Asked,
   cells-at-reads.Learnt,
+  latest-reads.Asked,
+  latest-reads.Learnt,
   gather-below t,
   gather.Post,
 ) (eval-form-at t) eval-form.Post
-eval-form-returns-5 t c = search (evals-literal, deep, sfits-of)
+eval-form-returns-5 t c = search (evals-literal, deep-not, sfits-of)
 
--- src/walk.rt:94:1
+-- src/walk.rt:99:1
 eval-form-returns-6 : (t : ℕ) → eval-form-lts.Need-returns-6 (
   number-reads.Asked,
   number-reads.Learnt,
@@ -1770,12 +2420,14 @@ eval-form-returns-6 : (t : ℕ) → eval-form-lts.Need-returns-6 (
   place.Post,
   cells-at-reads.Asked,
   cells-at-reads.Learnt,
+  latest-reads.Asked,
+  latest-reads.Learnt,
   gather-below t,
   gather.Post,
 ) (eval-form-at t) eval-form.Post
-eval-form-returns-6 t c = search (evals-cell, deep, sfits-of)
+eval-form-returns-6 t c = search (evals-cell, deep-not, sfits-of)
 
--- src/walk.rt:94:1
+-- src/walk.rt:99:1
 eval-form-returns-7 : (t : ℕ) → eval-form-lts.Need-returns-7 (
   number-reads.Asked,
   number-reads.Learnt,
@@ -1797,12 +2449,14 @@ eval-form-returns-7 : (t : ℕ) → eval-form-lts.Need-returns-7 (
   place.Post,
   cells-at-reads.Asked,
   cells-at-reads.Learnt,
+  latest-reads.Asked,
+  latest-reads.Learnt,
   gather-below t,
   gather.Post,
 ) (eval-form-at t) eval-form.Post
-eval-form-returns-7 t c = search (evals-cells, deep, sfits-of)
+eval-form-returns-7 t c = search (evals-cells, deep-not, sfits-of)
 
--- src/walk.rt:94:1
+-- src/walk.rt:99:1
 eval-form-returns-8 : (t : ℕ) → eval-form-lts.Need-returns-8 (
   number-reads.Asked,
   number-reads.Learnt,
@@ -1824,12 +2478,14 @@ eval-form-returns-8 : (t : ℕ) → eval-form-lts.Need-returns-8 (
   place.Post,
   cells-at-reads.Asked,
   cells-at-reads.Learnt,
+  latest-reads.Asked,
+  latest-reads.Learnt,
   gather-below t,
   gather.Post,
 ) (eval-form-at t) eval-form.Post
-eval-form-returns-8 t c = search (evals-at, deep, sfits-of)
+eval-form-returns-8 t c = search (evals-at, deep-not, sfits-of)
 
--- src/walk.rt:94:1
+-- src/walk.rt:99:1
 eval-form-returns-9 : (t : ℕ) → eval-form-lts.Need-returns-9 (
   number-reads.Asked,
   number-reads.Learnt,
@@ -1851,12 +2507,14 @@ eval-form-returns-9 : (t : ℕ) → eval-form-lts.Need-returns-9 (
   place.Post,
   cells-at-reads.Asked,
   cells-at-reads.Learnt,
+  latest-reads.Asked,
+  latest-reads.Learnt,
   gather-below t,
   gather.Post,
 ) (eval-form-at t) eval-form.Post
-eval-form-returns-9 t c = search (evals-last, deep, sfits-of)
+eval-form-returns-9 t c = search (evals-last, deep-not, sfits-of)
 
--- src/walk.rt:94:1
+-- src/walk.rt:99:1
 eval-form-returns-10 : (t : ℕ) → eval-form-lts.Need-returns-10 (
   number-reads.Asked,
   number-reads.Learnt,
@@ -1878,12 +2536,14 @@ eval-form-returns-10 : (t : ℕ) → eval-form-lts.Need-returns-10 (
   place.Post,
   cells-at-reads.Asked,
   cells-at-reads.Learnt,
+  latest-reads.Asked,
+  latest-reads.Learnt,
   gather-below t,
   gather.Post,
 ) (eval-form-at t) eval-form.Post
-eval-form-returns-10 t c = search (evals-gather, deep, sfits-of)
+eval-form-returns-10 t c = search (evals-gather, deep-not, sfits-of)
 
--- src/walk.rt:94:1
+-- src/walk.rt:99:1
 eval-form-returns-11 : (t : ℕ) → eval-form-lts.Need-returns-11 (
   number-reads.Asked,
   number-reads.Learnt,
@@ -1905,18 +2565,20 @@ eval-form-returns-11 : (t : ℕ) → eval-form-lts.Need-returns-11 (
   place.Post,
   cells-at-reads.Asked,
   cells-at-reads.Learnt,
+  latest-reads.Asked,
+  latest-reads.Learnt,
   gather-below t,
   gather.Post,
 ) (eval-form-at t) eval-form.Post
-eval-form-returns-11 t c = search (nothing-node, deep, sfits-of)
+eval-form-returns-11 t c = search (nothing-node, deep-not, sfits-of)
 
 abbrev gather-Inv-loop : gather-lts.InvT-loop
-gather-Inv-loop code store latest pc depth p lo hi s₀ d₀ q₀ s d q = Gathering (codeIn code) store (toZ w64 latest) pc depth (toZ w64 lo) (toZ w64 hi) s d q
+gather-Inv-loop code store pc depth p lo hi s₀ d₀ q₀ s d q = Gathering (codeIn code) store pc depth (toZ w64 lo) (toZ w64 hi) s d q
 
 abbrev gather-μ-loop : gather-lts.MeasureT-loop
-gather-μ-loop code store latest pc depth p lo hi s₀ d₀ q₀ s d q = d
+gather-μ-loop code store pc depth p lo hi s₀ d₀ q₀ s d q = d
 
--- src/walk.rt:198:29
+-- src/walk.rt:233:29
 gather-add-integral : (t : ℕ) → gather-lts.Need-add-integral (
   integral-reads.Asked,
   integral-reads.Learnt,
@@ -1933,7 +2595,7 @@ gather-add-integral : (t : ℕ) → gather-lts.Need-add-integral (
 ) (gather-at t) gather.Post gather-Inv-loop gather-μ-loop
 gather-add-integral t c = search needs
 
--- src/walk.rt:198:9
+-- src/walk.rt:233:9
 gather-integral-requires : (t : ℕ) → gather-lts.Need-integral-requires (
   integral-reads.Asked,
   integral-reads.Learnt,
@@ -1950,7 +2612,7 @@ gather-integral-requires : (t : ℕ) → gather-lts.Need-integral-requires (
 ) (gather-at t) gather.Post gather-Inv-loop gather-μ-loop
 gather-integral-requires t c κs = search needs
 
--- src/walk.rt:199:29
+-- src/walk.rt:234:29
 gather-add-integral-2 : (t : ℕ) → gather-lts.Need-add-integral-2 (
   integral-reads.Asked,
   integral-reads.Learnt,
@@ -1967,7 +2629,7 @@ gather-add-integral-2 : (t : ℕ) → gather-lts.Need-add-integral-2 (
 ) (gather-at t) gather.Post gather-Inv-loop gather-μ-loop
 gather-add-integral-2 t c = search needs
 
--- src/walk.rt:199:9
+-- src/walk.rt:234:9
 gather-integral-requires-2 : (t : ℕ) → gather-lts.Need-integral-requires-2 (
   integral-reads.Asked,
   integral-reads.Learnt,
@@ -1984,7 +2646,7 @@ gather-integral-requires-2 : (t : ℕ) → gather-lts.Need-integral-requires-2 (
 ) (gather-at t) gather.Post gather-Inv-loop gather-μ-loop
 gather-integral-requires-2 t c κs = search needs
 
--- src/walk.rt:202:43
+-- src/walk.rt:237:43
 gather-add-number : (t : ℕ) → gather-lts.Need-add-number (
   integral-reads.Asked,
   integral-reads.Learnt,
@@ -2001,7 +2663,7 @@ gather-add-number : (t : ℕ) → gather-lts.Need-add-number (
 ) (gather-at t) gather.Post gather-Inv-loop gather-μ-loop
 gather-add-number t c = search needs
 
--- src/walk.rt:202:30
+-- src/walk.rt:237:30
 gather-number-requires : (t : ℕ) → gather-lts.Need-number-requires (
   integral-reads.Asked,
   integral-reads.Learnt,
@@ -2018,7 +2680,7 @@ gather-number-requires : (t : ℕ) → gather-lts.Need-number-requires (
 ) (gather-at t) gather.Post gather-Inv-loop gather-μ-loop
 gather-number-requires t c κs = search needs
 
--- src/walk.rt:202:30
+-- src/walk.rt:237:30
 gather-cast-number : (t : ℕ) → gather-lts.Need-cast-number (
   integral-reads.Asked,
   integral-reads.Learnt,
@@ -2035,7 +2697,7 @@ gather-cast-number : (t : ℕ) → gather-lts.Need-cast-number (
 ) (gather-at t) gather.Post gather-Inv-loop gather-μ-loop
 gather-cast-number t c = search needs
 
--- src/walk.rt:202:9
+-- src/walk.rt:237:9
 gather-number-requires-2 : (t : ℕ) → gather-lts.Need-number-requires-2 (
   integral-reads.Asked,
   integral-reads.Learnt,
@@ -2052,7 +2714,7 @@ gather-number-requires-2 : (t : ℕ) → gather-lts.Need-number-requires-2 (
 ) (gather-at t) gather.Post gather-Inv-loop gather-μ-loop
 gather-number-requires-2 t c κs = search needs
 
--- src/walk.rt:203:5
+-- src/walk.rt:238:5
 gather-loop-holds : (t : ℕ) → gather-lts.Need-loop-holds (
   integral-reads.Asked,
   integral-reads.Learnt,
@@ -2069,7 +2731,7 @@ gather-loop-holds : (t : ℕ) → gather-lts.Need-loop-holds (
 ) (gather-at t) gather.Post gather-Inv-loop gather-μ-loop
 gather-loop-holds t c = search (gather-start, needs)
 
--- src/walk.rt:205:13
+-- src/walk.rt:240:13
 gather-value-requires : (t : ℕ) → gather-lts.Need-value-requires (
   integral-reads.Asked,
   integral-reads.Learnt,
@@ -2086,7 +2748,7 @@ gather-value-requires : (t : ℕ) → gather-lts.Need-value-requires (
 ) (gather-at t) gather.Post gather-Inv-loop gather-μ-loop
 gather-value-requires t c κs = search needs
 
--- src/walk.rt:205:13
+-- src/walk.rt:240:13
 gather-returns : (t : ℕ) → gather-lts.Need-returns (
   integral-reads.Asked,
   integral-reads.Learnt,
@@ -2103,7 +2765,7 @@ gather-returns : (t : ℕ) → gather-lts.Need-returns (
 ) (gather-at t) gather.Post gather-Inv-loop gather-μ-loop
 gather-returns t c = search (gather-done, sfits-of)
 
--- src/walk.rt:207:9
+-- src/walk.rt:242:9
 gather-sub-d : (t : ℕ) → gather-lts.Need-sub-d (
   integral-reads.Asked,
   integral-reads.Learnt,
@@ -2120,7 +2782,7 @@ gather-sub-d : (t : ℕ) → gather-lts.Need-sub-d (
 ) (gather-at t) gather.Post gather-Inv-loop gather-μ-loop
 gather-sub-d t c = search needs
 
--- src/walk.rt:208:56
+-- src/walk.rt:243:48
 gather-cast-number-2 : (t : ℕ) → gather-lts.Need-cast-number-2 (
   integral-reads.Asked,
   integral-reads.Learnt,
@@ -2137,7 +2799,7 @@ gather-cast-number-2 : (t : ℕ) → gather-lts.Need-cast-number-2 (
 ) (gather-at t) gather.Post gather-Inv-loop gather-μ-loop
 gather-cast-number-2 t c = search link-laws
 
--- src/walk.rt:208:43
+-- src/walk.rt:243:35
 gather-number-requires-3 : (t : ℕ) → gather-lts.Need-number-requires-3 (
   integral-reads.Asked,
   integral-reads.Learnt,
@@ -2154,7 +2816,7 @@ gather-number-requires-3 : (t : ℕ) → gather-lts.Need-number-requires-3 (
 ) (gather-at t) gather.Post gather-Inv-loop gather-μ-loop
 gather-number-requires-3 t c κs = search needs
 
--- src/walk.rt:208:13
+-- src/walk.rt:243:13
 gather-eval-requires : (t : ℕ) → gather-lts.Need-eval-requires (
   integral-reads.Asked,
   integral-reads.Learnt,
@@ -2171,7 +2833,7 @@ gather-eval-requires : (t : ℕ) → gather-lts.Need-eval-requires (
 ) (gather-at t) gather.Post gather-Inv-loop gather-μ-loop
 gather-eval-requires t c κs = search needs
 
--- src/walk.rt:209:13
+-- src/walk.rt:244:13
 gather-test-requires : (t : ℕ) → gather-lts.Need-test-requires (
   integral-reads.Asked,
   integral-reads.Learnt,
@@ -2188,7 +2850,7 @@ gather-test-requires : (t : ℕ) → gather-lts.Need-test-requires (
 ) (gather-at t) gather.Post gather-Inv-loop gather-μ-loop
 gather-test-requires t c κs = search needs
 
--- src/walk.rt:211:13
+-- src/walk.rt:246:13
 gather-returns-2 : (t : ℕ) → gather-lts.Need-returns-2 (
   integral-reads.Asked,
   integral-reads.Learnt,
@@ -2205,7 +2867,7 @@ gather-returns-2 : (t : ℕ) → gather-lts.Need-returns-2 (
 ) (gather-at t) gather.Post gather-Inv-loop gather-μ-loop
 gather-returns-2 t c = search (gather-fault, sfits-of)
 
--- src/walk.rt:213:9
+-- src/walk.rt:248:9
 gather-insert-requires : (t : ℕ) → gather-lts.Need-insert-requires (
   integral-reads.Asked,
   integral-reads.Learnt,
@@ -2222,7 +2884,7 @@ gather-insert-requires : (t : ℕ) → gather-lts.Need-insert-requires (
 ) (gather-at t) gather.Post gather-Inv-loop gather-μ-loop
 gather-insert-requires t c κs = search needs
 
--- src/walk.rt:214:26
+-- src/walk.rt:249:26
 gather-cast-number-3 : (t : ℕ) → gather-lts.Need-cast-number-3 (
   integral-reads.Asked,
   integral-reads.Learnt,
@@ -2239,7 +2901,7 @@ gather-cast-number-3 : (t : ℕ) → gather-lts.Need-cast-number-3 (
 ) (gather-at t) gather.Post gather-Inv-loop gather-μ-loop
 gather-cast-number-3 t c = search link-laws
 
--- src/walk.rt:214:26
+-- src/walk.rt:249:26
 gather-add-number-2 : (t : ℕ) → gather-lts.Need-add-number-2 (
   integral-reads.Asked,
   integral-reads.Learnt,
@@ -2256,7 +2918,7 @@ gather-add-number-2 : (t : ℕ) → gather-lts.Need-add-number-2 (
 ) (gather-at t) gather.Post gather-Inv-loop gather-μ-loop
 gather-add-number-2 t c = search link-laws
 
--- src/walk.rt:214:9
+-- src/walk.rt:249:9
 gather-number-requires-4 : (t : ℕ) → gather-lts.Need-number-requires-4 (
   integral-reads.Asked,
   integral-reads.Learnt,
@@ -2273,7 +2935,7 @@ gather-number-requires-4 : (t : ℕ) → gather-lts.Need-number-requires-4 (
 ) (gather-at t) gather.Post gather-Inv-loop gather-μ-loop
 gather-number-requires-4 t c κs = search needs
 
--- src/walk.rt:203:5
+-- src/walk.rt:238:5
 gather-loop-less : (t : ℕ) → gather-lts.Need-loop-less (
   integral-reads.Asked,
   integral-reads.Learnt,
@@ -2290,7 +2952,7 @@ gather-loop-less : (t : ℕ) → gather-lts.Need-loop-less (
 ) (gather-at t) gather.Post gather-Inv-loop gather-μ-loop
 gather-loop-less t c = omega arith
 
--- src/walk.rt:203:5
+-- src/walk.rt:238:5
 gather-loop-again : (t : ℕ) → gather-lts.Need-loop-again (
   integral-reads.Asked,
   integral-reads.Learnt,
@@ -2307,7 +2969,7 @@ gather-loop-again : (t : ℕ) → gather-lts.Need-loop-again (
 ) (gather-at t) gather.Post gather-Inv-loop gather-μ-loop
 gather-loop-again t c = search (gather-step, sfits-of)
 
--- src/walk.rt:216:5
+-- src/walk.rt:251:5
 gather-value-requires-2 : (t : ℕ) → gather-lts.Need-value-requires-2 (
   integral-reads.Asked,
   integral-reads.Learnt,
@@ -2324,7 +2986,7 @@ gather-value-requires-2 : (t : ℕ) → gather-lts.Need-value-requires-2 (
 ) (gather-at t) gather.Post gather-Inv-loop gather-μ-loop
 gather-value-requires-2 t c κs = search needs
 
--- src/walk.rt:194:1
+-- src/walk.rt:229:1
 gather-returns-3 : (t : ℕ) → gather-lts.Need-returns-3 (
   integral-reads.Asked,
   integral-reads.Learnt,
@@ -2341,194 +3003,12 @@ gather-returns-3 : (t : ℕ) → gather-lts.Need-returns-3 (
 ) (gather-at t) gather.Post gather-Inv-loop gather-μ-loop
 gather-returns-3 t c = search (gather-end, sfits-of)
 
--- src/walk.rt:63:9
-left-first-number-requires : (t : ℕ) → left-first-lts.Need-number-requires (
-  number-reads.Asked,
-  number-reads.Learnt,
-  eval-below t,
-  eval.Post,
-  simple-reads.Asked,
-  simple-reads.Learnt,
-  binary-reads.Asked,
-  binary-reads.Learnt,
-) (left-first-at t) left-first.Post
-left-first-number-requires t c κs = search needs
-
--- src/walk.rt:64:26
-left-first-add-number : (t : ℕ) → left-first-lts.Need-add-number (
-  number-reads.Asked,
-  number-reads.Learnt,
-  eval-below t,
-  eval.Post,
-  simple-reads.Asked,
-  simple-reads.Learnt,
-  binary-reads.Asked,
-  binary-reads.Learnt,
-) (left-first-at t) left-first.Post
-left-first-add-number t c = search needs
-
--- src/walk.rt:64:9
-left-first-number-requires-2 : (t : ℕ) → left-first-lts.Need-number-requires-2 (
-  number-reads.Asked,
-  number-reads.Learnt,
-  eval-below t,
-  eval.Post,
-  simple-reads.Asked,
-  simple-reads.Learnt,
-  binary-reads.Asked,
-  binary-reads.Learnt,
-) (left-first-at t) left-first.Post
-left-first-number-requires-2 t c κs = search needs
-
--- src/walk.rt:65:52
-left-first-add-number-2 : (t : ℕ) → left-first-lts.Need-add-number-2 (
-  number-reads.Asked,
-  number-reads.Learnt,
-  eval-below t,
-  eval.Post,
-  simple-reads.Asked,
-  simple-reads.Learnt,
-  binary-reads.Asked,
-  binary-reads.Learnt,
-) (left-first-at t) left-first.Post
-left-first-add-number-2 t c = search needs
-
--- src/walk.rt:65:39
-left-first-number-requires-3 : (t : ℕ) → left-first-lts.Need-number-requires-3 (
-  number-reads.Asked,
-  number-reads.Learnt,
-  eval-below t,
-  eval.Post,
-  simple-reads.Asked,
-  simple-reads.Learnt,
-  binary-reads.Asked,
-  binary-reads.Learnt,
-) (left-first-at t) left-first.Post
-left-first-number-requires-3 t c κs = search needs
-
--- src/walk.rt:65:60
-left-first-sub-eval : (t : ℕ) → left-first-lts.Need-sub-eval (
-  number-reads.Asked,
-  number-reads.Learnt,
-  eval-below t,
-  eval.Post,
-  simple-reads.Asked,
-  simple-reads.Learnt,
-  binary-reads.Asked,
-  binary-reads.Learnt,
-) (left-first-at t) left-first.Post
-left-first-sub-eval t c = search needs
-
--- src/walk.rt:65:9
-left-first-eval-requires : (t : ℕ) → left-first-lts.Need-eval-requires (
-  number-reads.Asked,
-  number-reads.Learnt,
-  eval-below t,
-  eval.Post,
-  simple-reads.Asked,
-  simple-reads.Learnt,
-  binary-reads.Asked,
-  binary-reads.Learnt,
-) (left-first-at t) left-first.Post
-left-first-eval-requires t c κs = search needs
-
--- src/walk.rt:66:9
-left-first-simple-requires : (t : ℕ) → left-first-lts.Need-simple-requires (
-  number-reads.Asked,
-  number-reads.Learnt,
-  eval-below t,
-  eval.Post,
-  simple-reads.Asked,
-  simple-reads.Learnt,
-  binary-reads.Asked,
-  binary-reads.Learnt,
-) (left-first-at t) left-first.Post
-left-first-simple-requires t c κs = search needs
-
--- src/walk.rt:68:59
-left-first-sub-eval-2 : (t : ℕ) → left-first-lts.Need-sub-eval-2 (
-  number-reads.Asked,
-  number-reads.Learnt,
-  eval-below t,
-  eval.Post,
-  simple-reads.Asked,
-  simple-reads.Learnt,
-  binary-reads.Asked,
-  binary-reads.Learnt,
-) (left-first-at t) left-first.Post
-left-first-sub-eval-2 t c = search needs
-
--- src/walk.rt:68:30
-left-first-eval-requires-2 : (t : ℕ) → left-first-lts.Need-eval-requires-2 (
-  number-reads.Asked,
-  number-reads.Learnt,
-  eval-below t,
-  eval.Post,
-  simple-reads.Asked,
-  simple-reads.Learnt,
-  binary-reads.Asked,
-  binary-reads.Learnt,
-) (left-first-at t) left-first.Post
-left-first-eval-requires-2 t c κs = search needs
-
--- src/walk.rt:68:9
-left-first-binary-requires : (t : ℕ) → left-first-lts.Need-binary-requires (
-  number-reads.Asked,
-  number-reads.Learnt,
-  eval-below t,
-  eval.Post,
-  simple-reads.Asked,
-  simple-reads.Learnt,
-  binary-reads.Asked,
-  binary-reads.Learnt,
-) (left-first-at t) left-first.Post
-left-first-binary-requires t c κs = search needs
-
--- src/walk.rt:68:9
-left-first-returns : (t : ℕ) → left-first-lts.Need-returns (
-  number-reads.Asked,
-  number-reads.Learnt,
-  eval-below t,
-  eval.Post,
-  simple-reads.Asked,
-  simple-reads.Learnt,
-  binary-reads.Asked,
-  binary-reads.Learnt,
-) (left-first-at t) left-first.Post
-left-first-returns t c = search (binary-node, simple-evals, deep, sfits-of)
-
--- src/walk.rt:70:5
-left-first-binary-requires-2 : (t : ℕ) → left-first-lts.Need-binary-requires-2 (
-  number-reads.Asked,
-  number-reads.Learnt,
-  eval-below t,
-  eval.Post,
-  simple-reads.Asked,
-  simple-reads.Learnt,
-  binary-reads.Asked,
-  binary-reads.Learnt,
-) (left-first-at t) left-first.Post
-left-first-binary-requires-2 t c κs = search needs
-
--- src/walk.rt:58:1
-left-first-returns-2 : (t : ℕ) → left-first-lts.Need-returns-2 (
-  number-reads.Asked,
-  number-reads.Learnt,
-  eval-below t,
-  eval.Post,
-  simple-reads.Asked,
-  simple-reads.Learnt,
-  binary-reads.Asked,
-  binary-reads.Learnt,
-) (left-first-at t) left-first.Post
-left-first-returns-2 t c = search (binary-node, simple-evals, deep, sfits-of)
-
--- src/walk.rt:79:9
+-- src/walk.rt:84:9
 one-sided-number-requires : (t : ℕ) → one-sided-lts.Need-number-requires (
   number-reads.Asked,
   number-reads.Learnt,
-  eval-below t,
-  eval.Post,
+  operand-below t,
+  operand.Post,
   integral-reads.Asked,
   integral-reads.Learnt,
   pred-reads.Asked,
@@ -2540,12 +3020,12 @@ one-sided-number-requires : (t : ℕ) → one-sided-lts.Need-number-requires (
 ) (one-sided-at t) one-sided.Post
 one-sided-number-requires t c κs = search needs
 
--- src/walk.rt:81:9
+-- src/walk.rt:86:9
 one-sided-returns : (t : ℕ) → one-sided-lts.Need-returns (
   number-reads.Asked,
   number-reads.Learnt,
-  eval-below t,
-  eval.Post,
+  operand-below t,
+  operand.Post,
   integral-reads.Asked,
   integral-reads.Learnt,
   pred-reads.Asked,
@@ -2557,12 +3037,12 @@ one-sided-returns : (t : ℕ) → one-sided-lts.Need-returns (
 ) (one-sided-at t) one-sided.Post
 one-sided-returns t c = search (evals-none, sfits-of)
 
--- src/walk.rt:83:52
+-- src/walk.rt:88:47
 one-sided-add-number : (t : ℕ) → one-sided-lts.Need-add-number (
   number-reads.Asked,
   number-reads.Learnt,
-  eval-below t,
-  eval.Post,
+  operand-below t,
+  operand.Post,
   integral-reads.Asked,
   integral-reads.Learnt,
   pred-reads.Asked,
@@ -2574,12 +3054,12 @@ one-sided-add-number : (t : ℕ) → one-sided-lts.Need-add-number (
 ) (one-sided-at t) one-sided.Post
 one-sided-add-number t c = search needs
 
--- src/walk.rt:83:39
+-- src/walk.rt:88:34
 one-sided-number-requires-2 : (t : ℕ) → one-sided-lts.Need-number-requires-2 (
   number-reads.Asked,
   number-reads.Learnt,
-  eval-below t,
-  eval.Post,
+  operand-below t,
+  operand.Post,
   integral-reads.Asked,
   integral-reads.Learnt,
   pred-reads.Asked,
@@ -2591,12 +3071,12 @@ one-sided-number-requires-2 : (t : ℕ) → one-sided-lts.Need-number-requires-2
 ) (one-sided-at t) one-sided.Post
 one-sided-number-requires-2 t c κs = search needs
 
--- src/walk.rt:83:60
-one-sided-sub-eval : (t : ℕ) → one-sided-lts.Need-sub-eval (
+-- src/walk.rt:88:55
+one-sided-sub-operand : (t : ℕ) → one-sided-lts.Need-sub-operand (
   number-reads.Asked,
   number-reads.Learnt,
-  eval-below t,
-  eval.Post,
+  operand-below t,
+  operand.Post,
   integral-reads.Asked,
   integral-reads.Learnt,
   pred-reads.Asked,
@@ -2606,14 +3086,14 @@ one-sided-sub-eval : (t : ℕ) → one-sided-lts.Need-sub-eval (
   unary-reads.Asked,
   unary-reads.Learnt,
 ) (one-sided-at t) one-sided.Post
-one-sided-sub-eval t c = search needs
+one-sided-sub-operand t c = search needs
 
--- src/walk.rt:83:9
-one-sided-eval-requires : (t : ℕ) → one-sided-lts.Need-eval-requires (
+-- src/walk.rt:88:9
+one-sided-operand-requires : (t : ℕ) → one-sided-lts.Need-operand-requires (
   number-reads.Asked,
   number-reads.Learnt,
-  eval-below t,
-  eval.Post,
+  operand-below t,
+  operand.Post,
   integral-reads.Asked,
   integral-reads.Learnt,
   pred-reads.Asked,
@@ -2623,14 +3103,14 @@ one-sided-eval-requires : (t : ℕ) → one-sided-lts.Need-eval-requires (
   unary-reads.Asked,
   unary-reads.Learnt,
 ) (one-sided-at t) one-sided.Post
-one-sided-eval-requires t c κs = search needs
+one-sided-operand-requires t c κs = search needs
 
--- src/walk.rt:85:39
+-- src/walk.rt:90:39
 one-sided-add-integral : (t : ℕ) → one-sided-lts.Need-add-integral (
   number-reads.Asked,
   number-reads.Learnt,
-  eval-below t,
-  eval.Post,
+  operand-below t,
+  operand.Post,
   integral-reads.Asked,
   integral-reads.Learnt,
   pred-reads.Asked,
@@ -2642,12 +3122,12 @@ one-sided-add-integral : (t : ℕ) → one-sided-lts.Need-add-integral (
 ) (one-sided-at t) one-sided.Post
 one-sided-add-integral t c = search needs
 
--- src/walk.rt:85:24
+-- src/walk.rt:90:24
 one-sided-integral-requires : (t : ℕ) → one-sided-lts.Need-integral-requires (
   number-reads.Asked,
   number-reads.Learnt,
-  eval-below t,
-  eval.Post,
+  operand-below t,
+  operand.Post,
   integral-reads.Asked,
   integral-reads.Learnt,
   pred-reads.Asked,
@@ -2659,12 +3139,12 @@ one-sided-integral-requires : (t : ℕ) → one-sided-lts.Need-integral-requires
 ) (one-sided-at t) one-sided.Post
 one-sided-integral-requires t c κs = search needs
 
--- src/walk.rt:85:62
+-- src/walk.rt:90:62
 one-sided-add-integral-2 : (t : ℕ) → one-sided-lts.Need-add-integral-2 (
   number-reads.Asked,
   number-reads.Learnt,
-  eval-below t,
-  eval.Post,
+  operand-below t,
+  operand.Post,
   integral-reads.Asked,
   integral-reads.Learnt,
   pred-reads.Asked,
@@ -2676,12 +3156,12 @@ one-sided-add-integral-2 : (t : ℕ) → one-sided-lts.Need-add-integral-2 (
 ) (one-sided-at t) one-sided.Post
 one-sided-add-integral-2 t c = search needs
 
--- src/walk.rt:85:47
+-- src/walk.rt:90:47
 one-sided-integral-requires-2 : (t : ℕ) → one-sided-lts.Need-integral-requires-2 (
   number-reads.Asked,
   number-reads.Learnt,
-  eval-below t,
-  eval.Post,
+  operand-below t,
+  operand.Post,
   integral-reads.Asked,
   integral-reads.Learnt,
   pred-reads.Asked,
@@ -2693,12 +3173,12 @@ one-sided-integral-requires-2 : (t : ℕ) → one-sided-lts.Need-integral-requir
 ) (one-sided-at t) one-sided.Post
 one-sided-integral-requires-2 t c κs = search needs
 
--- src/walk.rt:85:9
+-- src/walk.rt:90:9
 one-sided-pred-requires : (t : ℕ) → one-sided-lts.Need-pred-requires (
   number-reads.Asked,
   number-reads.Learnt,
-  eval-below t,
-  eval.Post,
+  operand-below t,
+  operand.Post,
   integral-reads.Asked,
   integral-reads.Learnt,
   pred-reads.Asked,
@@ -2710,12 +3190,12 @@ one-sided-pred-requires : (t : ℕ) → one-sided-lts.Need-pred-requires (
 ) (one-sided-at t) one-sided.Post
 one-sided-pred-requires t c κs = search needs
 
--- src/walk.rt:85:9
+-- src/walk.rt:90:9
 one-sided-returns-2 : (t : ℕ) → one-sided-lts.Need-returns-2 (
   number-reads.Asked,
   number-reads.Learnt,
-  eval-below t,
-  eval.Post,
+  operand-below t,
+  operand.Post,
   integral-reads.Asked,
   integral-reads.Learnt,
   pred-reads.Asked,
@@ -2727,12 +3207,12 @@ one-sided-returns-2 : (t : ℕ) → one-sided-lts.Need-returns-2 (
 ) (one-sided-at t) one-sided.Post
 one-sided-returns-2 t c = search (evals-pred, sfits-of)
 
--- src/walk.rt:88:39
+-- src/walk.rt:93:39
 one-sided-add-integral-3 : (t : ℕ) → one-sided-lts.Need-add-integral-3 (
   number-reads.Asked,
   number-reads.Learnt,
-  eval-below t,
-  eval.Post,
+  operand-below t,
+  operand.Post,
   integral-reads.Asked,
   integral-reads.Learnt,
   pred-reads.Asked,
@@ -2744,12 +3224,12 @@ one-sided-add-integral-3 : (t : ℕ) → one-sided-lts.Need-add-integral-3 (
 ) (one-sided-at t) one-sided.Post
 one-sided-add-integral-3 t c = search needs
 
--- src/walk.rt:88:24
+-- src/walk.rt:93:24
 one-sided-integral-requires-3 : (t : ℕ) → one-sided-lts.Need-integral-requires-3 (
   number-reads.Asked,
   number-reads.Learnt,
-  eval-below t,
-  eval.Post,
+  operand-below t,
+  operand.Post,
   integral-reads.Asked,
   integral-reads.Learnt,
   pred-reads.Asked,
@@ -2761,12 +3241,12 @@ one-sided-integral-requires-3 : (t : ℕ) → one-sided-lts.Need-integral-requir
 ) (one-sided-at t) one-sided.Post
 one-sided-integral-requires-3 t c κs = search needs
 
--- src/walk.rt:88:62
+-- src/walk.rt:93:62
 one-sided-add-integral-4 : (t : ℕ) → one-sided-lts.Need-add-integral-4 (
   number-reads.Asked,
   number-reads.Learnt,
-  eval-below t,
-  eval.Post,
+  operand-below t,
+  operand.Post,
   integral-reads.Asked,
   integral-reads.Learnt,
   pred-reads.Asked,
@@ -2778,12 +3258,12 @@ one-sided-add-integral-4 : (t : ℕ) → one-sided-lts.Need-add-integral-4 (
 ) (one-sided-at t) one-sided.Post
 one-sided-add-integral-4 t c = search needs
 
--- src/walk.rt:88:47
+-- src/walk.rt:93:47
 one-sided-integral-requires-4 : (t : ℕ) → one-sided-lts.Need-integral-requires-4 (
   number-reads.Asked,
   number-reads.Learnt,
-  eval-below t,
-  eval.Post,
+  operand-below t,
+  operand.Post,
   integral-reads.Asked,
   integral-reads.Learnt,
   pred-reads.Asked,
@@ -2795,12 +3275,12 @@ one-sided-integral-requires-4 : (t : ℕ) → one-sided-lts.Need-integral-requir
 ) (one-sided-at t) one-sided.Post
 one-sided-integral-requires-4 t c κs = search needs
 
--- src/walk.rt:88:9
+-- src/walk.rt:93:9
 one-sided-succ-requires : (t : ℕ) → one-sided-lts.Need-succ-requires (
   number-reads.Asked,
   number-reads.Learnt,
-  eval-below t,
-  eval.Post,
+  operand-below t,
+  operand.Post,
   integral-reads.Asked,
   integral-reads.Learnt,
   pred-reads.Asked,
@@ -2812,12 +3292,12 @@ one-sided-succ-requires : (t : ℕ) → one-sided-lts.Need-succ-requires (
 ) (one-sided-at t) one-sided.Post
 one-sided-succ-requires t c κs = search needs
 
--- src/walk.rt:88:9
+-- src/walk.rt:93:9
 one-sided-returns-3 : (t : ℕ) → one-sided-lts.Need-returns-3 (
   number-reads.Asked,
   number-reads.Learnt,
-  eval-below t,
-  eval.Post,
+  operand-below t,
+  operand.Post,
   integral-reads.Asked,
   integral-reads.Learnt,
   pred-reads.Asked,
@@ -2829,12 +3309,12 @@ one-sided-returns-3 : (t : ℕ) → one-sided-lts.Need-returns-3 (
 ) (one-sided-at t) one-sided.Post
 one-sided-returns-3 t c = search (evals-succ, sfits-of)
 
--- src/walk.rt:90:5
+-- src/walk.rt:95:5
 one-sided-unary-requires : (t : ℕ) → one-sided-lts.Need-unary-requires (
   number-reads.Asked,
   number-reads.Learnt,
-  eval-below t,
-  eval.Post,
+  operand-below t,
+  operand.Post,
   integral-reads.Asked,
   integral-reads.Learnt,
   pred-reads.Asked,
@@ -2846,12 +3326,12 @@ one-sided-unary-requires : (t : ℕ) → one-sided-lts.Need-unary-requires (
 ) (one-sided-at t) one-sided.Post
 one-sided-unary-requires t c κs = search needs
 
--- src/walk.rt:74:1
+-- src/walk.rt:79:1
 one-sided-returns-4 : (t : ℕ) → one-sided-lts.Need-returns-4 (
   number-reads.Asked,
   number-reads.Learnt,
-  eval-below t,
-  eval.Post,
+  operand-below t,
+  operand.Post,
   integral-reads.Asked,
   integral-reads.Learnt,
   pred-reads.Asked,
@@ -2863,79 +3343,327 @@ one-sided-returns-4 : (t : ℕ) → one-sided-lts.Need-returns-4 (
 ) (one-sided-at t) one-sided.Post
 one-sided-returns-4 t c = search (unary-node, sfits-of)
 
--- src/walk.rt:158:9
-place-returns : (t : ℕ) → place-lts.Need-returns (
+-- src/walk.rt:62:9
+operand-returns : (t : ℕ) → operand-lts.Need-returns (
+  eval-form-below t,
+  eval-form.Post,
   number-reads.Asked,
   number-reads.Learnt,
-  place-form-below t,
-  place-form.Post,
-) (place-at t) place.Post
-place-returns t c = search (finds-zero, sfits-of)
+  cell-reads.Asked,
+  cell-reads.Learnt,
+  integral-reads.Asked,
+  integral-reads.Learnt,
+  eval-below t,
+  eval.Post,
+) (operand-at t) operand.Post
+operand-returns t c = search (evals-zero)
 
--- src/walk.rt:161:9
-place-number-requires : (t : ℕ) → place-lts.Need-number-requires (
+-- src/walk.rt:65:9
+operand-eval-form-requires : (t : ℕ) → operand-lts.Need-eval-form-requires (
+  eval-form-below t,
+  eval-form.Post,
   number-reads.Asked,
   number-reads.Learnt,
-  place-form-below t,
-  place-form.Post,
-) (place-at t) place.Post
-place-number-requires t c κs = search needs
+  cell-reads.Asked,
+  cell-reads.Learnt,
+  integral-reads.Asked,
+  integral-reads.Learnt,
+  eval-below t,
+  eval.Post,
+) (operand-at t) operand.Post
+operand-eval-form-requires t c κs = search needs
 
--- src/walk.rt:163:29
-place-add-number : (t : ℕ) → place-lts.Need-add-number (
+-- src/walk.rt:65:9
+operand-returns-2 : (t : ℕ) → operand-lts.Need-returns-2 (
+  eval-form-below t,
+  eval-form.Post,
   number-reads.Asked,
   number-reads.Learnt,
-  place-form-below t,
-  place-form.Post,
-) (place-at t) place.Post
-place-add-number t c = search needs
+  cell-reads.Asked,
+  cell-reads.Learnt,
+  integral-reads.Asked,
+  integral-reads.Learnt,
+  eval-below t,
+  eval.Post,
+) (operand-at t) operand.Post
+operand-returns-2 t c = search (evals-passed, sfits-of)
 
--- src/walk.rt:163:16
-place-number-requires-2 : (t : ℕ) → place-lts.Need-number-requires-2 (
+-- src/walk.rt:68:9
+operand-number-requires : (t : ℕ) → operand-lts.Need-number-requires (
+  eval-form-below t,
+  eval-form.Post,
   number-reads.Asked,
   number-reads.Learnt,
-  place-form-below t,
-  place-form.Post,
-) (place-at t) place.Post
-place-number-requires-2 t c κs = search needs
+  cell-reads.Asked,
+  cell-reads.Learnt,
+  integral-reads.Asked,
+  integral-reads.Learnt,
+  eval-below t,
+  eval.Post,
+) (operand-at t) operand.Post
+operand-number-requires t c κs = search needs
 
--- src/walk.rt:163:16
-place-cast-result : (t : ℕ) → place-lts.Need-cast-result (
+-- src/walk.rt:70:41
+operand-add-number : (t : ℕ) → operand-lts.Need-add-number (
+  eval-form-below t,
+  eval-form.Post,
   number-reads.Asked,
   number-reads.Learnt,
-  place-form-below t,
-  place-form.Post,
-) (place-at t) place.Post
-place-cast-result t c = search needs
+  cell-reads.Asked,
+  cell-reads.Learnt,
+  integral-reads.Asked,
+  integral-reads.Learnt,
+  eval-below t,
+  eval.Post,
+) (operand-at t) operand.Post
+operand-add-number t c = search needs
+
+-- src/walk.rt:70:28
+operand-number-requires-2 : (t : ℕ) → operand-lts.Need-number-requires-2 (
+  eval-form-below t,
+  eval-form.Post,
+  number-reads.Asked,
+  number-reads.Learnt,
+  cell-reads.Asked,
+  cell-reads.Learnt,
+  integral-reads.Asked,
+  integral-reads.Learnt,
+  eval-below t,
+  eval.Post,
+) (operand-at t) operand.Post
+operand-number-requires-2 t c κs = search needs
+
+-- src/walk.rt:70:28
+operand-cast-cell : (t : ℕ) → operand-lts.Need-cast-cell (
+  eval-form-below t,
+  eval-form.Post,
+  number-reads.Asked,
+  number-reads.Learnt,
+  cell-reads.Asked,
+  cell-reads.Learnt,
+  integral-reads.Asked,
+  integral-reads.Learnt,
+  eval-below t,
+  eval.Post,
+) (operand-at t) operand.Post
+operand-cast-cell t c = search needs
+
+-- src/walk.rt:70:9
+operand-cell-requires : (t : ℕ) → operand-lts.Need-cell-requires (
+  eval-form-below t,
+  eval-form.Post,
+  number-reads.Asked,
+  number-reads.Learnt,
+  cell-reads.Asked,
+  cell-reads.Learnt,
+  integral-reads.Asked,
+  integral-reads.Learnt,
+  eval-below t,
+  eval.Post,
+) (operand-at t) operand.Post
+operand-cell-requires t c κs = search needs
+
+-- src/walk.rt:70:9
+operand-returns-3 : (t : ℕ) → operand-lts.Need-returns-3 (
+  eval-form-below t,
+  eval-form.Post,
+  number-reads.Asked,
+  number-reads.Learnt,
+  cell-reads.Asked,
+  cell-reads.Learnt,
+  integral-reads.Asked,
+  integral-reads.Learnt,
+  eval-below t,
+  eval.Post,
+) (operand-at t) operand.Post
+operand-returns-3 t c = search (evals-cell, deep-not, sfits-of)
+
+-- src/walk.rt:73:31
+operand-add-integral : (t : ℕ) → operand-lts.Need-add-integral (
+  eval-form-below t,
+  eval-form.Post,
+  number-reads.Asked,
+  number-reads.Learnt,
+  cell-reads.Asked,
+  cell-reads.Learnt,
+  integral-reads.Asked,
+  integral-reads.Learnt,
+  eval-below t,
+  eval.Post,
+) (operand-at t) operand.Post
+operand-add-integral t c = search needs
+
+-- src/walk.rt:73:9
+operand-integral-requires : (t : ℕ) → operand-lts.Need-integral-requires (
+  eval-form-below t,
+  eval-form.Post,
+  number-reads.Asked,
+  number-reads.Learnt,
+  cell-reads.Asked,
+  cell-reads.Learnt,
+  integral-reads.Asked,
+  integral-reads.Learnt,
+  eval-below t,
+  eval.Post,
+) (operand-at t) operand.Post
+operand-integral-requires t c κs = search needs
+
+-- src/walk.rt:73:9
+operand-returns-4 : (t : ℕ) → operand-lts.Need-returns-4 (
+  eval-form-below t,
+  eval-form.Post,
+  number-reads.Asked,
+  number-reads.Learnt,
+  cell-reads.Asked,
+  cell-reads.Learnt,
+  integral-reads.Asked,
+  integral-reads.Learnt,
+  eval-below t,
+  eval.Post,
+) (operand-at t) operand.Post
+operand-returns-4 t c = search (evals-literal, deep-not, sfits-of)
+
+-- src/walk.rt:75:5
+operand-eval-requires : (t : ℕ) → operand-lts.Need-eval-requires (
+  eval-form-below t,
+  eval-form.Post,
+  number-reads.Asked,
+  number-reads.Learnt,
+  cell-reads.Asked,
+  cell-reads.Learnt,
+  integral-reads.Asked,
+  integral-reads.Learnt,
+  eval-below t,
+  eval.Post,
+) (operand-at t) operand.Post
+operand-eval-requires t c κs = search needs
+
+-- src/walk.rt:58:1
+operand-returns-5 : (t : ℕ) → operand-lts.Need-returns-5 (
+  eval-form-below t,
+  eval-form.Post,
+  number-reads.Asked,
+  number-reads.Learnt,
+  cell-reads.Asked,
+  cell-reads.Learnt,
+  integral-reads.Asked,
+  integral-reads.Learnt,
+  eval-below t,
+  eval.Post,
+) (operand-at t) operand.Post
+operand-returns-5 t c = search (evals-passed, sfits-of)
 
 -- src/walk.rt:163:9
-place-returns-2 : (t : ℕ) → place-lts.Need-returns-2 (
-  number-reads.Asked,
-  number-reads.Learnt,
+place-returns : (t : ℕ) → place-lts.Need-returns (
   place-form-below t,
   place-form.Post,
+  number-reads.Asked,
+  number-reads.Learnt,
+  component-below t,
+  component.Post,
 ) (place-at t) place.Post
-place-returns-2 t c = search (finds-cell, deep, needs)
+place-returns t c = search (finds-zero)
 
--- src/walk.rt:165:5
+-- src/walk.rt:166:9
 place-place-form-requires : (t : ℕ) → place-lts.Need-place-form-requires (
-  number-reads.Asked,
-  number-reads.Learnt,
   place-form-below t,
   place-form.Post,
+  number-reads.Asked,
+  number-reads.Learnt,
+  component-below t,
+  component.Post,
 ) (place-at t) place.Post
 place-place-form-requires t c κs = search needs
 
--- src/walk.rt:154:1
-place-returns-3 : (t : ℕ) → place-lts.Need-returns-3 (
-  number-reads.Asked,
-  number-reads.Learnt,
+-- src/walk.rt:166:9
+place-returns-2 : (t : ℕ) → place-lts.Need-returns-2 (
   place-form-below t,
   place-form.Post,
+  number-reads.Asked,
+  number-reads.Learnt,
+  component-below t,
+  component.Post,
 ) (place-at t) place.Post
-place-returns-3 t c = search (finds-passed, sfits-of)
+place-returns-2 t c = search (finds-passed, sfits-of)
 
--- src/walk.rt:173:9
+-- src/walk.rt:169:9
+place-number-requires : (t : ℕ) → place-lts.Need-number-requires (
+  place-form-below t,
+  place-form.Post,
+  number-reads.Asked,
+  number-reads.Learnt,
+  component-below t,
+  component.Post,
+) (place-at t) place.Post
+place-number-requires t c κs = search needs
+
+-- src/walk.rt:171:29
+place-add-number : (t : ℕ) → place-lts.Need-add-number (
+  place-form-below t,
+  place-form.Post,
+  number-reads.Asked,
+  number-reads.Learnt,
+  component-below t,
+  component.Post,
+) (place-at t) place.Post
+place-add-number t c = search needs
+
+-- src/walk.rt:171:16
+place-number-requires-2 : (t : ℕ) → place-lts.Need-number-requires-2 (
+  place-form-below t,
+  place-form.Post,
+  number-reads.Asked,
+  number-reads.Learnt,
+  component-below t,
+  component.Post,
+) (place-at t) place.Post
+place-number-requires-2 t c κs = search needs
+
+-- src/walk.rt:171:16
+place-cast-result : (t : ℕ) → place-lts.Need-cast-result (
+  place-form-below t,
+  place-form.Post,
+  number-reads.Asked,
+  number-reads.Learnt,
+  component-below t,
+  component.Post,
+) (place-at t) place.Post
+place-cast-result t c = search needs
+
+-- src/walk.rt:171:9
+place-returns-3 : (t : ℕ) → place-lts.Need-returns-3 (
+  place-form-below t,
+  place-form.Post,
+  number-reads.Asked,
+  number-reads.Learnt,
+  component-below t,
+  component.Post,
+) (place-at t) place.Post
+place-returns-3 t c = search (finds-cell, deep-not, needs)
+
+-- src/walk.rt:173:5
+place-component-requires : (t : ℕ) → place-lts.Need-component-requires (
+  place-form-below t,
+  place-form.Post,
+  number-reads.Asked,
+  number-reads.Learnt,
+  component-below t,
+  component.Post,
+) (place-at t) place.Post
+place-component-requires t c κs = search needs
+
+-- src/walk.rt:159:1
+place-returns-4 : (t : ℕ) → place-lts.Need-returns-4 (
+  place-form-below t,
+  place-form.Post,
+  number-reads.Asked,
+  number-reads.Learnt,
+  component-below t,
+  component.Post,
+) (place-at t) place.Post
+place-returns-4 t c = search (finds-passed, sfits-of)
+
+-- src/walk.rt:208:9
 place-form-returns : (t : ℕ) → place-form-lts.Need-returns (
   number-reads.Asked,
   number-reads.Learnt,
@@ -2947,14 +3675,12 @@ place-form-returns : (t : ℕ) → place-form-lts.Need-returns (
   distance-reads.Learnt,
   element-reads.Asked,
   element-reads.Learnt,
-  place-form-below t,
-  place-form.Post,
   shifted-reads.Asked,
   shifted-reads.Learnt,
 ) (place-form-at t) place-form.Post
-place-form-returns t c = search (finds-zero, sfits-of)
+place-form-returns t c = search (finds-zero)
 
--- src/walk.rt:176:9
+-- src/walk.rt:211:9
 place-form-number-requires : (t : ℕ) → place-form-lts.Need-number-requires (
   number-reads.Asked,
   number-reads.Learnt,
@@ -2966,14 +3692,12 @@ place-form-number-requires : (t : ℕ) → place-form-lts.Need-number-requires (
   distance-reads.Learnt,
   element-reads.Asked,
   element-reads.Learnt,
-  place-form-below t,
-  place-form.Post,
   shifted-reads.Asked,
   shifted-reads.Learnt,
 ) (place-form-at t) place-form.Post
 place-form-number-requires t c κs = search needs
 
--- src/walk.rt:178:57
+-- src/walk.rt:213:49
 place-form-add-number : (t : ℕ) → place-form-lts.Need-add-number (
   number-reads.Asked,
   number-reads.Learnt,
@@ -2985,14 +3709,12 @@ place-form-add-number : (t : ℕ) → place-form-lts.Need-add-number (
   distance-reads.Learnt,
   element-reads.Asked,
   element-reads.Learnt,
-  place-form-below t,
-  place-form.Post,
   shifted-reads.Asked,
   shifted-reads.Learnt,
 ) (place-form-at t) place-form.Post
 place-form-add-number t c = search needs
 
--- src/walk.rt:178:44
+-- src/walk.rt:213:36
 place-form-number-requires-2 : (t : ℕ) → place-form-lts.Need-number-requires-2 (
   number-reads.Asked,
   number-reads.Learnt,
@@ -3004,14 +3726,12 @@ place-form-number-requires-2 : (t : ℕ) → place-form-lts.Need-number-requires
   distance-reads.Learnt,
   element-reads.Asked,
   element-reads.Learnt,
-  place-form-below t,
-  place-form.Post,
   shifted-reads.Asked,
   shifted-reads.Learnt,
 ) (place-form-at t) place-form.Post
 place-form-number-requires-2 t c κs = search needs
 
--- src/walk.rt:178:65
+-- src/walk.rt:213:57
 place-form-sub-place : (t : ℕ) → place-form-lts.Need-sub-place (
   number-reads.Asked,
   number-reads.Learnt,
@@ -3023,14 +3743,12 @@ place-form-sub-place : (t : ℕ) → place-form-lts.Need-sub-place (
   distance-reads.Learnt,
   element-reads.Asked,
   element-reads.Learnt,
-  place-form-below t,
-  place-form.Post,
   shifted-reads.Asked,
   shifted-reads.Learnt,
 ) (place-form-at t) place-form.Post
 place-form-sub-place t c = search needs
 
--- src/walk.rt:178:13
+-- src/walk.rt:213:13
 place-form-place-requires : (t : ℕ) → place-form-lts.Need-place-requires (
   number-reads.Asked,
   number-reads.Learnt,
@@ -3042,14 +3760,12 @@ place-form-place-requires : (t : ℕ) → place-form-lts.Need-place-requires (
   distance-reads.Learnt,
   element-reads.Asked,
   element-reads.Learnt,
-  place-form-below t,
-  place-form.Post,
   shifted-reads.Asked,
   shifted-reads.Learnt,
 ) (place-form-at t) place-form.Post
 place-form-place-requires t c κs = search needs
 
--- src/walk.rt:179:56
+-- src/walk.rt:214:48
 place-form-add-number-2 : (t : ℕ) → place-form-lts.Need-add-number-2 (
   number-reads.Asked,
   number-reads.Learnt,
@@ -3061,14 +3777,12 @@ place-form-add-number-2 : (t : ℕ) → place-form-lts.Need-add-number-2 (
   distance-reads.Learnt,
   element-reads.Asked,
   element-reads.Learnt,
-  place-form-below t,
-  place-form.Post,
   shifted-reads.Asked,
   shifted-reads.Learnt,
 ) (place-form-at t) place-form.Post
 place-form-add-number-2 t c = search needs
 
--- src/walk.rt:179:43
+-- src/walk.rt:214:35
 place-form-number-requires-3 : (t : ℕ) → place-form-lts.Need-number-requires-3 (
   number-reads.Asked,
   number-reads.Learnt,
@@ -3080,14 +3794,12 @@ place-form-number-requires-3 : (t : ℕ) → place-form-lts.Need-number-requires
   distance-reads.Learnt,
   element-reads.Asked,
   element-reads.Learnt,
-  place-form-below t,
-  place-form.Post,
   shifted-reads.Asked,
   shifted-reads.Learnt,
 ) (place-form-at t) place-form.Post
 place-form-number-requires-3 t c κs = search needs
 
--- src/walk.rt:179:64
+-- src/walk.rt:214:56
 place-form-sub-eval : (t : ℕ) → place-form-lts.Need-sub-eval (
   number-reads.Asked,
   number-reads.Learnt,
@@ -3099,14 +3811,12 @@ place-form-sub-eval : (t : ℕ) → place-form-lts.Need-sub-eval (
   distance-reads.Learnt,
   element-reads.Asked,
   element-reads.Learnt,
-  place-form-below t,
-  place-form.Post,
   shifted-reads.Asked,
   shifted-reads.Learnt,
 ) (place-form-at t) place-form.Post
 place-form-sub-eval t c = search needs
 
--- src/walk.rt:179:13
+-- src/walk.rt:214:13
 place-form-eval-requires : (t : ℕ) → place-form-lts.Need-eval-requires (
   number-reads.Asked,
   number-reads.Learnt,
@@ -3118,14 +3828,12 @@ place-form-eval-requires : (t : ℕ) → place-form-lts.Need-eval-requires (
   distance-reads.Learnt,
   element-reads.Asked,
   element-reads.Learnt,
-  place-form-below t,
-  place-form.Post,
   shifted-reads.Asked,
   shifted-reads.Learnt,
 ) (place-form-at t) place-form.Post
 place-form-eval-requires t c κs = search needs
 
--- src/walk.rt:180:42
+-- src/walk.rt:215:42
 place-form-add-number-3 : (t : ℕ) → place-form-lts.Need-add-number-3 (
   number-reads.Asked,
   number-reads.Learnt,
@@ -3137,14 +3845,12 @@ place-form-add-number-3 : (t : ℕ) → place-form-lts.Need-add-number-3 (
   distance-reads.Learnt,
   element-reads.Asked,
   element-reads.Learnt,
-  place-form-below t,
-  place-form.Post,
   shifted-reads.Asked,
   shifted-reads.Learnt,
 ) (place-form-at t) place-form.Post
 place-form-add-number-3 t c = search needs
 
--- src/walk.rt:180:29
+-- src/walk.rt:215:29
 place-form-number-requires-4 : (t : ℕ) → place-form-lts.Need-number-requires-4 (
   number-reads.Asked,
   number-reads.Learnt,
@@ -3156,14 +3862,12 @@ place-form-number-requires-4 : (t : ℕ) → place-form-lts.Need-number-requires
   distance-reads.Learnt,
   element-reads.Asked,
   element-reads.Learnt,
-  place-form-below t,
-  place-form.Post,
   shifted-reads.Asked,
   shifted-reads.Learnt,
 ) (place-form-at t) place-form.Post
 place-form-number-requires-4 t c κs = search needs
 
--- src/walk.rt:180:63
+-- src/walk.rt:215:63
 place-form-add-number-4 : (t : ℕ) → place-form-lts.Need-add-number-4 (
   number-reads.Asked,
   number-reads.Learnt,
@@ -3175,14 +3879,12 @@ place-form-add-number-4 : (t : ℕ) → place-form-lts.Need-add-number-4 (
   distance-reads.Learnt,
   element-reads.Asked,
   element-reads.Learnt,
-  place-form-below t,
-  place-form.Post,
   shifted-reads.Asked,
   shifted-reads.Learnt,
 ) (place-form-at t) place-form.Post
 place-form-add-number-4 t c = search needs
 
--- src/walk.rt:180:50
+-- src/walk.rt:215:50
 place-form-number-requires-5 : (t : ℕ) → place-form-lts.Need-number-requires-5 (
   number-reads.Asked,
   number-reads.Learnt,
@@ -3194,14 +3896,12 @@ place-form-number-requires-5 : (t : ℕ) → place-form-lts.Need-number-requires
   distance-reads.Learnt,
   element-reads.Asked,
   element-reads.Learnt,
-  place-form-below t,
-  place-form.Post,
   shifted-reads.Asked,
   shifted-reads.Learnt,
 ) (place-form-at t) place-form.Post
 place-form-number-requires-5 t c κs = search needs
 
--- src/walk.rt:180:13
+-- src/walk.rt:215:13
 place-form-distance-requires : (t : ℕ) → place-form-lts.Need-distance-requires (
   number-reads.Asked,
   number-reads.Learnt,
@@ -3213,14 +3913,12 @@ place-form-distance-requires : (t : ℕ) → place-form-lts.Need-distance-requir
   distance-reads.Learnt,
   element-reads.Asked,
   element-reads.Learnt,
-  place-form-below t,
-  place-form.Post,
   shifted-reads.Asked,
   shifted-reads.Learnt,
 ) (place-form-at t) place-form.Post
 place-form-distance-requires t c κs = search needs
 
--- src/walk.rt:181:43
+-- src/walk.rt:216:43
 place-form-add-number-5 : (t : ℕ) → place-form-lts.Need-add-number-5 (
   number-reads.Asked,
   number-reads.Learnt,
@@ -3232,14 +3930,12 @@ place-form-add-number-5 : (t : ℕ) → place-form-lts.Need-add-number-5 (
   distance-reads.Learnt,
   element-reads.Asked,
   element-reads.Learnt,
-  place-form-below t,
-  place-form.Post,
   shifted-reads.Asked,
   shifted-reads.Learnt,
 ) (place-form-at t) place-form.Post
 place-form-add-number-5 t c = search needs
 
--- src/walk.rt:181:30
+-- src/walk.rt:216:30
 place-form-number-requires-6 : (t : ℕ) → place-form-lts.Need-number-requires-6 (
   number-reads.Asked,
   number-reads.Learnt,
@@ -3251,14 +3947,12 @@ place-form-number-requires-6 : (t : ℕ) → place-form-lts.Need-number-requires
   distance-reads.Learnt,
   element-reads.Asked,
   element-reads.Learnt,
-  place-form-below t,
-  place-form.Post,
   shifted-reads.Asked,
   shifted-reads.Learnt,
 ) (place-form-at t) place-form.Post
 place-form-number-requires-6 t c κs = search needs
 
--- src/walk.rt:181:9
+-- src/walk.rt:216:9
 place-form-element-requires : (t : ℕ) → place-form-lts.Need-element-requires (
   number-reads.Asked,
   number-reads.Learnt,
@@ -3270,14 +3964,12 @@ place-form-element-requires : (t : ℕ) → place-form-lts.Need-element-requires
   distance-reads.Learnt,
   element-reads.Asked,
   element-reads.Learnt,
-  place-form-below t,
-  place-form.Post,
   shifted-reads.Asked,
   shifted-reads.Learnt,
 ) (place-form-at t) place-form.Post
 place-form-element-requires t c κs = search needs
 
--- src/walk.rt:181:9
+-- src/walk.rt:216:9
 place-form-returns-2 : (t : ℕ) → place-form-lts.Need-returns-2 (
   number-reads.Asked,
   number-reads.Learnt,
@@ -3289,14 +3981,12 @@ place-form-returns-2 : (t : ℕ) → place-form-lts.Need-returns-2 (
   distance-reads.Learnt,
   element-reads.Asked,
   element-reads.Learnt,
-  place-form-below t,
-  place-form.Post,
   shifted-reads.Asked,
   shifted-reads.Learnt,
 ) (place-form-at t) place-form.Post
-place-form-returns-2 t c = search (finds-element, deep, needs)
+place-form-returns-2 t c = search (finds-element, deep-not, needs)
 
--- src/walk.rt:184:62
+-- src/walk.rt:219:49
 place-form-add-number-6 : (t : ℕ) → place-form-lts.Need-add-number-6 (
   number-reads.Asked,
   number-reads.Learnt,
@@ -3308,14 +3998,12 @@ place-form-add-number-6 : (t : ℕ) → place-form-lts.Need-add-number-6 (
   distance-reads.Learnt,
   element-reads.Asked,
   element-reads.Learnt,
-  place-form-below t,
-  place-form.Post,
   shifted-reads.Asked,
   shifted-reads.Learnt,
 ) (place-form-at t) place-form.Post
 place-form-add-number-6 t c = search needs
 
--- src/walk.rt:184:49
+-- src/walk.rt:219:36
 place-form-number-requires-7 : (t : ℕ) → place-form-lts.Need-number-requires-7 (
   number-reads.Asked,
   number-reads.Learnt,
@@ -3327,15 +4015,13 @@ place-form-number-requires-7 : (t : ℕ) → place-form-lts.Need-number-requires
   distance-reads.Learnt,
   element-reads.Asked,
   element-reads.Learnt,
-  place-form-below t,
-  place-form.Post,
   shifted-reads.Asked,
   shifted-reads.Learnt,
 ) (place-form-at t) place-form.Post
 place-form-number-requires-7 t c κs = search needs
 
--- src/walk.rt:184:70
-place-form-sub-place-form : (t : ℕ) → place-form-lts.Need-sub-place-form (
+-- src/walk.rt:219:57
+place-form-sub-place-2 : (t : ℕ) → place-form-lts.Need-sub-place-2 (
   number-reads.Asked,
   number-reads.Learnt,
   place-below t,
@@ -3346,15 +4032,13 @@ place-form-sub-place-form : (t : ℕ) → place-form-lts.Need-sub-place-form (
   distance-reads.Learnt,
   element-reads.Asked,
   element-reads.Learnt,
-  place-form-below t,
-  place-form.Post,
   shifted-reads.Asked,
   shifted-reads.Learnt,
 ) (place-form-at t) place-form.Post
-place-form-sub-place-form t c = search needs
+place-form-sub-place-2 t c = search needs
 
--- src/walk.rt:184:13
-place-form-place-form-requires : (t : ℕ) → place-form-lts.Need-place-form-requires (
+-- src/walk.rt:219:13
+place-form-place-requires-2 : (t : ℕ) → place-form-lts.Need-place-requires-2 (
   number-reads.Asked,
   number-reads.Learnt,
   place-below t,
@@ -3365,14 +4049,12 @@ place-form-place-form-requires : (t : ℕ) → place-form-lts.Need-place-form-re
   distance-reads.Learnt,
   element-reads.Asked,
   element-reads.Learnt,
-  place-form-below t,
-  place-form.Post,
   shifted-reads.Asked,
   shifted-reads.Learnt,
 ) (place-form-at t) place-form.Post
-place-form-place-form-requires t c κs = search needs
+place-form-place-requires-2 t c κs = search needs
 
--- src/walk.rt:185:40
+-- src/walk.rt:220:40
 place-form-add-number-7 : (t : ℕ) → place-form-lts.Need-add-number-7 (
   number-reads.Asked,
   number-reads.Learnt,
@@ -3384,14 +4066,12 @@ place-form-add-number-7 : (t : ℕ) → place-form-lts.Need-add-number-7 (
   distance-reads.Learnt,
   element-reads.Asked,
   element-reads.Learnt,
-  place-form-below t,
-  place-form.Post,
   shifted-reads.Asked,
   shifted-reads.Learnt,
 ) (place-form-at t) place-form.Post
 place-form-add-number-7 t c = search needs
 
--- src/walk.rt:185:27
+-- src/walk.rt:220:27
 place-form-number-requires-8 : (t : ℕ) → place-form-lts.Need-number-requires-8 (
   number-reads.Asked,
   number-reads.Learnt,
@@ -3403,14 +4083,12 @@ place-form-number-requires-8 : (t : ℕ) → place-form-lts.Need-number-requires
   distance-reads.Learnt,
   element-reads.Asked,
   element-reads.Learnt,
-  place-form-below t,
-  place-form.Post,
   shifted-reads.Asked,
   shifted-reads.Learnt,
 ) (place-form-at t) place-form.Post
 place-form-number-requires-8 t c κs = search needs
 
--- src/walk.rt:185:9
+-- src/walk.rt:220:9
 place-form-shifted-requires : (t : ℕ) → place-form-lts.Need-shifted-requires (
   number-reads.Asked,
   number-reads.Learnt,
@@ -3422,14 +4100,12 @@ place-form-shifted-requires : (t : ℕ) → place-form-lts.Need-shifted-requires
   distance-reads.Learnt,
   element-reads.Asked,
   element-reads.Learnt,
-  place-form-below t,
-  place-form.Post,
   shifted-reads.Asked,
   shifted-reads.Learnt,
 ) (place-form-at t) place-form.Post
 place-form-shifted-requires t c κs = search needs
 
--- src/walk.rt:185:9
+-- src/walk.rt:220:9
 place-form-returns-3 : (t : ℕ) → place-form-lts.Need-returns-3 (
   number-reads.Asked,
   number-reads.Learnt,
@@ -3441,14 +4117,12 @@ place-form-returns-3 : (t : ℕ) → place-form-lts.Need-returns-3 (
   distance-reads.Learnt,
   element-reads.Asked,
   element-reads.Learnt,
-  place-form-below t,
-  place-form.Post,
   shifted-reads.Asked,
   shifted-reads.Learnt,
 ) (place-form-at t) place-form.Post
-place-form-returns-3 t c = search (finds-shift, deep, sfits-of)
+place-form-returns-3 t c = search (finds-shift, deep-not, sfits-of)
 
--- src/walk.rt:188:29
+-- src/walk.rt:223:29
 place-form-add-number-8 : (t : ℕ) → place-form-lts.Need-add-number-8 (
   number-reads.Asked,
   number-reads.Learnt,
@@ -3460,14 +4134,12 @@ place-form-add-number-8 : (t : ℕ) → place-form-lts.Need-add-number-8 (
   distance-reads.Learnt,
   element-reads.Asked,
   element-reads.Learnt,
-  place-form-below t,
-  place-form.Post,
   shifted-reads.Asked,
   shifted-reads.Learnt,
 ) (place-form-at t) place-form.Post
 place-form-add-number-8 t c = search needs
 
--- src/walk.rt:188:16
+-- src/walk.rt:223:16
 place-form-number-requires-9 : (t : ℕ) → place-form-lts.Need-number-requires-9 (
   number-reads.Asked,
   number-reads.Learnt,
@@ -3479,14 +4151,12 @@ place-form-number-requires-9 : (t : ℕ) → place-form-lts.Need-number-requires
   distance-reads.Learnt,
   element-reads.Asked,
   element-reads.Learnt,
-  place-form-below t,
-  place-form.Post,
   shifted-reads.Asked,
   shifted-reads.Learnt,
 ) (place-form-at t) place-form.Post
 place-form-number-requires-9 t c κs = search needs
 
--- src/walk.rt:188:16
+-- src/walk.rt:223:16
 place-form-cast-result : (t : ℕ) → place-form-lts.Need-cast-result (
   number-reads.Asked,
   number-reads.Learnt,
@@ -3498,14 +4168,12 @@ place-form-cast-result : (t : ℕ) → place-form-lts.Need-cast-result (
   distance-reads.Learnt,
   element-reads.Asked,
   element-reads.Learnt,
-  place-form-below t,
-  place-form.Post,
   shifted-reads.Asked,
   shifted-reads.Learnt,
 ) (place-form-at t) place-form.Post
 place-form-cast-result t c = search needs
 
--- src/walk.rt:188:9
+-- src/walk.rt:223:9
 place-form-returns-4 : (t : ℕ) → place-form-lts.Need-returns-4 (
   number-reads.Asked,
   number-reads.Learnt,
@@ -3517,14 +4185,12 @@ place-form-returns-4 : (t : ℕ) → place-form-lts.Need-returns-4 (
   distance-reads.Learnt,
   element-reads.Asked,
   element-reads.Learnt,
-  place-form-below t,
-  place-form.Post,
   shifted-reads.Asked,
   shifted-reads.Learnt,
 ) (place-form-at t) place-form.Post
-place-form-returns-4 t c = search (finds-cell, deep, needs)
+place-form-returns-4 t c = search (finds-cell, deep-not, needs)
 
--- src/walk.rt:169:1
+-- src/walk.rt:204:1
 place-form-returns-5 : (t : ℕ) → place-form-lts.Need-returns-5 (
   number-reads.Asked,
   number-reads.Learnt,
@@ -3536,14 +4202,12 @@ place-form-returns-5 : (t : ℕ) → place-form-lts.Need-returns-5 (
   distance-reads.Learnt,
   element-reads.Asked,
   element-reads.Learnt,
-  place-form-below t,
-  place-form.Post,
   shifted-reads.Asked,
   shifted-reads.Learnt,
 ) (place-form-at t) place-form.Post
-place-form-returns-5 t c = search (finds-none, deep, sfits-of)
+place-form-returns-5 t c = search (finds-none, deep-not, sfits-of)
 
--- src/walk.rt:136:9
+-- src/walk.rt:141:9
 short-cut-number-requires : (t : ℕ) → short-cut-lts.Need-number-requires (
   number-reads.Asked,
   number-reads.Learnt,
@@ -3554,7 +4218,7 @@ short-cut-number-requires : (t : ℕ) → short-cut-lts.Need-number-requires (
 ) (short-cut-at t) short-cut.Post
 short-cut-number-requires t c κs = search needs
 
--- src/walk.rt:137:52
+-- src/walk.rt:142:44
 short-cut-add-number : (t : ℕ) → short-cut-lts.Need-add-number (
   number-reads.Asked,
   number-reads.Learnt,
@@ -3565,7 +4229,7 @@ short-cut-add-number : (t : ℕ) → short-cut-lts.Need-add-number (
 ) (short-cut-at t) short-cut.Post
 short-cut-add-number t c = search needs
 
--- src/walk.rt:137:39
+-- src/walk.rt:142:31
 short-cut-number-requires-2 : (t : ℕ) → short-cut-lts.Need-number-requires-2 (
   number-reads.Asked,
   number-reads.Learnt,
@@ -3576,7 +4240,7 @@ short-cut-number-requires-2 : (t : ℕ) → short-cut-lts.Need-number-requires-2
 ) (short-cut-at t) short-cut.Post
 short-cut-number-requires-2 t c κs = search needs
 
--- src/walk.rt:137:60
+-- src/walk.rt:142:52
 short-cut-sub-eval : (t : ℕ) → short-cut-lts.Need-sub-eval (
   number-reads.Asked,
   number-reads.Learnt,
@@ -3587,7 +4251,7 @@ short-cut-sub-eval : (t : ℕ) → short-cut-lts.Need-sub-eval (
 ) (short-cut-at t) short-cut.Post
 short-cut-sub-eval t c = search needs
 
--- src/walk.rt:137:9
+-- src/walk.rt:142:9
 short-cut-eval-requires : (t : ℕ) → short-cut-lts.Need-eval-requires (
   number-reads.Asked,
   number-reads.Learnt,
@@ -3598,7 +4262,7 @@ short-cut-eval-requires : (t : ℕ) → short-cut-lts.Need-eval-requires (
 ) (short-cut-at t) short-cut.Post
 short-cut-eval-requires t c κs = search needs
 
--- src/walk.rt:139:9
+-- src/walk.rt:144:9
 short-cut-returns : (t : ℕ) → short-cut-lts.Need-returns (
   number-reads.Asked,
   number-reads.Learnt,
@@ -3609,7 +4273,7 @@ short-cut-returns : (t : ℕ) → short-cut-lts.Need-returns (
 ) (short-cut-at t) short-cut.Post
 short-cut-returns t c = search (short-laws)
 
--- src/walk.rt:143:64
+-- src/walk.rt:148:56
 short-cut-add-number-2 : (t : ℕ) → short-cut-lts.Need-add-number-2 (
   number-reads.Asked,
   number-reads.Learnt,
@@ -3620,7 +4284,7 @@ short-cut-add-number-2 : (t : ℕ) → short-cut-lts.Need-add-number-2 (
 ) (short-cut-at t) short-cut.Post
 short-cut-add-number-2 t c = search needs
 
--- src/walk.rt:143:51
+-- src/walk.rt:148:43
 short-cut-number-requires-3 : (t : ℕ) → short-cut-lts.Need-number-requires-3 (
   number-reads.Asked,
   number-reads.Learnt,
@@ -3631,7 +4295,7 @@ short-cut-number-requires-3 : (t : ℕ) → short-cut-lts.Need-number-requires-3
 ) (short-cut-at t) short-cut.Post
 short-cut-number-requires-3 t c κs = search needs
 
--- src/walk.rt:143:72
+-- src/walk.rt:148:64
 short-cut-sub-eval-form : (t : ℕ) → short-cut-lts.Need-sub-eval-form (
   number-reads.Asked,
   number-reads.Learnt,
@@ -3642,7 +4306,7 @@ short-cut-sub-eval-form : (t : ℕ) → short-cut-lts.Need-sub-eval-form (
 ) (short-cut-at t) short-cut.Post
 short-cut-sub-eval-form t c = search needs
 
--- src/walk.rt:143:13
+-- src/walk.rt:148:13
 short-cut-eval-form-requires : (t : ℕ) → short-cut-lts.Need-eval-form-requires (
   number-reads.Asked,
   number-reads.Learnt,
@@ -3653,7 +4317,7 @@ short-cut-eval-form-requires : (t : ℕ) → short-cut-lts.Need-eval-form-requir
 ) (short-cut-at t) short-cut.Post
 short-cut-eval-form-requires t c κs = search needs
 
--- src/walk.rt:143:13
+-- src/walk.rt:148:13
 short-cut-returns-2 : (t : ℕ) → short-cut-lts.Need-returns-2 (
   number-reads.Asked,
   number-reads.Learnt,
@@ -3664,7 +4328,7 @@ short-cut-returns-2 : (t : ℕ) → short-cut-lts.Need-returns-2 (
 ) (short-cut-at t) short-cut.Post
 short-cut-returns-2 t c = search (short-laws)
 
--- src/walk.rt:145:9
+-- src/walk.rt:150:9
 short-cut-returns-3 : (t : ℕ) → short-cut-lts.Need-returns-3 (
   number-reads.Asked,
   number-reads.Learnt,
@@ -3675,7 +4339,7 @@ short-cut-returns-3 : (t : ℕ) → short-cut-lts.Need-returns-3 (
 ) (short-cut-at t) short-cut.Post
 short-cut-returns-3 t c = search (short-laws)
 
--- src/walk.rt:148:9
+-- src/walk.rt:153:9
 short-cut-returns-4 : (t : ℕ) → short-cut-lts.Need-returns-4 (
   number-reads.Asked,
   number-reads.Learnt,
@@ -3686,7 +4350,7 @@ short-cut-returns-4 : (t : ℕ) → short-cut-lts.Need-returns-4 (
 ) (short-cut-at t) short-cut.Post
 short-cut-returns-4 t c = search (short-laws)
 
--- src/walk.rt:150:49
+-- src/walk.rt:155:41
 short-cut-add-number-3 : (t : ℕ) → short-cut-lts.Need-add-number-3 (
   number-reads.Asked,
   number-reads.Learnt,
@@ -3697,7 +4361,7 @@ short-cut-add-number-3 : (t : ℕ) → short-cut-lts.Need-add-number-3 (
 ) (short-cut-at t) short-cut.Post
 short-cut-add-number-3 t c = search needs
 
--- src/walk.rt:150:36
+-- src/walk.rt:155:28
 short-cut-number-requires-4 : (t : ℕ) → short-cut-lts.Need-number-requires-4 (
   number-reads.Asked,
   number-reads.Learnt,
@@ -3708,7 +4372,7 @@ short-cut-number-requires-4 : (t : ℕ) → short-cut-lts.Need-number-requires-4
 ) (short-cut-at t) short-cut.Post
 short-cut-number-requires-4 t c κs = search needs
 
--- src/walk.rt:150:57
+-- src/walk.rt:155:49
 short-cut-sub-eval-form-2 : (t : ℕ) → short-cut-lts.Need-sub-eval-form-2 (
   number-reads.Asked,
   number-reads.Learnt,
@@ -3719,7 +4383,7 @@ short-cut-sub-eval-form-2 : (t : ℕ) → short-cut-lts.Need-sub-eval-form-2 (
 ) (short-cut-at t) short-cut.Post
 short-cut-sub-eval-form-2 t c = search needs
 
--- src/walk.rt:150:5
+-- src/walk.rt:155:5
 short-cut-eval-form-requires-2 : (t : ℕ) → short-cut-lts.Need-eval-form-requires-2 (
   number-reads.Asked,
   number-reads.Learnt,
@@ -3730,7 +4394,7 @@ short-cut-eval-form-requires-2 : (t : ℕ) → short-cut-lts.Need-eval-form-requ
 ) (short-cut-at t) short-cut.Post
 short-cut-eval-form-requires-2 t c κs = search needs
 
--- src/walk.rt:131:1
+-- src/walk.rt:136:1
 short-cut-returns-5 : (t : ℕ) → short-cut-lts.Need-returns-5 (
   number-reads.Asked,
   number-reads.Learnt,
@@ -3741,29 +4405,67 @@ short-cut-returns-5 : (t : ℕ) → short-cut-lts.Need-returns-5 (
 ) (short-cut-at t) short-cut.Post
 short-cut-returns-5 t c = search (short-laws)
 
-pub +eval+eval-form+gather+left-first+one-sided+place+place-form+short-cut-spec :
+pub +component+eval+eval-form+gather+one-sided+operand+place+place-form+short-cut-spec :
     {M : Type 1} → statement M
-+eval+eval-form+gather+left-first+one-sided+place+place-form+short-cut-spec =
++component+eval+eval-form+gather+one-sided+operand+place+place-form+short-cut-spec =
     close
+    μ-component
     μ-eval
     μ-eval-form
     μ-gather
-    μ-left-first
     μ-one-sided
+    μ-operand
     μ-place
     μ-place-form
     μ-short-cut
+    (λ t. component-lts.spec (
+      place-form-below t,
+      place-form.Post,
+      number-reads.Asked,
+      number-reads.Learnt,
+      place-below t,
+      place.Post,
+      operand-below t,
+      operand.Post,
+      distance-reads.Asked,
+      distance-reads.Learnt,
+      element-reads.Asked,
+      element-reads.Learnt,
+    )
+    (component-at t)
+    component.Post
+    (component-returns t)
+    (component-place-form-requires t)
+    (component-returns-2 t)
+    (component-number-requires t)
+    (component-add-number t)
+    (component-number-requires-2 t)
+    (component-sub-place t)
+    (component-place-requires t)
+    (component-returns-3 t)
+    (component-add-number-2 t)
+    (component-number-requires-3 t)
+    (component-sub-operand t)
+    (component-operand-requires t)
+    (component-returns-4 t)
+    (component-add-number-3 t)
+    (component-number-requires-4 t)
+    (component-add-number-4 t)
+    (component-number-requires-5 t)
+    (component-distance-requires t)
+    (component-add-number-5 t)
+    (component-number-requires-6 t)
+    (component-element-requires t)
+    (component-returns-5 t)
+    (component-place-form-requires-2 t)
+    (component-returns-6 t))
     (λ t. eval-lts.spec (
       eval-form-below t,
       eval-form.Post,
       number-reads.Asked,
       number-reads.Learnt,
-      simple-reads.Asked,
-      simple-reads.Learnt,
-      left-first-below t,
-      left-first.Post,
-      eval-below t,
-      eval.Post,
+      operand-below t,
+      operand.Post,
       binary-reads.Asked,
       binary-reads.Learnt,
       one-sided-below t,
@@ -3772,35 +4474,44 @@ pub +eval+eval-form+gather+left-first+one-sided+place+place-form+short-cut-spec 
       cell-reads.Learnt,
       integral-reads.Asked,
       integral-reads.Learnt,
+      place-below t,
+      place.Post,
+      cells-at-reads.Asked,
+      cells-at-reads.Learnt,
     )
     (eval-at t)
     eval.Post
-    (eval-eval-form-requires t)
     (eval-returns t)
+    (eval-eval-form-requires t)
+    (eval-returns-2 t)
     (eval-number-requires t)
     (eval-add-number t)
     (eval-number-requires-2 t)
-    (eval-simple-requires t)
-    (eval-left-first-requires t)
-    (eval-returns-2 t)
+    (eval-sub-operand t)
+    (eval-operand-requires t)
     (eval-add-number-2 t)
     (eval-number-requires-3 t)
-    (eval-simple-requires-2 t)
-    (eval-sub-eval t)
-    (eval-eval-requires t)
+    (eval-sub-operand-2 t)
+    (eval-operand-requires-2 t)
     (eval-binary-requires t)
     (eval-returns-3 t)
-    (eval-binary-requires-2 t)
-    (eval-returns-4 t)
     (eval-one-sided-requires t)
-    (eval-returns-5 t)
+    (eval-returns-4 t)
     (eval-add-number-3 t)
     (eval-number-requires-4 t)
     (eval-cast-cell t)
     (eval-cell-requires t)
-    (eval-returns-6 t)
+    (eval-returns-5 t)
     (eval-add-integral t)
     (eval-integral-requires t)
+    (eval-returns-6 t)
+    (eval-add-number-4 t)
+    (eval-number-requires-5 t)
+    (eval-sub-place t)
+    (eval-place-requires t)
+    (eval-add-number-5 t)
+    (eval-number-requires-6 t)
+    (eval-cells-at-requires t)
     (eval-returns-7 t)
     (eval-eval-form-requires-2 t)
     (eval-returns-8 t))
@@ -3825,6 +4536,8 @@ pub +eval+eval-form+gather+left-first+one-sided+place+place-form+short-cut-spec 
       place.Post,
       cells-at-reads.Asked,
       cells-at-reads.Learnt,
+      latest-reads.Asked,
+      latest-reads.Learnt,
       gather-below t,
       gather.Post,
     )
@@ -3862,6 +4575,7 @@ pub +eval+eval-form+gather+left-first+one-sided+place+place-form+short-cut-spec 
     (eval-form-add-number-6 t)
     (eval-form-number-requires-7 t)
     (eval-form-cells-at-requires t)
+    (eval-form-latest-requires t)
     (eval-form-sub-gather t)
     (eval-form-gather-requires t)
     (eval-form-returns-5 t)
@@ -3914,37 +4628,11 @@ pub +eval+eval-form+gather+left-first+one-sided+place+place-form+short-cut-spec 
     (gather-loop-again t)
     (gather-value-requires-2 t)
     (gather-returns-3 t))
-    (λ t. left-first-lts.spec (
-      number-reads.Asked,
-      number-reads.Learnt,
-      eval-below t,
-      eval.Post,
-      simple-reads.Asked,
-      simple-reads.Learnt,
-      binary-reads.Asked,
-      binary-reads.Learnt,
-    )
-    (left-first-at t)
-    left-first.Post
-    (left-first-number-requires t)
-    (left-first-add-number t)
-    (left-first-number-requires-2 t)
-    (left-first-add-number-2 t)
-    (left-first-number-requires-3 t)
-    (left-first-sub-eval t)
-    (left-first-eval-requires t)
-    (left-first-simple-requires t)
-    (left-first-sub-eval-2 t)
-    (left-first-eval-requires-2 t)
-    (left-first-binary-requires t)
-    (left-first-returns t)
-    (left-first-binary-requires-2 t)
-    (left-first-returns-2 t))
     (λ t. one-sided-lts.spec (
       number-reads.Asked,
       number-reads.Learnt,
-      eval-below t,
-      eval.Post,
+      operand-below t,
+      operand.Post,
       integral-reads.Asked,
       integral-reads.Learnt,
       pred-reads.Asked,
@@ -3960,8 +4648,8 @@ pub +eval+eval-form+gather+left-first+one-sided+place+place-form+short-cut-spec 
     (one-sided-returns t)
     (one-sided-add-number t)
     (one-sided-number-requires-2 t)
-    (one-sided-sub-eval t)
-    (one-sided-eval-requires t)
+    (one-sided-sub-operand t)
+    (one-sided-operand-requires t)
     (one-sided-add-integral t)
     (one-sided-integral-requires t)
     (one-sided-add-integral-2 t)
@@ -3976,22 +4664,54 @@ pub +eval+eval-form+gather+left-first+one-sided+place+place-form+short-cut-spec 
     (one-sided-returns-3 t)
     (one-sided-unary-requires t)
     (one-sided-returns-4 t))
-    (λ t. place-lts.spec (
+    (λ t. operand-lts.spec (
+      eval-form-below t,
+      eval-form.Post,
       number-reads.Asked,
       number-reads.Learnt,
+      cell-reads.Asked,
+      cell-reads.Learnt,
+      integral-reads.Asked,
+      integral-reads.Learnt,
+      eval-below t,
+      eval.Post,
+    )
+    (operand-at t)
+    operand.Post
+    (operand-returns t)
+    (operand-eval-form-requires t)
+    (operand-returns-2 t)
+    (operand-number-requires t)
+    (operand-add-number t)
+    (operand-number-requires-2 t)
+    (operand-cast-cell t)
+    (operand-cell-requires t)
+    (operand-returns-3 t)
+    (operand-add-integral t)
+    (operand-integral-requires t)
+    (operand-returns-4 t)
+    (operand-eval-requires t)
+    (operand-returns-5 t))
+    (λ t. place-lts.spec (
       place-form-below t,
       place-form.Post,
+      number-reads.Asked,
+      number-reads.Learnt,
+      component-below t,
+      component.Post,
     )
     (place-at t)
     place.Post
     (place-returns t)
+    (place-place-form-requires t)
+    (place-returns-2 t)
     (place-number-requires t)
     (place-add-number t)
     (place-number-requires-2 t)
     (place-cast-result t)
-    (place-returns-2 t)
-    (place-place-form-requires t)
-    (place-returns-3 t))
+    (place-returns-3 t)
+    (place-component-requires t)
+    (place-returns-4 t))
     (λ t. place-form-lts.spec (
       number-reads.Asked,
       number-reads.Learnt,
@@ -4003,8 +4723,6 @@ pub +eval+eval-form+gather+left-first+one-sided+place+place-form+short-cut-spec 
       distance-reads.Learnt,
       element-reads.Asked,
       element-reads.Learnt,
-      place-form-below t,
-      place-form.Post,
       shifted-reads.Asked,
       shifted-reads.Learnt,
     )
@@ -4031,8 +4749,8 @@ pub +eval+eval-form+gather+left-first+one-sided+place+place-form+short-cut-spec 
     (place-form-returns-2 t)
     (place-form-add-number-6 t)
     (place-form-number-requires-7 t)
-    (place-form-sub-place-form t)
-    (place-form-place-form-requires t)
+    (place-form-sub-place-2 t)
+    (place-form-place-requires-2 t)
     (place-form-add-number-7 t)
     (place-form-number-requires-8 t)
     (place-form-shifted-requires t)

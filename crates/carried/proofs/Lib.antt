@@ -1,0 +1,5 @@
+pub mod Carrying
+pub mod Ruling
+pub mod Operating
+pub mod Settling
+pub mod Reaching
