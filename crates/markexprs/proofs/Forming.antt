@@ -1,9 +1,9 @@
 -- The ways through forms: from what is marked of their parts to what is marked of them.
-use mathlib.Core.Path.{_≡_, refl, sym, ap, _∙_}
+use mathlib.Core.Path.{_≡_, refl, sym, _∙_}
 use mathlib.Core.Bool.{Bool, true, false}
 use mathlib.Core.List.{List, map}
-use mathlib.Core.Option.{Option, none, some}
-use Prim.Native.Nat.{ℕ, zero, suc}
+use mathlib.Core.Option.{some}
+use Prim.Native.Nat.{ℕ}
 use native.Mathlib.Omega.{arith}
 use borrow.Author.Needs.{sfits-of}
 use lib.Dec.{eqb}
@@ -13,12 +13,12 @@ use mir.Val.{SFits}
 use mir.Facts.{toZ-ofZ}
 use Rattle.arith.proofs.Machine.{wire}
 use Rattle.lexis.specs.Bytes.{small}
-use Rattle.semantics.specs.Base.{Name, _>>=_}
+use Rattle.semantics.specs.Base.{Name}
 use Rattle.semantics.specs.Environment.{Environment}
 use Rattle.semantics.specs.Machine.{Store}
 use Rattle.semantics.specs.Marking.{markExpr, markTarget, markMembers}
 use Rattle.semantics.specs.Names as Names
-use Rattle.semantics.specs.Names.{constOf, exprOf, targetOf, exprsOf, typeOf, atomOf as atomMeant}
+use Rattle.semantics.specs.Names.{constOf, exprOf, targetOf, atomOf as atomMeant}
 use Rattle.semantics.specs.Operators.{Op, Fun, negate, minus}
 use Rattle.semantics.specs.Script.{Expr, const}
 use Rattle.semantics.specs.Syntax as Syntax
@@ -27,9 +27,8 @@ use Rattle.semantics.proofs.Inversion.{none-some, some-inj, bind-some}
 use Rattle.kinds.specs.Kinds.{opNumber}
 use Rattle.kinds.specs.Functions.{funNumber}
 use Rattle.evaluate.specs.Words.{Holds}
-use Rattle.shapes.specs.declared.ExprHead.{ExprHead}
 use Rattle.shapes.specs.declared.ExprHead.the-variants as EH
-use Rattle.shapes.specs.Parts.{rest, closed, exprIn, nameIn}
+use Rattle.shapes.specs.Parts.{rest, exprIn, nameIn}
 use Rattle.tables.specs.Descriptions.{infoOf}
 use Rattle.tables.proofs.Telling.{kinded, shape-set}
 use Rattle.parts.specs.declared.End.{End}
@@ -51,7 +50,7 @@ use Rattle.carried.specs.Values.{carriedOf, Carries, Reaches, Known}
 use Rattle.carried.specs.Steps.{Operates, Applies, Shorts, Constants, Loads, Indexes, Selects}
 use Rattle.carried.proofs.Carrying.{carries-one, carries-stuck}
 use Rattle.carried.proofs.Ruling.{simple-set}
-use Rattle.markexprs.specs.Marks.{Marked, MarksExpr, MarksTarget, MarksForm, MarksPlace, MarksMinus, MarksMembers}
+use Rattle.markexprs.specs.Marks.{MarksExpr, MarksTarget, MarksForm, MarksPlace, MarksMinus, MarksMembers}
 use Rattle.markexprs.proofs.Inverting.{past-expr, past-target, past-type, last-part, two-parts, one-part, short-parts, members-part, minus-constant, minus-side, minus-sides, at-part, dot-part, at-parts, dot-parts}
 use Rattle.markexprs.proofs.Naming.{named-type}
 

@@ -1,9 +1,9 @@
 -- The loop over the members of a set: they come one after another into a set, in whatever order it is the same.
 use mathlib.Core.Path.{_≡_, refl, sym, ap, subst, _∙_}
-use mathlib.Core.Bool.{Bool, true, false}
+use mathlib.Core.Bool.{true, false}
 use mathlib.Core.List.{List}
-use mathlib.Core.Option.{Option, none, some}
-use Prim.Native.Nat.{ℕ, zero, suc, _<_, _≤_}
+use mathlib.Core.Option.{some}
+use Prim.Native.Nat.{ℕ, _<_}
 use native.Mathlib.Omega.{arith}
 use borrow.Author.Needs.{sfits-of}
 use lib.IntN.{ℤ, pos}
@@ -14,18 +14,16 @@ use mir.Facts.{toZ-ofZ}
 use Rattle.arith.proofs.Machine.{wire}
 use Rattle.sets.specs.Sets.{members, valueOf, with as added}
 use Rattle.sets.proofs.Digits.{value-is}
-use Rattle.semantics.specs.Base as Base
-use Rattle.semantics.specs.Calculate.{Result, is, fails, stuck, _>>=_, tested, rangeError, joined}
+use Rattle.semantics.specs.Calculate.{Result, is, fails, stuck, _>>=_, joined}
 use Rattle.semantics.specs.Environment.{Environment}
-use Rattle.semantics.specs.Machine.{Store, sole}
+use Rattle.semantics.specs.Machine.{Store}
 use Rattle.semantics.specs.Marking.{wanted, markExpr, markMembers}
-use Rattle.semantics.specs.Names.{exprOf, exprsOf}
+use Rattle.semantics.specs.Names.{exprsOf}
 use Rattle.semantics.specs.Script.{Expr, Exprs, nil, _and_}
 use Rattle.semantics.specs.Syntax as Syntax
-use Rattle.semantics.specs.Trees.{Tree, Trees, end, _then_, Run, first, stackAt}
+use Rattle.semantics.specs.Trees.{Trees, end, _then_, Run, first, stackAt}
 use Rattle.semantics.specs.Types.{baseOf}
-use Rattle.semantics.specs.Words.{worded}
-use Rattle.semantics.proofs.Inversion.{none-some, some-inj, bind-some}
+use Rattle.semantics.proofs.Inversion.{some-inj, bind-some}
 use Rattle.evaluate.specs.Words.{Holds}
 use Rattle.evaluate.proofs.Gathering.{joined-turn, joined-set, bind-id, bind-twice}
 use Rattle.evaluate.proofs.Ranging.{low-range}
@@ -38,7 +36,7 @@ use Rattle.expressions.specs.Members.{many}
 use Rattle.carried.specs.declared.values.Carried.{Carried}
 use Rattle.carried.specs.Values.{MarkMeans, Known}
 use Rattle.carried.specs.Steps.{admitted, Admits}
-use Rattle.carried.proofs.Carrying.{Broken, by-fault, by-stuck, broken-bind, broken-means, view-broken, view-value, is-inj, means-value}
+use Rattle.carried.proofs.Carrying.{Broken, broken-bind, broken-means, view-broken, view-value, means-value}
 use Rattle.markexprs.specs.Marks.{MarksExpr, MarksMembers}
 use Rattle.markexprs.proofs.Inverting.{past-expr}
 

@@ -1,21 +1,19 @@
 -- The ways from a part to its form, its head word, and the parts after that.
-use mathlib.Core.Path.{_≡_, refl, sym, ap, _∙_}
+use mathlib.Core.Path.{_≡_, refl, ap, _∙_}
 use mathlib.Core.Bool.{Bool}
-use mathlib.Core.List.{List, map}
-use mathlib.Core.Option.{Option, none, some}
+use mathlib.Core.List.{List}
+use mathlib.Core.Option.{none}
 use Prim.Native.Nat.{ℕ, zero, suc, _-_}
 use native.Mathlib.Omega.{arith}
 use lib.IntN.{ℤ}
 use Rattle.lexis.specs.declared.words.Word.{Word}
-use Rattle.lexis.specs.Bytes.{small}
 use Rattle.lexis.specs.Words.{wordOf}
 use Rattle.semantics.specs.Base.{_>>=_}
-use Rattle.semantics.specs.Environment.{Environment}
-use Rattle.semantics.specs.Trees.{Tree, word, form, Trees, end, _then_, Run, first, later, wordAt, stackAt}
+use Rattle.semantics.specs.Trees.{word, form, Trees, end, _then_, Run, first, later, wordAt, stackAt}
 use Rattle.shapes.specs.declared.ExprHead.{ExprHead}
 use Rattle.shapes.specs.declared.ExprHead.the-variants as EH
-use Rattle.shapes.specs.Heads.{exprHeadOf, atomExpr, atomTarget, atomOf}
-use Rattle.shapes.specs.Parts.{rest, exprIn, targetIn, targetBy, partOf}
+use Rattle.shapes.specs.Heads.{exprHeadOf}
+use Rattle.shapes.specs.Parts.{exprIn, targetIn, targetBy, partOf}
 use Rattle.shapes.proofs.Heads.{expr-head-is, expr-word, target-word}
 use Rattle.shapes.proofs.Expressions.{expr-form, expr-end, expr-zero, expr-empty, expr-headless, target-form, target-end, target-zero, target-empty, target-headless}
 use Rattle.parts.specs.declared.Part.{Part}

@@ -3,18 +3,16 @@ use mathlib.Core.Path.{_≡_, refl, sym, ap, _∙_}
 use mathlib.Core.Bool.{Bool, true, false}
 use mathlib.Core.List.{List, map}
 use mathlib.Core.Option.{Option, none, some}
-use Prim.Native.Nat.{ℕ, zero, suc, _<_, _≤_}
-use native.Mathlib.Omega.{arith}
+use Prim.Native.Nat.{ℕ, _≤_}
 use borrow.Author.Tests.{ltb-true, ltb-false}
 use lib.Dec.{ltb}
 use lib.IntN.{ℤ}
-use lib.ListN.{getD, List·getD-eq-default}
+use lib.ListN.{List·getD-eq-default}
 use Rattle.semantics.specs.Base.{Name, _>>=_}
-use Rattle.semantics.specs.Forms.{Item, Head, hAt, hDot, hOp, hFun, expr, target, exprForm}
+use Rattle.semantics.specs.Forms.{Item, hOp, hFun, expr, target}
 use Rattle.semantics.specs.Operators.{Op, Fun, negate, minus}
 use Rattle.semantics.specs.Syntax as Syntax
-use Rattle.semantics.specs.Trees.{Tree, Trees, end, _then_, Run, first, stackAt, list}
-use Rattle.semantics.specs.Words.{wordedAll}
+use Rattle.semantics.specs.Trees.{Tree, Trees, end, _then_, Run, first, stackAt}
 use Rattle.semantics.proofs.Inversion.{none-some, some-inj, bind-some}
 use Rattle.kinds.specs.Kinds.{operators, opNumber}
 use Rattle.kinds.specs.Functions.{functions, funNumber}

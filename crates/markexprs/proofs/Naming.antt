@@ -3,7 +3,7 @@ use mathlib.Core.Path.{_≡_, refl, sym, ap, _∙_}
 use mathlib.Core.Bool.{Bool, true, false, true≢false}
 use mathlib.Core.List.{List, map}
 use mathlib.Core.Option.{Option, none, some}
-use Prim.Native.Nat.{ℕ, min, _<_}
+use Prim.Native.Nat.{ℕ, _<_}
 use native.Mathlib.Omega.{arith}
 use borrow.Author.Needs.{sfits-of}
 use lib.IntN.{ℤ, pos}
@@ -13,26 +13,23 @@ use mir.Facts.{toZ-ofZ}
 use Rattle.arith.proofs.Machine.{wire}
 use Rattle.lexis.specs.declared.words.Word.{Word}
 use Rattle.lexis.specs.Bytes.{small}
-use Rattle.lexis.specs.Words.{wordOf}
-use Rattle.semantics.specs.Base.{Name, _>>=_, find}
+use Rattle.semantics.specs.Base.{_>>=_, find}
 use Rattle.semantics.specs.Calculate as Calculate
-use Rattle.semantics.specs.Calculate.{Result, is}
+use Rattle.semantics.specs.Calculate.{is}
 use Rattle.semantics.specs.Environment.{Environment, NameSort, aVar, aValue}
 use Rattle.semantics.specs.Machine.{Store}
-use Rattle.semantics.specs.Marking.{TypedPlace, typedPlace, orStuck, markExpr, markTarget}
-use Rattle.semantics.specs.Names as Names
+use Rattle.semantics.specs.Marking.{typedPlace, markExpr, markTarget}
 use Rattle.semantics.specs.Names.{asExpr, asVar, constOf, exprOf, targetOf, varOf, typeOf, atomOf as atomMeant}
-use Rattle.semantics.specs.Script.{Expr, const, read, errorNumber, endOf, var}
+use Rattle.semantics.specs.Script.{Expr, const, read, errorNumber, var}
 use Rattle.semantics.specs.Stages.{staged, named, ruled, fits}
 use Rattle.semantics.specs.Syntax as Syntax
 use Rattle.semantics.specs.Trees.{first, stackAt, wordAt}
 use Rattle.semantics.specs.Types.{Var, variable}
 use Rattle.semantics.proofs.Inversion.{none-some, some-inj, bind-some}
-use Rattle.evaluate.specs.Words.{Holds}
 use Rattle.shapes.specs.declared.Atom.{Atom}
 use Rattle.shapes.specs.declared.Atom.the-variants as AT
 use Rattle.shapes.specs.declared.ExprHead.the-variants as EH
-use Rattle.shapes.specs.Heads.{atomExpr, atomTarget, atomOf}
+use Rattle.shapes.specs.Heads.{atomOf}
 use Rattle.shapes.specs.Parts.{typeNameIn}
 use Rattle.symbols.specs.Chain.{entries, placeIn}
 use Rattle.tables.specs.declared.Meaning.{Meaning}
@@ -40,11 +37,11 @@ use Rattle.tables.specs.declared.Meaning.the-variants as meaning
 use Rattle.tables.specs.Scene.{Told, unknown, known, a-type, a-var, a-proc, a-value, meaningAt}
 use Rattle.tables.proofs.Telling.{kinded, meant}
 use Rattle.atoms.specs.declared.Typed.{Typed}
-use Rattle.atoms.specs.Contracts.{TypeTold, GivesType}
+use Rattle.atoms.specs.Contracts.{GivesType}
 use Rattle.carried.specs.declared.values.Carried.{Carried}
 use Rattle.carried.specs.declared.places.Reached.{Reached}
-use Rattle.carried.specs.Values.{reachedOf, Carries, Reaches, Known}
-use Rattle.carried.specs.Steps.{loaded, Constants, Ends, Latest, Loads}
+use Rattle.carried.specs.Values.{reachedOf, Reaches, Known}
+use Rattle.carried.specs.Steps.{Constants, Ends, Latest, Loads}
 use Rattle.carried.proofs.Reaching.{reaches-place}
 use Rattle.markexprs.specs.Marks.{Marked, MarkedPlace, MarksForm, MarksWord, MarksVar, MarksName, MarksPlaceName}
 use Rattle.markexprs.proofs.Inverting.{bound-part}

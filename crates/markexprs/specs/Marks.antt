@@ -16,7 +16,7 @@ use Rattle.semantics.specs.Names as Names
 use Rattle.semantics.specs.Names.{asExpr, asVar, exprOf, targetOf, exprsOf}
 use Rattle.semantics.specs.Script.{Expr, Exprs, var}
 use Rattle.semantics.specs.Syntax as Syntax
-use Rattle.semantics.specs.Trees.{Tree, form, Trees, end, _then_, Run, first, wordAt, stackAt}
+use Rattle.semantics.specs.Trees.{form, end, _then_, first, wordAt, stackAt}
 use Rattle.evaluate.specs.Words.{Holds}
 use Rattle.shapes.specs.declared.ExprHead.{ExprHead}
 use Rattle.shapes.specs.declared.ExprHead.the-variants.{Minus}
