@@ -1,12 +1,11 @@
 -- Words that are values, and words that are faults or no result; what is carried by either.
 use mathlib.Core.Path.{_≡_, refl, sym, ap, subst, _∙_}
-use mathlib.Core.Bool.{Bool, true, false, true≢false}
-use mathlib.Core.List.{List, [], _∷_}
-use Prim.Native.Nat.{ℕ, min, _+_}
+use mathlib.Core.Bool.{true, false, true≢false}
+use mathlib.Core.List.{[], _∷_}
+use Prim.Native.Nat.{ℕ, min}
 use native.Mathlib.Omega.{arith}
 use borrow.Author.Tests.{eq-eqb, ne-eqb}
 use borrow.Author.Needs.{sfits-of}
-use lib.Dec.{eqb}
 use lib.IntN.{ℤ, pos, _+ℤ_}
 use lib.Signed.{ltZ}
 use mir.Syntax.{w64}
@@ -15,7 +14,7 @@ use mir.Facts.{toZ-ofZ}
 use Rattle.arith.proofs.Machine.{wire}
 use Rattle.semantics.specs.Calculate.{Result, is, fails, stuck, _>>=_}
 use Rattle.semantics.specs.Machine.{Store, readCells, sole, oneCell}
-use Rattle.semantics.specs.Marking.{TypedValue, TypedPlace, typedValue, typedAs, placedAs, wanted}
+use Rattle.semantics.specs.Marking.{TypedValue, TypedPlace, typedValue, typedAs, wanted}
 use Rattle.semantics.specs.Types.{Types, sizeOf}
 use Rattle.evaluate.specs.Words.{wordOf, InRange, Ranged, Means}
 use Rattle.evaluate.proofs.Ranging.{range-value, above-fault}

@@ -1,11 +1,11 @@
 -- The ways through operators and functions.
 use mathlib.Core.Path.{_≡_, refl, sym, ap, subst, _∙_}
-use mathlib.Core.Bool.{Bool, true, false, cond, _||_, true≢false}
+use mathlib.Core.Bool.{Bool, true, false, true≢false}
 use mathlib.Core.List.{List, [], _∷_}
 use mathlib.Core.Option.{Option, none, some}
-use Prim.Native.Nat.{ℕ, _+_, _-_, _<_}
+use Prim.Native.Nat.{ℕ, _+_, _-_}
 use native.Mathlib.Omega.{arith}
-use borrow.Author.Tests.{eq-eqb, ne-eqb, eqb-true}
+use borrow.Author.Tests.{ne-eqb, eqb-true}
 use borrow.Author.Needs.{sfits-of}
 use lib.Dec.{eqb}
 use lib.IntN.{ℤ, pos}
@@ -17,16 +17,15 @@ use Rattle.arith.specs.Integers.{inside, least, most}
 use Rattle.arith.proofs.Machine.{wire}
 use Rattle.lexis.specs.Numbers.{signed}
 use Rattle.semantics.specs.Calculate.{Result, is, fails, stuck, _>>=_, isTrue, compute, compute1}
-use Rattle.semantics.specs.Environment.{Environment}
 use Rattle.semantics.specs.Layout.{operationNumber, node1}
 use Rattle.semantics.specs.Machine.{Store, sole, oneCell, shortCircuited}
 use Rattle.semantics.specs.Marking.{TypedValue, typedValue, typedAs, orStuck, require, wanted}
 use Rattle.semantics.specs.Operators.{Op, Fun, Operation, Operation1, predIn, succIn, Rule, Rule1, operatorRule, functionRule}
 use Rattle.semantics.specs.Readback.{operationAt, operation1At}
-use Rattle.semantics.specs.Types.{Types, infoAt, ordinal?, set?}
+use Rattle.semantics.specs.Types.{Types, infoAt, ordinal?}
 use Rattle.semantics.proofs.LayoutCode.{signed-bits}
-use Rattle.kinds.specs.Kinds.{Kinded, opNumber, told, ruling2}
-use Rattle.kinds.specs.Functions.{funNumber, nodeOf, told1, ruling1}
+use Rattle.kinds.specs.Kinds.{Kinded, told, ruling2}
+use Rattle.kinds.specs.Functions.{nodeOf, told1, ruling1}
 use Rattle.kinds.proofs.TwoSided.{two-sided-rule}
 use Rattle.kinds.proofs.OneSided.{one-sided-rule}
 use Rattle.kinds.specs.declared.Side.{Side}
@@ -40,10 +39,10 @@ use Rattle.tables.specs.Descriptions.{infoOf}
 use Rattle.tables.specs.Sides.{sideIn}
 use Rattle.tables.proofs.Telling.{kinded, side-in, low-told, high-told}
 use Rattle.carried.specs.declared.values.Carried.{Carried}
-use Rattle.carried.specs.Values.{carriedOf, MarkRanged, MarkMeans, simple?, Carries, Known}
+use Rattle.carried.specs.Values.{carriedOf, MarkRanged, MarkMeans, simple?, Carries}
 use Rattle.carried.specs.Steps.{ruledWord, nodeWord, ruledWord1, operated, applied, Wants, Operates, Applies, Shorts}
-use Rattle.carried.proofs.Carrying.{is-inj, broken-bind, broken-means, carries-broken, by-fault, by-stuck, view-broken, view-value, means-marks, carries-value, carries-cell, carries-one, carries-stuck, carried-broken, carried-value}
-use Rattle.carried.proofs.Ruling.{operation-back, simple-ordinal, rule-simple, Comes, plainly, by-pred, by-succ, rule-comes}
+use Rattle.carried.proofs.Carrying.{is-inj, broken-bind, carries-broken, by-fault, by-stuck, view-broken, view-value, means-marks, carries-value, carries-cell, carries-one, carries-stuck, carried-broken, carried-value}
+use Rattle.carried.proofs.Ruling.{operation-back, rule-simple, Comes, plainly, by-pred, by-succ, rule-comes}
 
 -- ---- by what an operator comes to
 

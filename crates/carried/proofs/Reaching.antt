@@ -1,10 +1,9 @@
 -- The ways through places: the cells there, elements and fields.
 use mathlib.Core.Path.{_≡_, refl, sym, ap, subst, _∙_}
-use mathlib.Core.Bool.{Bool, true, false, _&&_, _||_, and-false, true≢false}
+use mathlib.Core.Bool.{Bool, true, false, _||_, true≢false}
 use mathlib.Core.List.{List, [], _∷_, map}
-use mathlib.Core.Logic.{_⊎_, inl, inr}
-use mathlib.Core.Option.{Option, none, some}
-use Prim.Native.Nat.{ℕ, zero, suc, _+_, _*_, min, _<_, _≤_}
+use mathlib.Core.Logic.{inl, inr}
+use Prim.Native.Nat.{ℕ, _+_, _*_, min, _≤_}
 use native.Mathlib.Omega.{arith}
 use borrow.Author.Tests.{eq-eqb, ne-eqb}
 use borrow.Author.Needs.{sfits-of}
@@ -19,16 +18,16 @@ use Rattle.arith.specs.Integers.{inside, least, most}
 use Rattle.arith.proofs.Machine.{wire}
 use Rattle.lexis.specs.Bytes.{small}
 use Rattle.lexis.specs.Numbers.{signed}
-use Rattle.semantics.specs.Base.{Name, pick}
+use Rattle.semantics.specs.Base.{pick}
 use Rattle.semantics.specs.Calculate.{Result, is, fails, stuck, _>>=_, natOf, tested, rangeError}
 use Rattle.semantics.specs.Environment.{Environment}
 use Rattle.semantics.specs.Machine.{Store, readCell, readCells, sole}
-use Rattle.semantics.specs.Marking.{TypedValue, TypedPlace, typedValue, typedPlace, typedAs, placedAs, orStuck, require}
+use Rattle.semantics.specs.Marking.{TypedValue, TypedPlace, typedValue, typedPlace, typedAs, placedAs, orStuck}
 use Rattle.semantics.specs.Trees.{wordAt}
 use Rattle.semantics.specs.Types.{Types, Shape, ordinalShape, setShape, arrayShape, recordShape, Field, infoAt, isOrdinal, isSet, hostBy, cellsBy, hostOf, sizeOf, ordinal?, set?, array?, fieldOf}
 use Rattle.semantics.proofs.TypeTables.{Table}
 use Rattle.evaluate.specs.Words.{wordOf, resultOf, placeWord, cellOf, storeWord, cellsWord, cellsAt, distanceWord, elementWord, shiftedWord, InRange, Ranged, Means, Holds, first}
-use Rattle.evaluate.proofs.Combining.{value-again, fault-again}
+use Rattle.evaluate.proofs.Combining.{value-again}
 use Rattle.evaluate.proofs.Leaves.{natural-small}
 use Rattle.evaluate.proofs.Ranging.{range-value, low-range}
 use Rattle.evaluate.proofs.Walking.{capped-cells, one-or-more, le-ltb-cap, cap-add, test-cases}
@@ -38,9 +37,9 @@ use Rattle.tables.specs.Sides.{hostIn}
 use Rattle.tables.proofs.Telling.{shape-array, size-told, index-told, element-told, host-in, fields-short, FieldFound, no-field, a-field, field-told}
 use Rattle.carried.specs.declared.values.Carried.{Carried}
 use Rattle.carried.specs.declared.places.Reached.{Reached}
-use Rattle.carried.specs.Values.{carriedOf, reachedOf, firstCell, MarkRanged, MarkMeans, simple?, Carries, Reaches, Known}
+use Rattle.carried.specs.Values.{carriedOf, reachedOf, firstCell, MarkRanged, simple?, Carries, Reaches, Known}
 use Rattle.carried.specs.Steps.{loaded, elementPlace, indexed, selected, Loads, Indexes, Selects}
-use Rattle.carried.proofs.Carrying.{is-inj, Broken, by-fault, broken-bind, view-broken, view-value, carries-broken, reaches-broken, reaches-stuck, means-value, means-marks, carries-value, carried-broken, carried-value}
+use Rattle.carried.proofs.Carrying.{is-inj, Broken, by-fault, broken-bind, view-broken, view-value, carries-broken, reaches-broken, reaches-stuck, means-marks, carries-value, carried-broken, carried-value}
 use Rattle.carried.proofs.Settling.{low-small, high-small, low-signed, high-signed, host-ordinal}
 
 -- ---- places

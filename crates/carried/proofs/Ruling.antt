@@ -1,11 +1,10 @@
 -- What the operators and functions come to: the operation by its node's number, and a kind of one cell.
-use mathlib.Core.Path.{_≡_, refl, sym, ap, _∙_}
+use mathlib.Core.Path.{_≡_, refl, sym}
 use mathlib.Core.Bool.{Bool, true, false, _&&_, _||_, true≢false}
-use mathlib.Core.Option.{Option, none, some}
-use Prim.Native.Nat.{ℕ, _+_, _-_, _<_}
+use mathlib.Core.Option.{some}
+use Prim.Native.Nat.{ℕ, _-_, _<_}
 use native.Mathlib.Omega.{arith}
 use lib.Dec.{eqb}
-use lib.IntN.{ℤ}
 use Rattle.semantics.specs.Base.{given, either}
 use Rattle.semantics.specs.Layout.{operationNumber, node1}
 use Rattle.semantics.specs.Operators.{Op, plus, minus, times, power, divide, modulo, equal, unequal, less, atMost, greater, atLeast, member, andBoth, orBoth, Fun, negate, notOf, abs, sqr, odd, ord, pred, succ, card, setmin, setmax, Operation, intAdd, intSub, intMul, intPower, intDiv, intMod, setUnion, setDifference, setIntersection, numEqual, numUnequal, numLess, numAtMost, numGreater, numAtLeast, setWithin, setHolds, memberOf, boolAnd, boolOr, Operation1, intNegate, boolNot, intAbs, intSqr, intOdd, ordinalOf, predIn, succIn, setCard, setLeast, setGreatest, Rule, rule, Rule1, rule1, bothIntegers, bothBooleans, sameOrdinals, sameSets, operatorRule, functionRule}

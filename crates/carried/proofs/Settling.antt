@@ -1,19 +1,19 @@
 -- The ways through constants, `first` and `last`, `error_number`, and members.
 use mathlib.Core.Path.{_≡_, refl, sym, ap, subst, _∙_}
-use mathlib.Core.Bool.{Bool, true, false, cond, _&&_, and-false, true≢false}
+use mathlib.Core.Bool.{Bool, true, false, true≢false}
 use mathlib.Core.List.{List, [], _∷_}
-use mathlib.Core.Logic.{_⊎_, inl, inr}
+use mathlib.Core.Logic.{inl, inr}
 use Prim.Native.Nat.{ℕ, _<_}
-use borrow.Author.Tests.{eq-eqb, ne-eqb, eqb-true}
+use borrow.Author.Tests.{eq-eqb, ne-eqb}
 use borrow.Author.Needs.{sfits-of}
 use lib.Dec.{eqb}
 use lib.ListN.{length}
-use lib.IntN.{ℤ, pos, negℤ, _-ℤ_, -ℤ-+ℤ-cancel}
+use lib.IntN.{ℤ, pos, negℤ, -ℤ-+ℤ-cancel}
 use lib.Signed.{ltZ}
 use mir.Syntax.{w64}
 use mir.Val.{SFits}
 use mir.Facts.{toZ-ofZ}
-use Rattle.arith.specs.Integers.{inside, least, most, exact, ranged, pick as pickNum}
+use Rattle.arith.specs.Integers.{inside, least, most, exact, ranged}
 use Rattle.arith.specs.declared.Fault.{Fault}
 use Rattle.arith.specs.declared.Num.{Num}
 use Rattle.arith.specs.declared.Num.the-variants.{Value, Failed}
@@ -22,26 +22,24 @@ use Rattle.arith.proofs.Order.{leZ-trans}
 use Rattle.arith.proofs.Ranges.{inside-is, inside-both, exact-value, ranged-fault}
 use Rattle.lexis.specs.Numbers.{signed}
 use Rattle.semantics.specs.Base.{pick}
-use Rattle.semantics.specs.Calculate.{Result, is, fails, stuck, _>>=_, tested, rangeError}
-use Rattle.semantics.specs.Elaborate.{inKind}
+use Rattle.semantics.specs.Calculate.{Result, is, fails, _>>=_, tested, rangeError}
 use Rattle.semantics.specs.Environment.{Environment}
-use Rattle.semantics.specs.Machine.{Store, sole}
-use Rattle.semantics.specs.Marking.{TypedValue, typedValue, require, wanted}
-use Rattle.semantics.specs.Names.{constOf}
-use Rattle.semantics.specs.Types.{Types, Shape, ordinalShape, setShape, arrayShape, recordShape, infoAt, isOrdinal, hostBy, hostOf, ordinal?, set?}
+use Rattle.semantics.specs.Machine.{sole}
+use Rattle.semantics.specs.Marking.{typedValue, wanted}
+use Rattle.semantics.specs.Types.{Types, Shape, ordinalShape, setShape, arrayShape, recordShape, infoAt, isOrdinal, hostBy, hostOf, ordinal?}
 use Rattle.semantics.proofs.LayoutCode.{signed-bits}
 use Rattle.semantics.proofs.TypeTables.{Table}
-use Rattle.evaluate.specs.Words.{wordOf, resultOf, testedWord, latestIn, InRange, Holds}
+use Rattle.evaluate.specs.Words.{wordOf, testedWord, latestIn, InRange}
 use Rattle.evaluate.proofs.Combining.{value-again, fault-again}
-use Rattle.evaluate.proofs.Ranging.{range-value, wide}
+use Rattle.evaluate.proofs.Ranging.{wide}
 use Rattle.tables.specs.declared.Info.{Info}
 use Rattle.tables.specs.Descriptions.{infoOf}
 use Rattle.tables.specs.Sides.{hostIn}
-use Rattle.tables.proofs.Telling.{kinded, shape-ordinal, shape-set, low-told, high-told, element-told, host-in}
+use Rattle.tables.proofs.Telling.{kinded, shape-ordinal, low-told, high-told, element-told, host-in}
 use Rattle.carried.specs.declared.values.Carried.{Carried}
-use Rattle.carried.specs.Values.{carriedOf, MarkRanged, MarkMeans, simple?, Carries, Known}
-use Rattle.carried.specs.Steps.{constantly, ending, endWord, admitted, Wants, Constants, Ends, Latest, Admits}
-use Rattle.carried.proofs.Carrying.{Broken, broken-bind, broken-means, view-broken, view-value, means-value, carries-cell, carries-stuck}
+use Rattle.carried.specs.Values.{carriedOf, MarkRanged, MarkMeans, Carries, Known}
+use Rattle.carried.specs.Steps.{endWord, Wants, Constants, Ends, Latest, Admits}
+use Rattle.carried.proofs.Carrying.{broken-bind, broken-means, view-broken, view-value, means-value, carries-cell, carries-stuck}
 use Rattle.carried.proofs.Ruling.{simple-ordinal}
 
 -- ---- the bounds of a type, as they are described

@@ -11,9 +11,7 @@ use tables::Info;
 use tables::describe;
 use tables::host_of;
 ghost use mathlib.Core.Path.{_≡_};
-ghost use Prim.Native.Nat.{_+_};
 ghost use lib.IntN.{negℤ};
-ghost use Rattle.lexis.specs.Numbers.{signed};
 ghost use Rattle.carried.specs.Steps.{endWord, Constants, Ends, Latest};
 
 // A constant z of a kind, which must be one of that kind's ordinals.

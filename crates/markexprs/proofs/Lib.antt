@@ -1,0 +1,5 @@
+pub mod Inverting
+pub mod Naming
+pub mod Heading
+pub mod Forming
+pub mod Gathering

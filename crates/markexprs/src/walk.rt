@@ -1,0 +1,481 @@
+// The walk over expressions and targets at an offset of the text. Kinds are met where Marking says; nothing that is worked out has an effect, so a
+// right side may be worked out although the left one raised.
+use crate::words::bound;
+use crate::words::variable;
+use crate::words::word;
+use atoms::type_name;
+use carried::constants::negative;
+use carried::members::is_set;
+use carried::members::member;
+use carried::operators::apply;
+use carried::operators::operate;
+use carried::operators::short;
+use carried::places::Reached;
+use carried::places::index;
+use carried::places::load;
+use carried::places::place;
+use carried::places::select;
+use carried::values::Carried;
+use carried::values::STUCK;
+use carried::values::value;
+use evaluate::words::GREATEST;
+use exprnodes::fields::Sole;
+use exprnodes::fields::sole_name;
+use exprnodes::words::Alone;
+use exprnodes::words::number_alone;
+use parts::End;
+use parts::Part;
+use parts::end_at;
+use parts::part_at;
+use shapes::ExprHead;
+use shapes::expr_head;
+use skips::skip;
+ghost use Rattle.shapes.specs.declared.ExprHead.the-variants.{At, Dot, Members, Minus, Short, Two, One};
+ghost use Rattle.markexprs.specs.Marks.{MarksExpr, MarksTarget, MarksInner, MarksInnerPlace, MarksForm, MarksPlace, MarksMinus, MarksMembers};
+
+// An expression, at most `depth` deep.
+pub fn mark_expr(
+    text: &[u8],
+    work: &[u32],
+    types: &[u32],
+    count: u32,
+    newest: u32,
+    store: &[i64; 2056],
+    depth: usize,
+    at: usize,
+) -> Carried
+    ensures { λ r. ⌜ MarksExpr (now (text .entry)) (now (work .entry)) (now (types .entry)) (now (store .entry)) count newest depth at r ⌝ }
+{
+    if depth == 0 {
+        return value(0, STUCK);
+    }
+    let p = part_at(text, at);
+    match p {
+        Part::Leaf(w, p, _) => word(text, work, types, count, newest, store, w, p),
+        Part::Form(p) => inner(text, work, types, count, newest, store, depth - 1, p),
+        Part::Shut(_) => value(0, STUCK),
+    }
+}
+
+// All parts of a form that is an expression.
+fn inner(
+    text: &[u8],
+    work: &[u32],
+    types: &[u32],
+    count: u32,
+    newest: u32,
+    store: &[i64; 2056],
+    depth: usize,
+    at: usize,
+) -> Carried
+    ensures { λ r. ⌜ MarksInner (now (text .entry)) (now (work .entry)) (now (types .entry)) (now (store .entry)) count newest depth at r ⌝ }
+{
+    let p = part_at(text, at);
+    match p {
+        Part::Leaf(w, _, q) => headed(
+            text,
+            work,
+            types,
+            count,
+            newest,
+            store,
+            expr_head(w),
+            depth,
+            q,
+        ),
+        Part::Form(_) => value(0, STUCK),
+        Part::Shut(_) => value(0, STUCK),
+    }
+}
+
+// The parts after the head word.
+fn headed(
+    text: &[u8],
+    work: &[u32],
+    types: &[u32],
+    count: u32,
+    newest: u32,
+    store: &[i64; 2056],
+    head: ExprHead,
+    depth: usize,
+    at: usize,
+) -> Carried
+    ensures { λ r. ⌜ MarksForm (now (text .entry)) (now (work .entry)) (now (types .entry)) (now (store .entry)) count newest head depth at r ⌝ }
+{
+    match head {
+        ExprHead::At => load_at(text, work, types, count, newest, store, depth, at),
+        ExprHead::Dot => load_dot(text, work, types, count, newest, store, depth, at),
+        ExprHead::Members => set_form(text, work, types, count, newest, store, depth, at),
+        ExprHead::Minus => minus(text, work, types, count, newest, store, depth, at),
+        ExprHead::Bound(last) => bound(text, work, types, count, newest, store, last, depth, at),
+        ExprHead::Short(every) => short_form(
+            text,
+            work,
+            types,
+            count,
+            newest,
+            store,
+            every,
+            depth,
+            at,
+        ),
+        ExprHead::Two(op) => two(text, work, types, count, newest, store, op, depth, at),
+        ExprHead::One(f) => one(text, work, types, count, newest, store, f, depth, at),
+        ExprHead::Nothing => value(0, STUCK),
+    }
+}
+
+// Two sides.
+fn two(
+    text: &[u8],
+    work: &[u32],
+    types: &[u32],
+    count: u32,
+    newest: u32,
+    store: &[i64; 2056],
+    op: usize,
+    depth: usize,
+    at: usize,
+) -> Carried
+    ensures { λ r. ⌜ MarksForm (now (text .entry)) (now (work .entry)) (now (types .entry)) (now (store .entry)) count newest (Two op) depth at r ⌝ }
+{
+    let a = mark_expr(text, work, types, count, newest, store, depth, at);
+    let b = mark_expr(
+        text,
+        work,
+        types,
+        count,
+        newest,
+        store,
+        depth,
+        skip(text, at),
+    );
+    operate(work, types, op, a, b)
+}
+
+// Two sides, the second of which may be left alone.
+fn short_form(
+    text: &[u8],
+    work: &[u32],
+    types: &[u32],
+    count: u32,
+    newest: u32,
+    store: &[i64; 2056],
+    every: bool,
+    depth: usize,
+    at: usize,
+) -> Carried
+    ensures { λ r. ⌜ MarksForm (now (text .entry)) (now (work .entry)) (now (types .entry)) (now (store .entry)) count newest (Short every) depth at r ⌝ }
+{
+    let a = mark_expr(text, work, types, count, newest, store, depth, at);
+    let b = mark_expr(
+        text,
+        work,
+        types,
+        count,
+        newest,
+        store,
+        depth,
+        skip(text, at),
+    );
+    short(every, a, b)
+}
+
+// One side.
+fn one(
+    text: &[u8],
+    work: &[u32],
+    types: &[u32],
+    count: u32,
+    newest: u32,
+    store: &[i64; 2056],
+    f: usize,
+    depth: usize,
+    at: usize,
+) -> Carried
+    ensures { λ r. ⌜ MarksForm (now (text .entry)) (now (work .entry)) (now (types .entry)) (now (store .entry)) count newest (One f) depth at r ⌝ }
+{
+    let a = mark_expr(text, work, types, count, newest, store, depth, at);
+    apply(work, types, f, a)
+}
+
+// A negative number, one side, or two.
+fn minus(
+    text: &[u8],
+    work: &[u32],
+    types: &[u32],
+    count: u32,
+    newest: u32,
+    store: &[i64; 2056],
+    depth: usize,
+    at: usize,
+) -> Carried
+    ensures { λ r. ⌜ MarksForm (now (text .entry)) (now (work .entry)) (now (types .entry)) (now (store .entry)) count newest Minus depth at r ⌝ }
+{
+    let n = number_alone(text, at);
+    match n {
+        Alone::Number(z, _) => negative(work, types, z),
+        Alone::No => minus_parts(text, work, types, count, newest, store, depth, at),
+    }
+}
+
+// One side, or two, where there is no number alone.
+fn minus_parts(
+    text: &[u8],
+    work: &[u32],
+    types: &[u32],
+    count: u32,
+    newest: u32,
+    store: &[i64; 2056],
+    depth: usize,
+    at: usize,
+) -> Carried
+    ensures { λ r. ⌜ MarksMinus (now (text .entry)) (now (work .entry)) (now (types .entry)) (now (store .entry)) count newest depth at r ⌝ }
+{
+    let a = mark_expr(text, work, types, count, newest, store, depth, at);
+    let q = skip(text, at);
+    let e = end_at(text, q);
+    match e {
+        End::Past(_) => apply(work, types, 0, a),
+        End::More => operate(
+            work,
+            types,
+            1,
+            a,
+            mark_expr(text, work, types, count, newest, store, depth, q),
+        ),
+    }
+}
+
+// A set's type, which is met first, and its members.
+fn set_form(
+    text: &[u8],
+    work: &[u32],
+    types: &[u32],
+    count: u32,
+    newest: u32,
+    store: &[i64; 2056],
+    depth: usize,
+    at: usize,
+) -> Carried
+    ensures { λ r. ⌜ MarksForm (now (text .entry)) (now (work .entry)) (now (types .entry)) (now (store .entry)) count newest Members depth at r ⌝ }
+{
+    let t = type_name(text, work, count, newest, at);
+    if is_set(work, types, t.kind) {
+        let w = member_list(
+            text,
+            work,
+            types,
+            count,
+            newest,
+            store,
+            t.kind,
+            depth,
+            skip(text, at),
+        );
+        return value(t.kind, w);
+    }
+    value(0, STUCK)
+}
+
+// The set of the members up to the closing bracket: each is tested before the next is worked out.
+fn member_list(
+    text: &[u8],
+    work: &[u32],
+    types: &[u32],
+    count: u32,
+    newest: u32,
+    store: &[i64; 2056],
+    t: u32,
+    depth: usize,
+    at: usize,
+) -> i64
+    ensures { λ r. ⌜ MarksMembers (now (text .entry)) (now (work .entry)) (now (types .entry)) (now (store .entry)) count newest t depth at r ⌝ }
+{
+    let mut next = at;
+    let mut set = 0;
+    loop {
+        let e = end_at(text, next);
+        match e {
+            End::Past(_) => {
+                return sets::value(set);
+            }
+            End::More => {}
+        }
+        let z = member(
+            work,
+            types,
+            t,
+            mark_expr(text, work, types, count, newest, store, depth, next),
+        );
+        if z > GREATEST {
+            return z;
+        }
+        set = sets::insert(set, z);
+        next = skip(text, next);
+    }
+}
+
+// The cells of an element.
+fn load_at(
+    text: &[u8],
+    work: &[u32],
+    types: &[u32],
+    count: u32,
+    newest: u32,
+    store: &[i64; 2056],
+    depth: usize,
+    at: usize,
+) -> Carried
+    ensures { λ r. ⌜ MarksForm (now (text .entry)) (now (work .entry)) (now (types .entry)) (now (store .entry)) count newest At depth at r ⌝ }
+{
+    let g = element(text, work, types, count, newest, store, depth, at);
+    load(work, types, store, g)
+}
+
+// The cells of a field.
+fn load_dot(
+    text: &[u8],
+    work: &[u32],
+    types: &[u32],
+    count: u32,
+    newest: u32,
+    store: &[i64; 2056],
+    depth: usize,
+    at: usize,
+) -> Carried
+    ensures { λ r. ⌜ MarksForm (now (text .entry)) (now (work .entry)) (now (types .entry)) (now (store .entry)) count newest Dot depth at r ⌝ }
+{
+    let g = field(text, work, types, count, newest, store, depth, at);
+    load(work, types, store, g)
+}
+
+// A target, at most `depth` deep.
+pub fn mark_target(
+    text: &[u8],
+    work: &[u32],
+    types: &[u32],
+    count: u32,
+    newest: u32,
+    store: &[i64; 2056],
+    depth: usize,
+    at: usize,
+) -> Reached
+    ensures { λ r. ⌜ MarksTarget (now (text .entry)) (now (work .entry)) (now (types .entry)) (now (store .entry)) count newest depth at r ⌝ }
+{
+    if depth == 0 {
+        return place(0, STUCK);
+    }
+    let p = part_at(text, at);
+    match p {
+        Part::Leaf(w, p, _) => variable(text, work, count, newest, w, p),
+        Part::Form(p) => inner_place(text, work, types, count, newest, store, depth - 1, p),
+        Part::Shut(_) => place(0, STUCK),
+    }
+}
+
+// All parts of a form that is a target.
+fn inner_place(
+    text: &[u8],
+    work: &[u32],
+    types: &[u32],
+    count: u32,
+    newest: u32,
+    store: &[i64; 2056],
+    depth: usize,
+    at: usize,
+) -> Reached
+    ensures { λ r. ⌜ MarksInnerPlace (now (text .entry)) (now (work .entry)) (now (types .entry)) (now (store .entry)) count newest depth at r ⌝ }
+{
+    let p = part_at(text, at);
+    match p {
+        Part::Leaf(w, _, q) => place_headed(
+            text,
+            work,
+            types,
+            count,
+            newest,
+            store,
+            expr_head(w),
+            depth,
+            q,
+        ),
+        Part::Form(_) => place(0, STUCK),
+        Part::Shut(_) => place(0, STUCK),
+    }
+}
+
+// The parts after the head word.
+fn place_headed(
+    text: &[u8],
+    work: &[u32],
+    types: &[u32],
+    count: u32,
+    newest: u32,
+    store: &[i64; 2056],
+    head: ExprHead,
+    depth: usize,
+    at: usize,
+) -> Reached
+    ensures { λ r. ⌜ MarksPlace (now (text .entry)) (now (work .entry)) (now (types .entry)) (now (store .entry)) count newest head depth at r ⌝ }
+{
+    match head {
+        ExprHead::At => element(text, work, types, count, newest, store, depth, at),
+        ExprHead::Dot => field(text, work, types, count, newest, store, depth, at),
+        ExprHead::Members => place(0, STUCK),
+        ExprHead::Minus => place(0, STUCK),
+        ExprHead::Bound(_) => place(0, STUCK),
+        ExprHead::Short(_) => place(0, STUCK),
+        ExprHead::Two(_) => place(0, STUCK),
+        ExprHead::One(_) => place(0, STUCK),
+        ExprHead::Nothing => place(0, STUCK),
+    }
+}
+
+// An element of an array: target and index are worked out before they are met.
+fn element(
+    text: &[u8],
+    work: &[u32],
+    types: &[u32],
+    count: u32,
+    newest: u32,
+    store: &[i64; 2056],
+    depth: usize,
+    at: usize,
+) -> Reached
+    ensures { λ r. ⌜ MarksPlace (now (text .entry)) (now (work .entry)) (now (types .entry)) (now (store .entry)) count newest At depth at r ⌝ }
+{
+    let g = mark_target(text, work, types, count, newest, store, depth, at);
+    let x = mark_expr(
+        text,
+        work,
+        types,
+        count,
+        newest,
+        store,
+        depth,
+        skip(text, at),
+    );
+    index(work, types, g, x)
+}
+
+// A field of a record.
+fn field(
+    text: &[u8],
+    work: &[u32],
+    types: &[u32],
+    count: u32,
+    newest: u32,
+    store: &[i64; 2056],
+    depth: usize,
+    at: usize,
+) -> Reached
+    ensures { λ r. ⌜ MarksPlace (now (text .entry)) (now (work .entry)) (now (types .entry)) (now (store .entry)) count newest Dot depth at r ⌝ }
+{
+    let g = mark_target(text, work, types, count, newest, store, depth, at);
+    let n = sole_name(text, skip(text, at));
+    match n {
+        Sole::Name(p, _) => select(text, work, types, g, p),
+        Sole::Nothing => place(0, STUCK),
+    }
+}
