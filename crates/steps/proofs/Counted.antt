@@ -5,7 +5,7 @@ use Prim.Native.Nat.{ℕ, zero, suc, _<_}
 use native.Mathlib.Omega.{arith}
 use lib.Dec.{T}
 use lib.IntN.{ℤ, pos, negsuc, _+ℤ_, sucℤ, +ℤ-one}
-use lib.Signed.{ltZ, leZ}
+use lib.Signed.{ltZ}
 use mir.Syntax.{w64}
 use mir.Val.{SFits}
 use mir.Facts.{toZ-ofZ}
@@ -27,9 +27,6 @@ module _ (z y : ℤ) (f : SFits w64 z) (g : SFits w64 y) where
   suc-room (negsuc (suc a)) y f g h =
       let i : suc a < 9223372036854775808 = f .sfits in
       fits-mag (negsuc a) (omega arith)
-
-  pub last-is : leZ (wire y) (wire z) ≡ leZ y z
-  last-is = rw (toZ-ofZ f, toZ-ofZ g)
 
   pub next-room : ltZ (wire z) (wire y) ≡ true → SFits w64 (wire z +ℤ pos 1)
   next-room h = subst (SFits w64) (sym suc-is) (suc-room z y f g (rw (toZ-ofZ f, toZ-ofZ g) at h))

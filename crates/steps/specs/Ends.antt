@@ -23,9 +23,11 @@ cellsIn ws = natOf (getD ws 2050 (pos 0))
 -- ---- the word: the steps left, which are below 4294967296; that is added where a step was due and none was left, and twice that
 -- after an exception, which is the last one
 
+-- the steps left
 unfoldable pub leftIn : ℕ → ℕ
 leftIn w = w % 4294967296
 
+-- the outcome
 unfoldable pub toldBy : ℕ → List ℤ → Outcome
 toldBy w ws = pick (ltb 4294967295 w) (pick (ltb w 8589934592) spent (raised (latestIn ws) (placeIn ws))) normal
 
