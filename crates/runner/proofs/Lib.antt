@@ -1,10 +1,2 @@
-pub mod Statuses
-pub mod Storing
-pub mod Ending
-pub mod Stored
-pub mod Shapes
-pub mod Assigning
-pub mod Sourcing
-pub mod Choosing
 pub mod Walking
 pub mod Looping

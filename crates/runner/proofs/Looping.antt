@@ -15,7 +15,7 @@ use borrow.Author.Needs.{sfits-of}
 use borrow.Author.Tests.{leb-true, ltb-true}
 use native.Mathlib.Nat.{le-antisymm}
 use Rattle.arith.specs.Integers.{inside}
-use Rattle.arith.proofs.Machine.{wire, fits-mag}
+use Rattle.arith.proofs.Machine.{wire}
 use Rattle.arith.proofs.Order.{leZ-diff, leZ-trans, up-le, add-high, le-not, not-le, lt-le, not-lt, lt-not}
 use Rattle.arith.proofs.Ranges.{inside-is, inside-both}
 use Rattle.semantics.specs.declared.ActOp.the-variants.{While, For}
@@ -27,29 +27,17 @@ use Rattle.semantics.specs.Machine.{Store, State, state, Answer, answer, normal
 use Rattle.semantics.specs.Readback.{actOpAt, integerAt, readAct, readCode}
 use Rattle.evaluate.specs.Walks.{Evaluates}
 use Rattle.evaluate.specs.Words.{InRange, Holds}
-use Rattle.runner.specs.declared.states.Status.{Status}
-use Rattle.runner.specs.Cells.{Puts}
+use Rattle.steps.specs.Ends.{cellsIn, leftIn, stepWord, faultIn, Raises}
+use Rattle.steps.specs.Stands.{Stands, Ends, Runs, after}
+use Rattle.steps.specs.Turns.{Increments}
+use Rattle.leaves.specs.Cells.{Puts}
+use Rattle.leaves.proofs.Assigning.{at-node, value-here, fault-here}
+use Rattle.leaves.proofs.Ending.{Cells, Faulty, left-most, left-of, raised-fewer, step-spent, step-taken, step-fewer, step-stands, normal-ends, spent-ends, raising-ends, fault-ends, is-ends}
+use Rattle.leaves.proofs.Stored.{put-stands}
+use Rattle.leaves.proofs.Shapes as Shapes
 use Rattle.runner.specs.Loops.{Goes, Rounds, Repeating, Turns, Counting}
-use Rattle.runner.specs.Runs.{Stands, Ends, Runs, Executes, Performs, Counts, CountsUp, Increments, after}
-use Rattle.runner.specs.States.{endedWith, stepTaken, raisedAt, failedAt}
-use Rattle.runner.proofs.Assigning.{value-here, fault-here}
-use Rattle.runner.proofs.Ending.{Cells, Faulty, step-stands, normal-ends, spent-ends, raising-ends, fault-ends, is-ends}
-use Rattle.runner.proofs.Stored.{put-stands}
-use Rattle.runner.proofs.Walking.{ended-left, raised-same, failed-same, step-left, at-most, goes-on, ends-there, stops-there}
-use Rattle.runner.proofs.Shapes as Shapes
-
--- ---- a number in the range of values fits
-ranged-fits : (z : ℤ) → InRange z → SFits w64 z
-unfolding InRange
-ranged-fits (pos n) h =
-    let g : n ≤ 4294967295 = leb-true n 4294967295 (inside-is (negsuc 2147483647) (pos 4294967295) (pos n) h .1) in
-    fits-mag (pos n) (omega arith)
-ranged-fits (negsuc n) h =
-    let g : n ≤ 2147483647 = leb-true n 2147483647 (inside-is (negsuc 2147483647) (pos 4294967295) (negsuc n) h .0) in
-    fits-mag (negsuc n) (omega arith)
-
-number-fits : (ws : List ℤ) (t : Status) (m : Store) → Stands ws t m → SFits w64 (t .number)
-number-fits ws t m S = ranged-fits (t .number) (S .holds .last-ranged)
+use Rattle.runner.specs.Runs.{Executes, Performs, Counts, CountsUp}
+use Rattle.runner.proofs.Walking.{goes-on, ends-there, stops-there}
 
 -- ---- `repeat`
 module _ (n : ℕ) (c : Code) (body : State → Answer) where
@@ -76,28 +64,28 @@ module _ (n : ℕ) (c : Code) (body : State → Answer) where
       let e : f ≡ suc f - 1 = omega arith in
       ap (λ (g : ℕ). andThen (body (state m k)) (whileRounds g (condition n c) body)) e
 
-module _ (l : List ℕ) (calls d p : ℕ) (ws : List ℤ) (s : Status) (n c b : ℕ) where
+module _ (l : List ℕ) (calls d p : ℕ) (ws : List ℤ) (s : ℕ) (n c b : ℕ) where
   pub while-start : n ≡ getD l (p + 1) 0 → c ≡ getD l (p + 2) 0 → b ≡ getD l (p + 3) 0 → Repeating l calls d p ws s n c b ws s
   while-start N C B = record {
     goes = λ L o m S. record {
-      fuel = s .left;
+      fuel = s;
       enough = omega arith;
       goes = record {
         store = m;
         stands = S;
-        rest = Shapes.while-shape (callable calls l) l d p m (s .left) o
-            ∙ ap (λ (x : ℕ). whileRounds (s .left) (condition x (readCode d l (getD l (p + 2) 0))) (runAct (callable calls l) (readAct d l (getD l (p + 3) 0))) (state m (s .left))) (sym N)
-            ∙ ap (λ (x : ℕ). whileRounds (s .left) (condition n (readCode d l x)) (runAct (callable calls l) (readAct d l (getD l (p + 3) 0))) (state m (s .left))) (sym C)
-            ∙ ap (λ (x : ℕ). whileRounds (s .left) (condition n (readCode d l c)) (runAct (callable calls l) (readAct d l x)) (state m (s .left))) (sym B);
+        rest = Shapes.while-shape (callable calls l) l d p m s o
+            ∙ ap (λ (x : ℕ). whileRounds s (condition x (readCode d l (getD l (p + 2) 0))) (runAct (callable calls l) (readAct d l (getD l (p + 3) 0))) (state m s)) (sym N)
+            ∙ ap (λ (x : ℕ). whileRounds s (condition n (readCode d l x)) (runAct (callable calls l) (readAct d l (getD l (p + 3) 0))) (state m s)) (sym C)
+            ∙ ap (λ (x : ℕ). whileRounds s (condition n (readCode d l c)) (runAct (callable calls l) (readAct d l x)) (state m s)) (sym B);
       };
     };
     fewer = omega arith;
   }
 
-  module _ (us : List ℤ) (t : Status) (R : Repeating l calls d p ws s n c b us t) (x : ℤ) (E : Evaluates l us (wire (t .number)) c d x) (h : SFits w64 x) where
+  module _ (us : List ℤ) (t : ℕ) (R : Repeating l calls d p ws s n c b us t) (x : ℤ) (E : Evaluates l us c d x) (h : SFits w64 x) where
     -- the loop ends as a round from here does
-    while-from : (vs : List ℤ) (r : Status) → r .left ≤ s .left
-        → (length l ≡ 16384 → (f : ℕ) (m : Store) → t .left ≤ f → Stands us t m → Ends (whileRounds f (condition n (readCode d l c)) (runAct (callable calls l) (readAct d l b)) (state m (t .left))) vs r)
+    while-from : (vs : List ℤ) (r : ℕ) → leftIn r ≤ s
+        → (length l ≡ 16384 → (f : ℕ) (m : Store) → t ≤ f → Stands us t m → Ends (whileRounds f (condition n (readCode d l c)) (runAct (callable calls l) (readAct d l b)) (state m t)) vs r)
         → Performs While l calls d p ws s vs r
     while-from vs r k g = record {
       runs = λ L o. record { says = λ m S. go L (R .goes L o m S) };
@@ -107,115 +95,89 @@ module _ (l : List ℕ) (calls d p : ℕ) (ws : List ℤ) (s : Status) (n c b : 
         go : {a : Answer} → length l ≡ 16384 → Rounds a l calls d n c b us t → Ends a vs r
         go {a} L Q = subst (λ (y : Answer). Ends y vs r) (sym (Q .goes .rest)) (g L (Q .fuel) (Q .goes .store) (Q .enough) (Q .goes .stands))
 
-    pub while-fault : (r : Status) → ltZ (pos 4294967295) (wire x) ≡ true → r ≡ failedAt t (wire x) n → Performs While l calls d p ws s us r
-    while-fault r g e = subst (λ (y : Status). Performs While l calls d p ws s us y) (sym e)
-        (while-from us (failedAt t (wire x) n) (omega (arith, failed-same t (wire x) n, R .fewer))
-        (λ L f m k S. subst (λ (y : Answer). Ends y us (failedAt t (wire x) n)) (sym (rounds-by n (readCode d l c) (runAct (callable calls l) (readAct d l b)) f m (t .left)))
-        (fault-ends us t m n (evalCode (readCode d l c) m) (wire x) (λ zs. branch (isTrue (sole zs)) (onward n (readCode d l c) (runAct (callable calls l) (readAct d l b)) f) (answer normal) (state m (t .left))) S
-        (fault-here l us t m S (number-fits us t m S) x h c d E g))))
+    pub while-fault : (vs : List ℤ) (r : ℕ) → ltZ (pos 4294967295) (wire x) ≡ true → Raises (faultIn (wire x)) n us t vs r → Performs While l calls d p ws s vs r
+    while-fault vs r g e =
+        while-from vs r (omega (arith, raised-fewer (faultIn (wire x)) n us t vs r e, R .fewer))
+        (λ L f m k S. subst (λ (y : Answer). Ends y vs r) (sym (rounds-by n (readCode d l c) (runAct (callable calls l) (readAct d l b)) f m t))
+        (fault-ends us t m n (evalCode (readCode d l c) m) (wire x) (λ zs. branch (isTrue (sole zs)) (onward n (readCode d l c) (runAct (callable calls l) (readAct d l b)) f) (answer normal) (state m t)) vs r S
+        (fault-here l us t m S x h c d E g) e))
 
     module _ (g : ltZ (pos 4294967295) (wire x) ≡ false) where
       -- what the test leads to
       while-tested : (q : Bool) → isTrue x ≡ q → (f : ℕ) (m : Store) → Stands us t m
-          → whileRounds f (condition n (readCode d l c)) (runAct (callable calls l) (readAct d l b)) (state m (t .left))
-          ≡ branch q (onward n (readCode d l c) (runAct (callable calls l) (readAct d l b)) f) (answer normal) (state m (t .left))
+          → whileRounds f (condition n (readCode d l c)) (runAct (callable calls l) (readAct d l b)) (state m t)
+          ≡ branch q (onward n (readCode d l c) (runAct (callable calls l) (readAct d l b)) f) (answer normal) (state m t)
       while-tested q e f m S =
-          rounds-by n (readCode d l c) (runAct (callable calls l) (readAct d l b)) f m (t .left) ∙ go (value-here l us t m S (number-fits us t m S) x h c d E g)
+          rounds-by n (readCode d l c) (runAct (callable calls l) (readAct d l b)) f m t ∙ go (value-here l us t m S x h c d E g)
         where
           go : Cells (evalCode (readCode d l c) m) x
-              → (withResult n (state m (t .left)) (evalCode (readCode d l c) m) λ zs. branch (isTrue (sole zs)) (onward n (readCode d l c) (runAct (callable calls l) (readAct d l b)) f) (answer normal) (state m (t .left)))
-              ≡ branch q (onward n (readCode d l c) (runAct (callable calls l) (readAct d l b)) f) (answer normal) (state m (t .left))
+              → (withResult n (state m t) (evalCode (readCode d l c) m) λ zs. branch (isTrue (sole zs)) (onward n (readCode d l c) (runAct (callable calls l) (readAct d l b)) f) (answer normal) (state m t))
+              ≡ branch q (onward n (readCode d l c) (runAct (callable calls l) (readAct d l b)) f) (answer normal) (state m t)
           go C =
-              ap (λ (v : Result (List ℤ)). withResult n (state m (t .left)) v λ zs. branch (isTrue (sole zs)) (onward n (readCode d l c) (runAct (callable calls l) (readAct d l b)) f) (answer normal) (state m (t .left))) (C .gives)
-              ∙ ap (λ (z : Bool). branch z (onward n (readCode d l c) (runAct (callable calls l) (readAct d l b)) f) (answer normal) (state m (t .left))) (ap (λ (z : ℤ). isTrue z) (C .first-is) ∙ e)
+              ap (λ (v : Result (List ℤ)). withResult n (state m t) v λ zs. branch (isTrue (sole zs)) (onward n (readCode d l c) (runAct (callable calls l) (readAct d l b)) f) (answer normal) (state m t)) (C .gives)
+              ∙ ap (λ (z : Bool). branch z (onward n (readCode d l c) (runAct (callable calls l) (readAct d l b)) f) (answer normal) (state m t)) (ap (λ (z : ℤ). isTrue z) (C .first-is) ∙ e)
 
-      pub while-done : (r : Status) → leZ (wire x) (pos 0) ≡ true → r ≡ endedWith t 0 → Performs While l calls d p ws s us r
-      while-done r k e = subst (λ (y : Status). Performs While l calls d p ws s us y) (sym e)
-          (while-from us (endedWith t 0) (omega (arith, ended-left t 0, R .fewer))
-          (λ L f m j S. subst (λ (y : Answer). Ends y us (endedWith t 0)) (sym (while-tested false (le-not x (pos 0) (rw (toZ-ofZ h) at k)) f m S)) (normal-ends us t m S)))
+      pub while-done : leZ (wire x) (pos 0) ≡ true → Performs While l calls d p ws s us t
+      while-done k = while-from us t (omega (arith, left-most t, R .fewer))
+          (λ L f m j S. subst (λ (y : Answer). Ends y us t) (sym (while-tested false (le-not x (pos 0) (rw (toZ-ofZ h) at k)) f m S)) (normal-ends us t m S))
 
       module _ (k : leZ (wire x) (pos 0) ≡ false) where
-        while-on : (f : ℕ) (m : Store) → Stands us t m → whileRounds f (condition n (readCode d l c)) (runAct (callable calls l) (readAct d l b)) (state m (t .left))
-            ≡ onward n (readCode d l c) (runAct (callable calls l) (readAct d l b)) f (state m (t .left))
+        while-on : (f : ℕ) (m : Store) → Stands us t m → whileRounds f (condition n (readCode d l c)) (runAct (callable calls l) (readAct d l b)) (state m t)
+            ≡ onward n (readCode d l c) (runAct (callable calls l) (readAct d l b)) f (state m t)
         while-on f m S = while-tested true (not-le x (pos 0) (rw (toZ-ofZ h) at k)) f m S
 
-        pub while-spent : (r : Status) → t .left ≡ 0 → r ≡ endedWith t 1 → Performs While l calls d p ws s us r
-        while-spent r j e = subst (λ (y : Status). Performs While l calls d p ws s us y) (sym e)
-            (while-from us (endedWith t 1) (omega (arith, ended-left t 1, R .fewer))
-            (λ L f m i S. subst (λ (y : Answer). Ends y us (endedWith t 1))
-            (sym (while-on f m S ∙ ap (λ (w : ℕ). onward n (readCode d l c) (runAct (callable calls l) (readAct d l b)) f (state m w)) j
-            ∙ onward-spent n (readCode d l c) (runAct (callable calls l) (readAct d l b)) f m ∙ ap (λ (w : ℕ). answer spent (state m w)) (sym j)))
-            (spent-ends us t m S)))
-
-        module _ (j : (t .left ≡ 0) → ⊥) (u : Status) (vs : List ℤ) (o : Status) (U : u ≡ stepTaken t) (X : Executes l calls d b us u vs o) where
-          u-left : u .left ≡ t .left - 1
-          u-left = ap (λ (y : Status). y .left) U ∙ step-left t
-
-          -- the round
-          round-ends : length l ≡ 16384 → (m : Store) → Stands us t m → Ends (runAct (callable calls l) (readAct d l b) (state m (u .left))) vs o
-          round-ends L m S = X .runs L .says m (subst (λ (y : Status). Stands us y m) (sym U) (step-stands us t m S))
-
-          while-round : (f : ℕ) (m : Store) → t .left ≤ f → Stands us t m → whileRounds f (condition n (readCode d l c)) (runAct (callable calls l) (readAct d l b)) (state m (t .left))
-              ≡ andThen (runAct (callable calls l) (readAct d l b) (state m (u .left))) (whileRounds (f - 1) (condition n (readCode d l c)) (runAct (callable calls l) (readAct d l b)))
-          while-round f m i S =
-              let e : t .left ≡ suc (u .left) = omega (arith, u-left, j) in
-              while-on f m S ∙ ap (λ (w : ℕ). onward n (readCode d l c) (runAct (callable calls l) (readAct d l b)) f (state m w)) e
-              ∙ onward-round n (readCode d l c) (runAct (callable calls l) (readAct d l b)) f m (u .left) (omega (arith, u-left, j, i))
-
-          pub while-stops : ((o .outcome ≡ 0) → ⊥) → Performs While l calls d p ws s vs o
-          while-stops q = while-from vs o (omega (arith, X .fewer, u-left, R .fewer))
-              (λ L f m i S. subst (λ (y : Answer). Ends y vs o) (sym (while-round f m i S))
-              (stops-there (runAct (callable calls l) (readAct d l b) (state m (u .left))) (whileRounds (f - 1) (condition n (readCode d l c)) (runAct (callable calls l) (readAct d l b))) vs o (round-ends L m S) q))
-
-          pub while-falls : o .left < t .left
-          while-falls = omega (arith, X .fewer, u-left, j)
-
-          pub while-next : o .outcome ≡ 0 → Repeating l calls d p ws s n c b vs o
-          while-next q = record {
-            goes = λ L y m S. go L (R .goes L y m S);
-            fewer = omega (arith, X .fewer, u-left, R .fewer);
-          }
+        module _ (u : ℕ) (U : u ≡ stepWord t) where
+          pub while-spent : 4294967295 < u → Performs While l calls d p ws s us u
+          while-spent e = while-from us u (omega (arith, step-fewer t u U, R .fewer))
+              (λ L f m j S. go f m S (step-spent t u U e (S .steps)))
             where
-              go : {a : Answer} → length l ≡ 16384 → Rounds a l calls d n c b us t → Rounds a l calls d n c b vs o
-              go {a} L Q =
-                  let H : Goes (andThen (runAct (callable calls l) (readAct d l b) (state (Q .goes .store) (u .left))) (whileRounds (Q .fuel - 1) (condition n (readCode d l c)) (runAct (callable calls l) (readAct d l b))))
-                  (whileRounds (Q .fuel - 1) (condition n (readCode d l c)) (runAct (callable calls l) (readAct d l b))) vs o =
-                  goes-on (runAct (callable calls l) (readAct d l b) (state (Q .goes .store) (u .left))) (whileRounds (Q .fuel - 1) (condition n (readCode d l c)) (runAct (callable calls l) (readAct d l b))) vs o
-                  (round-ends L (Q .goes .store) (Q .goes .stands)) q in
-                  record {
-                    fuel = Q .fuel - 1;
-                    enough = omega (arith, X .fewer, u-left, j, Q .enough);
-                    goes = record { store = H .store; stands = H .stands; rest = Q .goes .rest ∙ while-round (Q .fuel) (Q .goes .store) (Q .enough) (Q .goes .stands) ∙ H .rest };
-                  }
+              go : (f : ℕ) (m : Store) → Stands us t m → t ≡ 0 → Ends (whileRounds f (condition n (readCode d l c)) (runAct (callable calls l) (readAct d l b)) (state m t)) us u
+              go f m S j = subst (λ (y : Answer). Ends y us u)
+                  (sym (while-on f m S ∙ ap (λ (w : ℕ). onward n (readCode d l c) (runAct (callable calls l) (readAct d l b)) f (state m w)) j
+                  ∙ onward-spent n (readCode d l c) (runAct (callable calls l) (readAct d l b)) f m ∙ ap (λ (w : ℕ). answer spent (state m w)) (sym j)))
+                  (spent-ends us t m S u U e)
+
+          module _ (j : u ≤ 4294967295) (vs : List ℤ) (o : ℕ) (X : Executes l calls d b us u vs o) where
+            taken : t ≡ suc u
+            taken = step-taken t u U j
+
+            -- the round
+            round-ends : length l ≡ 16384 → (m : Store) → Stands us t m → Ends (runAct (callable calls l) (readAct d l b) (state m u)) vs o
+            round-ends L m S = X .runs L .says m (step-stands us t u m taken S)
+
+            while-round : (f : ℕ) (m : Store) → t ≤ f → Stands us t m → whileRounds f (condition n (readCode d l c)) (runAct (callable calls l) (readAct d l b)) (state m t)
+                ≡ andThen (runAct (callable calls l) (readAct d l b) (state m u)) (whileRounds (f - 1) (condition n (readCode d l c)) (runAct (callable calls l) (readAct d l b)))
+            while-round f m i S =
+                while-on f m S ∙ ap (λ (w : ℕ). onward n (readCode d l c) (runAct (callable calls l) (readAct d l b)) f (state m w)) taken
+                ∙ onward-round n (readCode d l c) (runAct (callable calls l) (readAct d l b)) f m u (omega (arith, taken, i))
+
+            pub while-stops : 4294967295 < o → Performs While l calls d p ws s vs o
+            while-stops q = while-from vs o (omega (arith, X .fewer, taken, R .fewer))
+                (λ L f m i S. subst (λ (y : Answer). Ends y vs o) (sym (while-round f m i S))
+                (stops-there (runAct (callable calls l) (readAct d l b) (state m u)) (whileRounds (f - 1) (condition n (readCode d l c)) (runAct (callable calls l) (readAct d l b))) vs o (round-ends L m S) q))
+
+            pub while-falls : o ≤ 4294967295 → o < t
+            while-falls q = omega (arith, left-of o q, X .fewer, taken)
+
+            pub while-next : o ≤ 4294967295 → Repeating l calls d p ws s n c b vs o
+            while-next q = record {
+              goes = λ L y m S. go L (R .goes L y m S);
+              fewer = omega (arith, left-of o q, X .fewer, taken, R .fewer);
+            }
+              where
+                go : {a : Answer} → length l ≡ 16384 → Rounds a l calls d n c b us t → Rounds a l calls d n c b vs o
+                go {a} L Q =
+                    let H : Goes (andThen (runAct (callable calls l) (readAct d l b) (state (Q .goes .store) u)) (whileRounds (Q .fuel - 1) (condition n (readCode d l c)) (runAct (callable calls l) (readAct d l b))))
+                    (whileRounds (Q .fuel - 1) (condition n (readCode d l c)) (runAct (callable calls l) (readAct d l b))) vs o =
+                    goes-on (runAct (callable calls l) (readAct d l b) (state (Q .goes .store) u)) (whileRounds (Q .fuel - 1) (condition n (readCode d l c)) (runAct (callable calls l) (readAct d l b))) vs o
+                    (round-ends L (Q .goes .store) (Q .goes .stands)) q in
+                    record {
+                      fuel = Q .fuel - 1;
+                      enough = omega (arith, left-of o q, X .fewer, taken, Q .enough);
+                      goes = record { store = H .store; stands = H .stands; rest = Q .goes .rest ∙ while-round (Q .fuel) (Q .goes .store) (Q .enough) (Q .goes .stands) ∙ H .rest };
+                    }
 
 pub ruleset while-laws = (while-fault, while-done, while-spent, while-stops, sfits-of)
-
--- ---- `next_of`
-module _ (z y : ℤ) (f : SFits w64 z) (g : SFits w64 y) where
-  suc-is : wire z +ℤ pos 1 ≡ sucℤ z
-  suc-is = ap (λ (x : ℤ). x +ℤ pos 1) (toZ-ofZ f) ∙ +ℤ-one z
-
-  suc-room : (z y : ℤ) → SFits w64 z → SFits w64 y → ltZ z y ≡ true → SFits w64 (sucℤ z)
-  suc-room (pos a) (pos b) f g h =
-      let i : b < 9223372036854775808 = g .sfits in
-      let j : a < b = ltb-true a b h in
-      fits-mag (pos (suc a)) (omega arith)
-  suc-room (pos a) (negsuc b) f g h = absurd (subst T (sym h) tt)
-  suc-room (negsuc zero) y f g h = fits-mag (pos 0) (omega arith)
-  suc-room (negsuc (suc a)) y f g h =
-      let i : suc a < 9223372036854775808 = f .sfits in
-      fits-mag (negsuc a) (omega arith)
-
-  pub next-room : ltZ (wire z) (wire y) ≡ true → SFits w64 (wire z +ℤ pos 1)
-  next-room h = subst (SFits w64) (sym suc-is) (suc-room z y f g (rw (toZ-ofZ f, toZ-ofZ g) at h))
-
-  pub next-more : ltZ (wire z) (wire y) ≡ true → Increments z y (wire (wire z +ℤ pos 1))
-  next-more h = record { says = λ k. toZ-ofZ (next-room h) ∙ suc-is }
-
-  pub next-same : ltZ (wire z) (wire y) ≡ false → Increments z y (wire z)
-  next-same h = record { says = λ k. absurd (subst T (sym k ∙ (rw (toZ-ofZ f, toZ-ofZ g) at h)) tt) }
-
-pub ruleset next-laws = (next-room, next-more, next-same)
 
 -- ---- how many rounds
 diff-nat : (y z : ℤ) → leZ z y ≡ true → y -ℤ z ≡ pos (natOf (y -ℤ z))
@@ -264,7 +226,7 @@ for-none : (a : ℕ) (body : State → Answer) (z : ℤ) (t : State) → forRoun
 unfolding forRounds
 for-none a body z t = refl
 
-module _ (l : List ℕ) (calls d p : ℕ) (x y : ℤ) (ws : List ℤ) (s : Status) (a b : ℕ) where
+module _ (l : List ℕ) (calls d p : ℕ) (x y : ℤ) (ws : List ℤ) (s : ℕ) (a b : ℕ) where
   pub turn-start : a ≡ getD l (p + 2) 0 → b ≡ getD l (p + 7) 0 → Fits w32 a → Counting l calls d p x y ws s a b x ws s
   turn-start A B f = record {
     goes = λ L h R Q m S. record {
@@ -274,112 +236,116 @@ module _ (l : List ℕ) (calls d p : ℕ) (x y : ℤ) (ws : List ℤ) (s : Statu
         store = m;
         stands = S;
         rest =
-            ap (λ (u : ℕ). forRounds (natOf (sucℤ (y -ℤ x))) u (runAct (callable calls l) (readAct d l (getD l (p + 7) 0))) x (state m (s .left))) (sym A)
-            ∙ ap (λ (u : ℕ). forRounds (natOf (sucℤ (y -ℤ x))) a (runAct (callable calls l) (readAct d l u)) x (state m (s .left))) (sym B);
+            ap (λ (u : ℕ). forRounds (natOf (sucℤ (y -ℤ x))) u (runAct (callable calls l) (readAct d l (getD l (p + 7) 0))) x (state m s)) (sym A)
+            ∙ ap (λ (u : ℕ). forRounds (natOf (sucℤ (y -ℤ x))) a (runAct (callable calls l) (readAct d l u)) x (state m s)) (sym B);
       };
     };
     fewer = omega arith;
     small = omega (arith, f .fits);
   }
 
-  module _ (z : ℤ) (us : List ℤ) (t : Status) (C : Counting l calls d p x y ws s a b z us t) where
-    turn-from : (vs : List ℤ) (r : Status) → r .left ≤ s .left
+  module _ (z : ℤ) (us : List ℤ) (t : ℕ) (C : Counting l calls d p x y ws s a b z us t) where
+    turn-from : (vs : List ℤ) (r : ℕ) → leftIn r ≤ s
         → (length l ≡ 16384 → InRange y → (m : Store) → leZ z y ≡ true → InRange z → Stands us t m
-        → Ends (forRounds (suc (natOf (y -ℤ z))) a (runAct (callable calls l) (readAct d l b)) z (state m (t .left))) vs r)
+        → Ends (forRounds (suc (natOf (y -ℤ z))) a (runAct (callable calls l) (readAct d l b)) z (state m t)) vs r)
         → Counts l calls d p x y ws s vs r
     turn-from vs r k g = record { runs = λ L h R Q. record { says = λ m S. go L Q (C .goes L h R Q m S) }; fewer = k }
       where
         go : {w : Answer} → length l ≡ 16384 → InRange y → Turns w l calls d a b z y us t → Ends w vs r
         go {w} L Q K = subst (λ (v : Answer). Ends v vs r)
-            (sym (K .goes .rest ∙ ap (λ (n : ℕ). forRounds n a (runAct (callable calls l) (readAct d l b)) z (state (K .goes .store) (t .left))) (count-one y z (K .up))))
+            (sym (K .goes .rest ∙ ap (λ (n : ℕ). forRounds n a (runAct (callable calls l) (readAct d l b)) z (state (K .goes .store) t)) (count-one y z (K .up))))
             (g L Q (K .goes .store) (K .up) (K .ranged) (K .goes .stands))
 
-    turn-spent : t .left ≡ 0 → Counts l calls d p x y ws s us (endedWith t 1)
-    turn-spent j = turn-from us (endedWith t 1) (omega (arith, ended-left t 1, C .fewer))
-        (λ L Q m h R S. subst (λ (v : Answer). Ends v us (endedWith t 1))
-        (sym (ap (λ (n : ℕ). forRounds (suc (natOf (y -ℤ z))) a (runAct (callable calls l) (readAct d l b)) z (state m n)) j
-        ∙ for-spent (natOf (y -ℤ z)) a (runAct (callable calls l) (readAct d l b)) z m ∙ ap (λ (n : ℕ). answer spent (state m n)) (sym j)))
-        (spent-ends us t m S))
-
-    module _ (j : (t .left ≡ 0) → ⊥) (vs : List ℤ) (u : Status) (os : List ℤ) (o : Status) (P : Puts us (t .cells) a z vs) (U : u ≡ stepTaken t) (X : Executes l calls d b vs u os o) where
-      turn-left : u .left ≡ t .left - 1
-      turn-left = ap (λ (v : Status). v .left) U ∙ step-left t
-
-      turn-stands : (m : Store) → InRange z → Stands us t m → Stands vs u (stored a (z ∷ []) m)
-      turn-stands m R S =
-          subst (λ (v : Status). Stands vs v (stored a (z ∷ []) m)) (sym U) (step-stands vs t (stored a (z ∷ []) m) (put-stands us t m a a z vs S R (omega (arith, C .small)) P))
-
-      turn-ends : length l ≡ 16384 → (m : Store) → InRange z → Stands us t m → Ends (runAct (callable calls l) (readAct d l b) (state (stored a (z ∷ []) m) (u .left))) os o
-      turn-ends L m R S = X .runs L .says (stored a (z ∷ []) m) (turn-stands m R S)
-
-      turn-round : (k : ℕ) (m : Store) → forRounds (suc k) a (runAct (callable calls l) (readAct d l b)) z (state m (t .left))
-          ≡ andThen (runAct (callable calls l) (readAct d l b) (state (stored a (z ∷ []) m) (u .left))) (forRounds k a (runAct (callable calls l) (readAct d l b)) (sucℤ z))
-      turn-round k m =
-          let e : t .left ≡ suc (u .left) = omega (arith, turn-left, j) in
-          ap (λ (n : ℕ). forRounds (suc k) a (runAct (callable calls l) (readAct d l b)) z (state m n)) e ∙ for-round k a (runAct (callable calls l) (readAct d l b)) z m (u .left)
-
-      turn-stops : ((o .outcome ≡ 0) → ⊥) → Counts l calls d p x y ws s os o
-      turn-stops q = turn-from os o (omega (arith, X .fewer, turn-left, C .fewer))
-          (λ L Q m h R S. subst (λ (v : Answer). Ends v os o) (sym (turn-round (natOf (y -ℤ z)) m))
-          (stops-there (runAct (callable calls l) (readAct d l b) (state (stored a (z ∷ []) m) (u .left))) (forRounds (natOf (y -ℤ z)) a (runAct (callable calls l) (readAct d l b)) (sucℤ z)) os o (turn-ends L m R S) q))
-
-      pub turn-falls : o .left < t .left
-      turn-falls = omega (arith, X .fewer, turn-left, j)
-
-      -- the last round
-      turn-last : o .outcome ≡ 0 → leZ y z ≡ true → Counts l calls d p x y ws s os o
-      turn-last q k = turn-from os o (omega (arith, X .fewer, turn-left, C .fewer))
-          (λ L Q m h R S. subst (λ (v : Answer). Ends v os o)
-          (sym (turn-round (natOf (y -ℤ z)) m
-          ∙ ap (λ (n : ℕ). andThen (runAct (callable calls l) (readAct d l b) (state (stored a (z ∷ []) m) (u .left))) (forRounds n a (runAct (callable calls l) (readAct d l b)) (sucℤ z))) (count-last y z h k)))
-          (ends-there (runAct (callable calls l) (readAct d l b) (state (stored a (z ∷ []) m) (u .left))) (forRounds 0 a (runAct (callable calls l) (readAct d l b)) (sucℤ z)) os o (turn-ends L m R S) q
-          (λ v. for-none a (runAct (callable calls l) (readAct d l b)) (sucℤ z) v)))
-
-      turn-next : (r : ℤ) → o .outcome ≡ 0 → leZ y z ≡ false → r ≡ sucℤ z → Counting l calls d p x y ws s a b r os o
-      turn-next r q k e = subst (λ (v : ℤ). Counting l calls d p x y ws s a b v os o) (sym e) (record {
-        goes = λ L h R Q m S. go L Q (C .goes L h R Q m S);
-        fewer = omega (arith, X .fewer, turn-left, C .fewer);
-        small = C .small;
-      })
+    module _ (u : ℕ) (U : u ≡ stepWord t) where
+      turn-spent : 4294967295 < u → Counts l calls d p x y ws s us u
+      turn-spent e = turn-from us u (omega (arith, step-fewer t u U, C .fewer))
+          (λ L Q m h R S. go m S (step-spent t u U e (S .steps)))
         where
-          go : {w : Answer} → length l ≡ 16384 → InRange y → Turns w l calls d a b z y us t → Turns w l calls d a b (sucℤ z) y os o
-          go {w} L Q K =
-              let n : ℕ = natOf (sucℤ (y -ℤ sucℤ z)) in
-              let i : natOf (sucℤ (y -ℤ z)) ≡ suc (natOf (sucℤ (y -ℤ sucℤ z))) = count-one y z (K .up) ∙ ap (λ (v : ℤ). suc (natOf v)) (sym (count-rest y z)) in
-              let H : Goes (andThen (runAct (callable calls l) (readAct d l b) (state (stored a (z ∷ []) (K .goes .store)) (u .left))) (forRounds (natOf (sucℤ (y -ℤ sucℤ z))) a (runAct (callable calls l) (readAct d l b)) (sucℤ z)))
-              (forRounds (natOf (sucℤ (y -ℤ sucℤ z))) a (runAct (callable calls l) (readAct d l b)) (sucℤ z)) os o =
-              goes-on (runAct (callable calls l) (readAct d l b) (state (stored a (z ∷ []) (K .goes .store)) (u .left))) (forRounds (natOf (sucℤ (y -ℤ sucℤ z))) a (runAct (callable calls l) (readAct d l b)) (sucℤ z)) os o
-              (turn-ends L (K .goes .store) (K .ranged) (K .goes .stands)) q in
-              record {
-                up = next-up y z (not-le y z k);
-                ranged = next-ranged y z (not-le y z k) (K .ranged) Q;
-                goes = record {
-                  store = H .store;
-                  stands = H .stands;
-                  rest = K .goes .rest
-                      ∙ ap (λ (v : ℕ). forRounds v a (runAct (callable calls l) (readAct d l b)) z (state (K .goes .store) (t .left))) i
-                      ∙ turn-round (natOf (sucℤ (y -ℤ sucℤ z))) (K .goes .store) ∙ H .rest;
-                };
-              }
+          go : (m : Store) → Stands us t m → t ≡ 0 → Ends (forRounds (suc (natOf (y -ℤ z))) a (runAct (callable calls l) (readAct d l b)) z (state m t)) us u
+          go m S j = subst (λ (v : Answer). Ends v us u)
+              (sym (ap (λ (n : ℕ). forRounds (suc (natOf (y -ℤ z))) a (runAct (callable calls l) (readAct d l b)) z (state m n)) j
+              ∙ for-spent (natOf (y -ℤ z)) a (runAct (callable calls l) (readAct d l b)) z m ∙ ap (λ (n : ℕ). answer spent (state m n)) (sym j)))
+              (spent-ends us t m S u U e)
+
+      module _ (j : u ≤ 4294967295) (vs os : List ℤ) (o : ℕ) (P : Puts us (cellsIn us) a z vs) (X : Executes l calls d b vs u os o) where
+        turned : t ≡ suc u
+        turned = step-taken t u U j
+
+        turn-stands : (m : Store) → InRange z → Stands us t m → Stands vs u (stored a (z ∷ []) m)
+        turn-stands m R S = step-stands vs t u (stored a (z ∷ []) m) turned (put-stands us t m a a z vs S R (omega (arith, C .small)) P)
+
+        turn-ends : length l ≡ 16384 → (m : Store) → InRange z → Stands us t m → Ends (runAct (callable calls l) (readAct d l b) (state (stored a (z ∷ []) m) u)) os o
+        turn-ends L m R S = X .runs L .says (stored a (z ∷ []) m) (turn-stands m R S)
+
+        turn-round : (k : ℕ) (m : Store) → forRounds (suc k) a (runAct (callable calls l) (readAct d l b)) z (state m t)
+            ≡ andThen (runAct (callable calls l) (readAct d l b) (state (stored a (z ∷ []) m) u)) (forRounds k a (runAct (callable calls l) (readAct d l b)) (sucℤ z))
+        turn-round k m =
+            ap (λ (n : ℕ). forRounds (suc k) a (runAct (callable calls l) (readAct d l b)) z (state m n)) turned ∙ for-round k a (runAct (callable calls l) (readAct d l b)) z m u
+
+        turn-stops : 4294967295 < o → Counts l calls d p x y ws s os o
+        turn-stops q = turn-from os o (omega (arith, X .fewer, turned, C .fewer))
+            (λ L Q m h R S. subst (λ (v : Answer). Ends v os o) (sym (turn-round (natOf (y -ℤ z)) m))
+            (stops-there (runAct (callable calls l) (readAct d l b) (state (stored a (z ∷ []) m) u)) (forRounds (natOf (y -ℤ z)) a (runAct (callable calls l) (readAct d l b)) (sucℤ z)) os o (turn-ends L m R S) q))
+
+        pub turn-falls : o ≤ 4294967295 → o < t
+        turn-falls q = omega (arith, left-of o q, X .fewer, turned)
+
+        -- the last round
+        turn-last : o ≤ 4294967295 → leZ y z ≡ true → Counts l calls d p x y ws s os o
+        turn-last q k = turn-from os o (omega (arith, X .fewer, turned, C .fewer))
+            (λ L Q m h R S. subst (λ (v : Answer). Ends v os o)
+            (sym (turn-round (natOf (y -ℤ z)) m
+            ∙ ap (λ (n : ℕ). andThen (runAct (callable calls l) (readAct d l b) (state (stored a (z ∷ []) m) u)) (forRounds n a (runAct (callable calls l) (readAct d l b)) (sucℤ z))) (count-last y z h k)))
+            (ends-there (runAct (callable calls l) (readAct d l b) (state (stored a (z ∷ []) m) u)) (forRounds 0 a (runAct (callable calls l) (readAct d l b)) (sucℤ z)) os o (turn-ends L m R S) q
+            (λ v. for-none a (runAct (callable calls l) (readAct d l b)) (sucℤ z) v)))
+
+        turn-next : (r : ℤ) → o ≤ 4294967295 → leZ y z ≡ false → r ≡ sucℤ z → Counting l calls d p x y ws s a b r os o
+        turn-next r q k e = subst (λ (v : ℤ). Counting l calls d p x y ws s a b v os o) (sym e) (record {
+          goes = λ L h R Q m S. go L Q (C .goes L h R Q m S);
+          fewer = omega (arith, left-of o q, X .fewer, turned, C .fewer);
+          small = C .small;
+        })
+          where
+            go : {w : Answer} → length l ≡ 16384 → InRange y → Turns w l calls d a b z y us t → Turns w l calls d a b (sucℤ z) y os o
+            go {w} L Q K =
+                let n : ℕ = natOf (sucℤ (y -ℤ sucℤ z)) in
+                let i : natOf (sucℤ (y -ℤ z)) ≡ suc (natOf (sucℤ (y -ℤ sucℤ z))) = count-one y z (K .up) ∙ ap (λ (v : ℤ). suc (natOf v)) (sym (count-rest y z)) in
+                let H : Goes (andThen (runAct (callable calls l) (readAct d l b) (state (stored a (z ∷ []) (K .goes .store)) u)) (forRounds (natOf (sucℤ (y -ℤ sucℤ z))) a (runAct (callable calls l) (readAct d l b)) (sucℤ z)))
+                (forRounds (natOf (sucℤ (y -ℤ sucℤ z))) a (runAct (callable calls l) (readAct d l b)) (sucℤ z)) os o =
+                goes-on (runAct (callable calls l) (readAct d l b) (state (stored a (z ∷ []) (K .goes .store)) u)) (forRounds (natOf (sucℤ (y -ℤ sucℤ z))) a (runAct (callable calls l) (readAct d l b)) (sucℤ z)) os o
+                (turn-ends L (K .goes .store) (K .ranged) (K .goes .stands)) q in
+                record {
+                  up = next-up y z (not-le y z k);
+                  ranged = next-ranged y z (not-le y z k) (K .ranged) Q;
+                  goes = record {
+                    store = H .store;
+                    stands = H .stands;
+                    rest = K .goes .rest
+                        ∙ ap (λ (v : ℕ). forRounds v a (runAct (callable calls l) (readAct d l b)) z (state (K .goes .store) t)) i
+                        ∙ turn-round (natOf (sucℤ (y -ℤ sucℤ z))) (K .goes .store) ∙ H .rest;
+                  };
+                }
 
 -- the same as the code has it
-module _ (l : List ℕ) (calls d p : ℕ) (x y : ℤ) (ws : List ℤ) (s : Status) (a b : ℕ) (f : SFits w64 x) (g : SFits w64 y) (z : ℤ) (us : List ℤ) (t : Status)
+module _ (l : List ℕ) (calls d p : ℕ) (x y : ℤ) (ws : List ℤ) (s : ℕ) (a b : ℕ) (f : SFits w64 x) (g : SFits w64 y) (z : ℤ) (us : List ℤ) (t : ℕ)
     (C : Counting l calls d p (wire x) (wire y) ws s a b z us t) where
-  plain : (vs : List ℤ) (r : Status) → Counts l calls d p (wire x) (wire y) ws s vs r → Counts l calls d p x y ws s vs r
+  plain : (vs : List ℤ) (r : ℕ) → Counts l calls d p (wire x) (wire y) ws s vs r → Counts l calls d p x y ws s vs r
   plain vs r K = subst (λ (v : ℤ). Counts l calls d p v y ws s vs r) (toZ-ofZ f) (subst (λ (v : ℤ). Counts l calls d p (wire x) v ws s vs r) (toZ-ofZ g) K)
 
-  pub rounds-spent : (r : Status) → t .left ≡ 0 → r ≡ endedWith t 1 → Counts l calls d p x y ws s us r
-  rounds-spent r j e = plain us r (subst (λ (v : Status). Counts l calls d p (wire x) (wire y) ws s us v) (sym e) (turn-spent l calls d p (wire x) (wire y) ws s a b z us t C j))
+  module _ (u : ℕ) (U : u ≡ stepWord t) where
+    pub rounds-spent : 4294967295 < u → Counts l calls d p x y ws s us u
+    rounds-spent e = plain us u (turn-spent l calls d p (wire x) (wire y) ws s a b z us t C u U e)
 
-  module _ (j : (t .left ≡ 0) → ⊥) (vs : List ℤ) (u : Status) (os : List ℤ) (o : Status) (P : Puts us (t .cells) a z vs) (U : u ≡ stepTaken t) (X : Executes l calls d b vs u os o) where
-    pub rounds-stop : ((o .outcome ≡ 0) → ⊥) → Counts l calls d p x y ws s os o
-    rounds-stop q = plain os o (turn-stops l calls d p (wire x) (wire y) ws s a b z us t C j vs u os o P U X q)
+    module _ (j : u ≤ 4294967295) (vs os : List ℤ) (o : ℕ) (P : Puts us (cellsIn us) a z vs) (X : Executes l calls d b vs u os o) where
+      pub rounds-stop : 4294967295 < o → Counts l calls d p x y ws s os o
+      rounds-stop q = plain os o (turn-stops l calls d p (wire x) (wire y) ws s a b z us t C u U j vs os o P X q)
 
-    pub rounds-end : o .outcome ≡ 0 → leZ (wire y) z ≡ true → Counts l calls d p x y ws s os o
-    rounds-end q k = plain os o (turn-last l calls d p (wire x) (wire y) ws s a b z us t C j vs u os o P U X q k)
+      pub rounds-end : (k : Bool) → o ≤ 4294967295 → k ≡ leZ (wire y) z → k ≡ true → Counts l calls d p x y ws s os o
+      rounds-end k q K e = plain os o (turn-last l calls d p (wire x) (wire y) ws s a b z us t C u U j vs os o P X q (sym K ∙ e))
 
-    pub rounds-next : (r : ℤ) → o .outcome ≡ 0 → leZ (wire y) z ≡ false → Increments z (wire y) r → SFits w64 r → Counting l calls d p (wire x) (wire y) ws s a b (wire r) os o
-    rounds-next r q k I h = turn-next l calls d p (wire x) (wire y) ws s a b z us t C j vs u os o P U X (wire r) q k (toZ-ofZ h ∙ I .says (not-le (wire y) z k))
+      pub rounds-next : (k : Bool) (r : ℤ) → o ≤ 4294967295 → k ≡ leZ (wire y) z → k ≡ false → Increments z (wire y) r → SFits w64 r → Counting l calls d p (wire x) (wire y) ws s a b (wire r) os o
+      rounds-next k r q K e J h =
+          turn-next l calls d p (wire x) (wire y) ws s a b z us t C u U j vs os o P X (wire r) q (sym K ∙ e) (toZ-ofZ h ∙ J .says (not-le (wire y) z (sym K ∙ e)))
 
 pub ruleset rounds-laws = (rounds-spent, rounds-stop, rounds-end, sfits-of)
 
@@ -388,7 +354,7 @@ countBy : List ℕ → ℕ → ℕ → ℕ → ℤ → ℤ → Bool → Bool →
 countBy l calls d p x y q i =
     branch q (branch i (forRounds (natOf (sucℤ (y -ℤ x))) (getD l (p + 2) 0) (runAct (callable calls l) (readAct d l (getD l (p + 7) 0))) x) (raising rangeError (getD l (p + 1) 0))) (answer normal)
 
-module _ (l : List ℕ) (calls d p : ℕ) (x y : ℤ) (ws : List ℤ) (s : Status) (f : SFits w64 x) (g : SFits w64 y) where
+module _ (l : List ℕ) (calls d p : ℕ) (x y : ℤ) (ws : List ℤ) (s : ℕ) (f : SFits w64 x) (g : SFits w64 y) where
   count-by : (q i : Bool) → leZ x y ≡ q → inside (integerAt l (p + 3)) (integerAt l (p + 4)) x && inside (integerAt l (p + 3)) (integerAt l (p + 4)) y ≡ i → (t : State)
       → countUp (getD l (p + 1) 0) (getD l (p + 2) 0) (integerAt l (p + 3)) (integerAt l (p + 4)) x y (runAct (callable calls l) (readAct d l (getD l (p + 7) 0))) t ≡ countBy l calls d p x y q i t
   unfolding countUp countBy
@@ -397,31 +363,31 @@ module _ (l : List ℕ) (calls d p : ℕ) (x y : ℤ) (ws : List ℤ) (s : Statu
       (forRounds (natOf (sucℤ (y -ℤ x))) (getD l (p + 2) 0) (runAct (callable calls l) (readAct d l (getD l (p + 7) 0))) x) (raising rangeError (getD l (p + 1) 0))) (answer normal) t) e
       ∙ ap (λ (b : Bool). branch q (branch b (forRounds (natOf (sucℤ (y -ℤ x))) (getD l (p + 2) 0) (runAct (callable calls l) (readAct d l (getD l (p + 7) 0))) x) (raising rangeError (getD l (p + 1) 0))) (answer normal) t) k
 
-  pub count-none : (r : Status) → ltZ (wire y) (wire x) ≡ true → r ≡ endedWith s 0 → CountsUp l calls d p x y ws s ws r
+  pub count-none : ltZ (wire y) (wire x) ≡ true → CountsUp l calls d p x y ws s ws s
   unfolding countBy
-  count-none r h e = subst (λ (v : Status). CountsUp l calls d p x y ws s ws v) (sym e) (record {
+  count-none h = record {
     runs = λ L R Q. record {
-      says = λ m S. subst (λ (v : Answer). Ends v ws (endedWith s 0))
-          (sym (count-by false (inside (integerAt l (p + 3)) (integerAt l (p + 4)) x && inside (integerAt l (p + 3)) (integerAt l (p + 4)) y) (lt-not y x (rw (toZ-ofZ f, toZ-ofZ g) at h)) refl (state m (s .left))))
+      says = λ m S. subst (λ (v : Answer). Ends v ws s)
+          (sym (count-by false (inside (integerAt l (p + 3)) (integerAt l (p + 4)) x && inside (integerAt l (p + 3)) (integerAt l (p + 4)) y) (lt-not y x (rw (toZ-ofZ f, toZ-ofZ g) at h)) refl (state m s)))
           (normal-ends ws s m S);
     };
-    fewer = at-most (endedWith s 0 .left) (s .left) (ended-left s 0);
-  })
+    fewer = left-most s;
+  }
 
   module _ (h : ltZ (wire y) (wire x) ≡ false) (lo hi : ℤ) (A : lo ≡ integerAt l (p + 3)) (B : hi ≡ integerAt l (p + 4)) (u : SFits w64 lo) (v : SFits w64 hi) where
     upward : leZ x y ≡ true
     upward = not-lt y x (rw (toZ-ofZ f, toZ-ofZ g) at h)
 
-    count-out : (r : Status) (n : ℕ) → inside (integerAt l (p + 3)) (integerAt l (p + 4)) x && inside (integerAt l (p + 3)) (integerAt l (p + 4)) y ≡ false → n ≡ getD l (p + 1) 0
-        → r ≡ raisedAt s (negsuc 102) n → CountsUp l calls d p x y ws s ws r
+    count-out : (ws′ : List ℤ) (r n : ℕ) → inside (integerAt l (p + 3)) (integerAt l (p + 4)) x && inside (integerAt l (p + 3)) (integerAt l (p + 4)) y ≡ false → n ≡ getD l (p + 1) 0
+        → Raises (negsuc 102) n ws s ws′ r → CountsUp l calls d p x y ws s ws′ r
     unfolding countBy InRange inside
-    count-out r n k N e = subst (λ (v : Status). CountsUp l calls d p x y ws s ws v) (sym (e ∙ ap (raisedAt s (negsuc 102)) N)) (record {
+    count-out ws′ r n k N e = record {
       runs = λ L R Q. record {
-        says = λ m S. subst (λ (v : Answer). Ends v ws (raisedAt s (negsuc 102) (getD l (p + 1) 0)))
-            (sym (count-by true false upward k (state m (s .left)))) (raising-ends ws s m S rangeError (getD l (p + 1) 0) refl);
+        says = λ m S. subst (λ (v : Answer). Ends v ws′ r)
+            (sym (count-by true false upward k (state m s))) (raising-ends ws s m S rangeError (getD l (p + 1) 0) ws′ r refl (at-node (negsuc 102) n (getD l (p + 1) 0) ws s ws′ r N e));
       };
-      fewer = at-most (raisedAt s (negsuc 102) (getD l (p + 1) 0) .left) (s .left) (raised-same s (negsuc 102) (getD l (p + 1) 0));
-    })
+      fewer = raised-fewer (negsuc 102) n ws s ws′ r e;
+    }
 
     inside-x : (i : Bool) → i ≡ inside (wire lo) (wire hi) (wire x) → inside (integerAt l (p + 3)) (integerAt l (p + 4)) x ≡ i
     inside-x i I = sym (I ∙ rw (toZ-ofZ u, toZ-ofZ v, toZ-ofZ f, A, B))
@@ -429,21 +395,21 @@ module _ (l : List ℕ) (calls d p : ℕ) (x y : ℤ) (ws : List ℤ) (s : Statu
     inside-y : (i : Bool) → i ≡ inside (wire lo) (wire hi) (wire y) → inside (integerAt l (p + 3)) (integerAt l (p + 4)) y ≡ i
     inside-y i I = sym (I ∙ rw (toZ-ofZ u, toZ-ofZ v, toZ-ofZ g, A, B))
 
-    pub count-left : (i : Bool) (r : Status) (n : ℕ) → i ≡ inside (wire lo) (wire hi) (wire x) → i ≡ false → n ≡ getD l (p + 1) 0 → r ≡ raisedAt s (negsuc 102) n → CountsUp l calls d p x y ws s ws r
-    count-left i r n I k N e = count-out r n (ap (λ (b : Bool). b && inside (integerAt l (p + 3)) (integerAt l (p + 4)) y) (inside-x i I ∙ k)) N e
+    pub count-left : (i : Bool) (ws′ : List ℤ) (r n : ℕ) → i ≡ inside (wire lo) (wire hi) (wire x) → i ≡ false → n ≡ getD l (p + 1) 0 → Raises (negsuc 102) n ws s ws′ r → CountsUp l calls d p x y ws s ws′ r
+    count-left i ws′ r n I k N e = count-out ws′ r n (ap (λ (b : Bool). b && inside (integerAt l (p + 3)) (integerAt l (p + 4)) y) (inside-x i I ∙ k)) N e
 
     module _ (i j : Bool) (I : i ≡ inside (wire lo) (wire hi) (wire x)) (k : i ≡ true) (J : j ≡ inside (wire lo) (wire hi) (wire y)) where
       both-in : inside (integerAt l (p + 3)) (integerAt l (p + 4)) x && inside (integerAt l (p + 3)) (integerAt l (p + 4)) y ≡ j
       both-in = ap (λ (b : Bool). b && inside (integerAt l (p + 3)) (integerAt l (p + 4)) y) (inside-x i I ∙ k) ∙ inside-y j J
 
-      pub count-right : (r : Status) (n : ℕ) → j ≡ false → n ≡ getD l (p + 1) 0 → r ≡ raisedAt s (negsuc 102) n → CountsUp l calls d p x y ws s ws r
-      count-right r n o N e = count-out r n (both-in ∙ o) N e
+      pub count-right : (ws′ : List ℤ) (r n : ℕ) → j ≡ false → n ≡ getD l (p + 1) 0 → Raises (negsuc 102) n ws s ws′ r → CountsUp l calls d p x y ws s ws′ r
+      count-right ws′ r n o N e = count-out ws′ r n (both-in ∙ o) N e
 
-      pub count-rounds : (r : Status) (ws′ : List ℤ) → j ≡ true → Counts l calls d p (wire x) (wire y) ws s ws′ r → CountsUp l calls d p x y ws s ws′ r
+      pub count-rounds : (r : ℕ) (ws′ : List ℤ) → j ≡ true → Counts l calls d p (wire x) (wire y) ws s ws′ r → CountsUp l calls d p x y ws s ws′ r
       unfolding countBy
       count-rounds r ws′ o K = record {
         runs = λ L R Q. record {
-          says = λ m S. subst (λ (v : Answer). Ends v ws′ r) (sym (count-by true true upward (both-in ∙ o) (state m (s .left))))
+          says = λ m S. subst (λ (v : Answer). Ends v ws′ r) (sym (count-by true true upward (both-in ∙ o) (state m s)))
               (subst (λ (v : ℤ). Counts l calls d p v y ws s ws′ r) (toZ-ofZ f) (subst (λ (v : ℤ). Counts l calls d p (wire x) v ws s ws′ r) (toZ-ofZ g) K) .runs L upward R Q .says m S);
         };
         fewer = K .fewer;
@@ -452,70 +418,71 @@ module _ (l : List ℕ) (calls d p : ℕ) (x y : ℤ) (ws : List ℤ) (s : Statu
 pub ruleset count-up-laws = (count-none, count-left, count-right, count-rounds, sfits-of)
 
 -- ---- `count`
-module _ (l : List ℕ) (calls d p : ℕ) (ws : List ℤ) (s : Status) (f : SFits w64 (s .number)) (e : ℕ) (x : ℤ) (C : e ≡ getD l (p + 5) 0)
-    (E : Evaluates l ws (wire (s .number)) e d x) (h : SFits w64 x) where
-  from-x : Evaluates l ws (wire (s .number)) (getD l (p + 5) 0) d x
-  from-x = subst (λ (k : ℕ). Evaluates l ws (wire (s .number)) k d x) C E
+module _ (l : List ℕ) (calls d p : ℕ) (ws : List ℤ) (s : ℕ) (e : ℕ) (x : ℤ) (C : e ≡ getD l (p + 5) 0)
+    (E : Evaluates l ws e d x) (h : SFits w64 x) where
+  from-x : Evaluates l ws (getD l (p + 5) 0) d x
+  from-x = subst (λ (k : ℕ). Evaluates l ws k d x) C E
 
   -- after the first bound
   toY : (m : Store) → List ℤ → Answer
   toY m u =
-      withResult (getD l (p + 1) 0) (state m (s .left)) (evalCode (readCode d l (getD l (p + 6) 0)) m) λ v.
-      countUp (getD l (p + 1) 0) (getD l (p + 2) 0) (integerAt l (p + 3)) (integerAt l (p + 4)) (sole u) (sole v) (runAct (callable calls l) (readAct d l (getD l (p + 7) 0))) (state m (s .left))
+      withResult (getD l (p + 1) 0) (state m s) (evalCode (readCode d l (getD l (p + 6) 0)) m) λ v.
+      countUp (getD l (p + 1) 0) (getD l (p + 2) 0) (integerAt l (p + 3)) (integerAt l (p + 4)) (sole u) (sole v) (runAct (callable calls l) (readAct d l (getD l (p + 7) 0))) (state m s)
 
-  count-from : (ws′ : List ℤ) (r : Status) → r .left ≤ s .left
-      → (length l ≡ 16384 → (m : Store) → Stands ws s m → Ends (withResult (getD l (p + 1) 0) (state m (s .left)) (evalCode (readCode d l (getD l (p + 5) 0)) m) (toY m)) ws′ r)
+  count-from : (ws′ : List ℤ) (r : ℕ) → leftIn r ≤ s
+      → (length l ≡ 16384 → (m : Store) → Stands ws s m → Ends (withResult (getD l (p + 1) 0) (state m s) (evalCode (readCode d l (getD l (p + 5) 0)) m) (toY m)) ws′ r)
       → Performs For l calls d p ws s ws′ r
   unfolding toY
   count-from ws′ r k g = record {
-    runs = λ L o. record { says = λ m S. subst (λ (a : Answer). Ends a ws′ r) (sym (Shapes.for-shape (callable calls l) l d p m (s .left) o)) (g L m S) };
+    runs = λ L o. record { says = λ m S. subst (λ (a : Answer). Ends a ws′ r) (sym (Shapes.for-shape (callable calls l) l d p m s o)) (g L m S) };
     fewer = k;
   }
 
-  pub count-fault : (r : Status) (n : ℕ) → ltZ (pos 4294967295) (wire x) ≡ true → n ≡ getD l (p + 1) 0 → r ≡ failedAt s (wire x) n → Performs For l calls d p ws s ws r
-  count-fault r n g N u = subst (λ (t : Status). Performs For l calls d p ws s ws t) (sym (u ∙ ap (failedAt s (wire x)) N))
-      (count-from ws (failedAt s (wire x) (getD l (p + 1) 0)) (at-most (failedAt s (wire x) (getD l (p + 1) 0) .left) (s .left) (failed-same s (wire x) (getD l (p + 1) 0)))
-      (λ L m S. fault-ends ws s m (getD l (p + 1) 0) (evalCode (readCode d l (getD l (p + 5) 0)) m) (wire x) (toY m) S (fault-here l ws s m S f x h (getD l (p + 5) 0) d from-x g)))
+  pub count-fault : (ws′ : List ℤ) (r n : ℕ) → ltZ (pos 4294967295) (wire x) ≡ true → n ≡ getD l (p + 1) 0 → Raises (faultIn (wire x)) n ws s ws′ r → Performs For l calls d p ws s ws′ r
+  count-fault ws′ r n g N u =
+      count-from ws′ r (raised-fewer (faultIn (wire x)) n ws s ws′ r u)
+      (λ L m S. fault-ends ws s m (getD l (p + 1) 0) (evalCode (readCode d l (getD l (p + 5) 0)) m) (wire x) (toY m) ws′ r S
+      (fault-here l ws s m S x h (getD l (p + 5) 0) d from-x g) (at-node (faultIn (wire x)) n (getD l (p + 1) 0) ws s ws′ r N u))
 
-  module _ (g : ltZ (pos 4294967295) (wire x) ≡ false) (c : ℕ) (y : ℤ) (D : c ≡ getD l (p + 6) 0) (F : Evaluates l ws (wire (s .number)) c d y) (i : SFits w64 y) where
-    from-y : Evaluates l ws (wire (s .number)) (getD l (p + 6) 0) d y
-    from-y = subst (λ (k : ℕ). Evaluates l ws (wire (s .number)) k d y) D F
+  module _ (g : ltZ (pos 4294967295) (wire x) ≡ false) (c : ℕ) (y : ℤ) (D : c ≡ getD l (p + 6) 0) (F : Evaluates l ws c d y) (i : SFits w64 y) where
+    from-y : Evaluates l ws (getD l (p + 6) 0) d y
+    from-y = subst (λ (k : ℕ). Evaluates l ws k d y) D F
 
-    count-to : (ws′ : List ℤ) (r : Status) → r .left ≤ s .left
-        → (length l ≡ 16384 → (m : Store) → InRange x → Stands ws s m → Ends (withResult (getD l (p + 1) 0) (state m (s .left)) (evalCode (readCode d l (getD l (p + 6) 0)) m) λ v.
-        countUp (getD l (p + 1) 0) (getD l (p + 2) 0) (integerAt l (p + 3)) (integerAt l (p + 4)) x (sole v) (runAct (callable calls l) (readAct d l (getD l (p + 7) 0))) (state m (s .left))) ws′ r)
+    count-to : (ws′ : List ℤ) (r : ℕ) → leftIn r ≤ s
+        → (length l ≡ 16384 → (m : Store) → InRange x → Stands ws s m → Ends (withResult (getD l (p + 1) 0) (state m s) (evalCode (readCode d l (getD l (p + 6) 0)) m) λ v.
+        countUp (getD l (p + 1) 0) (getD l (p + 2) 0) (integerAt l (p + 3)) (integerAt l (p + 4)) x (sole v) (runAct (callable calls l) (readAct d l (getD l (p + 7) 0))) (state m s)) ws′ r)
         → Performs For l calls d p ws s ws′ r
     unfolding toY
-    count-to ws′ r k o = count-from ws′ r k (λ L m S. go L m S (value-here l ws s m S f x h (getD l (p + 5) 0) d from-x g))
+    count-to ws′ r k o = count-from ws′ r k (λ L m S. go L m S (value-here l ws s m S x h (getD l (p + 5) 0) d from-x g))
       where
         go : length l ≡ 16384 → (m : Store) → Stands ws s m → Cells (evalCode (readCode d l (getD l (p + 5) 0)) m) x
-            → Ends (withResult (getD l (p + 1) 0) (state m (s .left)) (evalCode (readCode d l (getD l (p + 5) 0)) m) (toY m)) ws′ r
+            → Ends (withResult (getD l (p + 1) 0) (state m s) (evalCode (readCode d l (getD l (p + 5) 0)) m) (toY m)) ws′ r
         go L m S K =
-            is-ends (getD l (p + 1) 0) (state m (s .left)) (evalCode (readCode d l (getD l (p + 5) 0)) m) (K .zs) (toY m) ws′ r (K .gives)
-            (subst (λ (z : ℤ). Ends (withResult (getD l (p + 1) 0) (state m (s .left)) (evalCode (readCode d l (getD l (p + 6) 0)) m) λ v.
-            countUp (getD l (p + 1) 0) (getD l (p + 2) 0) (integerAt l (p + 3)) (integerAt l (p + 4)) z (sole v) (runAct (callable calls l) (readAct d l (getD l (p + 7) 0))) (state m (s .left))) ws′ r)
+            is-ends (getD l (p + 1) 0) (state m s) (evalCode (readCode d l (getD l (p + 5) 0)) m) (K .zs) (toY m) ws′ r (K .gives)
+            (subst (λ (z : ℤ). Ends (withResult (getD l (p + 1) 0) (state m s) (evalCode (readCode d l (getD l (p + 6) 0)) m) λ v.
+            countUp (getD l (p + 1) 0) (getD l (p + 2) 0) (integerAt l (p + 3)) (integerAt l (p + 4)) z (sole v) (runAct (callable calls l) (readAct d l (getD l (p + 7) 0))) (state m s)) ws′ r)
             (sym (K .first-is)) (o L m (K .ranged) S))
 
-    pub count-second : (r : Status) (n : ℕ) → ltZ (pos 4294967295) (wire y) ≡ true → n ≡ getD l (p + 1) 0 → r ≡ failedAt s (wire y) n → Performs For l calls d p ws s ws r
-    count-second r n k N u = subst (λ (t : Status). Performs For l calls d p ws s ws t) (sym (u ∙ ap (failedAt s (wire y)) N))
-        (count-to ws (failedAt s (wire y) (getD l (p + 1) 0)) (at-most (failedAt s (wire y) (getD l (p + 1) 0) .left) (s .left) (failed-same s (wire y) (getD l (p + 1) 0)))
+    pub count-second : (ws′ : List ℤ) (r n : ℕ) → ltZ (pos 4294967295) (wire y) ≡ true → n ≡ getD l (p + 1) 0 → Raises (faultIn (wire y)) n ws s ws′ r → Performs For l calls d p ws s ws′ r
+    count-second ws′ r n k N u =
+        count-to ws′ r (raised-fewer (faultIn (wire y)) n ws s ws′ r u)
         (λ L m R S. fault-ends ws s m (getD l (p + 1) 0) (evalCode (readCode d l (getD l (p + 6) 0)) m) (wire y)
-        (λ v. countUp (getD l (p + 1) 0) (getD l (p + 2) 0) (integerAt l (p + 3)) (integerAt l (p + 4)) x (sole v) (runAct (callable calls l) (readAct d l (getD l (p + 7) 0))) (state m (s .left))) S
-        (fault-here l ws s m S f y i (getD l (p + 6) 0) d from-y k)))
+        (λ v. countUp (getD l (p + 1) 0) (getD l (p + 2) 0) (integerAt l (p + 3)) (integerAt l (p + 4)) x (sole v) (runAct (callable calls l) (readAct d l (getD l (p + 7) 0))) (state m s)) ws′ r S
+        (fault-here l ws s m S y i (getD l (p + 6) 0) d from-y k) (at-node (faultIn (wire y)) n (getD l (p + 1) 0) ws s ws′ r N u))
 
-    pub count-both : (r : Status) (ws′ : List ℤ) → ltZ (pos 4294967295) (wire y) ≡ false → CountsUp l calls d p (wire x) (wire y) ws s ws′ r → Performs For l calls d p ws s ws′ r
-    count-both r ws′ k K = count-to ws′ r (K .fewer) (λ L m R S. go L m R S (value-here l ws s m S f y i (getD l (p + 6) 0) d from-y k))
+    pub count-both : (r : ℕ) (ws′ : List ℤ) → ltZ (pos 4294967295) (wire y) ≡ false → CountsUp l calls d p (wire x) (wire y) ws s ws′ r → Performs For l calls d p ws s ws′ r
+    count-both r ws′ k K = count-to ws′ r (K .fewer) (λ L m R S. go L m R S (value-here l ws s m S y i (getD l (p + 6) 0) d from-y k))
       where
         counted : CountsUp l calls d p x y ws s ws′ r
         counted = subst (λ (v : ℤ). CountsUp l calls d p v y ws s ws′ r) (toZ-ofZ h) (subst (λ (v : ℤ). CountsUp l calls d p (wire x) v ws s ws′ r) (toZ-ofZ i) K)
 
         go : length l ≡ 16384 → (m : Store) → InRange x → Stands ws s m → Cells (evalCode (readCode d l (getD l (p + 6) 0)) m) y
-            → Ends (withResult (getD l (p + 1) 0) (state m (s .left)) (evalCode (readCode d l (getD l (p + 6) 0)) m) λ v.
-            countUp (getD l (p + 1) 0) (getD l (p + 2) 0) (integerAt l (p + 3)) (integerAt l (p + 4)) x (sole v) (runAct (callable calls l) (readAct d l (getD l (p + 7) 0))) (state m (s .left))) ws′ r
+            → Ends (withResult (getD l (p + 1) 0) (state m s) (evalCode (readCode d l (getD l (p + 6) 0)) m) λ v.
+            countUp (getD l (p + 1) 0) (getD l (p + 2) 0) (integerAt l (p + 3)) (integerAt l (p + 4)) x (sole v) (runAct (callable calls l) (readAct d l (getD l (p + 7) 0))) (state m s)) ws′ r
         go L m R S Q =
-            is-ends (getD l (p + 1) 0) (state m (s .left)) (evalCode (readCode d l (getD l (p + 6) 0)) m) (Q .zs)
-            (λ v. countUp (getD l (p + 1) 0) (getD l (p + 2) 0) (integerAt l (p + 3)) (integerAt l (p + 4)) x (sole v) (runAct (callable calls l) (readAct d l (getD l (p + 7) 0))) (state m (s .left))) ws′ r (Q .gives)
-            (subst (λ (z : ℤ). Ends (countUp (getD l (p + 1) 0) (getD l (p + 2) 0) (integerAt l (p + 3)) (integerAt l (p + 4)) x z (runAct (callable calls l) (readAct d l (getD l (p + 7) 0))) (state m (s .left))) ws′ r)
+            is-ends (getD l (p + 1) 0) (state m s) (evalCode (readCode d l (getD l (p + 6) 0)) m) (Q .zs)
+            (λ v. countUp (getD l (p + 1) 0) (getD l (p + 2) 0) (integerAt l (p + 3)) (integerAt l (p + 4)) x (sole v) (runAct (callable calls l) (readAct d l (getD l (p + 7) 0))) (state m s)) ws′ r (Q .gives)
+            (subst (λ (z : ℤ). Ends (countUp (getD l (p + 1) 0) (getD l (p + 2) 0) (integerAt l (p + 3)) (integerAt l (p + 4)) x z (runAct (callable calls l) (readAct d l (getD l (p + 7) 0))) (state m s)) ws′ r)
             (sym (Q .first-is)) (counted .runs L R (Q .ranged) .says m S))
 
 pub ruleset count-laws = (count-fault, count-second, count-both, sfits-of)

@@ -5,7 +5,7 @@ use mathlib.Core.List.{List, [], _∷_}
 use mathlib.Core.Logic.{_⊎_, inl, inr}
 use Prim.Native.Nat.{ℕ, zero, suc, _+_, _*_, _-_, _<_, _≤_}
 use native.Mathlib.Omega.{arith}
-use lib.Dec.{T, eqb}
+use lib.Dec.{T, eqb, ltb}
 use lib.IntN.{ℤ, pos, negsuc}
 use lib.ListN.{length, getD}
 use lib.Signed.{ltZ}
@@ -13,7 +13,7 @@ use mir.Syntax.{w64}
 use mir.Val.{SFits}
 use mir.Facts.{toZ-ofZ}
 use borrow.Author.Needs.{sfits-of}
-use borrow.Author.Tests.{eq-eqb, ne-eqb}
+use borrow.Author.Tests.{eq-eqb, ne-eqb, ltb-true, ltb-false}
 use Rattle.arith.specs.Integers.{inside}
 use Rattle.arith.proofs.Machine.{wire}
 use Rattle.arith.proofs.Order.{le-or-lt}
@@ -31,66 +31,50 @@ use Rattle.semantics.specs.Whole.{runBody}
 use Rattle.semantics.proofs.ListMachineRuns.{called-none, called-body, callable-at, callable-past}
 use Rattle.evaluate.specs.Walks.{Evaluates}
 use Rattle.evaluate.specs.Words.{InRange, Holds}
-use Rattle.runner.specs.declared.arms.Arm.{Arm}
-use Rattle.runner.specs.declared.arms.Arm.the-variants.{Taken, Absent}
-use Rattle.runner.specs.declared.states.Status.{Status}
-use Rattle.runner.specs.Arms.{Below, Chooses, byArm, actsAt}
-use Rattle.runner.specs.Loops.{Goes, Following}
-use Rattle.runner.specs.Runs.{Stands, Ends, Runs, Executes, Performs, Performing, Does, Follows, Calls, Serves, after, toldBy}
-use Rattle.runner.specs.States.{endedWith, stepTaken, raisedAt, failedAt}
-use Rattle.runner.proofs.Assigning.{value-here, fault-here}
-use Rattle.runner.proofs.Ending.{Cells, ended-stands, step-stands, normal-ends, spent-ends, raising-ends, fault-ends, is-ends}
-use Rattle.runner.proofs.Shapes as Shapes
+use Rattle.steps.specs.Ends.{leftIn, stepWord, faultIn, toldBy, Raises}
+use Rattle.steps.specs.Stands.{Stands, Ends, Runs, after}
+use Rattle.leaves.specs.declared.arms.Arm.{Arm}
+use Rattle.leaves.specs.declared.arms.Arm.the-variants.{Taken, Absent}
+use Rattle.leaves.specs.Arms.{Below, Chooses, byArm}
+use Rattle.leaves.specs.Does.{Does}
+use Rattle.leaves.proofs.Assigning.{at-node, value-here, fault-here}
+use Rattle.leaves.proofs.Ending.{Cells, left-most, left-of, raised-fewer, told-normal, told-spent, told-raised, step-spent, step-taken, step-fewer, step-stands, normal-ends, spent-ends, raising-ends, fault-ends, is-ends}
+use Rattle.leaves.proofs.Shapes as Shapes
+use Rattle.runner.specs.Loops.{Goes, Following, actsAt}
+use Rattle.runner.specs.Runs.{Executes, Performs, Performing, Follows, Calls, Serves}
 
--- ---- small facts
-pub ended-left : (s : Status) (o : ℕ) → endedWith s o .left ≡ s .left
-unfolding endedWith
-ended-left s o = refl
+-- ---- ends that are normal, and others
+pub halted : (q : Bool) (w : ℕ) → q ≡ ltb 4294967295 w → q ≡ true → 4294967295 < w
+halted q w e h = ltb-true 4294967295 w (sym e ∙ h)
 
-pub raised-same : (s : Status) (z : ℤ) (n : ℕ) → raisedAt s z n .left ≡ s .left
-unfolding raisedAt
-raised-same s z n = refl
+pub going : (q : Bool) (w : ℕ) → q ≡ ltb 4294967295 w → q ≡ false → w ≤ 4294967295
+going q w e h = ltb-false 4294967295 w (sym e ∙ h)
 
-pub failed-same : (s : Status) (z : ℤ) (n : ℕ) → failedAt s z n .left ≡ s .left
-unfolding failedAt raisedAt
-failed-same s z n = refl
-
-pub step-left : (s : Status) → stepTaken s .left ≡ s .left - 1
-unfolding stepTaken
-step-left s = refl
-
-pub at-most : (a b : ℕ) → a ≡ b → a ≤ b
-at-most a b e = omega (arith, e)
-
--- a status that ended normally, or not
-pub told-normal : (s : Status) → s .outcome ≡ 0 → toldBy (s .outcome) s ≡ normal
-unfolding toldBy
-told-normal s e = ap (λ (n : ℕ). toldBy n s) e
-
-told-stops : (n : ℕ) (s : Status) (t : State) (f : State → Answer) → ((n ≡ 0) → ⊥) → continued (toldBy n s) t f ≡ answer (toldBy n s) t
-unfolding toldBy
-told-stops zero s t f h = absurd (h refl)
-told-stops (suc zero) s t f h = refl
-told-stops (suc (suc n)) s t f h = refl
+told-stops : (w : ℕ) (ws : List ℤ) (t : State) (f : State → Answer) → 4294967295 < w → continued (toldBy w ws) t f ≡ answer (toldBy w ws) t
+told-stops w ws t f h = go (le-or-lt 8589934592 w)
+  where
+    go : (8589934592 ≤ w) ⊎ (w < 8589934592) → continued (toldBy w ws) t f ≡ answer (toldBy w ws) t
+    go (inl g) = ap (λ (o : Outcome). continued o t f) (told-raised w ws g) ∙ sym (ap (λ (o : Outcome). answer o t) (told-raised w ws g))
+    go (inr g) = ap (λ (o : Outcome). continued o t f) (told-spent w ws h g) ∙ sym (ap (λ (o : Outcome). answer o t) (told-spent w ws h g))
 
 -- what comes after a normal end, and after another
-pub goes-on : (a : Answer) (f : State → Answer) (ws : List ℤ) (s : Status) → Ends a ws s → s .outcome ≡ 0 → Goes (andThen a f) f ws s
-goes-on a f ws s E e = record {
+pub goes-on : (a : Answer) (f : State → Answer) (ws : List ℤ) (w : ℕ) → Ends a ws w → w ≤ 4294967295 → Goes (andThen a f) f ws w
+goes-on a f ws w E h = record {
   store = a .state .store;
-  stands = E .stands;
-  rest = ap (λ (o : Outcome). continued o (a .state) f) (E .outcome ∙ told-normal s e) ∙ ap (λ (n : ℕ). f (state (a .state .store) n)) (E .left);
+  stands = subst (λ (k : ℕ). Stands ws k (a .state .store)) (left-of w h) (E .stands);
+  rest = ap (λ (o : Outcome). continued o (a .state) f) (E .outcome ∙ told-normal w ws h) ∙ ap (λ (n : ℕ). f (state (a .state .store) n)) (E .left ∙ left-of w h);
 }
 
-pub stops-there : (a : Answer) (f : State → Answer) (ws : List ℤ) (s : Status) → Ends a ws s → ((s .outcome ≡ 0) → ⊥) → Ends (andThen a f) ws s
-stops-there a f ws s E h =
-    subst (λ (x : Answer). Ends x ws s)
-    (sym (ap (λ (o : Outcome). continued o (a .state) f) (E .outcome) ∙ told-stops (s .outcome) s (a .state) f h ∙ ap (λ (o : Outcome). answer o (a .state)) (sym (E .outcome)))) E
+pub stops-there : (a : Answer) (f : State → Answer) (ws : List ℤ) (w : ℕ) → Ends a ws w → 4294967295 < w → Ends (andThen a f) ws w
+stops-there a f ws w E h =
+    subst (λ (x : Answer). Ends x ws w)
+    (sym (ap (λ (o : Outcome). continued o (a .state) f) (E .outcome) ∙ told-stops w ws (a .state) f h ∙ ap (λ (o : Outcome). answer o (a .state)) (sym (E .outcome)))) E
 
 -- where nothing comes after a normal end
-pub ends-there : (a : Answer) (f : State → Answer) (ws : List ℤ) (s : Status) → Ends a ws s → s .outcome ≡ 0 → ((t : State) → f t ≡ answer normal t) → Ends (andThen a f) ws s
-ends-there a f ws s E e h =
-    subst (λ (x : Answer). Ends x ws s)
-    (sym (ap (λ (o : Outcome). continued o (a .state) f) (E .outcome ∙ told-normal s e) ∙ h (a .state) ∙ ap (λ (o : Outcome). answer o (a .state)) (sym (E .outcome ∙ told-normal s e)))) E
+pub ends-there : (a : Answer) (f : State → Answer) (ws : List ℤ) (w : ℕ) → Ends a ws w → w ≤ 4294967295 → ((t : State) → f t ≡ answer normal t) → Ends (andThen a f) ws w
+ends-there a f ws w E e h =
+    subst (λ (x : Answer). Ends x ws w)
+    (sym (ap (λ (o : Outcome). continued o (a .state) f) (E .outcome ∙ told-normal w ws e) ∙ h (a .state) ∙ ap (λ (o : Outcome). answer o (a .state)) (sym (E .outcome ∙ told-normal w ws e)))) E
 
 -- ---- `acts`
 acts-at : (d : ℕ) (l : List ℕ) (s : ℕ) → readActs d l s ≡ actsAt d l (getD l s 0)
@@ -118,62 +102,63 @@ acts-more ps (suc d) l q s h g =
     ∙ ap (λ (c : ℕ). andThen (runAct ps (readAct c l (getD l q 0)) s) (λ t. runActs ps (readActs c l (q + 1)) t)) e
     ∙ ap (λ (c : Acts). andThen (runAct ps (readAct (suc d - 1) l (getD l q 0)) s) (λ t. runActs ps c t)) (acts-at (suc d - 1) l (q + 1))
 
-module _ (l : List ℕ) (calls depth slot : ℕ) (ws : List ℤ) (s : Status) where
+module _ (l : List ℕ) (calls depth slot : ℕ) (ws : List ℤ) (s : ℕ) where
   pub chain-start : (q : ℕ) → q ≡ getD l slot 0 → Following l calls depth slot ws s depth q ws s
   chain-start q e = record {
     goes = λ L m S. record {
       store = m;
       stands = S;
-      rest = ap (λ (c : Acts). runActs (callable calls l) c (state m (s .left))) (acts-at depth l slot ∙ ap (λ (x : ℕ). actsAt depth l x) (sym e));
+      rest = ap (λ (c : Acts). runActs (callable calls l) c (state m s)) (acts-at depth l slot ∙ ap (λ (x : ℕ). actsAt depth l x) (sym e));
     };
     fewer = omega arith;
     less = omega arith;
   }
 
-  module _ (d q : ℕ) (us : List ℤ) (t : Status) (F : Following l calls depth slot ws s d q us t) where
-    chain-normal : (r : Status) → r ≡ endedWith t 0 → ((u : State) → runActs (callable calls l) (actsAt d l q) u ≡ answer normal u) → Follows l calls depth slot ws s us r
-    chain-normal r e h = subst (λ (x : Status). Follows l calls depth slot ws s us x) (sym e) (record {
+  module _ (d q : ℕ) (us : List ℤ) (t : ℕ) (F : Following l calls depth slot ws s d q us t) where
+    chain-normal : ((u : State) → runActs (callable calls l) (actsAt d l q) u ≡ answer normal u) → Follows l calls depth slot ws s us t
+    chain-normal h = record {
       runs = λ L. record { says = λ m S. go (F .goes L m S) };
-      fewer = omega (arith, ended-left t 0, F .fewer);
-    })
+      fewer = omega (arith, left-most t, F .fewer);
+    }
       where
-        go : {a : Answer} → Goes a (runActs (callable calls l) (actsAt d l q)) us t → Ends a us (endedWith t 0)
-        go {a} G = subst (λ (x : Answer). Ends x us (endedWith t 0)) (sym (G .rest ∙ h (state (G .store) (t .left)))) (normal-ends us t (G .store) (G .stands))
+        go : {a : Answer} → Goes a (runActs (callable calls l) (actsAt d l q)) us t → Ends a us t
+        go {a} G = subst (λ (x : Answer). Ends x us t) (sym (G .rest ∙ h (state (G .store) t))) (normal-ends us t (G .store) (G .stands))
 
-    pub chain-deep : (r : Status) → d ≤ 0 → r ≡ endedWith t 0 → Follows l calls depth slot ws s us r
-    chain-deep r h e = chain-normal r e (λ u. acts-shallow (callable calls l) d l q u h)
+    pub chain-deep : d ≤ 0 → Follows l calls depth slot ws s us t
+    chain-deep h = chain-normal (λ u. acts-shallow (callable calls l) d l q u h)
 
-    pub chain-end : (r : Status) → q ≡ 0 → r ≡ endedWith t 0 → Follows l calls depth slot ws s us r
-    chain-end r h e = chain-normal r e (λ u. acts-none (callable calls l) d l q u h)
+    pub chain-end : q ≡ 0 → Follows l calls depth slot ws s us t
+    chain-end h = chain-normal (λ u. acts-none (callable calls l) d l q u h)
 
-    module _ (h : 0 < d) (g : (q ≡ 0) → ⊥) (n : ℕ) (N : n ≡ getD l (q + 0) 0) (vs : List ℤ) (o : Status) (E : Executes l calls (d - 1) n us t vs o) where
-      chain-first : length l ≡ 16384 → (m : Store) → Stands us t m → Ends (runAct (callable calls l) (readAct (d - 1) l (getD l q 0)) (state m (t .left))) vs o
+    module _ (h : 0 < d) (g : (q ≡ 0) → ⊥) (n : ℕ) (N : n ≡ getD l (q + 0) 0) (vs : List ℤ) (o : ℕ) (E : Executes l calls (d - 1) n us t vs o)
+        (i : Bool) (I : i ≡ ltb 4294967295 o) where
+      chain-first : length l ≡ 16384 → (m : Store) → Stands us t m → Ends (runAct (callable calls l) (readAct (d - 1) l (getD l q 0)) (state m t)) vs o
       chain-first L m S =
           let e : q + 0 ≡ q = omega arith in
-          subst (λ (x : ℕ). Ends (runAct (callable calls l) (readAct (d - 1) l x) (state m (t .left))) vs o) (N ∙ ap (λ (x : ℕ). getD l x 0) e) (E .runs L .says m S)
+          subst (λ (x : ℕ). Ends (runAct (callable calls l) (readAct (d - 1) l x) (state m t)) vs o) (N ∙ ap (λ (x : ℕ). getD l x 0) e) (E .runs L .says m S)
 
-      pub chain-stops : ((o .outcome ≡ 0) → ⊥) → Follows l calls depth slot ws s vs o
+      pub chain-stops : i ≡ true → Follows l calls depth slot ws s vs o
       chain-stops k = record { runs = λ L. record { says = λ m S. go L (F .goes L m S) }; fewer = omega (arith, E .fewer, F .fewer) }
         where
           go : {a : Answer} → length l ≡ 16384 → Goes a (runActs (callable calls l) (actsAt d l q)) us t → Ends a vs o
-          go {a} L G = subst (λ (x : Answer). Ends x vs o) (sym (G .rest ∙ acts-more (callable calls l) d l q (state (G .store) (t .left)) h g))
-              (stops-there (runAct (callable calls l) (readAct (d - 1) l (getD l q 0)) (state (G .store) (t .left))) (runActs (callable calls l) (actsAt (d - 1) l (getD l (q + 1) 0))) vs o
-              (chain-first L (G .store) (G .stands)) k)
+          go {a} L G = subst (λ (x : Answer). Ends x vs o) (sym (G .rest ∙ acts-more (callable calls l) d l q (state (G .store) t) h g))
+              (stops-there (runAct (callable calls l) (readAct (d - 1) l (getD l q 0)) (state (G .store) t)) (runActs (callable calls l) (actsAt (d - 1) l (getD l (q + 1) 0))) vs o
+              (chain-first L (G .store) (G .stands)) (halted i o I k))
 
-      pub chain-next : (q′ : ℕ) → o .outcome ≡ 0 → q′ ≡ getD l (q + 1) 0 → Following l calls depth slot ws s (d - 1) q′ vs o
-      chain-next q′ k Q = record { goes = λ L m S. go L (F .goes L m S); fewer = omega (arith, E .fewer, F .fewer); less = omega (arith, F .less) }
+      pub chain-next : (q′ : ℕ) → i ≡ false → q′ ≡ getD l (q + 1) 0 → Following l calls depth slot ws s (d - 1) q′ vs o
+      chain-next q′ k Q = record { goes = λ L m S. go L (F .goes L m S); fewer = omega (arith, left-of o (going i o I k), E .fewer, F .fewer); less = omega (arith, F .less) }
         where
           go : {a : Answer} → length l ≡ 16384 → Goes a (runActs (callable calls l) (actsAt d l q)) us t → Goes a (runActs (callable calls l) (actsAt (d - 1) l q′)) vs o
           go {a} L G =
-              let H : Goes (andThen (runAct (callable calls l) (readAct (d - 1) l (getD l q 0)) (state (G .store) (t .left))) (runActs (callable calls l) (actsAt (d - 1) l (getD l (q + 1) 0))))
+              let H : Goes (andThen (runAct (callable calls l) (readAct (d - 1) l (getD l q 0)) (state (G .store) t)) (runActs (callable calls l) (actsAt (d - 1) l (getD l (q + 1) 0))))
               (runActs (callable calls l) (actsAt (d - 1) l (getD l (q + 1) 0))) vs o =
-              goes-on (runAct (callable calls l) (readAct (d - 1) l (getD l q 0)) (state (G .store) (t .left))) (runActs (callable calls l) (actsAt (d - 1) l (getD l (q + 1) 0))) vs o
-              (chain-first L (G .store) (G .stands)) k in
+              goes-on (runAct (callable calls l) (readAct (d - 1) l (getD l q 0)) (state (G .store) t)) (runActs (callable calls l) (actsAt (d - 1) l (getD l (q + 1) 0))) vs o
+              (chain-first L (G .store) (G .stands)) (going i o I k) in
               record {
                 store = H .store;
                 stands = H .stands;
-                rest = G .rest ∙ acts-more (callable calls l) d l q (state (G .store) (t .left)) h g ∙ H .rest
-                    ∙ ap (λ (x : ℕ). runActs (callable calls l) (actsAt (d - 1) l x) (state (H .store) (o .left))) (sym Q);
+                rest = G .rest ∙ acts-more (callable calls l) d l q (state (G .store) t) h g ∙ H .rest
+                    ∙ ap (λ (x : ℕ). runActs (callable calls l) (actsAt (d - 1) l x) (state (H .store) o)) (sym Q);
               }
 
 pub ruleset chain-laws = (chain-deep, chain-end, chain-stops)
@@ -255,8 +240,8 @@ unfolding readAct runAct
 none-read ps l p t = refl
 
 -- what comes after the step
-later : (l : List ℕ) (calls d p : ℕ) (m : Store) (t : Status) (ws′ : List ℤ) (r : Status) → Ends (after (runAct (callable calls l) (readAct (suc d) l p)) (state m (t .left))) ws′ r
-    → Ends (runAct (callable calls l) (readAct (suc d) l p) (state m (suc (t .left)))) ws′ r
+later : (l : List ℕ) (calls d p : ℕ) (m : Store) (t : ℕ) (ws′ : List ℤ) (r : ℕ) → Ends (after (runAct (callable calls l) (readAct (suc d) l p)) (state m t)) ws′ r
+    → Ends (runAct (callable calls l) (readAct (suc d) l p) (state m (suc t))) ws′ r
 unfolding after
 later l calls d p m t ws′ r E = E
 
@@ -268,16 +253,16 @@ op-zero : (l : List ℕ) (p : ℕ) → p ≡ 0 → actOpAt l p ≡ act.Nothing
 unfolding actOpAt actOpUnless
 op-zero l p e = ap (λ (b : Bool). actOpUnless b (getD l p 0)) (eq-eqb p 0 e)
 
-module _ (l : List ℕ) (calls d p : ℕ) (ws : List ℤ) (s r : Status) where
+module _ (l : List ℕ) (calls d p : ℕ) (ws : List ℤ) (s : ℕ) where
   -- where there is no statement
-  exec-none : r ≡ endedWith s 0 → ((ps : Procs) (t : State) → runAct ps (readAct d l p) t ≡ answer normal t) → Executes l calls d p ws s ws r
-  exec-none e h = subst (λ (x : Status). Executes l calls d p ws s ws x) (sym e) (record {
-    runs = λ L. record { says = λ m S. subst (λ (a : Answer). Ends a ws (endedWith s 0)) (sym (h (callable calls l) (state m (s .left)))) (normal-ends ws s m S) };
-    fewer = at-most (endedWith s 0 .left) (s .left) (ended-left s 0);
-  })
+  exec-none : ((ps : Procs) (t : State) → runAct ps (readAct d l p) t ≡ answer normal t) → Executes l calls d p ws s ws s
+  exec-none h = record {
+    runs = λ L. record { says = λ m S. subst (λ (a : Answer). Ends a ws s) (sym (h (callable calls l) (state m s))) (normal-ends ws s m S) };
+    fewer = left-most s;
+  }
 
-  pub exec-shallow : d ≡ 0 → r ≡ endedWith s 0 → Executes l calls d p ws s ws r
-  exec-shallow h e = exec-none e (λ ps t. ap (λ (c : ℕ). runAct ps (readAct c l p) t) h ∙ none-read ps l p t)
+  pub exec-shallow : d ≡ 0 → Executes l calls d p ws s ws s
+  exec-shallow h = exec-none (λ ps t. ap (λ (c : ℕ). runAct ps (readAct c l p) t) h ∙ none-read ps l p t)
 
   module _ (D : (d ≡ 0) → ⊥) where
     by-op : (ps : Procs) (t : State) (o : ActOp) → actOpAt l p ≡ o → runAct ps (readAct d l p) t ≡ runAct ps (acted ps l (d - 1) p o) t
@@ -285,53 +270,67 @@ module _ (l : List ℕ) (calls d p : ℕ) (ws : List ℤ) (s r : Status) where
         let c : d ≡ suc (d - 1) = omega (arith, D) in
         ap (λ (x : ℕ). runAct ps (readAct x l p) t) c ∙ ap (λ (a : Act). runAct ps a t) (acted-is ps l (d - 1) p ∙ ap (acted ps l (d - 1) p) e)
 
-    exec-idle : actOpAt l p ≡ act.Nothing → r ≡ endedWith s 0 → Executes l calls d p ws s ws r
-    exec-idle h e = exec-none e (λ ps t. by-op ps t act.Nothing h ∙ acted-none ps l (d - 1) p t)
+    exec-idle : actOpAt l p ≡ act.Nothing → Executes l calls d p ws s ws s
+    exec-idle h = exec-none (λ ps t. by-op ps t act.Nothing h ∙ acted-none ps l (d - 1) p t)
 
-    pub exec-zero : p ≡ 0 → r ≡ endedWith s 0 → Executes l calls d p ws s ws r
-    exec-zero h e = exec-idle (op-zero l p h) e
+    pub exec-zero : p ≡ 0 → Executes l calls d p ws s ws s
+    exec-zero h = exec-idle (op-zero l p h)
 
     module _ (P : (p ≡ 0) → ⊥) (n : ℕ) (N : n ≡ getD l p 0) where
-      pub exec-below : n < 43 → r ≡ endedWith s 0 → Executes l calls d p ws s ws r
-      exec-below h e = exec-idle (op-at l p n P N ∙ op-below n h) e
+      pub exec-below : n < 43 → Executes l calls d p ws s ws s
+      exec-below h = exec-idle (op-at l p n P N ∙ op-below n h)
 
-      pub exec-above : 51 < n → r ≡ endedWith s 0 → Executes l calls d p ws s ws r
-      exec-above h e = exec-idle (op-at l p n P N ∙ op-above n h) e
+      pub exec-above : 51 < n → Executes l calls d p ws s ws s
+      exec-above h = exec-idle (op-at l p n P N ∙ op-above n h)
 
-      pub exec-spent : 43 ≤ n → n ≤ 51 → s .left ≡ 0 → r ≡ endedWith s 1 → Executes l calls d p ws s ws r
-      exec-spent h g k e = subst (λ (x : Status). Executes l calls d p ws s ws x) (sym e) (record {
-        runs = λ L. record {
-          says = λ m S.
-              subst (λ (a : Answer). Ends a ws (endedWith s 1))
-              (sym (ap (λ (c : ℕ). runAct (callable calls l) (readAct d l p) (state m c)) k ∙ by-op (callable calls l) (state m 0) (actOp n) (op-at l p n P N)
-              ∙ acted-spent (callable calls l) l (d - 1) p (actOp n) m (op-active n h g) ∙ ap (λ (c : ℕ). answer spent (state m c)) (sym k)))
-              (spent-ends ws s m S);
-        };
-        fewer = at-most (endedWith s 1 .left) (s .left) (ended-left s 1);
-      })
+      module _ (h : 43 ≤ n) (g : n ≤ 51) (t : ℕ) (T : t ≡ stepWord s) where
+        pub exec-spent : 4294967295 < t → Executes l calls d p ws s ws t
+        exec-spent k = record {
+          runs = λ L. record { says = λ m S. go m S (step-spent s t T k (S .steps)) };
+          fewer = step-fewer s t T;
+        }
+          where
+            go : (m : Store) → Stands ws s m → s ≡ 0 → Ends (runAct (callable calls l) (readAct d l p) (state m s)) ws t
+            go m S e =
+                subst (λ (a : Answer). Ends a ws t)
+                (sym (ap (λ (c : ℕ). runAct (callable calls l) (readAct d l p) (state m c)) e ∙ by-op (callable calls l) (state m 0) (actOp n) (op-at l p n P N)
+                ∙ acted-spent (callable calls l) l (d - 1) p (actOp n) m (op-active n h g) ∙ ap (λ (c : ℕ). answer spent (state m c)) (sym e)))
+                (spent-ends ws s m S t T k)
 
-      pub exec-performs : (t : Status) (ws′ : List ℤ) → 43 ≤ n → n ≤ 51 → ((s .left ≡ 0) → ⊥) → t ≡ stepTaken s → Performing n l calls (d - 1) p ws t ws′ r → Executes l calls d p ws s ws′ r
-      exec-performs t ws′ h g k e R = record { runs = λ L. record { says = λ m S. go L m S (subst (λ (x : Status). Performing n l calls (d - 1) p ws x ws′ r) e R) }; fewer = omega (arith, R .fewer, ap (λ (x : Status). x .left) e, step-left s) }
-        where
-          go : length l ≡ 16384 → (m : Store) → Stands ws s m → Performing n l calls (d - 1) p ws (stepTaken s) ws′ r → Ends (runAct (callable calls l) (readAct d l p) (state m (s .left))) ws′ r
-          go L m S Q =
-              let c : d ≡ suc (d - 1) = omega (arith, D) in
-              let f : suc (stepTaken s .left) ≡ s .left = omega (arith, step-left s, k) in
-              subst (λ (x : ℕ). Ends (runAct (callable calls l) (readAct x l p) (state m (s .left))) ws′ r) (sym c)
-              (subst (λ (x : ℕ). Ends (runAct (callable calls l) (readAct (suc (d - 1)) l p) (state m x)) ws′ r) f
-              (later l calls (d - 1) p m (stepTaken s) ws′ r (Q .runs L h g (op-at l p n P N) .says m (step-stands ws s m S))))
+        -- the step, and what comes after it
+        exec-after : (ws′ : List ℤ) (r : ℕ) → t ≤ 4294967295 → leftIn r ≤ t → (length l ≡ 16384 → Runs (after (runAct (callable calls l) (readAct (suc (d - 1)) l p))) ws t ws′ r) → Executes l calls d p ws s ws′ r
+        exec-after ws′ r k f R = record {
+          runs = λ L. record { says = λ m S. go m (R L .says m (step-stands ws s t m e S)) };
+          fewer = omega (arith, e, f);
+        }
+          where
+            e : s ≡ suc t
+            e = step-taken s t T k
 
-pub ruleset exec-laws = (exec-shallow, exec-zero, exec-below, exec-above, exec-spent, exec-performs)
+            go : (m : Store) → Ends (after (runAct (callable calls l) (readAct (suc (d - 1)) l p)) (state m t)) ws′ r → Ends (runAct (callable calls l) (readAct d l p) (state m s)) ws′ r
+            go m E =
+                let c : d ≡ suc (d - 1) = omega (arith, D) in
+                subst (λ (x : ℕ). Ends (runAct (callable calls l) (readAct x l p) (state m s)) ws′ r) (sym c)
+                (subst (λ (x : ℕ). Ends (runAct (callable calls l) (readAct (suc (d - 1)) l p) (state m x)) ws′ r) (sym e) (later l calls (d - 1) p m t ws′ r E))
+
+        pub exec-performs : (ws′ : List ℤ) (r : ℕ) → t ≤ 4294967295 → ((n ≡ 43) → ⊥) → Performing n l calls (d - 1) p ws t ws′ r → Executes l calls d p ws s ws′ r
+        exec-performs ws′ r k a R = exec-after ws′ r k (R .fewer) (λ L. R .runs L (omega (arith, h, a)) g (op-at l p n P N))
+
+        pub exec-assigns : (ws′ : List ℤ) (r : ℕ) → t ≤ 4294967295 → n ≡ 43 → Does AssignOrdinal l (d - 1) p ws t ws′ r → Executes l calls d p ws s ws′ r
+        unfolding actOp
+        exec-assigns ws′ r k a R = exec-after ws′ r k (R .fewer) (λ L. R .runs (callable calls l) (op-at l p n P N ∙ ap actOp a))
+
+pub ruleset exec-laws = (exec-shallow, exec-zero, exec-below, exec-above, exec-spent, exec-performs, exec-assigns)
 
 -- ---- `perform`
 -- the kinds by their numbers
 op-is : (n k : ℕ) → n ≡ k → actOp n ≡ actOp k
 op-is n k e = ap actOp e
 
--- what is none of the first eight
-last-op : (n : ℕ) → 43 ≤ n → n ≤ 51 → ((n ≡ 43) → ⊥) → ((n ≡ 44) → ⊥) → ((n ≡ 45) → ⊥) → ((n ≡ 46) → ⊥) → ((n ≡ 47) → ⊥) → ((n ≡ 48) → ⊥) → ((n ≡ 49) → ⊥) → ((n ≡ 50) → ⊥) → n ≡ 51
-last-op n h g a b c e f i j k =
-    lastly n (above n 50 (above n 49 (above n 48 (above n 47 (above n 46 (above n 45 (above n 44 (above n 43 h a) b) c) e) f) i) j) k) g
+-- what is none of the seven before it
+last-op : (n : ℕ) → 44 ≤ n → n ≤ 51 → ((n ≡ 44) → ⊥) → ((n ≡ 45) → ⊥) → ((n ≡ 46) → ⊥) → ((n ≡ 47) → ⊥) → ((n ≡ 48) → ⊥) → ((n ≡ 49) → ⊥) → ((n ≡ 50) → ⊥) → n ≡ 51
+last-op n h g b c e f i j k =
+    lastly n (above n 50 (above n 49 (above n 48 (above n 47 (above n 46 (above n 45 (above n 44 h b) c) e) f) i) j) k) g
   where
     lastly : (n : ℕ) → 51 ≤ n → n ≤ 51 → n ≡ 51
     lastly n h g = omega arith
@@ -339,16 +338,12 @@ last-op n h g a b c e f i j k =
     above : (n m : ℕ) → m ≤ n → ((n ≡ m) → ⊥) → m + 1 ≤ n
     above n m h g = omega (arith, h, g)
 
-module _ (n : ℕ) (l : List ℕ) (calls d p : ℕ) (ws : List ℤ) (s : Status) (ws′ : List ℤ) (r : Status) where
-  by-does : (o : ActOp) → (43 ≤ n → n ≤ 51 → actOp n ≡ o) → Does o l d p ws s ws′ r → Performing n l calls d p ws s ws′ r
-  by-does o e R = record { runs = λ L h g k. R .runs (callable calls l) (k ∙ e h g); fewer = at-most (r .left) (s .left) (R .same) }
+module _ (n : ℕ) (l : List ℕ) (calls d p : ℕ) (ws : List ℤ) (s : ℕ) (ws′ : List ℤ) (r : ℕ) where
+  by-does : (o : ActOp) → (44 ≤ n → n ≤ 51 → actOp n ≡ o) → Does o l d p ws s ws′ r → Performing n l calls d p ws s ws′ r
+  by-does o e R = record { runs = λ L h g k. R .runs (callable calls l) (k ∙ e h g); fewer = R .fewer }
 
   by-performs : (o : ActOp) → actOp n ≡ o → Performs o l calls d p ws s ws′ r → Performing n l calls d p ws s ws′ r
   by-performs o e R = record { runs = λ L h g k. R .runs L (k ∙ e); fewer = R .fewer }
-
-  pub perform-assign : n ≡ 43 → Does AssignOrdinal l d p ws s ws′ r → Performing n l calls d p ws s ws′ r
-  unfolding actOp
-  perform-assign e R = by-does AssignOrdinal (λ h g. op-is n 43 e) R
 
   pub perform-whole : n ≡ 44 → Does AssignWhole l d p ws s ws′ r → Performing n l calls d p ws s ws′ r
   unfolding actOp
@@ -370,17 +365,17 @@ module _ (n : ℕ) (l : List ℕ) (calls d p : ℕ) (ws : List ℤ) (s : Status)
   unfolding actOp
   perform-case e R = by-performs Case (op-is n 49 e) R
 
-  pub perform-raise : ((n ≡ 43) → ⊥) → ((n ≡ 44) → ⊥) → ((n ≡ 45) → ⊥) → ((n ≡ 46) → ⊥) → ((n ≡ 47) → ⊥) → ((n ≡ 48) → ⊥) → ((n ≡ 49) → ⊥) → ((n ≡ 50) → ⊥)
+  pub perform-raise : ((n ≡ 44) → ⊥) → ((n ≡ 45) → ⊥) → ((n ≡ 46) → ⊥) → ((n ≡ 47) → ⊥) → ((n ≡ 48) → ⊥) → ((n ≡ 49) → ⊥) → ((n ≡ 50) → ⊥)
       → Does Raise l d p ws s ws′ r → Performing n l calls d p ws s ws′ r
   unfolding actOp
-  perform-raise a b c e f i j k R = by-does Raise (λ h g. op-is n 51 (last-op n h g a b c e f i j k)) R
+  perform-raise b c e f i j k R = by-does Raise (λ h g. op-is n 51 (last-op n h g b c e f i j k)) R
 
   pub perform-sequence : (q : ℕ) → n ≡ 45 → q ≡ getD l (p + 2) 0 → Follows l calls d q ws s ws′ r → Performing n l calls d p ws s ws′ r
   unfolding actOp
   perform-sequence q e Q R = by-performs Sequence (op-is n 45 e) (record {
     runs = λ L o. record {
-      says = λ m S. subst (λ (a : Answer). Ends a ws′ r) (sym (Shapes.sequence-shape (callable calls l) l d p m (s .left) o))
-          (subst (λ (x : ℕ). Ends (runActs (callable calls l) (readActs d l x) (state m (s .left))) ws′ r) Q (R .runs L .says m S));
+      says = λ m S. subst (λ (a : Answer). Ends a ws′ r) (sym (Shapes.sequence-shape (callable calls l) l d p m s o))
+          (subst (λ (x : ℕ). Ends (runActs (callable calls l) (readActs d l x) (state m s)) ws′ r) Q (R .runs L .says m S));
     };
     fewer = R .fewer;
   })
@@ -389,110 +384,109 @@ module _ (n : ℕ) (l : List ℕ) (calls d p : ℕ) (ws : List ℤ) (s : Status)
   unfolding actOp
   perform-call q e Q R = by-performs Call (op-is n 50 e) (record {
     runs = λ L o. record {
-      says = λ m S. subst (λ (a : Answer). Ends a ws′ r) (sym (Shapes.call-shape (callable calls l) l d p m (s .left) o))
-          (subst (λ (x : ℕ). Ends (procedureAt (callable calls l) x (state m (s .left))) ws′ r) Q (R .runs L .says m S));
+      says = λ m S. subst (λ (a : Answer). Ends a ws′ r) (sym (Shapes.call-shape (callable calls l) l d p m s o))
+          (subst (λ (x : ℕ). Ends (procedureAt (callable calls l) x (state m s)) ws′ r) Q (R .runs L .says m S));
     };
     fewer = R .fewer;
   })
 
-pub ruleset perform-laws = (perform-assign, perform-whole, perform-sequence, perform-branch, perform-while, perform-for, perform-case, perform-call, perform-raise)
+pub ruleset perform-laws = (perform-whole, perform-sequence, perform-branch, perform-while, perform-for, perform-case, perform-call, perform-raise)
 
 -- ---- `branch`
-module _ (l : List ℕ) (calls d p : ℕ) (ws : List ℤ) (s : Status) (f : SFits w64 (s .number)) (e : ℕ) (x : ℤ) (Q : e ≡ getD l (p + 2) 0)
-    (E : Evaluates l ws (wire (s .number)) e d x) (h : SFits w64 x) (ws′ : List ℤ) (r : Status) where
-  tested : Evaluates l ws (wire (s .number)) (getD l (p + 2) 0) d x
-  tested = subst (λ (k : ℕ). Evaluates l ws (wire (s .number)) k d x) Q E
+module _ (l : List ℕ) (calls d p : ℕ) (ws : List ℤ) (s : ℕ) (e : ℕ) (x : ℤ) (Q : e ≡ getD l (p + 2) 0)
+    (E : Evaluates l ws e d x) (h : SFits w64 x) (ws′ : List ℤ) (r : ℕ) where
+  tested : Evaluates l ws (getD l (p + 2) 0) d x
+  tested = subst (λ (k : ℕ). Evaluates l ws k d x) Q E
 
-  pub branch-fault : (n : ℕ) → ltZ (pos 4294967295) (wire x) ≡ true → n ≡ getD l (p + 1) 0 → r ≡ failedAt s (wire x) n → Performs Branch l calls d p ws s ws r
-  branch-fault n g N u = subst (λ (t : Status). Performs Branch l calls d p ws s ws t) (sym (u ∙ ap (failedAt s (wire x)) N)) (record {
+  pub branch-fault : (n : ℕ) → ltZ (pos 4294967295) (wire x) ≡ true → n ≡ getD l (p + 1) 0 → Raises (faultIn (wire x)) n ws s ws′ r → Performs Branch l calls d p ws s ws′ r
+  branch-fault n g N u = record {
     runs = λ L o. record {
-      says = λ m S. subst (λ (a : Answer). Ends a ws (failedAt s (wire x) (getD l (p + 1) 0))) (sym (Shapes.branch-shape (callable calls l) l d p m (s .left) o))
+      says = λ m S. subst (λ (a : Answer). Ends a ws′ r) (sym (Shapes.branch-shape (callable calls l) l d p m s o))
           (fault-ends ws s m (getD l (p + 1) 0) (evalCode (readCode d l (getD l (p + 2) 0)) m) (wire x)
-          (λ zs. branch (isTrue (sole zs)) (runAct (callable calls l) (readAct d l (getD l (p + 3) 0))) (runAct (callable calls l) (readAct d l (getD l (p + 4) 0))) (state m (s .left))) S
-          (fault-here l ws s m S f x h (getD l (p + 2) 0) d tested g));
+          (λ zs. branch (isTrue (sole zs)) (runAct (callable calls l) (readAct d l (getD l (p + 3) 0))) (runAct (callable calls l) (readAct d l (getD l (p + 4) 0))) (state m s)) ws′ r S
+          (fault-here l ws s m S x h (getD l (p + 2) 0) d tested g) (at-node (faultIn (wire x)) n (getD l (p + 1) 0) ws s ws′ r N u));
     };
-    fewer = at-most (failedAt s (wire x) (getD l (p + 1) 0) .left) (s .left) (failed-same s (wire x) (getD l (p + 1) 0));
-  })
+    fewer = raised-fewer (faultIn (wire x)) n ws s ws′ r u;
+  }
 
-  pub case-fault : (n : ℕ) → ltZ (pos 4294967295) (wire x) ≡ true → n ≡ getD l (p + 1) 0 → r ≡ failedAt s (wire x) n → Performs Case l calls d p ws s ws r
-  case-fault n g N u = subst (λ (t : Status). Performs Case l calls d p ws s ws t) (sym (u ∙ ap (failedAt s (wire x)) N)) (record {
+  pub case-fault : (n : ℕ) → ltZ (pos 4294967295) (wire x) ≡ true → n ≡ getD l (p + 1) 0 → Raises (faultIn (wire x)) n ws s ws′ r → Performs Case l calls d p ws s ws′ r
+  case-fault n g N u = record {
     runs = λ L o. record {
-      says = λ m S. subst (λ (a : Answer). Ends a ws (failedAt s (wire x) (getD l (p + 1) 0))) (sym (Shapes.case-shape (callable calls l) l d p m (s .left) o))
+      says = λ m S. subst (λ (a : Answer). Ends a ws′ r) (sym (Shapes.case-shape (callable calls l) l d p m s o))
           (fault-ends ws s m (getD l (p + 1) 0) (evalCode (readCode d l (getD l (p + 2) 0)) m) (wire x)
-          (λ zs. runCases (callable calls l) (getD l (p + 1) 0) (sole zs) (readCases d l (getD l (p + 3) 0)) (state m (s .left))) S
-          (fault-here l ws s m S f x h (getD l (p + 2) 0) d tested g));
+          (λ zs. runCases (callable calls l) (getD l (p + 1) 0) (sole zs) (readCases d l (getD l (p + 3) 0)) (state m s)) ws′ r S
+          (fault-here l ws s m S x h (getD l (p + 2) 0) d tested g) (at-node (faultIn (wire x)) n (getD l (p + 1) 0) ws s ws′ r N u));
     };
-    fewer = at-most (failedAt s (wire x) (getD l (p + 1) 0) .left) (s .left) (failed-same s (wire x) (getD l (p + 1) 0));
-  })
+    fewer = raised-fewer (faultIn (wire x)) n ws s ws′ r u;
+  }
 
   module _ (g : ltZ (pos 4294967295) (wire x) ≡ false) where
     -- the arm that the test takes
-    branch-by : (b : Bool) → isTrue x ≡ b → r .left ≤ s .left
-        → (length l ≡ 16384 → (m : Store) → Stands ws s m → Ends (branch b (runAct (callable calls l) (readAct d l (getD l (p + 3) 0))) (runAct (callable calls l) (readAct d l (getD l (p + 4) 0))) (state m (s .left))) ws′ r)
+    branch-by : (b : Bool) → isTrue x ≡ b → leftIn r ≤ s
+        → (length l ≡ 16384 → (m : Store) → Stands ws s m → Ends (branch b (runAct (callable calls l) (readAct d l (getD l (p + 3) 0))) (runAct (callable calls l) (readAct d l (getD l (p + 4) 0))) (state m s)) ws′ r)
         → Performs Branch l calls d p ws s ws′ r
     branch-by b e k R = record {
       runs = λ L o. record {
-        says = λ m S. subst (λ (a : Answer). Ends a ws′ r) (sym (Shapes.branch-shape (callable calls l) l d p m (s .left) o))
-            (go L m S (value-here l ws s m S f x h (getD l (p + 2) 0) d tested g));
+        says = λ m S. subst (λ (a : Answer). Ends a ws′ r) (sym (Shapes.branch-shape (callable calls l) l d p m s o))
+            (go L m S (value-here l ws s m S x h (getD l (p + 2) 0) d tested g));
       };
       fewer = k;
     }
       where
         go : length l ≡ 16384 → (m : Store) → Stands ws s m → Cells (evalCode (readCode d l (getD l (p + 2) 0)) m) x
-            → Ends (withResult (getD l (p + 1) 0) (state m (s .left)) (evalCode (readCode d l (getD l (p + 2) 0)) m) λ zs.
-            branch (isTrue (sole zs)) (runAct (callable calls l) (readAct d l (getD l (p + 3) 0))) (runAct (callable calls l) (readAct d l (getD l (p + 4) 0))) (state m (s .left))) ws′ r
+            → Ends (withResult (getD l (p + 1) 0) (state m s) (evalCode (readCode d l (getD l (p + 2) 0)) m) λ zs.
+            branch (isTrue (sole zs)) (runAct (callable calls l) (readAct d l (getD l (p + 3) 0))) (runAct (callable calls l) (readAct d l (getD l (p + 4) 0))) (state m s)) ws′ r
         go L m S C =
-            is-ends (getD l (p + 1) 0) (state m (s .left)) (evalCode (readCode d l (getD l (p + 2) 0)) m) (C .zs)
-            (λ zs. branch (isTrue (sole zs)) (runAct (callable calls l) (readAct d l (getD l (p + 3) 0))) (runAct (callable calls l) (readAct d l (getD l (p + 4) 0))) (state m (s .left))) ws′ r (C .gives)
-            (subst (λ (b : Bool). Ends (branch b (runAct (callable calls l) (readAct d l (getD l (p + 3) 0))) (runAct (callable calls l) (readAct d l (getD l (p + 4) 0))) (state m (s .left))) ws′ r)
+            is-ends (getD l (p + 1) 0) (state m s) (evalCode (readCode d l (getD l (p + 2) 0)) m) (C .zs)
+            (λ zs. branch (isTrue (sole zs)) (runAct (callable calls l) (readAct d l (getD l (p + 3) 0))) (runAct (callable calls l) (readAct d l (getD l (p + 4) 0))) (state m s)) ws′ r (C .gives)
+            (subst (λ (b : Bool). Ends (branch b (runAct (callable calls l) (readAct d l (getD l (p + 3) 0))) (runAct (callable calls l) (readAct d l (getD l (p + 4) 0))) (state m s)) ws′ r)
             (sym (ap (λ (z : ℤ). isTrue z) (C .first-is) ∙ e)) (R L m S))
 
     pub branch-then : (q : ℕ) → ltZ (pos 0) (wire x) ≡ true → q ≡ getD l (p + 3) 0 → Executes l calls d q ws s ws′ r → Performs Branch l calls d p ws s ws′ r
     branch-then q k C R = branch-by true (rw (toZ-ofZ h) at k) (R .fewer)
-        (λ L m S. subst (λ (y : ℕ). Ends (runAct (callable calls l) (readAct d l y) (state m (s .left))) ws′ r) C (R .runs L .says m S))
+        (λ L m S. subst (λ (y : ℕ). Ends (runAct (callable calls l) (readAct d l y) (state m s)) ws′ r) C (R .runs L .says m S))
 
     pub branch-else : (q : ℕ) → ltZ (pos 0) (wire x) ≡ false → q ≡ getD l (p + 4) 0 → Executes l calls d q ws s ws′ r → Performs Branch l calls d p ws s ws′ r
     branch-else q k C R = branch-by false (rw (toZ-ofZ h) at k) (R .fewer)
-        (λ L m S. subst (λ (y : ℕ). Ends (runAct (callable calls l) (readAct d l y) (state m (s .left))) ws′ r) C (R .runs L .says m S))
+        (λ L m S. subst (λ (y : ℕ). Ends (runAct (callable calls l) (readAct d l y) (state m s)) ws′ r) C (R .runs L .says m S))
 
     -- the arm of a `case`
     module _ (c : ℕ) (a : Arm) (C : c ≡ getD l (p + 3) 0) (A : Chooses l c (wire x) d a) where
       chosen : Chooses l (getD l (p + 3) 0) x d a
       chosen = subst (λ (y : ℕ). Chooses l y x d a) C (subst (λ (z : ℤ). Chooses l c z d a) (toZ-ofZ h) A)
 
-      case-by : r .left ≤ s .left → (length l ≡ 16384 → (m : Store) → Stands ws s m → Ends (byArm (callable calls l) l (getD l (p + 1) 0) a (state m (s .left))) ws′ r) → Performs Case l calls d p ws s ws′ r
+      case-by : leftIn r ≤ s → (length l ≡ 16384 → (m : Store) → Stands ws s m → Ends (byArm (callable calls l) l (getD l (p + 1) 0) a (state m s)) ws′ r) → Performs Case l calls d p ws s ws′ r
       case-by k R = record {
         runs = λ L o. record {
-          says = λ m S. subst (λ (a : Answer). Ends a ws′ r) (sym (Shapes.case-shape (callable calls l) l d p m (s .left) o))
-              (go L m S (value-here l ws s m S f x h (getD l (p + 2) 0) d tested g));
+          says = λ m S. subst (λ (a : Answer). Ends a ws′ r) (sym (Shapes.case-shape (callable calls l) l d p m s o))
+              (go L m S (value-here l ws s m S x h (getD l (p + 2) 0) d tested g));
         };
         fewer = k;
       }
         where
           go : length l ≡ 16384 → (m : Store) → Stands ws s m → Cells (evalCode (readCode d l (getD l (p + 2) 0)) m) x
-              → Ends (withResult (getD l (p + 1) 0) (state m (s .left)) (evalCode (readCode d l (getD l (p + 2) 0)) m) λ zs.
-              runCases (callable calls l) (getD l (p + 1) 0) (sole zs) (readCases d l (getD l (p + 3) 0)) (state m (s .left))) ws′ r
+              → Ends (withResult (getD l (p + 1) 0) (state m s) (evalCode (readCode d l (getD l (p + 2) 0)) m) λ zs.
+              runCases (callable calls l) (getD l (p + 1) 0) (sole zs) (readCases d l (getD l (p + 3) 0)) (state m s)) ws′ r
           go L m S V′ =
-              is-ends (getD l (p + 1) 0) (state m (s .left)) (evalCode (readCode d l (getD l (p + 2) 0)) m) (V′ .zs)
-              (λ zs. runCases (callable calls l) (getD l (p + 1) 0) (sole zs) (readCases d l (getD l (p + 3) 0)) (state m (s .left))) ws′ r (V′ .gives)
+              is-ends (getD l (p + 1) 0) (state m s) (evalCode (readCode d l (getD l (p + 2) 0)) m) (V′ .zs)
+              (λ zs. runCases (callable calls l) (getD l (p + 1) 0) (sole zs) (readCases d l (getD l (p + 3) 0)) (state m s)) ws′ r (V′ .gives)
               (subst (λ (y : Answer). Ends y ws′ r)
-              (sym (ap (λ (z : ℤ). runCases (callable calls l) (getD l (p + 1) 0) z (readCases d l (getD l (p + 3) 0)) (state m (s .left))) (V′ .first-is)
-              ∙ chosen .says (callable calls l) (getD l (p + 1) 0) (state m (s .left)))) (R L m S))
+              (sym (ap (λ (z : ℤ). runCases (callable calls l) (getD l (p + 1) 0) z (readCases d l (getD l (p + 3) 0)) (state m s)) (V′ .first-is)
+              ∙ chosen .says (callable calls l) (getD l (p + 1) 0) (state m s))) (R L m S))
 
       pub case-taken : (q t : ℕ) → a ≡ Taken q t → Executes l calls t q ws s ws′ r → Performs Case l calls d p ws s ws′ r
       unfolding byArm
-      case-taken q t k R = case-by (R .fewer) (λ L m S. subst (λ (y : Arm). Ends (byArm (callable calls l) l (getD l (p + 1) 0) y (state m (s .left))) ws′ r) (sym k) (R .runs L .says m S))
+      case-taken q t k R = case-by (R .fewer) (λ L m S. subst (λ (y : Arm). Ends (byArm (callable calls l) l (getD l (p + 1) 0) y (state m s)) ws′ r) (sym k) (R .runs L .says m S))
 
 -- no arm is taken
-pub case-absent : (l : List ℕ) (calls d p : ℕ) (ws : List ℤ) (s : Status) (e : ℕ) (x : ℤ) (r : Status) (n c : ℕ) (a : Arm) → SFits w64 (s .number) → e ≡ getD l (p + 2) 0
-    → Evaluates l ws (wire (s .number)) e d x → SFits w64 x → ltZ (pos 4294967295) (wire x) ≡ false → c ≡ getD l (p + 3) 0 → Chooses l c (wire x) d a → a ≡ Absent
-    → n ≡ getD l (p + 1) 0 → r ≡ raisedAt s (negsuc 104) n → Performs Case l calls d p ws s ws r
+pub case-absent : (l : List ℕ) (calls d p : ℕ) (ws : List ℤ) (s : ℕ) (e : ℕ) (x : ℤ) (ws′ : List ℤ) (r : ℕ) (n c : ℕ) (a : Arm) → e ≡ getD l (p + 2) 0
+    → Evaluates l ws e d x → SFits w64 x → ltZ (pos 4294967295) (wire x) ≡ false → c ≡ getD l (p + 3) 0 → Chooses l c (wire x) d a → a ≡ Absent
+    → n ≡ getD l (p + 1) 0 → Raises (negsuc 104) n ws s ws′ r → Performs Case l calls d p ws s ws′ r
 unfolding byArm InRange inside
-case-absent l calls d p ws s e x r n c a f Q E h g C A k N u =
-    subst (λ (t : Status). Performs Case l calls d p ws s ws t) (sym (u ∙ ap (raisedAt s (negsuc 104)) N))
-    (case-by l calls d p ws s f e x Q E h ws (raisedAt s (negsuc 104) (getD l (p + 1) 0)) g c a C A (at-most (raisedAt s (negsuc 104) (getD l (p + 1) 0) .left) (s .left) (raised-same s (negsuc 104) (getD l (p + 1) 0)))
-    (λ L m S. subst (λ (y : Arm). Ends (byArm (callable calls l) l (getD l (p + 1) 0) y (state m (s .left))) ws (raisedAt s (negsuc 104) (getD l (p + 1) 0))) (sym k)
-    (raising-ends ws s m S caseError (getD l (p + 1) 0) refl)))
+case-absent l calls d p ws s e x ws′ r n c a Q E h g C A k N u =
+    case-by l calls d p ws s e x Q E h ws′ r g c a C A (raised-fewer (negsuc 104) n ws s ws′ r u)
+    (λ L m S. subst (λ (y : Arm). Ends (byArm (callable calls l) l (getD l (p + 1) 0) y (state m s)) ws′ r) (sym k)
+    (raising-ends ws s m S caseError (getD l (p + 1) 0) ws′ r refl (at-node (negsuc 104) n (getD l (p + 1) 0) ws s ws′ r N u)))
 
 -- the arm's statement is nearer to the end than the `case`
 pub arm-falls : (l : List ℕ) (slot : ℕ) (z : ℤ) (depth : ℕ) (a : Arm) (q d calls t : ℕ) → Chooses l slot z depth a → a ≡ Taken q d → 8 * (calls * 4294967296 + depth) + 2 ≡ t
@@ -506,26 +500,26 @@ pub ruleset branch-laws = (branch-fault, branch-then, branch-else, sfits-of)
 pub ruleset case-laws = (case-fault, case-taken, case-absent, sfits-of)
 
 -- ---- `call`
-module _ (l : List ℕ) (calls q : ℕ) (ws : List ℤ) (s r : Status) where
-  call-idle : r ≡ endedWith s 0 → (length l ≡ 16384 → procedureAt (callable calls l) q ≡ answer normal) → Calls l calls q ws s ws r
-  call-idle e h = subst (λ (x : Status). Calls l calls q ws s ws x) (sym e) (record {
-    runs = λ L. record { says = λ m S. subst (λ (f : State → Answer). Ends (f (state m (s .left))) ws (endedWith s 0)) (sym (h L)) (normal-ends ws s m S) };
-    fewer = at-most (endedWith s 0 .left) (s .left) (ended-left s 0);
-  })
+module _ (l : List ℕ) (calls q : ℕ) (ws : List ℤ) (s : ℕ) where
+  call-idle : (length l ≡ 16384 → procedureAt (callable calls l) q ≡ answer normal) → Calls l calls q ws s ws s
+  call-idle h = record {
+    runs = λ L. record { says = λ m S. subst (λ (f : State → Answer). Ends (f (state m s)) ws s) (sym (h L)) (normal-ends ws s m S) };
+    fewer = left-most s;
+  }
 
-  pub call-past : 16384 ≤ q → r ≡ endedWith s 0 → Calls l calls q ws s ws r
-  call-past h e = call-idle e (λ L. callable-past calls l q (omega (arith, L, h)))
+  pub call-past : 16384 ≤ q → Calls l calls q ws s ws s
+  call-past h = call-idle (λ L. callable-past calls l q (omega (arith, L, h)))
 
-  pub call-none : calls ≡ 0 → r ≡ endedWith s 0 → Calls l calls q ws s ws r
-  call-none h e = call-idle e (λ L. ap (λ (k : ℕ). procedureAt (callable k l) q) h ∙ none L (le-or-lt (length l) q))
+  pub call-none : calls ≡ 0 → Calls l calls q ws s ws s
+  call-none h = call-idle (λ L. ap (λ (k : ℕ). procedureAt (callable k l) q) h ∙ none L (le-or-lt (length l) q))
     where
       none : length l ≡ 16384 → (length l ≤ q) ⊎ (q < length l) → procedureAt (callable 0 l) q ≡ answer normal
       none L (inl g) = callable-past 0 l q g
       none L (inr g) = callable-at 0 l q g ∙ called-none 0 l q
 
-  pub call-body : (ws′ : List ℤ) → ((calls ≡ 0) → ⊥) → q < 16384 → Serves l (calls - 1) q ws s ws′ r → Calls l calls q ws s ws′ r
-  call-body ws′ h g R = record {
-    runs = λ L. record { says = λ m S. subst (λ (f : State → Answer). Ends (f (state m (s .left))) ws′ r) (sym (is-body L)) (R .runs L .says m S) };
+  pub call-body : (ws′ : List ℤ) (r : ℕ) → ((calls ≡ 0) → ⊥) → q < 16384 → Serves l (calls - 1) q ws s ws′ r → Calls l calls q ws s ws′ r
+  call-body ws′ r h g R = record {
+    runs = λ L. record { says = λ m S. subst (λ (f : State → Answer). Ends (f (state m s)) ws′ r) (sym (is-body L)) (R .runs L .says m S) };
     fewer = R .fewer;
   }
     where
@@ -543,58 +537,59 @@ unfolding runBody readBody
 handled-by l q ps t b e = ap (λ (c : Bool). handled c (runActs ps (readActs 16384 l (getD l (q + 1) 0)) t) (runActs ps (readActs 16384 l (getD l (q + 3) 0)))) e
 
 -- what is not raised is not handled
-calm : (b : Bool) (n : ℕ) (s : Status) (a : Answer) (f : State → Answer) → n < 2 → a .outcome ≡ toldBy n s → handled b a f ≡ a
-unfolding toldBy
-calm false n s a f h e = refl
-calm true zero s a f h e = ap (λ (o : Outcome). caught o (a .state) f) e ∙ ap (λ (o : Outcome). answer o (a .state)) (sym e)
-calm true (suc zero) s a f h e = ap (λ (o : Outcome). caught o (a .state) f) e ∙ ap (λ (o : Outcome). answer o (a .state)) (sym e)
-calm true (suc (suc n)) s a f h e = absurd (omega arith)
+calm : (b : Bool) (w : ℕ) (ws : List ℤ) (a : Answer) (f : State → Answer) → w < 8589934592 → a .outcome ≡ toldBy w ws → handled b a f ≡ a
+calm false w ws a f h e = refl
+calm true w ws a f h e = go (le-or-lt w 4294967295)
+  where
+    by : (o : Outcome) → a .outcome ≡ o → caught o (a .state) f ≡ answer o (a .state) → caught (a .outcome) (a .state) f ≡ a
+    by o g k = ap (λ (o : Outcome). caught o (a .state) f) g ∙ k ∙ ap (λ (o : Outcome). answer o (a .state)) (sym g)
 
-roused : (n : ℕ) (s : Status) (t : State) (f : State → Answer) → 2 ≤ n → caught (toldBy n s) t f ≡ f t
-unfolding toldBy
-roused zero s t f h = absurd (omega arith)
-roused (suc zero) s t f h = absurd (omega arith)
-roused (suc (suc n)) s t f h = refl
+    go : (w ≤ 4294967295) ⊎ (4294967295 < w) → caught (a .outcome) (a .state) f ≡ a
+    go (inl g) = by normal (e ∙ told-normal w ws g) refl
+    go (inr g) = by spent (e ∙ told-spent w ws g h) refl
 
-module _ (l : List ℕ) (calls q : ℕ) (ws : List ℤ) (s : Status) (c : ℕ) (vs : List ℤ) (o : Status) (C : c ≡ getD l (q + 1) 0) (F : Follows l calls 16384 c ws s vs o) where
-  first-part : length l ≡ 16384 → (m : Store) → Stands ws s m → Ends (runActs (callable calls l) (readActs 16384 l (getD l (q + 1) 0)) (state m (s .left))) vs o
-  first-part L m S = subst (λ (x : ℕ). Ends (runActs (callable calls l) (readActs 16384 l x) (state m (s .left))) vs o) C (F .runs L .says m S)
+roused : (w : ℕ) (ws : List ℤ) (t : State) (f : State → Answer) → 8589934592 ≤ w → caught (toldBy w ws) t f ≡ f t
+roused w ws t f h = ap (λ (o : Outcome). caught o t f) (told-raised w ws h)
 
-  pub body-calm : o .outcome < 2 → Serves l calls q ws s vs o
+module _ (l : List ℕ) (calls q : ℕ) (ws : List ℤ) (s : ℕ) (c : ℕ) (vs : List ℤ) (o : ℕ) (C : c ≡ getD l (q + 1) 0) (F : Follows l calls 16384 c ws s vs o) where
+  first-part : length l ≡ 16384 → (m : Store) → Stands ws s m → Ends (runActs (callable calls l) (readActs 16384 l (getD l (q + 1) 0)) (state m s)) vs o
+  first-part L m S = subst (λ (x : ℕ). Ends (runActs (callable calls l) (readActs 16384 l x) (state m s)) vs o) C (F .runs L .says m S)
+
+  pub body-calm : o < 8589934592 → Serves l calls q ws s vs o
   body-calm h = record {
     runs = λ L. record {
       says = λ m S. subst (λ (a : Answer). Ends a vs o)
-          (sym (handled-by l q (callable calls l) (state m (s .left)) (eqb (getD l (q + 2) 0) 1) refl
-          ∙ calm (eqb (getD l (q + 2) 0) 1) (o .outcome) o (runActs (callable calls l) (readActs 16384 l (getD l (q + 1) 0)) (state m (s .left))) (runActs (callable calls l) (readActs 16384 l (getD l (q + 3) 0))) h
+          (sym (handled-by l q (callable calls l) (state m s) (eqb (getD l (q + 2) 0) 1) refl
+          ∙ calm (eqb (getD l (q + 2) 0) 1) o vs (runActs (callable calls l) (readActs 16384 l (getD l (q + 1) 0)) (state m s)) (runActs (callable calls l) (readActs 16384 l (getD l (q + 3) 0))) h
           (first-part L m S .outcome))) (first-part L m S);
     };
     fewer = F .fewer;
   }
 
-  pub body-bare : (k : ℕ) → 2 ≤ o .outcome → k ≡ getD l (q + 2) 0 → ((k ≡ 1) → ⊥) → Serves l calls q ws s vs o
+  pub body-bare : (k : ℕ) → 8589934592 ≤ o → k ≡ getD l (q + 2) 0 → ((k ≡ 1) → ⊥) → Serves l calls q ws s vs o
   body-bare k h K g = record {
     runs = λ L. record {
       says = λ m S. subst (λ (a : Answer). Ends a vs o)
-          (sym (handled-by l q (callable calls l) (state m (s .left)) false (ap (λ (x : ℕ). eqb x 1) (sym K) ∙ ne-eqb k 1 g))) (first-part L m S);
+          (sym (handled-by l q (callable calls l) (state m s) false (ap (λ (x : ℕ). eqb x 1) (sym K) ∙ ne-eqb k 1 g))) (first-part L m S);
     };
     fewer = F .fewer;
   }
 
-  pub body-handled : (k u : ℕ) (ws′ : List ℤ) (r : Status) → 2 ≤ o .outcome → k ≡ getD l (q + 2) 0 → k ≡ 1 → u ≡ getD l (q + 3) 0 → Follows l calls 16384 u vs o ws′ r → Serves l calls q ws s ws′ r
-  body-handled k u ws′ r h K g U G = record {
+  pub body-handled : (k u t : ℕ) (ws′ : List ℤ) (r : ℕ) → 8589934592 ≤ o → k ≡ getD l (q + 2) 0 → k ≡ 1 → t ≡ leftIn o → u ≡ getD l (q + 3) 0 → Follows l calls 16384 u vs t ws′ r → Serves l calls q ws s ws′ r
+  body-handled k u t ws′ r h K g T U G = record {
     runs = λ L. record { says = λ m S. go L m S (first-part L m S) };
-    fewer = omega (arith, F .fewer, G .fewer);
+    fewer = omega (arith, F .fewer, T, G .fewer);
   }
     where
-      go : length l ≡ 16384 → (m : Store) → Stands ws s m → Ends (runActs (callable calls l) (readActs 16384 l (getD l (q + 1) 0)) (state m (s .left))) vs o
-          → Ends (runBody (readBody 16384 l q) (callable calls l) (state m (s .left))) ws′ r
+      go : length l ≡ 16384 → (m : Store) → Stands ws s m → Ends (runActs (callable calls l) (readActs 16384 l (getD l (q + 1) 0)) (state m s)) vs o
+          → Ends (runBody (readBody 16384 l q) (callable calls l) (state m s)) ws′ r
       go L m S E =
-          let a : Answer = runActs (callable calls l) (readActs 16384 l (getD l (q + 1) 0)) (state m (s .left)) in
+          let a : Answer = runActs (callable calls l) (readActs 16384 l (getD l (q + 1) 0)) (state m s) in
           subst (λ (x : Answer). Ends x ws′ r)
-          (sym (handled-by l q (callable calls l) (state m (s .left)) true (ap (λ (x : ℕ). eqb x 1) (sym K) ∙ eq-eqb k 1 g)
+          (sym (handled-by l q (callable calls l) (state m s) true (ap (λ (x : ℕ). eqb x 1) (sym K) ∙ eq-eqb k 1 g)
           ∙ ap (λ (y : Outcome). caught y (a .state) (runActs (callable calls l) (readActs 16384 l (getD l (q + 3) 0)))) (E .outcome)
-          ∙ roused (o .outcome) o (a .state) (runActs (callable calls l) (readActs 16384 l (getD l (q + 3) 0))) h
-          ∙ ap (λ (n : ℕ). runActs (callable calls l) (readActs 16384 l (getD l (q + 3) 0)) (state (a .state .store) n)) (E .left)))
-          (subst (λ (x : ℕ). Ends (runActs (callable calls l) (readActs 16384 l x) (state (a .state .store) (o .left))) ws′ r) U (G .runs L .says (a .state .store) (E .stands)))
+          ∙ roused o vs (a .state) (runActs (callable calls l) (readActs 16384 l (getD l (q + 3) 0))) h
+          ∙ ap (λ (n : ℕ). runActs (callable calls l) (readActs 16384 l (getD l (q + 3) 0)) (state (a .state .store) n)) (E .left ∙ sym T)))
+          (subst (λ (x : ℕ). Ends (runActs (callable calls l) (readActs 16384 l x) (state (a .state .store) t)) ws′ r) U (G .runs L .says (a .state .store) (subst (λ (k : ℕ). Stands vs k (a .state .store)) (sym T) (E .stands))))
 
 pub ruleset body-laws = (body-calm, body-bare, body-handled)

@@ -46,17 +46,20 @@ use Rattle.arith.proofs.in_range.Reads as in-range-reads
 use Rattle.evaluate.proofs.walk.eval.Reads as eval-reads
 use Rattle.evaluate.proofs.words.integer.Reads as integer-reads
 use Rattle.evaluate.proofs.words.number.Reads as number-reads
-use Rattle.runner.proofs.arms.arm_for.Reads as arm-for-reads
-use Rattle.runner.proofs.arms.next_at.Reads as next-at-reads
-use Rattle.runner.proofs.cells.put.Reads as put-reads
-use Rattle.runner.proofs.simple.assign.Reads as assign-reads
-use Rattle.runner.proofs.simple.assign_whole.Reads as assign-whole-reads
-use Rattle.runner.proofs.simple.raise.Reads as raise-reads
-use Rattle.runner.proofs.states.ended.Reads as ended-reads
-use Rattle.runner.proofs.states.failing.Reads as failing-reads
-use Rattle.runner.proofs.states.raising.Reads as raising-reads
-use Rattle.runner.proofs.states.stepped.Reads as stepped-reads
-use Rattle.runner.proofs.walk.next_of.Reads as next-of-reads
+use Rattle.leaves.proofs.arms.arm_for.Reads as arm-for-reads
+use Rattle.leaves.proofs.cells.put.Reads as put-reads
+use Rattle.leaves.proofs.simple.assign.Reads as assign-reads
+use Rattle.leaves.proofs.simple.assign_whole.Reads as assign-whole-reads
+use Rattle.leaves.proofs.simple.raise.Reads as raise-reads
+use Rattle.steps.proofs.ends.failing.Reads as failing-reads
+use Rattle.steps.proofs.ends.left_in.Reads as left-in-reads
+use Rattle.steps.proofs.ends.raising.Reads as raising-reads
+use Rattle.steps.proofs.ends.stepped.Reads as stepped-reads
+use Rattle.steps.proofs.ends.stopped.Reads as stopped-reads
+use Rattle.steps.proofs.links.next_at.Reads as next-at-reads
+use Rattle.steps.proofs.links.rest_at.Reads as rest-at-reads
+use Rattle.steps.proofs.turns.at_last.Reads as at-last-reads
+use Rattle.steps.proofs.turns.next_of.Reads as next-of-reads
 use Rattle.runner.proofs.walk.+acts+body+branch+call+choose+count+count_up+exec+perform+repeat+rounds.{
   statement,
 }
@@ -165,253 +168,291 @@ abbrev rounds-below : ℕ → In 2 rounds-kinds.ps
 rounds-below t = and 2 rounds-kinds.ps (falls 2 rounds-kinds.ps _<_ μ-rounds t) rounds.Pre
 
 abbrev acts-Inv-loop : acts-lts.InvT-loop
-acts-Inv-loop code store₀ slot depth calls d₀ q₀ t₀ store d q t = Following (codeIn code) calls depth slot store₀ t₀ d q store t
+acts-Inv-loop code store₀ left slot depth calls d₀ q₀ t₀ store d q t = Following (codeIn code) calls depth slot store₀ t₀ d q store t
 
 abbrev acts-μ-loop : acts-lts.MeasureT-loop
-acts-μ-loop code store₀ slot depth calls d₀ q₀ t₀ store d q t = d
+acts-μ-loop code store₀ left slot depth calls d₀ q₀ t₀ store d q t = d
 
--- src/walk.rt:70:9
+-- src/walk.rt:96:9
 acts-number-requires : (t : ℕ) → acts-lts.Need-number-requires (
   number-reads.Asked,
   number-reads.Learnt,
-  ended-reads.Asked,
-  ended-reads.Learnt,
   next-at-reads.Asked,
   next-at-reads.Learnt,
   exec-below t,
   exec.Post,
+  stopped-reads.Asked,
+  stopped-reads.Learnt,
+  rest-at-reads.Asked,
+  rest-at-reads.Learnt,
 ) (acts-at t) acts.Post acts-Inv-loop acts-μ-loop
 acts-number-requires t c κs = search needs
 
--- src/walk.rt:72:5
+-- src/walk.rt:98:5
 acts-loop-holds : (t : ℕ) → acts-lts.Need-loop-holds (
   number-reads.Asked,
   number-reads.Learnt,
-  ended-reads.Asked,
-  ended-reads.Learnt,
   next-at-reads.Asked,
   next-at-reads.Learnt,
   exec-below t,
   exec.Post,
+  stopped-reads.Asked,
+  stopped-reads.Learnt,
+  rest-at-reads.Asked,
+  rest-at-reads.Learnt,
 ) (acts-at t) acts.Post acts-Inv-loop acts-μ-loop
 acts-loop-holds t c = search chain-start
 
--- src/walk.rt:74:13
-acts-ended-requires : (t : ℕ) → acts-lts.Need-ended-requires (
-  number-reads.Asked,
-  number-reads.Learnt,
-  ended-reads.Asked,
-  ended-reads.Learnt,
-  next-at-reads.Asked,
-  next-at-reads.Learnt,
-  exec-below t,
-  exec.Post,
-) (acts-at t) acts.Post acts-Inv-loop acts-μ-loop
-acts-ended-requires t c κs = search needs
-
--- src/walk.rt:74:13
+-- src/walk.rt:100:13
 acts-returns : (t : ℕ) → acts-lts.Need-returns (
   number-reads.Asked,
   number-reads.Learnt,
-  ended-reads.Asked,
-  ended-reads.Learnt,
   next-at-reads.Asked,
   next-at-reads.Learnt,
   exec-below t,
   exec.Post,
+  stopped-reads.Asked,
+  stopped-reads.Learnt,
+  rest-at-reads.Asked,
+  rest-at-reads.Learnt,
 ) (acts-at t) acts.Post acts-Inv-loop acts-μ-loop
 acts-returns t c = search chain-laws
 
--- src/walk.rt:76:9
+-- src/walk.rt:102:9
 acts-sub-d : (t : ℕ) → acts-lts.Need-sub-d (
   number-reads.Asked,
   number-reads.Learnt,
-  ended-reads.Asked,
-  ended-reads.Learnt,
   next-at-reads.Asked,
   next-at-reads.Learnt,
   exec-below t,
   exec.Post,
+  stopped-reads.Asked,
+  stopped-reads.Learnt,
+  rest-at-reads.Asked,
+  rest-at-reads.Learnt,
 ) (acts-at t) acts.Post acts-Inv-loop acts-μ-loop
 acts-sub-d t c = search needs
 
--- src/walk.rt:77:38
+-- src/walk.rt:103:38
 acts-next-at-requires : (t : ℕ) → acts-lts.Need-next-at-requires (
   number-reads.Asked,
   number-reads.Learnt,
-  ended-reads.Asked,
-  ended-reads.Learnt,
   next-at-reads.Asked,
   next-at-reads.Learnt,
   exec-below t,
   exec.Post,
+  stopped-reads.Asked,
+  stopped-reads.Learnt,
+  rest-at-reads.Asked,
+  rest-at-reads.Learnt,
 ) (acts-at t) acts.Post acts-Inv-loop acts-μ-loop
 acts-next-at-requires t c κs = search needs
 
--- src/walk.rt:77:13
+-- src/walk.rt:103:13
 acts-exec-requires : (t : ℕ) → acts-lts.Need-exec-requires (
   number-reads.Asked,
   number-reads.Learnt,
-  ended-reads.Asked,
-  ended-reads.Learnt,
   next-at-reads.Asked,
   next-at-reads.Learnt,
   exec-below t,
   exec.Post,
+  stopped-reads.Asked,
+  stopped-reads.Learnt,
+  rest-at-reads.Asked,
+  rest-at-reads.Learnt,
 ) (acts-at t) acts.Post acts-Inv-loop acts-μ-loop
 acts-exec-requires t c κs = search needs
 
--- src/walk.rt:79:13
+-- src/walk.rt:104:12
+acts-stopped-requires : (t : ℕ) → acts-lts.Need-stopped-requires (
+  number-reads.Asked,
+  number-reads.Learnt,
+  next-at-reads.Asked,
+  next-at-reads.Learnt,
+  exec-below t,
+  exec.Post,
+  stopped-reads.Asked,
+  stopped-reads.Learnt,
+  rest-at-reads.Asked,
+  rest-at-reads.Learnt,
+) (acts-at t) acts.Post acts-Inv-loop acts-μ-loop
+acts-stopped-requires t c κs = search needs
+
+-- src/walk.rt:105:13
 acts-returns-2 : (t : ℕ) → acts-lts.Need-returns-2 (
   number-reads.Asked,
   number-reads.Learnt,
-  ended-reads.Asked,
-  ended-reads.Learnt,
   next-at-reads.Asked,
   next-at-reads.Learnt,
   exec-below t,
   exec.Post,
+  stopped-reads.Asked,
+  stopped-reads.Learnt,
+  rest-at-reads.Asked,
+  rest-at-reads.Learnt,
 ) (acts-at t) acts.Post acts-Inv-loop acts-μ-loop
 acts-returns-2 t c = search chain-laws
 
--- src/walk.rt:82:9
-acts-next-at-requires-2 : (t : ℕ) → acts-lts.Need-next-at-requires-2 (
+-- src/walk.rt:108:9
+acts-rest-at-requires : (t : ℕ) → acts-lts.Need-rest-at-requires (
   number-reads.Asked,
   number-reads.Learnt,
-  ended-reads.Asked,
-  ended-reads.Learnt,
   next-at-reads.Asked,
   next-at-reads.Learnt,
   exec-below t,
   exec.Post,
+  stopped-reads.Asked,
+  stopped-reads.Learnt,
+  rest-at-reads.Asked,
+  rest-at-reads.Learnt,
 ) (acts-at t) acts.Post acts-Inv-loop acts-μ-loop
-acts-next-at-requires-2 t c κs = search needs
+acts-rest-at-requires t c κs = search needs
 
--- src/walk.rt:72:5
+-- src/walk.rt:98:5
 acts-loop-less : (t : ℕ) → acts-lts.Need-loop-less (
   number-reads.Asked,
   number-reads.Learnt,
-  ended-reads.Asked,
-  ended-reads.Learnt,
   next-at-reads.Asked,
   next-at-reads.Learnt,
   exec-below t,
   exec.Post,
+  stopped-reads.Asked,
+  stopped-reads.Learnt,
+  rest-at-reads.Asked,
+  rest-at-reads.Learnt,
 ) (acts-at t) acts.Post acts-Inv-loop acts-μ-loop
 acts-loop-less t c = search needs
 
--- src/walk.rt:72:5
+-- src/walk.rt:98:5
 acts-loop-again : (t : ℕ) → acts-lts.Need-loop-again (
   number-reads.Asked,
   number-reads.Learnt,
-  ended-reads.Asked,
-  ended-reads.Learnt,
   next-at-reads.Asked,
   next-at-reads.Learnt,
   exec-below t,
   exec.Post,
+  stopped-reads.Asked,
+  stopped-reads.Learnt,
+  rest-at-reads.Asked,
+  rest-at-reads.Learnt,
 ) (acts-at t) acts.Post acts-Inv-loop acts-μ-loop
 acts-loop-again t c = search chain-next
 
--- src/walk.rt:84:5
-acts-ended-requires-2 : (t : ℕ) → acts-lts.Need-ended-requires-2 (
-  number-reads.Asked,
-  number-reads.Learnt,
-  ended-reads.Asked,
-  ended-reads.Learnt,
-  next-at-reads.Asked,
-  next-at-reads.Learnt,
-  exec-below t,
-  exec.Post,
-) (acts-at t) acts.Post acts-Inv-loop acts-μ-loop
-acts-ended-requires-2 t c κs = search needs
-
--- src/walk.rt:66:1
+-- src/walk.rt:85:1
 acts-returns-3 : (t : ℕ) → acts-lts.Need-returns-3 (
   number-reads.Asked,
   number-reads.Learnt,
-  ended-reads.Asked,
-  ended-reads.Learnt,
   next-at-reads.Asked,
   next-at-reads.Learnt,
   exec-below t,
   exec.Post,
+  stopped-reads.Asked,
+  stopped-reads.Learnt,
+  rest-at-reads.Asked,
+  rest-at-reads.Learnt,
 ) (acts-at t) acts.Post acts-Inv-loop acts-μ-loop
 acts-returns-3 t c = search chain-laws
 
--- src/walk.rt:235:34
+-- src/walk.rt:298:37
 body-next-at-requires : (t : ℕ) → body-lts.Need-next-at-requires (
   next-at-reads.Asked,
   next-at-reads.Learnt,
   acts-below t,
   acts.Post,
+  left-in-reads.Asked,
+  left-in-reads.Learnt,
 ) (body-at t) body.Post
 body-next-at-requires t c κs = search needs
 
--- src/walk.rt:235:9
+-- src/walk.rt:298:9
 body-acts-requires : (t : ℕ) → body-lts.Need-acts-requires (
   next-at-reads.Asked,
   next-at-reads.Learnt,
   acts-below t,
   acts.Post,
+  left-in-reads.Asked,
+  left-in-reads.Learnt,
 ) (body-at t) body.Post
 body-acts-requires t c κs = search needs
 
--- src/walk.rt:237:9
+-- src/walk.rt:300:9
 body-returns : (t : ℕ) → body-lts.Need-returns (
   next-at-reads.Asked,
   next-at-reads.Learnt,
   acts-below t,
   acts.Post,
+  left-in-reads.Asked,
+  left-in-reads.Learnt,
 ) (body-at t) body.Post
 body-returns t c = search body-laws
 
--- src/walk.rt:239:8
+-- src/walk.rt:302:8
 body-next-at-requires-2 : (t : ℕ) → body-lts.Need-next-at-requires-2 (
   next-at-reads.Asked,
   next-at-reads.Learnt,
   acts-below t,
   acts.Post,
+  left-in-reads.Asked,
+  left-in-reads.Learnt,
 ) (body-at t) body.Post
 body-next-at-requires-2 t c κs = search needs
 
--- src/walk.rt:240:37
+-- src/walk.rt:303:34
+body-left-in-requires : (t : ℕ) → body-lts.Need-left-in-requires (
+  next-at-reads.Asked,
+  next-at-reads.Learnt,
+  acts-below t,
+  acts.Post,
+  left-in-reads.Asked,
+  left-in-reads.Learnt,
+) (body-at t) body.Post
+body-left-in-requires t c κs = search needs
+
+-- src/walk.rt:303:46
 body-next-at-requires-3 : (t : ℕ) → body-lts.Need-next-at-requires-3 (
   next-at-reads.Asked,
   next-at-reads.Learnt,
   acts-below t,
   acts.Post,
+  left-in-reads.Asked,
+  left-in-reads.Learnt,
 ) (body-at t) body.Post
 body-next-at-requires-3 t c κs = search needs
 
--- src/walk.rt:240:9
+-- src/walk.rt:303:9
 body-acts-requires-2 : (t : ℕ) → body-lts.Need-acts-requires-2 (
   next-at-reads.Asked,
   next-at-reads.Learnt,
   acts-below t,
   acts.Post,
+  left-in-reads.Asked,
+  left-in-reads.Learnt,
 ) (body-at t) body.Post
 body-acts-requires-2 t c κs = search needs
 
--- src/walk.rt:240:9
+-- src/walk.rt:303:9
 body-returns-2 : (t : ℕ) → body-lts.Need-returns-2 (
   next-at-reads.Asked,
   next-at-reads.Learnt,
   acts-below t,
   acts.Post,
+  left-in-reads.Asked,
+  left-in-reads.Learnt,
 ) (body-at t) body.Post
 body-returns-2 t c = search body-laws
 
--- src/walk.rt:232:1
+-- src/walk.rt:295:1
 body-returns-3 : (t : ℕ) → body-lts.Need-returns-3 (
   next-at-reads.Asked,
   next-at-reads.Learnt,
   acts-below t,
   acts.Post,
+  left-in-reads.Asked,
+  left-in-reads.Learnt,
 ) (body-at t) body.Post
 body-returns-3 t c = search body-laws
 
--- src/walk.rt:92:54
+-- src/walk.rt:125:44
 branch-add-number : (t : ℕ) → branch-lts.Need-add-number (
   number-reads.Asked,
   number-reads.Learnt,
@@ -424,7 +465,7 @@ branch-add-number : (t : ℕ) → branch-lts.Need-add-number (
 ) (branch-at t) branch.Post
 branch-add-number t c = search needs
 
--- src/walk.rt:92:41
+-- src/walk.rt:125:31
 branch-number-requires : (t : ℕ) → branch-lts.Need-number-requires (
   number-reads.Asked,
   number-reads.Learnt,
@@ -437,7 +478,7 @@ branch-number-requires : (t : ℕ) → branch-lts.Need-number-requires (
 ) (branch-at t) branch.Post
 branch-number-requires t c κs = search needs
 
--- src/walk.rt:92:9
+-- src/walk.rt:125:9
 branch-eval-requires : (t : ℕ) → branch-lts.Need-eval-requires (
   number-reads.Asked,
   number-reads.Learnt,
@@ -450,7 +491,7 @@ branch-eval-requires : (t : ℕ) → branch-lts.Need-eval-requires (
 ) (branch-at t) branch.Post
 branch-eval-requires t c κs = search needs
 
--- src/walk.rt:94:43
+-- src/walk.rt:127:53
 branch-add-number-2 : (t : ℕ) → branch-lts.Need-add-number-2 (
   number-reads.Asked,
   number-reads.Learnt,
@@ -463,7 +504,7 @@ branch-add-number-2 : (t : ℕ) → branch-lts.Need-add-number-2 (
 ) (branch-at t) branch.Post
 branch-add-number-2 t c = search needs
 
--- src/walk.rt:94:30
+-- src/walk.rt:127:40
 branch-number-requires-2 : (t : ℕ) → branch-lts.Need-number-requires-2 (
   number-reads.Asked,
   number-reads.Learnt,
@@ -476,7 +517,7 @@ branch-number-requires-2 : (t : ℕ) → branch-lts.Need-number-requires-2 (
 ) (branch-at t) branch.Post
 branch-number-requires-2 t c κs = search needs
 
--- src/walk.rt:94:9
+-- src/walk.rt:127:9
 branch-failing-requires : (t : ℕ) → branch-lts.Need-failing-requires (
   number-reads.Asked,
   number-reads.Learnt,
@@ -489,7 +530,7 @@ branch-failing-requires : (t : ℕ) → branch-lts.Need-failing-requires (
 ) (branch-at t) branch.Post
 branch-failing-requires t c κs = search needs
 
--- src/walk.rt:94:9
+-- src/walk.rt:127:9
 branch-returns : (t : ℕ) → branch-lts.Need-returns (
   number-reads.Asked,
   number-reads.Learnt,
@@ -502,7 +543,7 @@ branch-returns : (t : ℕ) → branch-lts.Need-returns (
 ) (branch-at t) branch.Post
 branch-returns t c = search branch-laws
 
--- src/walk.rt:97:50
+-- src/walk.rt:130:53
 branch-add-number-3 : (t : ℕ) → branch-lts.Need-add-number-3 (
   number-reads.Asked,
   number-reads.Learnt,
@@ -515,7 +556,7 @@ branch-add-number-3 : (t : ℕ) → branch-lts.Need-add-number-3 (
 ) (branch-at t) branch.Post
 branch-add-number-3 t c = search needs
 
--- src/walk.rt:97:37
+-- src/walk.rt:130:40
 branch-number-requires-3 : (t : ℕ) → branch-lts.Need-number-requires-3 (
   number-reads.Asked,
   number-reads.Learnt,
@@ -528,7 +569,7 @@ branch-number-requires-3 : (t : ℕ) → branch-lts.Need-number-requires-3 (
 ) (branch-at t) branch.Post
 branch-number-requires-3 t c κs = search needs
 
--- src/walk.rt:97:9
+-- src/walk.rt:130:9
 branch-exec-requires : (t : ℕ) → branch-lts.Need-exec-requires (
   number-reads.Asked,
   number-reads.Learnt,
@@ -541,7 +582,7 @@ branch-exec-requires : (t : ℕ) → branch-lts.Need-exec-requires (
 ) (branch-at t) branch.Post
 branch-exec-requires t c κs = search needs
 
--- src/walk.rt:97:9
+-- src/walk.rt:130:9
 branch-returns-2 : (t : ℕ) → branch-lts.Need-returns-2 (
   number-reads.Asked,
   number-reads.Learnt,
@@ -554,7 +595,7 @@ branch-returns-2 : (t : ℕ) → branch-lts.Need-returns-2 (
 ) (branch-at t) branch.Post
 branch-returns-2 t c = search branch-laws
 
--- src/walk.rt:99:39
+-- src/walk.rt:132:42
 branch-add-number-4 : (t : ℕ) → branch-lts.Need-add-number-4 (
   number-reads.Asked,
   number-reads.Learnt,
@@ -567,7 +608,7 @@ branch-add-number-4 : (t : ℕ) → branch-lts.Need-add-number-4 (
 ) (branch-at t) branch.Post
 branch-add-number-4 t c = search needs
 
--- src/walk.rt:99:26
+-- src/walk.rt:132:29
 branch-number-requires-4 : (t : ℕ) → branch-lts.Need-number-requires-4 (
   number-reads.Asked,
   number-reads.Learnt,
@@ -580,7 +621,7 @@ branch-number-requires-4 : (t : ℕ) → branch-lts.Need-number-requires-4 (
 ) (branch-at t) branch.Post
 branch-number-requires-4 t c κs = search needs
 
--- src/walk.rt:99:5
+-- src/walk.rt:132:5
 branch-exec-requires-2 : (t : ℕ) → branch-lts.Need-exec-requires-2 (
   number-reads.Asked,
   number-reads.Learnt,
@@ -593,7 +634,7 @@ branch-exec-requires-2 : (t : ℕ) → branch-lts.Need-exec-requires-2 (
 ) (branch-at t) branch.Post
 branch-exec-requires-2 t c κs = search needs
 
--- src/walk.rt:88:1
+-- src/walk.rt:114:1
 branch-returns-3 : (t : ℕ) → branch-lts.Need-returns-3 (
   number-reads.Asked,
   number-reads.Learnt,
@@ -606,70 +647,28 @@ branch-returns-3 : (t : ℕ) → branch-lts.Need-returns-3 (
 ) (branch-at t) branch.Post
 branch-returns-3 t c = search branch-laws
 
--- src/walk.rt:223:9
-call-ended-requires : (t : ℕ) → call-lts.Need-ended-requires (
-  ended-reads.Asked,
-  ended-reads.Learnt,
-  body-below t,
-  body.Post,
-) (call-at t) call.Post
-call-ended-requires t c κs = search needs
-
--- src/walk.rt:223:9
-call-returns : (t : ℕ) → call-lts.Need-returns (
-  ended-reads.Asked,
-  ended-reads.Learnt,
-  body-below t,
-  body.Post,
-) (call-at t) call.Post
+-- src/walk.rt:286:9
+call-returns : (t : ℕ) → call-lts.Need-returns (body-below t, body.Post) (call-at t) call.Post
 call-returns t c = search call-laws
 
--- src/walk.rt:226:9
-call-ended-requires-2 : (t : ℕ) → call-lts.Need-ended-requires-2 (
-  ended-reads.Asked,
-  ended-reads.Learnt,
-  body-below t,
-  body.Post,
-) (call-at t) call.Post
-call-ended-requires-2 t c κs = search needs
-
--- src/walk.rt:226:9
-call-returns-2 : (t : ℕ) → call-lts.Need-returns-2 (
-  ended-reads.Asked,
-  ended-reads.Learnt,
-  body-below t,
-  body.Post,
-) (call-at t) call.Post
+-- src/walk.rt:289:9
+call-returns-2 : (t : ℕ) → call-lts.Need-returns-2 (body-below t, body.Post) (call-at t) call.Post
 call-returns-2 t c = search call-laws
 
--- src/walk.rt:228:29
-call-sub-body : (t : ℕ) → call-lts.Need-sub-body (
-  ended-reads.Asked,
-  ended-reads.Learnt,
-  body-below t,
-  body.Post,
-) (call-at t) call.Post
+-- src/walk.rt:291:32
+call-sub-body : (t : ℕ) → call-lts.Need-sub-body (body-below t, body.Post) (call-at t) call.Post
 call-sub-body t c = search needs
 
--- src/walk.rt:228:5
-call-body-requires : (t : ℕ) → call-lts.Need-body-requires (
-  ended-reads.Asked,
-  ended-reads.Learnt,
-  body-below t,
-  body.Post,
-) (call-at t) call.Post
+-- src/walk.rt:291:5
+call-body-requires :
+    (t : ℕ) → call-lts.Need-body-requires (body-below t, body.Post) (call-at t) call.Post
 call-body-requires t c κs = search needs
 
--- src/walk.rt:219:1
-call-returns-3 : (t : ℕ) → call-lts.Need-returns-3 (
-  ended-reads.Asked,
-  ended-reads.Learnt,
-  body-below t,
-  body.Post,
-) (call-at t) call.Post
+-- src/walk.rt:282:1
+call-returns-3 : (t : ℕ) → call-lts.Need-returns-3 (body-below t, body.Post) (call-at t) call.Post
 call-returns-3 t c = search call-laws
 
--- src/walk.rt:207:54
+-- src/walk.rt:270:44
 choose-add-number : (t : ℕ) → choose-lts.Need-add-number (
   number-reads.Asked,
   number-reads.Learnt,
@@ -686,7 +685,7 @@ choose-add-number : (t : ℕ) → choose-lts.Need-add-number (
 ) (choose-at t) choose.Post
 choose-add-number t c = search needs
 
--- src/walk.rt:207:41
+-- src/walk.rt:270:31
 choose-number-requires : (t : ℕ) → choose-lts.Need-number-requires (
   number-reads.Asked,
   number-reads.Learnt,
@@ -703,7 +702,7 @@ choose-number-requires : (t : ℕ) → choose-lts.Need-number-requires (
 ) (choose-at t) choose.Post
 choose-number-requires t c κs = search needs
 
--- src/walk.rt:207:9
+-- src/walk.rt:270:9
 choose-eval-requires : (t : ℕ) → choose-lts.Need-eval-requires (
   number-reads.Asked,
   number-reads.Learnt,
@@ -720,7 +719,7 @@ choose-eval-requires : (t : ℕ) → choose-lts.Need-eval-requires (
 ) (choose-at t) choose.Post
 choose-eval-requires t c κs = search needs
 
--- src/walk.rt:209:43
+-- src/walk.rt:272:53
 choose-add-number-2 : (t : ℕ) → choose-lts.Need-add-number-2 (
   number-reads.Asked,
   number-reads.Learnt,
@@ -737,7 +736,7 @@ choose-add-number-2 : (t : ℕ) → choose-lts.Need-add-number-2 (
 ) (choose-at t) choose.Post
 choose-add-number-2 t c = search needs
 
--- src/walk.rt:209:30
+-- src/walk.rt:272:40
 choose-number-requires-2 : (t : ℕ) → choose-lts.Need-number-requires-2 (
   number-reads.Asked,
   number-reads.Learnt,
@@ -754,7 +753,7 @@ choose-number-requires-2 : (t : ℕ) → choose-lts.Need-number-requires-2 (
 ) (choose-at t) choose.Post
 choose-number-requires-2 t c κs = search needs
 
--- src/walk.rt:209:9
+-- src/walk.rt:272:9
 choose-failing-requires : (t : ℕ) → choose-lts.Need-failing-requires (
   number-reads.Asked,
   number-reads.Learnt,
@@ -771,7 +770,7 @@ choose-failing-requires : (t : ℕ) → choose-lts.Need-failing-requires (
 ) (choose-at t) choose.Post
 choose-failing-requires t c κs = search needs
 
--- src/walk.rt:209:9
+-- src/walk.rt:272:9
 choose-returns : (t : ℕ) → choose-lts.Need-returns (
   number-reads.Asked,
   number-reads.Learnt,
@@ -788,7 +787,7 @@ choose-returns : (t : ℕ) → choose-lts.Need-returns (
 ) (choose-at t) choose.Post
 choose-returns t c = search case-laws
 
--- src/walk.rt:211:40
+-- src/walk.rt:274:40
 choose-add-number-3 : (t : ℕ) → choose-lts.Need-add-number-3 (
   number-reads.Asked,
   number-reads.Learnt,
@@ -805,7 +804,7 @@ choose-add-number-3 : (t : ℕ) → choose-lts.Need-add-number-3 (
 ) (choose-at t) choose.Post
 choose-add-number-3 t c = search needs
 
--- src/walk.rt:211:27
+-- src/walk.rt:274:27
 choose-number-requires-3 : (t : ℕ) → choose-lts.Need-number-requires-3 (
   number-reads.Asked,
   number-reads.Learnt,
@@ -822,7 +821,7 @@ choose-number-requires-3 : (t : ℕ) → choose-lts.Need-number-requires-3 (
 ) (choose-at t) choose.Post
 choose-number-requires-3 t c κs = search needs
 
--- src/walk.rt:211:9
+-- src/walk.rt:274:9
 choose-arm-for-requires : (t : ℕ) → choose-lts.Need-arm-for-requires (
   number-reads.Asked,
   number-reads.Learnt,
@@ -839,7 +838,7 @@ choose-arm-for-requires : (t : ℕ) → choose-lts.Need-arm-for-requires (
 ) (choose-at t) choose.Post
 choose-arm-for-requires t c κs = search needs
 
--- src/walk.rt:213:20
+-- src/walk.rt:276:20
 choose-enum-known-a : (t : ℕ) → choose-lts.Need-enum-known-a (
   number-reads.Asked,
   number-reads.Learnt,
@@ -856,7 +855,7 @@ choose-enum-known-a : (t : ℕ) → choose-lts.Need-enum-known-a (
 ) (choose-at t) choose.Post
 choose-enum-known-a t c = search needs
 
--- src/walk.rt:213:29
+-- src/walk.rt:276:29
 choose-exec-requires : (t : ℕ) → choose-lts.Need-exec-requires (
   number-reads.Asked,
   number-reads.Learnt,
@@ -873,7 +872,7 @@ choose-exec-requires : (t : ℕ) → choose-lts.Need-exec-requires (
 ) (choose-at t) choose.Post
 choose-exec-requires t c κs = (search arm-falls, search needs)
 
--- src/walk.rt:214:54
+-- src/walk.rt:277:32
 choose-enum-told : (t : ℕ) → choose-lts.Need-enum-told (
   number-reads.Asked,
   number-reads.Learnt,
@@ -890,7 +889,7 @@ choose-enum-told : (t : ℕ) → choose-lts.Need-enum-told (
 ) (choose-at t) choose.Post
 choose-enum-told t c = search needs
 
--- src/walk.rt:214:54
+-- src/walk.rt:277:64
 choose-add-number-4 : (t : ℕ) → choose-lts.Need-add-number-4 (
   number-reads.Asked,
   number-reads.Learnt,
@@ -907,7 +906,7 @@ choose-add-number-4 : (t : ℕ) → choose-lts.Need-add-number-4 (
 ) (choose-at t) choose.Post
 choose-add-number-4 t c = search needs
 
--- src/walk.rt:214:41
+-- src/walk.rt:277:51
 choose-number-requires-4 : (t : ℕ) → choose-lts.Need-number-requires-4 (
   number-reads.Asked,
   number-reads.Learnt,
@@ -924,7 +923,7 @@ choose-number-requires-4 : (t : ℕ) → choose-lts.Need-number-requires-4 (
 ) (choose-at t) choose.Post
 choose-number-requires-4 t c κs = search needs
 
--- src/walk.rt:214:24
+-- src/walk.rt:277:24
 choose-raising-requires : (t : ℕ) → choose-lts.Need-raising-requires (
   number-reads.Asked,
   number-reads.Learnt,
@@ -941,7 +940,7 @@ choose-raising-requires : (t : ℕ) → choose-lts.Need-raising-requires (
 ) (choose-at t) choose.Post
 choose-raising-requires t c κs = search needs
 
--- src/walk.rt:203:1
+-- src/walk.rt:259:1
 choose-returns-2 : (t : ℕ) → choose-lts.Need-returns-2 (
   number-reads.Asked,
   number-reads.Learnt,
@@ -958,7 +957,7 @@ choose-returns-2 : (t : ℕ) → choose-lts.Need-returns-2 (
 ) (choose-at t) choose.Post
 choose-returns-2 t c = search case-laws
 
--- src/walk.rt:203:1
+-- src/walk.rt:259:1
 choose-returns-3 : (t : ℕ) → choose-lts.Need-returns-3 (
   number-reads.Asked,
   number-reads.Learnt,
@@ -975,7 +974,7 @@ choose-returns-3 : (t : ℕ) → choose-lts.Need-returns-3 (
 ) (choose-at t) choose.Post
 choose-returns-3 t c = search case-laws
 
--- src/walk.rt:135:54
+-- src/walk.rt:183:44
 count-add-number : (t : ℕ) → count-lts.Need-add-number (
   number-reads.Asked,
   number-reads.Learnt,
@@ -988,7 +987,7 @@ count-add-number : (t : ℕ) → count-lts.Need-add-number (
 ) (count-at t) count.Post
 count-add-number t c = search needs
 
--- src/walk.rt:135:41
+-- src/walk.rt:183:31
 count-number-requires : (t : ℕ) → count-lts.Need-number-requires (
   number-reads.Asked,
   number-reads.Learnt,
@@ -1001,7 +1000,7 @@ count-number-requires : (t : ℕ) → count-lts.Need-number-requires (
 ) (count-at t) count.Post
 count-number-requires t c κs = search needs
 
--- src/walk.rt:135:9
+-- src/walk.rt:183:9
 count-eval-requires : (t : ℕ) → count-lts.Need-eval-requires (
   number-reads.Asked,
   number-reads.Learnt,
@@ -1014,7 +1013,7 @@ count-eval-requires : (t : ℕ) → count-lts.Need-eval-requires (
 ) (count-at t) count.Post
 count-eval-requires t c κs = search needs
 
--- src/walk.rt:137:43
+-- src/walk.rt:185:53
 count-add-number-2 : (t : ℕ) → count-lts.Need-add-number-2 (
   number-reads.Asked,
   number-reads.Learnt,
@@ -1027,7 +1026,7 @@ count-add-number-2 : (t : ℕ) → count-lts.Need-add-number-2 (
 ) (count-at t) count.Post
 count-add-number-2 t c = search needs
 
--- src/walk.rt:137:30
+-- src/walk.rt:185:40
 count-number-requires-2 : (t : ℕ) → count-lts.Need-number-requires-2 (
   number-reads.Asked,
   number-reads.Learnt,
@@ -1040,7 +1039,7 @@ count-number-requires-2 : (t : ℕ) → count-lts.Need-number-requires-2 (
 ) (count-at t) count.Post
 count-number-requires-2 t c κs = search needs
 
--- src/walk.rt:137:9
+-- src/walk.rt:185:9
 count-failing-requires : (t : ℕ) → count-lts.Need-failing-requires (
   number-reads.Asked,
   number-reads.Learnt,
@@ -1053,7 +1052,7 @@ count-failing-requires : (t : ℕ) → count-lts.Need-failing-requires (
 ) (count-at t) count.Post
 count-failing-requires t c κs = search needs
 
--- src/walk.rt:137:9
+-- src/walk.rt:185:9
 count-returns : (t : ℕ) → count-lts.Need-returns (
   number-reads.Asked,
   number-reads.Learnt,
@@ -1066,7 +1065,7 @@ count-returns : (t : ℕ) → count-lts.Need-returns (
 ) (count-at t) count.Post
 count-returns t c = search count-laws
 
--- src/walk.rt:139:54
+-- src/walk.rt:187:44
 count-add-number-3 : (t : ℕ) → count-lts.Need-add-number-3 (
   number-reads.Asked,
   number-reads.Learnt,
@@ -1079,7 +1078,7 @@ count-add-number-3 : (t : ℕ) → count-lts.Need-add-number-3 (
 ) (count-at t) count.Post
 count-add-number-3 t c = search needs
 
--- src/walk.rt:139:41
+-- src/walk.rt:187:31
 count-number-requires-3 : (t : ℕ) → count-lts.Need-number-requires-3 (
   number-reads.Asked,
   number-reads.Learnt,
@@ -1092,7 +1091,7 @@ count-number-requires-3 : (t : ℕ) → count-lts.Need-number-requires-3 (
 ) (count-at t) count.Post
 count-number-requires-3 t c κs = search needs
 
--- src/walk.rt:139:9
+-- src/walk.rt:187:9
 count-eval-requires-2 : (t : ℕ) → count-lts.Need-eval-requires-2 (
   number-reads.Asked,
   number-reads.Learnt,
@@ -1105,7 +1104,7 @@ count-eval-requires-2 : (t : ℕ) → count-lts.Need-eval-requires-2 (
 ) (count-at t) count.Post
 count-eval-requires-2 t c κs = search needs
 
--- src/walk.rt:141:43
+-- src/walk.rt:189:53
 count-add-number-4 : (t : ℕ) → count-lts.Need-add-number-4 (
   number-reads.Asked,
   number-reads.Learnt,
@@ -1118,7 +1117,7 @@ count-add-number-4 : (t : ℕ) → count-lts.Need-add-number-4 (
 ) (count-at t) count.Post
 count-add-number-4 t c = search needs
 
--- src/walk.rt:141:30
+-- src/walk.rt:189:40
 count-number-requires-4 : (t : ℕ) → count-lts.Need-number-requires-4 (
   number-reads.Asked,
   number-reads.Learnt,
@@ -1131,7 +1130,7 @@ count-number-requires-4 : (t : ℕ) → count-lts.Need-number-requires-4 (
 ) (count-at t) count.Post
 count-number-requires-4 t c κs = search needs
 
--- src/walk.rt:141:9
+-- src/walk.rt:189:9
 count-failing-requires-2 : (t : ℕ) → count-lts.Need-failing-requires-2 (
   number-reads.Asked,
   number-reads.Learnt,
@@ -1144,7 +1143,7 @@ count-failing-requires-2 : (t : ℕ) → count-lts.Need-failing-requires-2 (
 ) (count-at t) count.Post
 count-failing-requires-2 t c κs = search needs
 
--- src/walk.rt:141:9
+-- src/walk.rt:189:9
 count-returns-2 : (t : ℕ) → count-lts.Need-returns-2 (
   number-reads.Asked,
   number-reads.Learnt,
@@ -1157,7 +1156,7 @@ count-returns-2 : (t : ℕ) → count-lts.Need-returns-2 (
 ) (count-at t) count.Post
 count-returns-2 t c = search count-laws
 
--- src/walk.rt:143:5
+-- src/walk.rt:191:5
 count-count-up-requires : (t : ℕ) → count-lts.Need-count-up-requires (
   number-reads.Asked,
   number-reads.Learnt,
@@ -1170,7 +1169,7 @@ count-count-up-requires : (t : ℕ) → count-lts.Need-count-up-requires (
 ) (count-at t) count.Post
 count-count-up-requires t c κs = search needs
 
--- src/walk.rt:131:1
+-- src/walk.rt:172:1
 count-returns-3 : (t : ℕ) → count-lts.Need-returns-3 (
   number-reads.Asked,
   number-reads.Learnt,
@@ -1183,27 +1182,8 @@ count-returns-3 : (t : ℕ) → count-lts.Need-returns-3 (
 ) (count-at t) count.Post
 count-returns-3 t c = search count-laws
 
--- src/walk.rt:151:9
-count-up-ended-requires : (t : ℕ) → count-up-lts.Need-ended-requires (
-  ended-reads.Asked,
-  ended-reads.Learnt,
-  integer-reads.Asked,
-  integer-reads.Learnt,
-  in-range-reads.Asked,
-  in-range-reads.Learnt,
-  rounds-below t,
-  rounds.Post,
-  number-reads.Asked,
-  number-reads.Learnt,
-  raising-reads.Asked,
-  raising-reads.Learnt,
-) (count-up-at t) count-up.Post
-count-up-ended-requires t c κs = search needs
-
--- src/walk.rt:151:9
+-- src/walk.rt:208:9
 count-up-returns : (t : ℕ) → count-up-lts.Need-returns (
-  ended-reads.Asked,
-  ended-reads.Learnt,
   integer-reads.Asked,
   integer-reads.Learnt,
   in-range-reads.Asked,
@@ -1217,10 +1197,8 @@ count-up-returns : (t : ℕ) → count-up-lts.Need-returns (
 ) (count-up-at t) count-up.Post
 count-up-returns t c = search count-up-laws
 
--- src/walk.rt:154:28
+-- src/walk.rt:211:28
 count-up-add-integer : (t : ℕ) → count-up-lts.Need-add-integer (
-  ended-reads.Asked,
-  ended-reads.Learnt,
   integer-reads.Asked,
   integer-reads.Learnt,
   in-range-reads.Asked,
@@ -1234,10 +1212,8 @@ count-up-add-integer : (t : ℕ) → count-up-lts.Need-add-integer (
 ) (count-up-at t) count-up.Post
 count-up-add-integer t c = search needs
 
--- src/walk.rt:154:9
+-- src/walk.rt:211:9
 count-up-integer-requires : (t : ℕ) → count-up-lts.Need-integer-requires (
-  ended-reads.Asked,
-  ended-reads.Learnt,
   integer-reads.Asked,
   integer-reads.Learnt,
   in-range-reads.Asked,
@@ -1251,10 +1227,8 @@ count-up-integer-requires : (t : ℕ) → count-up-lts.Need-integer-requires (
 ) (count-up-at t) count-up.Post
 count-up-integer-requires t c κs = search needs
 
--- src/walk.rt:155:28
+-- src/walk.rt:212:28
 count-up-add-integer-2 : (t : ℕ) → count-up-lts.Need-add-integer-2 (
-  ended-reads.Asked,
-  ended-reads.Learnt,
   integer-reads.Asked,
   integer-reads.Learnt,
   in-range-reads.Asked,
@@ -1268,10 +1242,8 @@ count-up-add-integer-2 : (t : ℕ) → count-up-lts.Need-add-integer-2 (
 ) (count-up-at t) count-up.Post
 count-up-add-integer-2 t c = search needs
 
--- src/walk.rt:155:9
+-- src/walk.rt:212:9
 count-up-integer-requires-2 : (t : ℕ) → count-up-lts.Need-integer-requires-2 (
-  ended-reads.Asked,
-  ended-reads.Learnt,
   integer-reads.Asked,
   integer-reads.Learnt,
   in-range-reads.Asked,
@@ -1285,10 +1257,8 @@ count-up-integer-requires-2 : (t : ℕ) → count-up-lts.Need-integer-requires-2
 ) (count-up-at t) count-up.Post
 count-up-integer-requires-2 t c κs = search needs
 
--- src/walk.rt:156:8
+-- src/walk.rt:213:8
 count-up-in-range-requires : (t : ℕ) → count-up-lts.Need-in-range-requires (
-  ended-reads.Asked,
-  ended-reads.Learnt,
   integer-reads.Asked,
   integer-reads.Learnt,
   in-range-reads.Asked,
@@ -1302,10 +1272,8 @@ count-up-in-range-requires : (t : ℕ) → count-up-lts.Need-in-range-requires (
 ) (count-up-at t) count-up.Post
 count-up-in-range-requires t c κs = search needs
 
--- src/walk.rt:157:12
+-- src/walk.rt:214:12
 count-up-in-range-requires-2 : (t : ℕ) → count-up-lts.Need-in-range-requires-2 (
-  ended-reads.Asked,
-  ended-reads.Learnt,
   integer-reads.Asked,
   integer-reads.Learnt,
   in-range-reads.Asked,
@@ -1319,10 +1287,8 @@ count-up-in-range-requires-2 : (t : ℕ) → count-up-lts.Need-in-range-requires
 ) (count-up-at t) count-up.Post
 count-up-in-range-requires-2 t c κs = search needs
 
--- src/walk.rt:158:13
+-- src/walk.rt:215:13
 count-up-rounds-requires : (t : ℕ) → count-up-lts.Need-rounds-requires (
-  ended-reads.Asked,
-  ended-reads.Learnt,
   integer-reads.Asked,
   integer-reads.Learnt,
   in-range-reads.Asked,
@@ -1336,10 +1302,8 @@ count-up-rounds-requires : (t : ℕ) → count-up-lts.Need-rounds-requires (
 ) (count-up-at t) count-up.Post
 count-up-rounds-requires t c κs = search needs
 
--- src/walk.rt:158:13
+-- src/walk.rt:215:13
 count-up-returns-2 : (t : ℕ) → count-up-lts.Need-returns-2 (
-  ended-reads.Asked,
-  ended-reads.Learnt,
   integer-reads.Asked,
   integer-reads.Learnt,
   in-range-reads.Asked,
@@ -1353,10 +1317,8 @@ count-up-returns-2 : (t : ℕ) → count-up-lts.Need-returns-2 (
 ) (count-up-at t) count-up.Post
 count-up-returns-2 t c = search count-up-laws
 
--- src/walk.rt:160:46
+-- src/walk.rt:217:56
 count-up-add-number : (t : ℕ) → count-up-lts.Need-add-number (
-  ended-reads.Asked,
-  ended-reads.Learnt,
   integer-reads.Asked,
   integer-reads.Learnt,
   in-range-reads.Asked,
@@ -1370,10 +1332,8 @@ count-up-add-number : (t : ℕ) → count-up-lts.Need-add-number (
 ) (count-up-at t) count-up.Post
 count-up-add-number t c = search needs
 
--- src/walk.rt:160:33
+-- src/walk.rt:217:43
 count-up-number-requires : (t : ℕ) → count-up-lts.Need-number-requires (
-  ended-reads.Asked,
-  ended-reads.Learnt,
   integer-reads.Asked,
   integer-reads.Learnt,
   in-range-reads.Asked,
@@ -1387,10 +1347,8 @@ count-up-number-requires : (t : ℕ) → count-up-lts.Need-number-requires (
 ) (count-up-at t) count-up.Post
 count-up-number-requires t c κs = search needs
 
--- src/walk.rt:160:9
+-- src/walk.rt:217:9
 count-up-raising-requires : (t : ℕ) → count-up-lts.Need-raising-requires (
-  ended-reads.Asked,
-  ended-reads.Learnt,
   integer-reads.Asked,
   integer-reads.Learnt,
   in-range-reads.Asked,
@@ -1404,10 +1362,8 @@ count-up-raising-requires : (t : ℕ) → count-up-lts.Need-raising-requires (
 ) (count-up-at t) count-up.Post
 count-up-raising-requires t c κs = search needs
 
--- src/walk.rt:160:9
+-- src/walk.rt:217:9
 count-up-returns-3 : (t : ℕ) → count-up-lts.Need-returns-3 (
-  ended-reads.Asked,
-  ended-reads.Learnt,
   integer-reads.Asked,
   integer-reads.Learnt,
   in-range-reads.Asked,
@@ -1421,10 +1377,8 @@ count-up-returns-3 : (t : ℕ) → count-up-lts.Need-returns-3 (
 ) (count-up-at t) count-up.Post
 count-up-returns-3 t c = search count-up-laws
 
--- src/walk.rt:162:35
+-- src/walk.rt:219:45
 count-up-add-number-2 : (t : ℕ) → count-up-lts.Need-add-number-2 (
-  ended-reads.Asked,
-  ended-reads.Learnt,
   integer-reads.Asked,
   integer-reads.Learnt,
   in-range-reads.Asked,
@@ -1438,10 +1392,8 @@ count-up-add-number-2 : (t : ℕ) → count-up-lts.Need-add-number-2 (
 ) (count-up-at t) count-up.Post
 count-up-add-number-2 t c = search needs
 
--- src/walk.rt:162:22
+-- src/walk.rt:219:32
 count-up-number-requires-2 : (t : ℕ) → count-up-lts.Need-number-requires-2 (
-  ended-reads.Asked,
-  ended-reads.Learnt,
   integer-reads.Asked,
   integer-reads.Learnt,
   in-range-reads.Asked,
@@ -1455,10 +1407,8 @@ count-up-number-requires-2 : (t : ℕ) → count-up-lts.Need-number-requires-2 (
 ) (count-up-at t) count-up.Post
 count-up-number-requires-2 t c κs = search needs
 
--- src/walk.rt:162:5
+-- src/walk.rt:219:5
 count-up-raising-requires-2 : (t : ℕ) → count-up-lts.Need-raising-requires-2 (
-  ended-reads.Asked,
-  ended-reads.Learnt,
   integer-reads.Asked,
   integer-reads.Learnt,
   in-range-reads.Asked,
@@ -1472,10 +1422,8 @@ count-up-raising-requires-2 : (t : ℕ) → count-up-lts.Need-raising-requires-2
 ) (count-up-at t) count-up.Post
 count-up-raising-requires-2 t c κs = search needs
 
--- src/walk.rt:147:1
+-- src/walk.rt:195:1
 count-up-returns-4 : (t : ℕ) → count-up-lts.Need-returns-4 (
-  ended-reads.Asked,
-  ended-reads.Learnt,
   integer-reads.Asked,
   integer-reads.Learnt,
   in-range-reads.Asked,
@@ -1489,230 +1437,177 @@ count-up-returns-4 : (t : ℕ) → count-up-lts.Need-returns-4 (
 ) (count-up-at t) count-up.Post
 count-up-returns-4 t c = search count-up-laws
 
--- src/walk.rt:30:9
-exec-ended-requires : (t : ℕ) → exec-lts.Need-ended-requires (
-  ended-reads.Asked,
-  ended-reads.Learnt,
-  number-reads.Asked,
-  number-reads.Learnt,
-  stepped-reads.Asked,
-  stepped-reads.Learnt,
-  perform-below t,
-  perform.Post,
-) (exec-at t) exec.Post
-exec-ended-requires t c κs = search needs
-
--- src/walk.rt:30:9
+-- src/walk.rt:38:9
 exec-returns : (t : ℕ) → exec-lts.Need-returns (
-  ended-reads.Asked,
-  ended-reads.Learnt,
   number-reads.Asked,
   number-reads.Learnt,
   stepped-reads.Asked,
   stepped-reads.Learnt,
+  assign-reads.Asked,
+  assign-reads.Learnt,
   perform-below t,
   perform.Post,
 ) (exec-at t) exec.Post
 exec-returns t c = search exec-laws
 
--- src/walk.rt:33:9
-exec-ended-requires-2 : (t : ℕ) → exec-lts.Need-ended-requires-2 (
-  ended-reads.Asked,
-  ended-reads.Learnt,
-  number-reads.Asked,
-  number-reads.Learnt,
-  stepped-reads.Asked,
-  stepped-reads.Learnt,
-  perform-below t,
-  perform.Post,
-) (exec-at t) exec.Post
-exec-ended-requires-2 t c κs = search needs
-
--- src/walk.rt:33:9
+-- src/walk.rt:41:9
 exec-returns-2 : (t : ℕ) → exec-lts.Need-returns-2 (
-  ended-reads.Asked,
-  ended-reads.Learnt,
   number-reads.Asked,
   number-reads.Learnt,
   stepped-reads.Asked,
   stepped-reads.Learnt,
+  assign-reads.Asked,
+  assign-reads.Learnt,
   perform-below t,
   perform.Post,
 ) (exec-at t) exec.Post
 exec-returns-2 t c = search exec-laws
 
--- src/walk.rt:35:9
+-- src/walk.rt:43:9
 exec-number-requires : (t : ℕ) → exec-lts.Need-number-requires (
-  ended-reads.Asked,
-  ended-reads.Learnt,
   number-reads.Asked,
   number-reads.Learnt,
   stepped-reads.Asked,
   stepped-reads.Learnt,
+  assign-reads.Asked,
+  assign-reads.Learnt,
   perform-below t,
   perform.Post,
 ) (exec-at t) exec.Post
 exec-number-requires t c κs = search needs
 
--- src/walk.rt:37:9
-exec-ended-requires-3 : (t : ℕ) → exec-lts.Need-ended-requires-3 (
-  ended-reads.Asked,
-  ended-reads.Learnt,
-  number-reads.Asked,
-  number-reads.Learnt,
-  stepped-reads.Asked,
-  stepped-reads.Learnt,
-  perform-below t,
-  perform.Post,
-) (exec-at t) exec.Post
-exec-ended-requires-3 t c κs = search needs
-
--- src/walk.rt:37:9
+-- src/walk.rt:45:9
 exec-returns-3 : (t : ℕ) → exec-lts.Need-returns-3 (
-  ended-reads.Asked,
-  ended-reads.Learnt,
   number-reads.Asked,
   number-reads.Learnt,
   stepped-reads.Asked,
   stepped-reads.Learnt,
+  assign-reads.Asked,
+  assign-reads.Learnt,
   perform-below t,
   perform.Post,
 ) (exec-at t) exec.Post
 exec-returns-3 t c = search exec-laws
 
--- src/walk.rt:40:9
-exec-ended-requires-4 : (t : ℕ) → exec-lts.Need-ended-requires-4 (
-  ended-reads.Asked,
-  ended-reads.Learnt,
-  number-reads.Asked,
-  number-reads.Learnt,
-  stepped-reads.Asked,
-  stepped-reads.Learnt,
-  perform-below t,
-  perform.Post,
-) (exec-at t) exec.Post
-exec-ended-requires-4 t c κs = search needs
-
--- src/walk.rt:40:9
+-- src/walk.rt:48:9
 exec-returns-4 : (t : ℕ) → exec-lts.Need-returns-4 (
-  ended-reads.Asked,
-  ended-reads.Learnt,
   number-reads.Asked,
   number-reads.Learnt,
   stepped-reads.Asked,
   stepped-reads.Learnt,
+  assign-reads.Asked,
+  assign-reads.Learnt,
   perform-below t,
   perform.Post,
 ) (exec-at t) exec.Post
 exec-returns-4 t c = search exec-laws
 
--- src/walk.rt:43:9
-exec-ended-requires-5 : (t : ℕ) → exec-lts.Need-ended-requires-5 (
-  ended-reads.Asked,
-  ended-reads.Learnt,
-  number-reads.Asked,
-  number-reads.Learnt,
-  stepped-reads.Asked,
-  stepped-reads.Learnt,
-  perform-below t,
-  perform.Post,
-) (exec-at t) exec.Post
-exec-ended-requires-5 t c κs = search needs
-
--- src/walk.rt:43:9
-exec-returns-5 : (t : ℕ) → exec-lts.Need-returns-5 (
-  ended-reads.Asked,
-  ended-reads.Learnt,
-  number-reads.Asked,
-  number-reads.Learnt,
-  stepped-reads.Asked,
-  stepped-reads.Learnt,
-  perform-below t,
-  perform.Post,
-) (exec-at t) exec.Post
-exec-returns-5 t c = search exec-laws
-
--- src/walk.rt:45:26
+-- src/walk.rt:50:9
 exec-stepped-requires : (t : ℕ) → exec-lts.Need-stepped-requires (
-  ended-reads.Asked,
-  ended-reads.Learnt,
   number-reads.Asked,
   number-reads.Learnt,
   stepped-reads.Asked,
   stepped-reads.Learnt,
+  assign-reads.Asked,
+  assign-reads.Learnt,
   perform-below t,
   perform.Post,
 ) (exec-at t) exec.Post
 exec-stepped-requires t c κs = search needs
 
--- src/walk.rt:45:46
-exec-sub-perform : (t : ℕ) → exec-lts.Need-sub-perform (
-  ended-reads.Asked,
-  ended-reads.Learnt,
+-- src/walk.rt:52:9
+exec-returns-5 : (t : ℕ) → exec-lts.Need-returns-5 (
   number-reads.Asked,
   number-reads.Learnt,
   stepped-reads.Asked,
   stepped-reads.Learnt,
+  assign-reads.Asked,
+  assign-reads.Learnt,
   perform-below t,
   perform.Post,
 ) (exec-at t) exec.Post
-exec-sub-perform t c = search needs
+exec-returns-5 t c = search exec-laws
 
--- src/walk.rt:45:5
-exec-perform-requires : (t : ℕ) → exec-lts.Need-perform-requires (
-  ended-reads.Asked,
-  ended-reads.Learnt,
+-- src/walk.rt:55:43
+exec-sub-assign : (t : ℕ) → exec-lts.Need-sub-assign (
   number-reads.Asked,
   number-reads.Learnt,
   stepped-reads.Asked,
   stepped-reads.Learnt,
+  assign-reads.Asked,
+  assign-reads.Learnt,
   perform-below t,
   perform.Post,
 ) (exec-at t) exec.Post
-exec-perform-requires t c κs = search needs
+exec-sub-assign t c = search needs
 
--- src/walk.rt:26:1
+-- src/walk.rt:55:9
+exec-assign-requires : (t : ℕ) → exec-lts.Need-assign-requires (
+  number-reads.Asked,
+  number-reads.Learnt,
+  stepped-reads.Asked,
+  stepped-reads.Learnt,
+  assign-reads.Asked,
+  assign-reads.Learnt,
+  perform-below t,
+  perform.Post,
+) (exec-at t) exec.Post
+exec-assign-requires t c κs = search needs
+
+-- src/walk.rt:55:9
 exec-returns-6 : (t : ℕ) → exec-lts.Need-returns-6 (
-  ended-reads.Asked,
-  ended-reads.Learnt,
   number-reads.Asked,
   number-reads.Learnt,
   stepped-reads.Asked,
   stepped-reads.Learnt,
+  assign-reads.Asked,
+  assign-reads.Learnt,
   perform-below t,
   perform.Post,
 ) (exec-at t) exec.Post
 exec-returns-6 t c = search exec-laws
 
--- src/walk.rt:53:15
-perform-assign-requires : (t : ℕ) → perform-lts.Need-assign-requires (
+-- src/walk.rt:57:37
+exec-sub-perform : (t : ℕ) → exec-lts.Need-sub-perform (
+  number-reads.Asked,
+  number-reads.Learnt,
+  stepped-reads.Asked,
+  stepped-reads.Learnt,
   assign-reads.Asked,
   assign-reads.Learnt,
-  assign-whole-reads.Asked,
-  assign-whole-reads.Learnt,
-  next-at-reads.Asked,
-  next-at-reads.Learnt,
-  acts-below t,
-  acts.Post,
-  branch-below t,
-  branch.Post,
-  repeat-below t,
-  repeat.Post,
-  count-below t,
-  count.Post,
-  choose-below t,
-  choose.Post,
-  call-below t,
-  call.Post,
-  raise-reads.Asked,
-  raise-reads.Learnt,
-) (perform-at t) perform.Post
-perform-assign-requires t c κs = search needs
+  perform-below t,
+  perform.Post,
+) (exec-at t) exec.Post
+exec-sub-perform t c = search needs
 
--- src/walk.rt:54:15
-perform-assign-whole-requires : (t : ℕ) → perform-lts.Need-assign-whole-requires (
+-- src/walk.rt:57:5
+exec-perform-requires : (t : ℕ) → exec-lts.Need-perform-requires (
+  number-reads.Asked,
+  number-reads.Learnt,
+  stepped-reads.Asked,
+  stepped-reads.Learnt,
   assign-reads.Asked,
   assign-reads.Learnt,
+  perform-below t,
+  perform.Post,
+) (exec-at t) exec.Post
+exec-perform-requires t c κs = search needs
+
+-- src/walk.rt:27:1
+exec-returns-7 : (t : ℕ) → exec-lts.Need-returns-7 (
+  number-reads.Asked,
+  number-reads.Learnt,
+  stepped-reads.Asked,
+  stepped-reads.Learnt,
+  assign-reads.Asked,
+  assign-reads.Learnt,
+  perform-below t,
+  perform.Post,
+) (exec-at t) exec.Post
+exec-returns-7 t c = search exec-laws
+
+-- src/walk.rt:73:15
+perform-assign-whole-requires : (t : ℕ) → perform-lts.Need-assign-whole-requires (
   assign-whole-reads.Asked,
   assign-whole-reads.Learnt,
   next-at-reads.Asked,
@@ -1734,10 +1629,8 @@ perform-assign-whole-requires : (t : ℕ) → perform-lts.Need-assign-whole-requ
 ) (perform-at t) perform.Post
 perform-assign-whole-requires t c κs = search needs
 
--- src/walk.rt:55:36
+-- src/walk.rt:74:39
 perform-next-at-requires : (t : ℕ) → perform-lts.Need-next-at-requires (
-  assign-reads.Asked,
-  assign-reads.Learnt,
   assign-whole-reads.Asked,
   assign-whole-reads.Learnt,
   next-at-reads.Asked,
@@ -1759,10 +1652,8 @@ perform-next-at-requires : (t : ℕ) → perform-lts.Need-next-at-requires (
 ) (perform-at t) perform.Post
 perform-next-at-requires t c κs = search needs
 
--- src/walk.rt:55:15
+-- src/walk.rt:74:15
 perform-acts-requires : (t : ℕ) → perform-lts.Need-acts-requires (
-  assign-reads.Asked,
-  assign-reads.Learnt,
   assign-whole-reads.Asked,
   assign-whole-reads.Learnt,
   next-at-reads.Asked,
@@ -1784,10 +1675,8 @@ perform-acts-requires : (t : ℕ) → perform-lts.Need-acts-requires (
 ) (perform-at t) perform.Post
 perform-acts-requires t c κs = search needs
 
--- src/walk.rt:56:15
+-- src/walk.rt:75:15
 perform-branch-requires : (t : ℕ) → perform-lts.Need-branch-requires (
-  assign-reads.Asked,
-  assign-reads.Learnt,
   assign-whole-reads.Asked,
   assign-whole-reads.Learnt,
   next-at-reads.Asked,
@@ -1809,10 +1698,8 @@ perform-branch-requires : (t : ℕ) → perform-lts.Need-branch-requires (
 ) (perform-at t) perform.Post
 perform-branch-requires t c κs = search needs
 
--- src/walk.rt:57:15
+-- src/walk.rt:76:15
 perform-repeat-requires : (t : ℕ) → perform-lts.Need-repeat-requires (
-  assign-reads.Asked,
-  assign-reads.Learnt,
   assign-whole-reads.Asked,
   assign-whole-reads.Learnt,
   next-at-reads.Asked,
@@ -1834,10 +1721,8 @@ perform-repeat-requires : (t : ℕ) → perform-lts.Need-repeat-requires (
 ) (perform-at t) perform.Post
 perform-repeat-requires t c κs = search needs
 
--- src/walk.rt:58:15
+-- src/walk.rt:77:15
 perform-count-requires : (t : ℕ) → perform-lts.Need-count-requires (
-  assign-reads.Asked,
-  assign-reads.Learnt,
   assign-whole-reads.Asked,
   assign-whole-reads.Learnt,
   next-at-reads.Asked,
@@ -1859,10 +1744,8 @@ perform-count-requires : (t : ℕ) → perform-lts.Need-count-requires (
 ) (perform-at t) perform.Post
 perform-count-requires t c κs = search needs
 
--- src/walk.rt:59:15
+-- src/walk.rt:78:15
 perform-choose-requires : (t : ℕ) → perform-lts.Need-choose-requires (
-  assign-reads.Asked,
-  assign-reads.Learnt,
   assign-whole-reads.Asked,
   assign-whole-reads.Learnt,
   next-at-reads.Asked,
@@ -1884,10 +1767,8 @@ perform-choose-requires : (t : ℕ) → perform-lts.Need-choose-requires (
 ) (perform-at t) perform.Post
 perform-choose-requires t c κs = search needs
 
--- src/walk.rt:60:36
+-- src/walk.rt:79:39
 perform-next-at-requires-2 : (t : ℕ) → perform-lts.Need-next-at-requires-2 (
-  assign-reads.Asked,
-  assign-reads.Learnt,
   assign-whole-reads.Asked,
   assign-whole-reads.Learnt,
   next-at-reads.Asked,
@@ -1909,10 +1790,8 @@ perform-next-at-requires-2 : (t : ℕ) → perform-lts.Need-next-at-requires-2 (
 ) (perform-at t) perform.Post
 perform-next-at-requires-2 t c κs = search needs
 
--- src/walk.rt:60:15
+-- src/walk.rt:79:15
 perform-call-requires : (t : ℕ) → perform-lts.Need-call-requires (
-  assign-reads.Asked,
-  assign-reads.Learnt,
   assign-whole-reads.Asked,
   assign-whole-reads.Learnt,
   next-at-reads.Asked,
@@ -1934,10 +1813,8 @@ perform-call-requires : (t : ℕ) → perform-lts.Need-call-requires (
 ) (perform-at t) perform.Post
 perform-call-requires t c κs = search needs
 
--- src/walk.rt:61:14
+-- src/walk.rt:80:14
 perform-raise-requires : (t : ℕ) → perform-lts.Need-raise-requires (
-  assign-reads.Asked,
-  assign-reads.Learnt,
   assign-whole-reads.Asked,
   assign-whole-reads.Learnt,
   next-at-reads.Asked,
@@ -1959,10 +1836,8 @@ perform-raise-requires : (t : ℕ) → perform-lts.Need-raise-requires (
 ) (perform-at t) perform.Post
 perform-raise-requires t c κs = search needs
 
--- src/walk.rt:49:1
+-- src/walk.rt:61:1
 perform-returns : (t : ℕ) → perform-lts.Need-returns (
-  assign-reads.Asked,
-  assign-reads.Learnt,
   assign-whole-reads.Asked,
   assign-whole-reads.Learnt,
   next-at-reads.Asked,
@@ -1984,10 +1859,8 @@ perform-returns : (t : ℕ) → perform-lts.Need-returns (
 ) (perform-at t) perform.Post
 perform-returns t c = search perform-laws
 
--- src/walk.rt:49:1
+-- src/walk.rt:61:1
 perform-returns-2 : (t : ℕ) → perform-lts.Need-returns-2 (
-  assign-reads.Asked,
-  assign-reads.Learnt,
   assign-whole-reads.Asked,
   assign-whole-reads.Learnt,
   next-at-reads.Asked,
@@ -2009,10 +1882,8 @@ perform-returns-2 : (t : ℕ) → perform-lts.Need-returns-2 (
 ) (perform-at t) perform.Post
 perform-returns-2 t c = search perform-laws
 
--- src/walk.rt:49:1
+-- src/walk.rt:61:1
 perform-returns-3 : (t : ℕ) → perform-lts.Need-returns-3 (
-  assign-reads.Asked,
-  assign-reads.Learnt,
   assign-whole-reads.Asked,
   assign-whole-reads.Learnt,
   next-at-reads.Asked,
@@ -2034,10 +1905,8 @@ perform-returns-3 : (t : ℕ) → perform-lts.Need-returns-3 (
 ) (perform-at t) perform.Post
 perform-returns-3 t c = search perform-laws
 
--- src/walk.rt:49:1
+-- src/walk.rt:61:1
 perform-returns-4 : (t : ℕ) → perform-lts.Need-returns-4 (
-  assign-reads.Asked,
-  assign-reads.Learnt,
   assign-whole-reads.Asked,
   assign-whole-reads.Learnt,
   next-at-reads.Asked,
@@ -2059,10 +1928,8 @@ perform-returns-4 : (t : ℕ) → perform-lts.Need-returns-4 (
 ) (perform-at t) perform.Post
 perform-returns-4 t c = search perform-laws
 
--- src/walk.rt:49:1
+-- src/walk.rt:61:1
 perform-returns-5 : (t : ℕ) → perform-lts.Need-returns-5 (
-  assign-reads.Asked,
-  assign-reads.Learnt,
   assign-whole-reads.Asked,
   assign-whole-reads.Learnt,
   next-at-reads.Asked,
@@ -2084,10 +1951,8 @@ perform-returns-5 : (t : ℕ) → perform-lts.Need-returns-5 (
 ) (perform-at t) perform.Post
 perform-returns-5 t c = search perform-laws
 
--- src/walk.rt:49:1
+-- src/walk.rt:61:1
 perform-returns-6 : (t : ℕ) → perform-lts.Need-returns-6 (
-  assign-reads.Asked,
-  assign-reads.Learnt,
   assign-whole-reads.Asked,
   assign-whole-reads.Learnt,
   next-at-reads.Asked,
@@ -2109,10 +1974,8 @@ perform-returns-6 : (t : ℕ) → perform-lts.Need-returns-6 (
 ) (perform-at t) perform.Post
 perform-returns-6 t c = search perform-laws
 
--- src/walk.rt:49:1
+-- src/walk.rt:61:1
 perform-returns-7 : (t : ℕ) → perform-lts.Need-returns-7 (
-  assign-reads.Asked,
-  assign-reads.Learnt,
   assign-whole-reads.Asked,
   assign-whole-reads.Learnt,
   next-at-reads.Asked,
@@ -2134,10 +1997,8 @@ perform-returns-7 : (t : ℕ) → perform-lts.Need-returns-7 (
 ) (perform-at t) perform.Post
 perform-returns-7 t c = search perform-laws
 
--- src/walk.rt:49:1
+-- src/walk.rt:61:1
 perform-returns-8 : (t : ℕ) → perform-lts.Need-returns-8 (
-  assign-reads.Asked,
-  assign-reads.Learnt,
   assign-whole-reads.Asked,
   assign-whole-reads.Learnt,
   next-at-reads.Asked,
@@ -2159,38 +2020,13 @@ perform-returns-8 : (t : ℕ) → perform-lts.Need-returns-8 (
 ) (perform-at t) perform.Post
 perform-returns-8 t c = search perform-laws
 
--- src/walk.rt:49:1
-perform-returns-9 : (t : ℕ) → perform-lts.Need-returns-9 (
-  assign-reads.Asked,
-  assign-reads.Learnt,
-  assign-whole-reads.Asked,
-  assign-whole-reads.Learnt,
-  next-at-reads.Asked,
-  next-at-reads.Learnt,
-  acts-below t,
-  acts.Post,
-  branch-below t,
-  branch.Post,
-  repeat-below t,
-  repeat.Post,
-  count-below t,
-  count.Post,
-  choose-below t,
-  choose.Post,
-  call-below t,
-  call.Post,
-  raise-reads.Asked,
-  raise-reads.Learnt,
-) (perform-at t) perform.Post
-perform-returns-9 t c = search perform-laws
-
 abbrev repeat-Inv-loop : repeat-lts.InvT-loop
-repeat-Inv-loop code store₀ pc depth calls p n c b t₀ store t = Repeating (codeIn code) calls depth pc store₀ t₀ n c b store t
+repeat-Inv-loop code store₀ left pc depth calls p n c b t₀ store t = Repeating (codeIn code) calls depth pc store₀ t₀ n c b store t
 
 abbrev repeat-μ-loop : repeat-lts.MeasureT-loop
-repeat-μ-loop code store₀ pc depth calls p n c b t₀ store t = t .left
+repeat-μ-loop code store₀ left pc depth calls p n c b t₀ store t = t
 
--- src/walk.rt:107:26
+-- src/walk.rt:147:26
 repeat-add-number : (t : ℕ) → repeat-lts.Need-add-number (
   number-reads.Asked,
   number-reads.Learnt,
@@ -2198,8 +2034,6 @@ repeat-add-number : (t : ℕ) → repeat-lts.Need-add-number (
   eval-reads.Learnt,
   failing-reads.Asked,
   failing-reads.Learnt,
-  ended-reads.Asked,
-  ended-reads.Learnt,
   stepped-reads.Asked,
   stepped-reads.Learnt,
   exec-below t,
@@ -2207,7 +2041,7 @@ repeat-add-number : (t : ℕ) → repeat-lts.Need-add-number (
 ) (repeat-at t) repeat.Post repeat-Inv-loop repeat-μ-loop
 repeat-add-number t c = search needs
 
--- src/walk.rt:107:9
+-- src/walk.rt:147:9
 repeat-number-requires : (t : ℕ) → repeat-lts.Need-number-requires (
   number-reads.Asked,
   number-reads.Learnt,
@@ -2215,8 +2049,6 @@ repeat-number-requires : (t : ℕ) → repeat-lts.Need-number-requires (
   eval-reads.Learnt,
   failing-reads.Asked,
   failing-reads.Learnt,
-  ended-reads.Asked,
-  ended-reads.Learnt,
   stepped-reads.Asked,
   stepped-reads.Learnt,
   exec-below t,
@@ -2224,7 +2056,7 @@ repeat-number-requires : (t : ℕ) → repeat-lts.Need-number-requires (
 ) (repeat-at t) repeat.Post repeat-Inv-loop repeat-μ-loop
 repeat-number-requires t c κs = search needs
 
--- src/walk.rt:108:26
+-- src/walk.rt:148:26
 repeat-add-number-2 : (t : ℕ) → repeat-lts.Need-add-number-2 (
   number-reads.Asked,
   number-reads.Learnt,
@@ -2232,8 +2064,6 @@ repeat-add-number-2 : (t : ℕ) → repeat-lts.Need-add-number-2 (
   eval-reads.Learnt,
   failing-reads.Asked,
   failing-reads.Learnt,
-  ended-reads.Asked,
-  ended-reads.Learnt,
   stepped-reads.Asked,
   stepped-reads.Learnt,
   exec-below t,
@@ -2241,7 +2071,7 @@ repeat-add-number-2 : (t : ℕ) → repeat-lts.Need-add-number-2 (
 ) (repeat-at t) repeat.Post repeat-Inv-loop repeat-μ-loop
 repeat-add-number-2 t c = search needs
 
--- src/walk.rt:108:9
+-- src/walk.rt:148:9
 repeat-number-requires-2 : (t : ℕ) → repeat-lts.Need-number-requires-2 (
   number-reads.Asked,
   number-reads.Learnt,
@@ -2249,8 +2079,6 @@ repeat-number-requires-2 : (t : ℕ) → repeat-lts.Need-number-requires-2 (
   eval-reads.Learnt,
   failing-reads.Asked,
   failing-reads.Learnt,
-  ended-reads.Asked,
-  ended-reads.Learnt,
   stepped-reads.Asked,
   stepped-reads.Learnt,
   exec-below t,
@@ -2258,7 +2086,7 @@ repeat-number-requires-2 : (t : ℕ) → repeat-lts.Need-number-requires-2 (
 ) (repeat-at t) repeat.Post repeat-Inv-loop repeat-μ-loop
 repeat-number-requires-2 t c κs = search needs
 
--- src/walk.rt:109:26
+-- src/walk.rt:149:26
 repeat-add-number-3 : (t : ℕ) → repeat-lts.Need-add-number-3 (
   number-reads.Asked,
   number-reads.Learnt,
@@ -2266,8 +2094,6 @@ repeat-add-number-3 : (t : ℕ) → repeat-lts.Need-add-number-3 (
   eval-reads.Learnt,
   failing-reads.Asked,
   failing-reads.Learnt,
-  ended-reads.Asked,
-  ended-reads.Learnt,
   stepped-reads.Asked,
   stepped-reads.Learnt,
   exec-below t,
@@ -2275,7 +2101,7 @@ repeat-add-number-3 : (t : ℕ) → repeat-lts.Need-add-number-3 (
 ) (repeat-at t) repeat.Post repeat-Inv-loop repeat-μ-loop
 repeat-add-number-3 t c = search needs
 
--- src/walk.rt:109:9
+-- src/walk.rt:149:9
 repeat-number-requires-3 : (t : ℕ) → repeat-lts.Need-number-requires-3 (
   number-reads.Asked,
   number-reads.Learnt,
@@ -2283,8 +2109,6 @@ repeat-number-requires-3 : (t : ℕ) → repeat-lts.Need-number-requires-3 (
   eval-reads.Learnt,
   failing-reads.Asked,
   failing-reads.Learnt,
-  ended-reads.Asked,
-  ended-reads.Learnt,
   stepped-reads.Asked,
   stepped-reads.Learnt,
   exec-below t,
@@ -2292,7 +2116,7 @@ repeat-number-requires-3 : (t : ℕ) → repeat-lts.Need-number-requires-3 (
 ) (repeat-at t) repeat.Post repeat-Inv-loop repeat-μ-loop
 repeat-number-requires-3 t c κs = search needs
 
--- src/walk.rt:111:5
+-- src/walk.rt:151:5
 repeat-loop-holds : (t : ℕ) → repeat-lts.Need-loop-holds (
   number-reads.Asked,
   number-reads.Learnt,
@@ -2300,8 +2124,6 @@ repeat-loop-holds : (t : ℕ) → repeat-lts.Need-loop-holds (
   eval-reads.Learnt,
   failing-reads.Asked,
   failing-reads.Learnt,
-  ended-reads.Asked,
-  ended-reads.Learnt,
   stepped-reads.Asked,
   stepped-reads.Learnt,
   exec-below t,
@@ -2309,7 +2131,7 @@ repeat-loop-holds : (t : ℕ) → repeat-lts.Need-loop-holds (
 ) (repeat-at t) repeat.Post repeat-Inv-loop repeat-μ-loop
 repeat-loop-holds t c = search while-start
 
--- src/walk.rt:112:13
+-- src/walk.rt:152:13
 repeat-eval-requires : (t : ℕ) → repeat-lts.Need-eval-requires (
   number-reads.Asked,
   number-reads.Learnt,
@@ -2317,8 +2139,6 @@ repeat-eval-requires : (t : ℕ) → repeat-lts.Need-eval-requires (
   eval-reads.Learnt,
   failing-reads.Asked,
   failing-reads.Learnt,
-  ended-reads.Asked,
-  ended-reads.Learnt,
   stepped-reads.Asked,
   stepped-reads.Learnt,
   exec-below t,
@@ -2326,7 +2146,7 @@ repeat-eval-requires : (t : ℕ) → repeat-lts.Need-eval-requires (
 ) (repeat-at t) repeat.Post repeat-Inv-loop repeat-μ-loop
 repeat-eval-requires t c κs = search needs
 
--- src/walk.rt:114:13
+-- src/walk.rt:154:13
 repeat-failing-requires : (t : ℕ) → repeat-lts.Need-failing-requires (
   number-reads.Asked,
   number-reads.Learnt,
@@ -2334,8 +2154,6 @@ repeat-failing-requires : (t : ℕ) → repeat-lts.Need-failing-requires (
   eval-reads.Learnt,
   failing-reads.Asked,
   failing-reads.Learnt,
-  ended-reads.Asked,
-  ended-reads.Learnt,
   stepped-reads.Asked,
   stepped-reads.Learnt,
   exec-below t,
@@ -2343,7 +2161,7 @@ repeat-failing-requires : (t : ℕ) → repeat-lts.Need-failing-requires (
 ) (repeat-at t) repeat.Post repeat-Inv-loop repeat-μ-loop
 repeat-failing-requires t c κs = search needs
 
--- src/walk.rt:114:13
+-- src/walk.rt:154:13
 repeat-returns : (t : ℕ) → repeat-lts.Need-returns (
   number-reads.Asked,
   number-reads.Learnt,
@@ -2351,8 +2169,6 @@ repeat-returns : (t : ℕ) → repeat-lts.Need-returns (
   eval-reads.Learnt,
   failing-reads.Asked,
   failing-reads.Learnt,
-  ended-reads.Asked,
-  ended-reads.Learnt,
   stepped-reads.Asked,
   stepped-reads.Learnt,
   exec-below t,
@@ -2360,24 +2176,7 @@ repeat-returns : (t : ℕ) → repeat-lts.Need-returns (
 ) (repeat-at t) repeat.Post repeat-Inv-loop repeat-μ-loop
 repeat-returns t c = search while-laws
 
--- src/walk.rt:117:13
-repeat-ended-requires : (t : ℕ) → repeat-lts.Need-ended-requires (
-  number-reads.Asked,
-  number-reads.Learnt,
-  eval-reads.Asked,
-  eval-reads.Learnt,
-  failing-reads.Asked,
-  failing-reads.Learnt,
-  ended-reads.Asked,
-  ended-reads.Learnt,
-  stepped-reads.Asked,
-  stepped-reads.Learnt,
-  exec-below t,
-  exec.Post,
-) (repeat-at t) repeat.Post repeat-Inv-loop repeat-μ-loop
-repeat-ended-requires t c κs = search needs
-
--- src/walk.rt:117:13
+-- src/walk.rt:157:13
 repeat-returns-2 : (t : ℕ) → repeat-lts.Need-returns-2 (
   number-reads.Asked,
   number-reads.Learnt,
@@ -2385,8 +2184,6 @@ repeat-returns-2 : (t : ℕ) → repeat-lts.Need-returns-2 (
   eval-reads.Learnt,
   failing-reads.Asked,
   failing-reads.Learnt,
-  ended-reads.Asked,
-  ended-reads.Learnt,
   stepped-reads.Asked,
   stepped-reads.Learnt,
   exec-below t,
@@ -2394,41 +2191,7 @@ repeat-returns-2 : (t : ℕ) → repeat-lts.Need-returns-2 (
 ) (repeat-at t) repeat.Post repeat-Inv-loop repeat-μ-loop
 repeat-returns-2 t c = search while-laws
 
--- src/walk.rt:120:13
-repeat-ended-requires-2 : (t : ℕ) → repeat-lts.Need-ended-requires-2 (
-  number-reads.Asked,
-  number-reads.Learnt,
-  eval-reads.Asked,
-  eval-reads.Learnt,
-  failing-reads.Asked,
-  failing-reads.Learnt,
-  ended-reads.Asked,
-  ended-reads.Learnt,
-  stepped-reads.Asked,
-  stepped-reads.Learnt,
-  exec-below t,
-  exec.Post,
-) (repeat-at t) repeat.Post repeat-Inv-loop repeat-μ-loop
-repeat-ended-requires-2 t c κs = search needs
-
--- src/walk.rt:120:13
-repeat-returns-3 : (t : ℕ) → repeat-lts.Need-returns-3 (
-  number-reads.Asked,
-  number-reads.Learnt,
-  eval-reads.Asked,
-  eval-reads.Learnt,
-  failing-reads.Asked,
-  failing-reads.Learnt,
-  ended-reads.Asked,
-  ended-reads.Learnt,
-  stepped-reads.Asked,
-  stepped-reads.Learnt,
-  exec-below t,
-  exec.Post,
-) (repeat-at t) repeat.Post repeat-Inv-loop repeat-μ-loop
-repeat-returns-3 t c = search while-laws
-
--- src/walk.rt:122:35
+-- src/walk.rt:159:13
 repeat-stepped-requires : (t : ℕ) → repeat-lts.Need-stepped-requires (
   number-reads.Asked,
   number-reads.Learnt,
@@ -2436,8 +2199,6 @@ repeat-stepped-requires : (t : ℕ) → repeat-lts.Need-stepped-requires (
   eval-reads.Learnt,
   failing-reads.Asked,
   failing-reads.Learnt,
-  ended-reads.Asked,
-  ended-reads.Learnt,
   stepped-reads.Asked,
   stepped-reads.Learnt,
   exec-below t,
@@ -2445,7 +2206,22 @@ repeat-stepped-requires : (t : ℕ) → repeat-lts.Need-stepped-requires (
 ) (repeat-at t) repeat.Post repeat-Inv-loop repeat-μ-loop
 repeat-stepped-requires t c κs = search needs
 
--- src/walk.rt:122:13
+-- src/walk.rt:161:13
+repeat-returns-3 : (t : ℕ) → repeat-lts.Need-returns-3 (
+  number-reads.Asked,
+  number-reads.Learnt,
+  eval-reads.Asked,
+  eval-reads.Learnt,
+  failing-reads.Asked,
+  failing-reads.Learnt,
+  stepped-reads.Asked,
+  stepped-reads.Learnt,
+  exec-below t,
+  exec.Post,
+) (repeat-at t) repeat.Post repeat-Inv-loop repeat-μ-loop
+repeat-returns-3 t c = search while-laws
+
+-- src/walk.rt:163:13
 repeat-exec-requires : (t : ℕ) → repeat-lts.Need-exec-requires (
   number-reads.Asked,
   number-reads.Learnt,
@@ -2453,8 +2229,6 @@ repeat-exec-requires : (t : ℕ) → repeat-lts.Need-exec-requires (
   eval-reads.Learnt,
   failing-reads.Asked,
   failing-reads.Learnt,
-  ended-reads.Asked,
-  ended-reads.Learnt,
   stepped-reads.Asked,
   stepped-reads.Learnt,
   exec-below t,
@@ -2462,7 +2236,7 @@ repeat-exec-requires : (t : ℕ) → repeat-lts.Need-exec-requires (
 ) (repeat-at t) repeat.Post repeat-Inv-loop repeat-μ-loop
 repeat-exec-requires t c κs = search needs
 
--- src/walk.rt:124:13
+-- src/walk.rt:165:13
 repeat-returns-4 : (t : ℕ) → repeat-lts.Need-returns-4 (
   number-reads.Asked,
   number-reads.Learnt,
@@ -2470,8 +2244,6 @@ repeat-returns-4 : (t : ℕ) → repeat-lts.Need-returns-4 (
   eval-reads.Learnt,
   failing-reads.Asked,
   failing-reads.Learnt,
-  ended-reads.Asked,
-  ended-reads.Learnt,
   stepped-reads.Asked,
   stepped-reads.Learnt,
   exec-below t,
@@ -2479,7 +2251,7 @@ repeat-returns-4 : (t : ℕ) → repeat-lts.Need-returns-4 (
 ) (repeat-at t) repeat.Post repeat-Inv-loop repeat-μ-loop
 repeat-returns-4 t c = search (while-stops, sfits-of)
 
--- src/walk.rt:111:5
+-- src/walk.rt:151:5
 repeat-loop-less : (t : ℕ) → repeat-lts.Need-loop-less (
   number-reads.Asked,
   number-reads.Learnt,
@@ -2487,8 +2259,6 @@ repeat-loop-less : (t : ℕ) → repeat-lts.Need-loop-less (
   eval-reads.Learnt,
   failing-reads.Asked,
   failing-reads.Learnt,
-  ended-reads.Asked,
-  ended-reads.Learnt,
   stepped-reads.Asked,
   stepped-reads.Learnt,
   exec-below t,
@@ -2496,7 +2266,7 @@ repeat-loop-less : (t : ℕ) → repeat-lts.Need-loop-less (
 ) (repeat-at t) repeat.Post repeat-Inv-loop repeat-μ-loop
 repeat-loop-less t c = search (while-falls, sfits-of)
 
--- src/walk.rt:111:5
+-- src/walk.rt:151:5
 repeat-loop-again : (t : ℕ) → repeat-lts.Need-loop-again (
   number-reads.Asked,
   number-reads.Learnt,
@@ -2504,8 +2274,6 @@ repeat-loop-again : (t : ℕ) → repeat-lts.Need-loop-again (
   eval-reads.Learnt,
   failing-reads.Asked,
   failing-reads.Learnt,
-  ended-reads.Asked,
-  ended-reads.Learnt,
   stepped-reads.Asked,
   stepped-reads.Learnt,
   exec-below t,
@@ -2514,261 +2282,261 @@ repeat-loop-again : (t : ℕ) → repeat-lts.Need-loop-again (
 repeat-loop-again t c = search (while-next, sfits-of)
 
 abbrev rounds-Inv-loop : rounds-lts.InvT-loop
-rounds-Inv-loop code store₀ pc x y depth calls p a b z₀ t₀ store z t = Counting (codeIn code) calls depth pc (toZ w64 x) (toZ w64 y) store₀ t₀ a b (toZ w64 z) store t
+rounds-Inv-loop code store₀ left pc x y depth calls p a b z₀ t₀ store z t = Counting (codeIn code) calls depth pc (toZ w64 x) (toZ w64 y) store₀ t₀ a b (toZ w64 z) store t
 
 abbrev rounds-μ-loop : rounds-lts.MeasureT-loop
-rounds-μ-loop code store₀ pc x y depth calls p a b z₀ t₀ store z t = t .left
+rounds-μ-loop code store₀ left pc x y depth calls p a b z₀ t₀ store z t = t
 
--- src/walk.rt:170:26
+-- src/walk.rt:236:26
 rounds-add-number : (t : ℕ) → rounds-lts.Need-add-number (
   number-reads.Asked,
   number-reads.Learnt,
-  ended-reads.Asked,
-  ended-reads.Learnt,
-  put-reads.Asked,
-  put-reads.Learnt,
   stepped-reads.Asked,
   stepped-reads.Learnt,
+  put-reads.Asked,
+  put-reads.Learnt,
   exec-below t,
   exec.Post,
+  at-last-reads.Asked,
+  at-last-reads.Learnt,
   next-of-reads.Asked,
   next-of-reads.Learnt,
 ) (rounds-at t) rounds.Post rounds-Inv-loop rounds-μ-loop
 rounds-add-number t c = search needs
 
--- src/walk.rt:170:9
+-- src/walk.rt:236:9
 rounds-number-requires : (t : ℕ) → rounds-lts.Need-number-requires (
   number-reads.Asked,
   number-reads.Learnt,
-  ended-reads.Asked,
-  ended-reads.Learnt,
-  put-reads.Asked,
-  put-reads.Learnt,
   stepped-reads.Asked,
   stepped-reads.Learnt,
+  put-reads.Asked,
+  put-reads.Learnt,
   exec-below t,
   exec.Post,
+  at-last-reads.Asked,
+  at-last-reads.Learnt,
   next-of-reads.Asked,
   next-of-reads.Learnt,
 ) (rounds-at t) rounds.Post rounds-Inv-loop rounds-μ-loop
 rounds-number-requires t c κs = search needs
 
--- src/walk.rt:171:26
+-- src/walk.rt:237:26
 rounds-add-number-2 : (t : ℕ) → rounds-lts.Need-add-number-2 (
   number-reads.Asked,
   number-reads.Learnt,
-  ended-reads.Asked,
-  ended-reads.Learnt,
-  put-reads.Asked,
-  put-reads.Learnt,
   stepped-reads.Asked,
   stepped-reads.Learnt,
+  put-reads.Asked,
+  put-reads.Learnt,
   exec-below t,
   exec.Post,
+  at-last-reads.Asked,
+  at-last-reads.Learnt,
   next-of-reads.Asked,
   next-of-reads.Learnt,
 ) (rounds-at t) rounds.Post rounds-Inv-loop rounds-μ-loop
 rounds-add-number-2 t c = search needs
 
--- src/walk.rt:171:9
+-- src/walk.rt:237:9
 rounds-number-requires-2 : (t : ℕ) → rounds-lts.Need-number-requires-2 (
   number-reads.Asked,
   number-reads.Learnt,
-  ended-reads.Asked,
-  ended-reads.Learnt,
-  put-reads.Asked,
-  put-reads.Learnt,
   stepped-reads.Asked,
   stepped-reads.Learnt,
+  put-reads.Asked,
+  put-reads.Learnt,
   exec-below t,
   exec.Post,
+  at-last-reads.Asked,
+  at-last-reads.Learnt,
   next-of-reads.Asked,
   next-of-reads.Learnt,
 ) (rounds-at t) rounds.Post rounds-Inv-loop rounds-μ-loop
 rounds-number-requires-2 t c κs = search needs
 
--- src/walk.rt:174:5
+-- src/walk.rt:240:5
 rounds-loop-holds : (t : ℕ) → rounds-lts.Need-loop-holds (
   number-reads.Asked,
   number-reads.Learnt,
-  ended-reads.Asked,
-  ended-reads.Learnt,
-  put-reads.Asked,
-  put-reads.Learnt,
   stepped-reads.Asked,
   stepped-reads.Learnt,
+  put-reads.Asked,
+  put-reads.Learnt,
   exec-below t,
   exec.Post,
+  at-last-reads.Asked,
+  at-last-reads.Learnt,
   next-of-reads.Asked,
   next-of-reads.Learnt,
 ) (rounds-at t) rounds.Post rounds-Inv-loop rounds-μ-loop
 rounds-loop-holds t c = search (turn-start, needs)
 
--- src/walk.rt:176:13
-rounds-ended-requires : (t : ℕ) → rounds-lts.Need-ended-requires (
-  number-reads.Asked,
-  number-reads.Learnt,
-  ended-reads.Asked,
-  ended-reads.Learnt,
-  put-reads.Asked,
-  put-reads.Learnt,
-  stepped-reads.Asked,
-  stepped-reads.Learnt,
-  exec-below t,
-  exec.Post,
-  next-of-reads.Asked,
-  next-of-reads.Learnt,
-) (rounds-at t) rounds.Post rounds-Inv-loop rounds-μ-loop
-rounds-ended-requires t c κs = search needs
-
--- src/walk.rt:176:13
-rounds-returns : (t : ℕ) → rounds-lts.Need-returns (
-  number-reads.Asked,
-  number-reads.Learnt,
-  ended-reads.Asked,
-  ended-reads.Learnt,
-  put-reads.Asked,
-  put-reads.Learnt,
-  stepped-reads.Asked,
-  stepped-reads.Learnt,
-  exec-below t,
-  exec.Post,
-  next-of-reads.Asked,
-  next-of-reads.Learnt,
-) (rounds-at t) rounds.Post rounds-Inv-loop rounds-μ-loop
-rounds-returns t c = search rounds-laws
-
--- src/walk.rt:179:9
-rounds-put-requires : (t : ℕ) → rounds-lts.Need-put-requires (
-  number-reads.Asked,
-  number-reads.Learnt,
-  ended-reads.Asked,
-  ended-reads.Learnt,
-  put-reads.Asked,
-  put-reads.Learnt,
-  stepped-reads.Asked,
-  stepped-reads.Learnt,
-  exec-below t,
-  exec.Post,
-  next-of-reads.Asked,
-  next-of-reads.Learnt,
-) (rounds-at t) rounds.Post rounds-Inv-loop rounds-μ-loop
-rounds-put-requires t c κs = search needs
-
--- src/walk.rt:180:35
+-- src/walk.rt:241:13
 rounds-stepped-requires : (t : ℕ) → rounds-lts.Need-stepped-requires (
   number-reads.Asked,
   number-reads.Learnt,
-  ended-reads.Asked,
-  ended-reads.Learnt,
-  put-reads.Asked,
-  put-reads.Learnt,
   stepped-reads.Asked,
   stepped-reads.Learnt,
+  put-reads.Asked,
+  put-reads.Learnt,
   exec-below t,
   exec.Post,
+  at-last-reads.Asked,
+  at-last-reads.Learnt,
   next-of-reads.Asked,
   next-of-reads.Learnt,
 ) (rounds-at t) rounds.Post rounds-Inv-loop rounds-μ-loop
 rounds-stepped-requires t c κs = search needs
 
--- src/walk.rt:180:13
+-- src/walk.rt:243:13
+rounds-returns : (t : ℕ) → rounds-lts.Need-returns (
+  number-reads.Asked,
+  number-reads.Learnt,
+  stepped-reads.Asked,
+  stepped-reads.Learnt,
+  put-reads.Asked,
+  put-reads.Learnt,
+  exec-below t,
+  exec.Post,
+  at-last-reads.Asked,
+  at-last-reads.Learnt,
+  next-of-reads.Asked,
+  next-of-reads.Learnt,
+) (rounds-at t) rounds.Post rounds-Inv-loop rounds-μ-loop
+rounds-returns t c = search rounds-laws
+
+-- src/walk.rt:245:9
+rounds-put-requires : (t : ℕ) → rounds-lts.Need-put-requires (
+  number-reads.Asked,
+  number-reads.Learnt,
+  stepped-reads.Asked,
+  stepped-reads.Learnt,
+  put-reads.Asked,
+  put-reads.Learnt,
+  exec-below t,
+  exec.Post,
+  at-last-reads.Asked,
+  at-last-reads.Learnt,
+  next-of-reads.Asked,
+  next-of-reads.Learnt,
+) (rounds-at t) rounds.Post rounds-Inv-loop rounds-μ-loop
+rounds-put-requires t c κs = search needs
+
+-- src/walk.rt:246:13
 rounds-exec-requires : (t : ℕ) → rounds-lts.Need-exec-requires (
   number-reads.Asked,
   number-reads.Learnt,
-  ended-reads.Asked,
-  ended-reads.Learnt,
-  put-reads.Asked,
-  put-reads.Learnt,
   stepped-reads.Asked,
   stepped-reads.Learnt,
+  put-reads.Asked,
+  put-reads.Learnt,
   exec-below t,
   exec.Post,
+  at-last-reads.Asked,
+  at-last-reads.Learnt,
   next-of-reads.Asked,
   next-of-reads.Learnt,
 ) (rounds-at t) rounds.Post rounds-Inv-loop rounds-μ-loop
 rounds-exec-requires t c κs = search needs
 
--- src/walk.rt:182:13
+-- src/walk.rt:248:13
 rounds-returns-2 : (t : ℕ) → rounds-lts.Need-returns-2 (
   number-reads.Asked,
   number-reads.Learnt,
-  ended-reads.Asked,
-  ended-reads.Learnt,
-  put-reads.Asked,
-  put-reads.Learnt,
   stepped-reads.Asked,
   stepped-reads.Learnt,
+  put-reads.Asked,
+  put-reads.Learnt,
   exec-below t,
   exec.Post,
+  at-last-reads.Asked,
+  at-last-reads.Learnt,
   next-of-reads.Asked,
   next-of-reads.Learnt,
 ) (rounds-at t) rounds.Post rounds-Inv-loop rounds-μ-loop
 rounds-returns-2 t c = search rounds-laws
 
--- src/walk.rt:185:13
+-- src/walk.rt:250:12
+rounds-at-last-requires : (t : ℕ) → rounds-lts.Need-at-last-requires (
+  number-reads.Asked,
+  number-reads.Learnt,
+  stepped-reads.Asked,
+  stepped-reads.Learnt,
+  put-reads.Asked,
+  put-reads.Learnt,
+  exec-below t,
+  exec.Post,
+  at-last-reads.Asked,
+  at-last-reads.Learnt,
+  next-of-reads.Asked,
+  next-of-reads.Learnt,
+) (rounds-at t) rounds.Post rounds-Inv-loop rounds-μ-loop
+rounds-at-last-requires t c κs = search needs
+
+-- src/walk.rt:251:13
 rounds-returns-3 : (t : ℕ) → rounds-lts.Need-returns-3 (
   number-reads.Asked,
   number-reads.Learnt,
-  ended-reads.Asked,
-  ended-reads.Learnt,
-  put-reads.Asked,
-  put-reads.Learnt,
   stepped-reads.Asked,
   stepped-reads.Learnt,
+  put-reads.Asked,
+  put-reads.Learnt,
   exec-below t,
   exec.Post,
+  at-last-reads.Asked,
+  at-last-reads.Learnt,
   next-of-reads.Asked,
   next-of-reads.Learnt,
 ) (rounds-at t) rounds.Post rounds-Inv-loop rounds-μ-loop
 rounds-returns-3 t c = search rounds-laws
 
--- src/walk.rt:187:9
+-- src/walk.rt:253:9
 rounds-next-of-requires : (t : ℕ) → rounds-lts.Need-next-of-requires (
   number-reads.Asked,
   number-reads.Learnt,
-  ended-reads.Asked,
-  ended-reads.Learnt,
-  put-reads.Asked,
-  put-reads.Learnt,
   stepped-reads.Asked,
   stepped-reads.Learnt,
+  put-reads.Asked,
+  put-reads.Learnt,
   exec-below t,
   exec.Post,
+  at-last-reads.Asked,
+  at-last-reads.Learnt,
   next-of-reads.Asked,
   next-of-reads.Learnt,
 ) (rounds-at t) rounds.Post rounds-Inv-loop rounds-μ-loop
 rounds-next-of-requires t c κs = search needs
 
--- src/walk.rt:174:5
+-- src/walk.rt:240:5
 rounds-loop-less : (t : ℕ) → rounds-lts.Need-loop-less (
   number-reads.Asked,
   number-reads.Learnt,
-  ended-reads.Asked,
-  ended-reads.Learnt,
-  put-reads.Asked,
-  put-reads.Learnt,
   stepped-reads.Asked,
   stepped-reads.Learnt,
+  put-reads.Asked,
+  put-reads.Learnt,
   exec-below t,
   exec.Post,
+  at-last-reads.Asked,
+  at-last-reads.Learnt,
   next-of-reads.Asked,
   next-of-reads.Learnt,
 ) (rounds-at t) rounds.Post rounds-Inv-loop rounds-μ-loop
 rounds-loop-less t c = search (turn-falls, sfits-of)
 
--- src/walk.rt:174:5
+-- src/walk.rt:240:5
 rounds-loop-again : (t : ℕ) → rounds-lts.Need-loop-again (
   number-reads.Asked,
   number-reads.Learnt,
-  ended-reads.Asked,
-  ended-reads.Learnt,
-  put-reads.Asked,
-  put-reads.Learnt,
   stepped-reads.Asked,
   stepped-reads.Learnt,
+  put-reads.Asked,
+  put-reads.Learnt,
   exec-below t,
   exec.Post,
+  at-last-reads.Asked,
+  at-last-reads.Learnt,
   next-of-reads.Asked,
   next-of-reads.Learnt,
 ) (rounds-at t) rounds.Post rounds-Inv-loop rounds-μ-loop
@@ -2792,12 +2560,14 @@ pub +acts+body+branch+call+choose+count+count-up+exec+perform+repeat+rounds-spec
     (λ t. acts-lts.spec (
       number-reads.Asked,
       number-reads.Learnt,
-      ended-reads.Asked,
-      ended-reads.Learnt,
       next-at-reads.Asked,
       next-at-reads.Learnt,
       exec-below t,
       exec.Post,
+      stopped-reads.Asked,
+      stopped-reads.Learnt,
+      rest-at-reads.Asked,
+      rest-at-reads.Learnt,
     )
     (acts-at t)
     acts.Post
@@ -2805,25 +2575,31 @@ pub +acts+body+branch+call+choose+count+count-up+exec+perform+repeat+rounds-spec
     acts-μ-loop
     (acts-number-requires t)
     (acts-loop-holds t)
-    (acts-ended-requires t)
     (acts-returns t)
     (acts-sub-d t)
     (acts-next-at-requires t)
     (acts-exec-requires t)
+    (acts-stopped-requires t)
     (acts-returns-2 t)
-    (acts-next-at-requires-2 t)
+    (acts-rest-at-requires t)
     (acts-loop-less t)
     (acts-loop-again t)
-    (acts-ended-requires-2 t)
     (acts-returns-3 t))
-    (λ t. body-lts.spec
-    (next-at-reads.Asked, next-at-reads.Learnt, acts-below t, acts.Post)
+    (λ t. body-lts.spec (
+      next-at-reads.Asked,
+      next-at-reads.Learnt,
+      acts-below t,
+      acts.Post,
+      left-in-reads.Asked,
+      left-in-reads.Learnt,
+    )
     (body-at t)
     body.Post
     (body-next-at-requires t)
     (body-acts-requires t)
     (body-returns t)
     (body-next-at-requires-2 t)
+    (body-left-in-requires t)
     (body-next-at-requires-3 t)
     (body-acts-requires-2 t)
     (body-returns-2 t)
@@ -2856,12 +2632,10 @@ pub +acts+body+branch+call+choose+count+count-up+exec+perform+repeat+rounds-spec
     (branch-exec-requires-2 t)
     (branch-returns-3 t))
     (λ t. call-lts.spec
-    (ended-reads.Asked, ended-reads.Learnt, body-below t, body.Post)
+    (body-below t, body.Post)
     (call-at t)
     call.Post
-    (call-ended-requires t)
     (call-returns t)
-    (call-ended-requires-2 t)
     (call-returns-2 t)
     (call-sub-body t)
     (call-body-requires t)
@@ -2929,8 +2703,6 @@ pub +acts+body+branch+call+choose+count+count-up+exec+perform+repeat+rounds-spec
     (count-count-up-requires t)
     (count-returns-3 t))
     (λ t. count-up-lts.spec (
-      ended-reads.Asked,
-      ended-reads.Learnt,
       integer-reads.Asked,
       integer-reads.Learnt,
       in-range-reads.Asked,
@@ -2944,7 +2716,6 @@ pub +acts+body+branch+call+choose+count+count-up+exec+perform+repeat+rounds-spec
     )
     (count-up-at t)
     count-up.Post
-    (count-up-ended-requires t)
     (count-up-returns t)
     (count-up-add-integer t)
     (count-up-integer-requires t)
@@ -2963,35 +2734,31 @@ pub +acts+body+branch+call+choose+count+count-up+exec+perform+repeat+rounds-spec
     (count-up-raising-requires-2 t)
     (count-up-returns-4 t))
     (λ t. exec-lts.spec (
-      ended-reads.Asked,
-      ended-reads.Learnt,
       number-reads.Asked,
       number-reads.Learnt,
       stepped-reads.Asked,
       stepped-reads.Learnt,
+      assign-reads.Asked,
+      assign-reads.Learnt,
       perform-below t,
       perform.Post,
     )
     (exec-at t)
     exec.Post
-    (exec-ended-requires t)
     (exec-returns t)
-    (exec-ended-requires-2 t)
     (exec-returns-2 t)
     (exec-number-requires t)
-    (exec-ended-requires-3 t)
     (exec-returns-3 t)
-    (exec-ended-requires-4 t)
     (exec-returns-4 t)
-    (exec-ended-requires-5 t)
-    (exec-returns-5 t)
     (exec-stepped-requires t)
+    (exec-returns-5 t)
+    (exec-sub-assign t)
+    (exec-assign-requires t)
+    (exec-returns-6 t)
     (exec-sub-perform t)
     (exec-perform-requires t)
-    (exec-returns-6 t))
+    (exec-returns-7 t))
     (λ t. perform-lts.spec (
-      assign-reads.Asked,
-      assign-reads.Learnt,
       assign-whole-reads.Asked,
       assign-whole-reads.Learnt,
       next-at-reads.Asked,
@@ -3013,7 +2780,6 @@ pub +acts+body+branch+call+choose+count+count-up+exec+perform+repeat+rounds-spec
     )
     (perform-at t)
     perform.Post
-    (perform-assign-requires t)
     (perform-assign-whole-requires t)
     (perform-next-at-requires t)
     (perform-acts-requires t)
@@ -3031,8 +2797,7 @@ pub +acts+body+branch+call+choose+count+count-up+exec+perform+repeat+rounds-spec
     (perform-returns-5 t)
     (perform-returns-6 t)
     (perform-returns-7 t)
-    (perform-returns-8 t)
-    (perform-returns-9 t))
+    (perform-returns-8 t))
     (λ t. repeat-lts.spec (
       number-reads.Asked,
       number-reads.Learnt,
@@ -3040,8 +2805,6 @@ pub +acts+body+branch+call+choose+count+count-up+exec+perform+repeat+rounds-spec
       eval-reads.Learnt,
       failing-reads.Asked,
       failing-reads.Learnt,
-      ended-reads.Asked,
-      ended-reads.Learnt,
       stepped-reads.Asked,
       stepped-reads.Learnt,
       exec-below t,
@@ -3061,11 +2824,9 @@ pub +acts+body+branch+call+choose+count+count-up+exec+perform+repeat+rounds-spec
     (repeat-eval-requires t)
     (repeat-failing-requires t)
     (repeat-returns t)
-    (repeat-ended-requires t)
     (repeat-returns-2 t)
-    (repeat-ended-requires-2 t)
-    (repeat-returns-3 t)
     (repeat-stepped-requires t)
+    (repeat-returns-3 t)
     (repeat-exec-requires t)
     (repeat-returns-4 t)
     (repeat-loop-less t)
@@ -3073,14 +2834,14 @@ pub +acts+body+branch+call+choose+count+count-up+exec+perform+repeat+rounds-spec
     λ t. rounds-lts.spec (
       number-reads.Asked,
       number-reads.Learnt,
-      ended-reads.Asked,
-      ended-reads.Learnt,
-      put-reads.Asked,
-      put-reads.Learnt,
       stepped-reads.Asked,
       stepped-reads.Learnt,
+      put-reads.Asked,
+      put-reads.Learnt,
       exec-below t,
       exec.Post,
+      at-last-reads.Asked,
+      at-last-reads.Learnt,
       next-of-reads.Asked,
       next-of-reads.Learnt,
     )
@@ -3093,12 +2854,12 @@ pub +acts+body+branch+call+choose+count+count-up+exec+perform+repeat+rounds-spec
     (rounds-add-number-2 t)
     (rounds-number-requires-2 t)
     (rounds-loop-holds t)
-    (rounds-ended-requires t)
+    (rounds-stepped-requires t)
     (rounds-returns t)
     (rounds-put-requires t)
-    (rounds-stepped-requires t)
     (rounds-exec-requires t)
     (rounds-returns-2 t)
+    (rounds-at-last-requires t)
     (rounds-returns-3 t)
     (rounds-next-of-requires t)
     (rounds-loop-less t)

@@ -1,0 +1,4 @@
+pub mod Cells
+pub mod Does
+pub mod Sources
+pub mod Arms
