@@ -1,6 +1,6 @@
 //! Random statements and bodies, and whole scripts made of them.
 
-use super::exprs::{Writer, SMOOTH};
+use super::exprs::{Writer, CLASHING, SMOOTH, UNEVEN};
 use super::node::{form, word, Node};
 use super::rng::Rng;
 use super::scene::{Scene, BOOLEAN, INTEGER};
@@ -47,7 +47,8 @@ pub fn script(rng: Rng, size: Size) -> Scene {
 
 fn body(scene: &mut Scene, room: usize, wild: usize) -> Vec<Node> {
     let handled = scene.rng.percent(35);
-    let mut writer = Writer { scene, wild, rough: SMOOTH, controls: Vec::new(), room };
+    let rough = if wild > 0 { UNEVEN } else { SMOOTH };
+    let mut writer = Writer { scene, wild, rough, controls: Vec::new(), room };
     let mut parts = Vec::new();
     while writer.room > 0 {
         parts.push(writer.statement(DEPTH));
@@ -136,7 +137,7 @@ impl Writer<'_> {
 
     /// A statement of which several parts raise: the first one counts.
     fn clash(&mut self, depth: usize) -> Node {
-        let before = std::mem::replace(&mut self.rough, 35);
+        let before = std::mem::replace(&mut self.rough, CLASHING);
         let statement = match self.scene.rng.below(6) {
             0 => self.count(depth),
             1 => self.case(depth),
@@ -198,7 +199,7 @@ impl Writer<'_> {
     fn rounds(&mut self, ty: usize) -> (Node, Node) {
         let host = self.scene.host(ty);
         let (low, high) = self.scene.bounds(ty).unwrap_or((0, 0));
-        if self.rough > SMOOTH || self.scene.rng.percent(10) {
+        if self.rough == CLASHING || self.scene.rng.percent(10) {
             return (self.fitting(ty, 3), self.fitting(ty, 3));
         }
         let start = match self.scene.rng.below(5) {

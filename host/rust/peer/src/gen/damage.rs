@@ -139,7 +139,7 @@ fn choose(spots: &[Spot], rng: &mut Rng) -> Option<Spot> {
 
 /// Changes one form of a script.
 pub fn forms(lines: &mut [Node], rng: &mut Rng) {
-    match rng.below(13) {
+    match rng.below(14) {
         0 => label(lines, rng),
         1 | 2 => control(lines, rng),
         3 => reverse(lines, rng),
@@ -148,6 +148,7 @@ pub fn forms(lines: &mut [Node], rng: &mut Rng) {
         6 | 7 => parts(lines, rng),
         8 => own_name(lines, rng),
         9 | 10 => operator(lines, rng),
+        11 => behind(lines, rng),
         _ => exchange(lines, rng),
     }
 }
@@ -254,6 +255,26 @@ fn field(lines: &mut [Node], rng: &mut Rng) {
                 true => parts[1] = form("dot", vec![parts[1].clone(), word(name)]),
                 false => parts[2] = word(name),
             }
+        }
+    });
+}
+
+/// Another field behind an index that may be of a wrong kind.
+fn behind(lines: &mut [Node], rng: &mut Rng) {
+    let fits = |node: &Node| match node {
+        Node::List(parts) => node.is_form("dot") && parts.len() == 3 && parts[1].is_form("at"),
+        Node::Word(_) => false,
+    };
+    let Some((line, place, _)) = choose(&collect(lines, &fits), rng) else {
+        return field(lines, rng);
+    };
+    let (name, index) = (*rng.pick(&["speed", "nofield"]), *rng.pick(&["true", "0", "3"]));
+    lines[line].change(place, &mut |node| {
+        let Node::List(parts) = node else { return };
+        parts[2] = word(name);
+        if let Node::List(inner) = &mut parts[1] {
+            inner.truncate(2);
+            inner.push(word(index));
         }
     });
 }

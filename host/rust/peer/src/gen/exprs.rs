@@ -32,11 +32,15 @@ pub const FUNCTIONS: [&str; 11] =
     ["-", "not", "abs", "sqr", "odd", "ord", "pred", "succ", "card", "setmin", "setmax"];
 
 /// Integer expressions that raise -101 or -103, each written like one word.
-const RAISING: [&str; 5] =
-    ["(div 1 0)", "(mod 5 0)", "(** 0 0)", "(succ 2147483647)", "(pred (first integer))"];
+const RAISING: [&str; 6] = [
+    "(div 1 0)", "(mod 5 0)", "(** 0 0)", "(div #80000000 (- 1))", "(succ 2147483647)",
+    "(pred (first integer))",
+];
 
-/// How rough most bodies are.
+/// How rough a body is: most of them, those with misfits, a statement of which several parts raise.
 pub const SMOOTH: usize = 1;
+pub const UNEVEN: usize = 6;
+pub const CLASHING: usize = 35;
 
 impl Writer<'_> {
     /// Is a misfit to be written here?
@@ -63,7 +67,7 @@ impl Writer<'_> {
     /// An expression that is most often a value of this type, not only of its host.
     pub fn fitting(&mut self, ty: usize, depth: usize) -> Node {
         let host = self.scene.host(ty);
-        let kept = self.scene.rng.percent(85) && self.rough == SMOOTH;
+        let kept = self.scene.rng.percent(85) && self.rough < CLASHING;
         let (Some((low, high)), true) = (self.scene.bounds(ty), kept) else {
             return self.expr(host, depth);
         };
@@ -161,7 +165,7 @@ impl Writer<'_> {
         if depth < 2 || self.scene.rng.percent(10) {
             return word(self.scene.rng.percent(50));
         }
-        match self.scene.rng.below(12) {
+        match self.scene.rng.below(14) {
             0 | 1 => self.read(BOOLEAN, depth),
             2..=4 => match self.pick_type(|s, ty| s.bounds(ty).is_some()) {
                 Some(ty) => {
@@ -169,14 +173,14 @@ impl Writer<'_> {
                 }
                 None => word("true"),
             },
-            5 => match self.pick_type(|s, ty| matches!(s.types[ty].shape, Shape::Set { .. })) {
+            5..=7 => match self.pick_type(|s, ty| matches!(s.types[ty].shape, Shape::Set { .. })) {
                 Some(ty) => self.two(&["=", "<>", "<=", ">="], self.scene.host(ty), depth),
                 None => word("false"),
             },
-            6 => self.membership(depth),
-            7 | 8 => self.two(&["and", "or", "and_then", "or_else"], BOOLEAN, depth),
-            9 => self.one(&["not"], BOOLEAN, depth),
-            10 => self.one(&["odd"], INTEGER, depth),
+            8 => self.membership(depth),
+            9 | 10 => self.two(&["and", "or", "and_then", "or_else"], BOOLEAN, depth),
+            11 => self.one(&["not"], BOOLEAN, depth),
+            12 => self.one(&["odd"], INTEGER, depth),
             _ => self.ordinal(BOOLEAN, depth),
         }
     }
@@ -274,7 +278,10 @@ impl Writer<'_> {
         let mut node = word(name);
         let mut left = depth;
         if self.is_wild() {
-            let index = self.number();
+            let index = match self.scene.rng.percent(40) {
+                true => word(self.scene.rng.pick(&RAISING)),
+                false => self.number(),
+            };
             return Some((form("at", vec![node, index]), ty));
         }
         if self.is_wild() {
