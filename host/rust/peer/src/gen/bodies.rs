@@ -199,6 +199,10 @@ impl Writer<'_> {
     fn rounds(&mut self, ty: usize) -> (Node, Node) {
         let host = self.scene.host(ty);
         let (low, high) = self.scene.bounds(ty).unwrap_or((0, 0));
+        if self.is_wild() {
+            let wrong = if host == INTEGER { word("true") } else { word(1) };
+            return (wrong, self.fitting(ty, 3));
+        }
         if self.rough == CLASHING || self.scene.rng.percent(10) {
             return (self.fitting(ty, 3), self.fitting(ty, 3));
         }

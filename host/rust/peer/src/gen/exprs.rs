@@ -162,6 +162,11 @@ impl Writer<'_> {
     }
 
     fn boolean(&mut self, depth: usize) -> Node {
+        if depth > 2 && self.is_wild() {
+            let head = *self.scene.rng.pick(&["and_then", "or_else", "and", "or"]);
+            let left = word(self.scene.rng.below(2));
+            return form(head, vec![left, self.expr(BOOLEAN, depth - 1)]);
+        }
         if depth < 2 || self.scene.rng.percent(10) {
             return word(self.scene.rng.percent(50));
         }
@@ -237,7 +242,11 @@ impl Writer<'_> {
                 false => self.two(&["+", "-", "*"], ty, depth),
             };
         }
-        let ty = if self.is_wild() { self.scene.any_type() } else { ty };
+        if depth > 0 && self.is_wild() {
+            let any = self.scene.any_type();
+            let raising = word(self.scene.rng.pick(&RAISING));
+            return form("members", vec![self.scene.type_word(any), raising]);
+        }
         let mut parts = vec![self.scene.type_word(ty)];
         if depth > 0 {
             for _ in 0..self.scene.rng.below(4) {
