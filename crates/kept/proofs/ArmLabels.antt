@@ -6,17 +6,12 @@ use mathlib.Core.Option.{Option, none, some}
 use Prim.Native.Nat.{ℕ, _<_}
 use native.Mathlib.Omega.{arith}
 use Rattle.semantics.specs.Base.{_>>=_, each}
-use Rattle.semantics.specs.Environment.{Environment}
 use Rattle.semantics.specs.Forms.{constant, stmt}
-use Rattle.semantics.specs.Names.{constantOf}
-use Rattle.semantics.specs.Rules.{plain, allPlain}
-use Rattle.semantics.specs.Script.{Const}
+use Rattle.semantics.specs.Rules.{allPlain}
 use Rattle.semantics.specs.Syntax.{Constant, Stmt}
 use Rattle.semantics.specs.Trees.{Tree, Trees, end, _then_, Run, first, stackAt}
 use Rattle.semantics.specs.Words.{worded}
 use Rattle.semantics.proofs.Inversion.{none-some, some-inj, bind-some}
-use Rattle.semantics.proofs.LinesKeep.{AllFair}
-use Rattle.semantics.proofs.TypeTables.{Table}
 use Rattle.shapes.specs.Parts.{partOf, constantIn, stmtIn, armIn}
 use Rattle.parts.specs.declared.End.{End}
 use Rattle.parts.specs.declared.End.the-variants as ending

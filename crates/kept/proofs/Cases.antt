@@ -1,22 +1,22 @@
 -- The rules of a `case`: each arm by itself, and labels that differ.
 use mathlib.Core.Path.{_≡_, refl, sym, ap, _∙_}
 use mathlib.Core.Bool.{Bool, true, false, _&&_}
-use mathlib.Core.List.{List, [], _∷_}
-use mathlib.Core.Option.{Option, none, some}
+use mathlib.Core.List.{List}
+use mathlib.Core.Option.{some}
 use Prim.Native.Nat.{ℕ, _<_}
 use lib.ListN.{length}
 use Rattle.semantics.specs.Base.{_>>=_, each}
 use Rattle.semantics.specs.Environment.{Environment}
 use Rattle.semantics.specs.Forms.{isArm, isElse, armsFirst}
-use Rattle.semantics.specs.Names.{constantOf, exprOf, stmtOf, armsOf}
-use Rattle.semantics.specs.Rules.{plainExpr, allPlain, differ, labelsOf, keptStmt, keptArms}
+use Rattle.semantics.specs.Names.{constantOf, stmtOf, armsOf}
+use Rattle.semantics.specs.Rules.{allPlain, differ, labelsOf, keptStmt, keptArms}
 use Rattle.semantics.specs.Script as Script
 use Rattle.semantics.specs.Syntax as Syntax
 use Rattle.semantics.specs.Syntax.{Constant}
-use Rattle.semantics.specs.Trees.{Tree, word, form, Trees, end, _then_, Run, first, later, stackAt}
+use Rattle.semantics.specs.Trees.{word, form, Trees, end, _then_, Run, first, later, stackAt}
 use Rattle.semantics.proofs.Inversion.{none-some, some-inj, bind-some}
 use Rattle.shapes.specs.declared.Verb.the-variants as VB
-use Rattle.shapes.specs.Parts.{partOf, rest, closed, exprIn, stmtIn, armIn, armsIn, armHeadIn, elseArmIn}
+use Rattle.shapes.specs.Parts.{rest, stmtIn, armIn, armsIn, armHeadIn, elseArmIn}
 use Rattle.parts.specs.Parts.{ShutAt}
 use Rattle.skips.specs.Skips.{Skips}
 use Rattle.plain.specs.Plain.{plainFirst}
@@ -32,7 +32,7 @@ use Rattle.kept.specs.declared.arm_parts.AfterArm.{AfterArm}
 use Rattle.kept.specs.declared.arm_parts.AfterArm.the-variants as after
 use Rattle.kept.specs.Walks.{Near, KeepsStmt, KeepsVerb, KeepsArm, KeepsArms, KeepsCases}
 use Rattle.kept.specs.ArmParts.{AfterLabels}
-use Rattle.kept.proofs.Passing.{closed-is, no-end, split, expr-some, skip-then, skip-rest, skip-falls, expr-first, and-one, and-none}
+use Rattle.kept.proofs.Passing.{closed-is, no-end, expr-some, skip-then, skip-rest, skip-falls, expr-first, and-one, and-none}
 use Rattle.kept.proofs.ArmLabels.{arm-from}
 
 -- ---- an arm

@@ -2,7 +2,7 @@
 use mathlib.Core.Path.{_≡_, refl, sym, ap, _∙_}
 use mathlib.Core.Bool.{Bool, true, false, not, _&&_}
 use mathlib.Core.Logic.{_⊎_, inl, inr}
-use mathlib.Core.List.{List, [], _∷_, map}
+use mathlib.Core.List.{List, _∷_, map}
 use mathlib.Core.Option.{Option, none, some}
 use Prim.Native.Nat.{ℕ, _<_, _≤_}
 use native.Mathlib.Omega.{arith}
@@ -10,45 +10,44 @@ use lib.ListN.{length}
 use Rattle.lexis.specs.declared.words.Word.{Word}
 use Rattle.lexis.specs.Bytes.{small}
 use Rattle.lexis.specs.Words.{wordOf}
-use Rattle.semantics.specs.Base.{Name, _>>=_, find}
+use Rattle.semantics.specs.Base.{Name, _>>=_}
 use Rattle.semantics.specs.Environment.{Environment, NameSort, aType, aVar, aProc, aValue}
-use Rattle.semantics.specs.Names.{Reached, asVar, varOf, exprOf, targetOf, stmtOf, elementOf, fieldIn}
+use Rattle.semantics.specs.Names.{Reached, asVar, varOf, exprOf, targetOf, stmtOf}
 use Rattle.semantics.specs.Rules.{looping, steers, plainExpr, plainTarget, keptStmt}
 use Rattle.semantics.specs.Script as Script
 use Rattle.semantics.specs.Syntax as Syntax
-use Rattle.semantics.specs.Trees.{Tree, word, form, Trees, end, _then_, Run, first, later, wordAt, stackAt}
-use Rattle.semantics.specs.Types.{Var, variable}
+use Rattle.semantics.specs.Trees.{word, form, Trees, end, _then_, Run, first, later, wordAt, stackAt}
+use Rattle.semantics.specs.Types.{Var}
 use Rattle.semantics.proofs.Inversion.{none-some, some-inj, bind-some}
 use Rattle.symbols.specs.Chain.{entries, placeIn}
 use Rattle.shapes.specs.declared.Atom.{Atom}
 use Rattle.shapes.specs.declared.Atom.the-variants as AT
 use Rattle.shapes.specs.declared.ExprHead.{ExprHead}
 use Rattle.shapes.specs.declared.ExprHead.the-variants as EH
-use Rattle.shapes.specs.declared.Verb.the-variants as VB
 use Rattle.shapes.specs.Heads.{atomOf, atomName, atomTarget, exprHeadOf}
-use Rattle.shapes.specs.Parts.{partOf, rest, closed, exprIn, targetIn, nameIn, stmtIn, targetBy}
+use Rattle.shapes.specs.Parts.{partOf, rest, exprIn, targetIn, nameIn, stmtIn, targetBy}
 use Rattle.shapes.proofs.Heads.{name-word, target-word}
 use Rattle.shapes.proofs.Expressions.{target-form, target-empty, target-headless, name-form}
 use Rattle.parts.specs.declared.Part.{Part}
 use Rattle.parts.specs.declared.Part.the-variants as part
 use Rattle.parts.specs.Parts.{LeafAt, FormAt, ShutAt, Stands}
 use Rattle.skips.specs.Skips.{Skips}
-use Rattle.plain.specs.Plain.{plainTree, plainFirst}
+use Rattle.plain.specs.Plain.{plainFirst}
 use Rattle.tables.specs.declared.Mask.{Mask}
 use Rattle.tables.specs.declared.Meaning.{Meaning}
 use Rattle.tables.specs.declared.Meaning.the-variants as meaning
-use Rattle.tables.specs.Loops.{loopsOver, withLoop, InForce}
+use Rattle.tables.specs.Loops.{loopsOver, withLoop}
 use Rattle.tables.specs.Scene.{meaningAt, Means, a-type, a-var, a-proc, a-value, Told, unknown, known}
 use Rattle.tables.proofs.Looping.{in-force-more}
 use Rattle.tables.proofs.Telling.{meant}
-use Rattle.statements.specs.Walks.{verbIn, forIn}
+use Rattle.statements.specs.Walks.{forIn}
 use Rattle.statements.proofs.Shapes.{assign-shape, for-shape}
 use Rattle.statements.proofs.Storing.{below-length}
 use Rattle.kept.specs.declared.control.Start.{Start}
 use Rattle.kept.specs.declared.control.Start.the-variants as start
-use Rattle.kept.specs.Walks.{Near, KeepsVerb, KeepsAssign}
-use Rattle.kept.specs.Control.{PlainTwo, SkipsTwo, freeBy, Free, Bounded, StartsBy, Steps, StartsAs, Starts}
-use Rattle.kept.proofs.Passing.{closed-is, no-end, split, expr-some, target-some, skip-then, expr-first, target-first}
+use Rattle.kept.specs.Walks.{Near, KeepsAssign}
+use Rattle.kept.specs.Control.{PlainTwo, SkipsTwo, freeBy, Free, Bounded, StartsBy, StartsAs, Starts}
+use Rattle.kept.proofs.Passing.{closed-is, split, expr-some, target-some, skip-then, expr-first, target-first}
 
 -- ---- two parts
 

@@ -1,26 +1,22 @@
 -- The rules of a statement by its verb, from those of its parts.
 use mathlib.Core.Path.{_≡_, refl, sym, ap, _∙_}
-use mathlib.Core.Bool.{Bool, true, false, not, _&&_}
-use mathlib.Core.List.{List, [], _∷_}
-use mathlib.Core.Option.{Option, none, some}
-use Prim.Native.Nat.{ℕ, zero, suc, _-_, _<_}
+use mathlib.Core.Bool.{Bool, true, false, _&&_}
+use mathlib.Core.List.{List, _∷_}
+use mathlib.Core.Option.{none, some}
+use Prim.Native.Nat.{ℕ, suc, _-_, _<_}
 use native.Mathlib.Omega.{arith}
-use lib.ListN.{length}
 use Rattle.lexis.specs.declared.words.Word.{Word}
-use Rattle.lexis.specs.Words.{wordOf}
-use Rattle.semantics.specs.Base.{_>>=_}
 use Rattle.semantics.specs.Environment.{Environment}
 use Rattle.semantics.specs.Names.{exprOf, stmtOf, stmtsOf}
 use Rattle.semantics.specs.Rules.{plainExpr, keptStmt, keptStmts}
 use Rattle.semantics.specs.Script as Script
 use Rattle.semantics.specs.Syntax as Syntax
-use Rattle.semantics.specs.Trees.{Tree, word, form, Trees, end, _then_, Run, first, later, wordAt, stackAt}
-use Rattle.semantics.specs.Words.{worded}
+use Rattle.semantics.specs.Trees.{Tree, form, Trees, end, _then_, Run, first, later, wordAt, stackAt}
 use Rattle.semantics.proofs.Inversion.{none-some, some-inj, bind-some}
 use Rattle.shapes.specs.declared.Verb.{Verb}
 use Rattle.shapes.specs.declared.Verb.the-variants as VB
 use Rattle.shapes.specs.Heads.{verbOf}
-use Rattle.shapes.specs.Parts.{partOf, rest, closed, exprIn, stmtIn, stmtsIn, elseIn}
+use Rattle.shapes.specs.Parts.{partOf, rest, exprIn, stmtIn, stmtsIn, elseIn}
 use Rattle.shapes.proofs.Statements.{stmt-end, stmt-zero, stmt-word, stmt-empty, stmt-headless}
 use Rattle.parts.specs.declared.Part.{Part}
 use Rattle.parts.specs.declared.Part.the-variants as part
@@ -37,7 +33,7 @@ use Rattle.kept.specs.declared.control.Start.{Start}
 use Rattle.kept.specs.declared.control.Start.the-variants as start
 use Rattle.kept.specs.Walks.{Near, KeepsStmt, KeepsInner, KeepsVerb, KeepsAssign, KeepsThen, KeepsElse, KeepsStmts}
 use Rattle.kept.specs.Control.{Steps, Starts}
-use Rattle.kept.proofs.Passing.{closed-is, split, expr-some, stmt-some, skip-then, skip-rest, skip-falls, expr-first, and-one}
+use Rattle.kept.proofs.Passing.{closed-is, split, expr-some, stmt-some, skip-then, skip-rest, skip-falls, expr-first}
 
 -- ---- a statement by what stands there
 

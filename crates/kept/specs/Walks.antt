@@ -12,7 +12,7 @@ use Rattle.semantics.specs.Rules.{allPlain, differ, labelsOf, keptStmt, keptStm
 use Rattle.semantics.specs.Script as Script
 use Rattle.semantics.specs.Syntax as Syntax
 use Rattle.semantics.specs.Syntax.{Constant}
-use Rattle.semantics.specs.Trees.{form, Trees, end, _then_, Run, first, stackAt}
+use Rattle.semantics.specs.Trees.{form, end, _then_, first, stackAt}
 use Rattle.shapes.specs.declared.Verb.{Verb}
 use Rattle.shapes.specs.declared.Verb.the-variants as VB
 use Rattle.shapes.specs.Parts.{rest, stmtIn, stmtsIn, elseIn, armIn, armsIn, bodyIn}
