@@ -2,31 +2,27 @@
 use mathlib.Core.Path.{_≡_, refl, sym, ap, _∙_}
 use mathlib.Core.Bool.{Bool, true, false, not, _&&_, _||_}
 use mathlib.Core.List.{List, [], _∷_, map}
-use mathlib.Core.Option.{Option, none, some}
+use mathlib.Core.Option.{Option, some}
 use Prim.Native.Nat.{ℕ, _<_}
 use borrow.Author.Tests.{eq-eqb, ne-eqb}
-use lib.Dec.{eqb}
 use lib.IntN.{ℤ}
-use mir.Val.{SFits, toZ, ofZ}
+use mir.Val.{SFits}
 use mir.Facts.{toZ-ofZ}
 use mir.Syntax.{w64}
 use Rattle.arith.proofs.Machine.{wire}
 use Rattle.lexis.specs.Bytes.{small}
 use Rattle.semantics.specs.Base.{each}
 use Rattle.semantics.specs.Calculate.{equalZ}
-use Rattle.semantics.specs.Environment.{Environment, NameSort, aType, aVar, aProc, aValue}
-use Rattle.semantics.specs.Names.{asValue, constantOf, armsOf}
+use Rattle.semantics.specs.Environment.{Environment, NameSort, aValue}
+use Rattle.semantics.specs.Names.{asValue, constantOf}
 use Rattle.semantics.specs.Rules.{plain, allPlain, sameConst, labelled, differ, labelsOf}
-use Rattle.semantics.specs.Script as Script
 use Rattle.semantics.specs.Script.{Const}
-use Rattle.semantics.specs.Syntax.{Constant, Arms}
+use Rattle.semantics.specs.Syntax.{Constant}
 use Rattle.semantics.specs.Trees.{first, wordAt, stackAt}
 use Rattle.semantics.proofs.Inversion.{none-some, some-inj, bind-some, and-true}
 use Rattle.reader.specs.Passes.{nodesAll}
 use Rattle.symbols.specs.Chain.{entries, placeIn}
-use Rattle.shapes.specs.Parts.{armsIn}
 use Rattle.tables.specs.declared.Meaning.{Meaning}
-use Rattle.tables.specs.declared.Meaning.the-variants as meaning
 use Rattle.tables.specs.Scene.{meaningAt, Means, a-type, a-var, a-proc, a-value, Told, unknown, known}
 use Rattle.tables.proofs.Telling.{meant}
 use Rattle.atoms.specs.Answers.{meaningHere}

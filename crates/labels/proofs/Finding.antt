@@ -318,7 +318,7 @@ unfolding allPlain
 plain-append [] ys h k = k
 plain-append (x ∷ xs) ys h k = let g = and-true (plain x) (allPlain xs) h in and-both (plain x) (allPlain (xs ++ ys)) (g .0) (plain-append xs ys (g .1) k)
 
-arms-plain : (b : Script.Arms) (js : List ℕ) → keptArms b js ≡ true → allPlain (labelsOf b) ≡ true
+pub arms-plain : (b : Script.Arms) (js : List ℕ) → keptArms b js ≡ true → allPlain (labelsOf b) ≡ true
 unfolding keptArms labelsOf allPlain
 arms-plain (elseArm s) js h = refl
 arms-plain noElse js h = refl

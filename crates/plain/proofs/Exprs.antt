@@ -9,7 +9,7 @@ use borrow.Author.Tests.{le-leb}
 use lib.Dec.{eqb}
 use lib.IntN.{ℤ, negℤ}
 use lib.ListN.{getD}
-use lib.Signed.{mag, leZ}
+use lib.Signed.{mag}
 use Rattle.arith.specs.Integers.{inside, least, most}
 use Rattle.arith.proofs.Order.{leZ-trans}
 use Rattle.arith.proofs.Ranges.{inside-both, inside-is, inside-mag}
@@ -21,17 +21,17 @@ use Rattle.lexis.proofs.Ranges.{Ranged, word-ranged}
 use Rattle.semantics.specs.Base.{Name, _>>=_, find}
 use Rattle.semantics.specs.Calculate as Calculate
 use Rattle.semantics.specs.Environment.{Environment, NameSort, aType, aVar, aProc, aValue}
-use Rattle.semantics.specs.Forms.{Item, Head, hAt, hDot, hMembers, hMinus, hBound, hLazy, hOp, hFun, expr, target, exprForm}
-use Rattle.semantics.specs.Names.{Reached, constOf, asValue, asExpr, atomOf, constantOf, elementOf, exprOf, exprsOf, fieldIn, targetOf, typeOf, varOf}
+use Rattle.semantics.specs.Forms.{Head, hMembers, hMinus, hBound, hOp, hFun, expr, target, exprForm}
+use Rattle.semantics.specs.Names.{Reached, constOf, asValue, asExpr, atomOf, constantOf, exprOf, exprsOf, targetOf}
 use Rattle.semantics.specs.Operators.{Op, Fun, negate, minus}
 use Rattle.semantics.specs.Rules.{plain, plainExpr, plainTarget, plainExprs}
 use Rattle.semantics.specs.Script as Script
 use Rattle.semantics.specs.Script.{Const}
 use Rattle.semantics.specs.Syntax as Syntax
 use Rattle.semantics.specs.Syntax.{Constant, TypeName}
-use Rattle.semantics.specs.Trees.{Tree, word, form, Trees, end, _then_, Run, list}
-use Rattle.semantics.specs.Types.{Types, Var, variable, infoAt, ordinal?}
-use Rattle.semantics.specs.Words.{Word, worded, wordedAll}
+use Rattle.semantics.specs.Trees.{word, form, Trees, end, _then_, Run, list}
+use Rattle.semantics.specs.Types.{infoAt, ordinal?}
+use Rattle.semantics.specs.Words.{Word, wordedAll}
 use Rattle.semantics.proofs.Inversion.{none-some, some-inj, bind-some, and-true}
 use Rattle.semantics.proofs.LinesKeep.{Fair, value, AllFair, find-fair}
 use Rattle.semantics.proofs.TypeTables.{Table}
@@ -42,11 +42,10 @@ use Rattle.shapes.specs.declared.Atom.the-variants as AT
 use Rattle.shapes.specs.declared.ExprHead.{ExprHead}
 use Rattle.shapes.specs.declared.ExprHead.the-variants as EH
 use Rattle.shapes.specs.Heads as heads
-use Rattle.shapes.specs.Heads.{atomExpr, atomConstant, atomTarget, exprHeadOf, exprHeadMeant, reservedAtom, targetPick, minusPick}
+use Rattle.shapes.specs.Heads.{atomExpr, atomConstant, atomTarget, exprHeadOf, exprHeadMeant, reservedAtom}
 use Rattle.shapes.specs.Parts.{partOf, rest, closed, exprIn, targetIn, nameIn, numberIn, typeNameIn, constantIn, exprsIn, targetBy, constantBy}
 use Rattle.shapes.proofs.Heads.{expr-head-is, expr-word, constant-word, target-word}
 use Rattle.shapes.proofs.Expressions.{expr-form, expr-end, expr-zero, expr-empty, expr-headless, two-parts, one-part, at-read, dot-read, bound-parts, members-parts, minus-number, minus-one, minus-two, target-form, target-end, target-zero, target-empty, target-headless, constant-form, constant-empty, constant-headless, name-form, number-form, type-form}
-use Rattle.shapes.proofs.Walks.{bind-none}
 use Rattle.atoms.specs.Contracts.{minusForm}
 use Rattle.plain.specs.Plain.{soundBy, plainTree, plainIn, plainFirst}
 

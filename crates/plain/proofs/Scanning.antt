@@ -1,7 +1,7 @@
 -- The ways of the scan: what is left of it at each word and bracket.
 use mathlib.Core.Path.{_≡_, refl, sym, ap, _∙_}
 use mathlib.Core.Bool.{Bool, true, false, _&&_, not, and-assoc}
-use mathlib.Core.List.{List, [], _∷_}
+use mathlib.Core.List.{List}
 use mathlib.Core.Option.{Option, none, some}
 use Prim.Native.Nat.{ℕ, zero, suc, _+_, _*_, _-_, _<_, _≤_}
 use native.Mathlib.Omega.{arith}
@@ -10,19 +10,19 @@ use lib.ListN.{length}
 use Rattle.arith.specs.Integers.{inside, least, most}
 use Rattle.semantics.specs.Base.{_>>=_, find}
 use Rattle.semantics.specs.Calculate as Calculate
-use Rattle.semantics.specs.Environment.{Environment, nothingDeclared}
+use Rattle.semantics.specs.Environment.{nothingDeclared}
 use Rattle.semantics.specs.Names.{constantOf}
 use Rattle.semantics.specs.Rules.{plain}
 use Rattle.semantics.specs.Script.{Const}
 use Rattle.semantics.specs.Stages.{ruled, named as namedStage, staged}
 use Rattle.semantics.specs.Syntax.{Constant, number, minus, truth, named}
-use Rattle.semantics.specs.Trees.{Tree, word, form, Trees, end, _then_, nodes, nodesIn, Run, first, later, push, wordAt, restAt, stackAt}
+use Rattle.semantics.specs.Trees.{Tree, word, form, Trees, end, nodes, nodesIn, Run, first, later, push, wordAt, stackAt}
 use Rattle.reader.specs.Passes.{nodesAll}
 use Rattle.reader.specs.declared.sight.Sight.{Sight}
 use Rattle.reader.specs.declared.sight.Sight.the-variants as sight
 use Rattle.reader.specs.Sights.{Looks, Ends}
 use Rattle.tables.specs.declared.Fault.{Fault}
-use Rattle.tables.specs.declared.Fault.the-variants.{Clear, Kind, Name, Form}
+use Rattle.tables.specs.declared.Fault.the-variants.{Form}
 use Rattle.parts.specs.Got.{faultOf}
 use Rattle.atoms.specs.declared.Valued.{Valued}
 use Rattle.atoms.specs.Contracts.{GivesMinus, minusForm}

@@ -1,5 +1,5 @@
 -- A text has no more brackets and words than bytes.
-use mathlib.Core.Path.{_≡_, refl, sym, ap, _∙_}
+use mathlib.Core.Path.{_≡_, refl}
 use mathlib.Core.List.{List, [], _∷_}
 use Prim.Native.Nat.{ℕ, suc, _+_, _≤_}
 use native.Mathlib.Omega.{arith}
@@ -7,7 +7,7 @@ use lib.ListN.{length, drop, length-drop}
 use Rattle.lexis.specs.declared.bytes.Class.{Class}
 use Rattle.lexis.specs.declared.bytes.Class.the-variants.{Feed, Space, Open, Close, Visible, Refused}
 use Rattle.lexis.specs.Bytes.{classOf}
-use Rattle.semantics.specs.Trees.{Tree, word, form, Trees, end, _then_, nodes, nodesIn, Run, Reading, reading, first, later, push, ended, wrapped, withByte, readBytes, wordAt, restAt, stackAt}
+use Rattle.semantics.specs.Trees.{Tree, word, form, Trees, nodes, nodesIn, Run, Reading, first, later, push, ended, withByte, readBytes, wordAt, restAt, stackAt}
 use Rattle.reader.specs.Passes.{nodesAll}
 
 pub all-first : (k : List (Trees Run)) → nodesAll k ≡ nodesIn (first k) + nodesAll (later k)

@@ -1,16 +1,15 @@
 -- The ways past a part: the levels and what is left, at each word and bracket.
 use mathlib.Core.Path.{_≡_, refl, sym, ap, _∙_}
-use mathlib.Core.List.{List, [], _∷_}
+use mathlib.Core.List.{List}
 use Prim.Native.Nat.{ℕ, zero, suc, _+_, _*_, _-_, _<_, _≤_}
 use native.Mathlib.Numerals.{add-one}
 use native.Mathlib.Omega.{arith}
 use lib.ListN.{length}
-use Rattle.semantics.specs.Trees.{Tree, word, form, Trees, end, _then_, nodes, nodesIn, Run, first, later, push, wordAt, restAt, stackAt}
+use Rattle.semantics.specs.Trees.{Tree, word, form, Trees, end, _then_, nodes, nodesIn, Run, first, later, push, wordAt, stackAt}
 use Rattle.reader.specs.Passes.{nodesAll}
 use Rattle.reader.specs.declared.sight.Sight.{Sight}
 use Rattle.reader.specs.declared.sight.Sight.the-variants as sight
 use Rattle.reader.specs.Sights.{Looks, Ends}
-use Rattle.parts.specs.Parts.{Before}
 use Rattle.skips.specs.declared.Move.{Move}
 use Rattle.skips.specs.declared.Move.the-variants as move
 use Rattle.skips.specs.Skips.{levelsOut, outFrom, Moves, Past, Skips}

@@ -1,0 +1,6 @@
+pub mod Passing
+pub mod Controlling
+pub mod ArmLabels
+pub mod Ways
+pub mod Cases
+pub mod Bodies

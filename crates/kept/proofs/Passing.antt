@@ -1,0 +1,81 @@
+-- From part to part: what stands past a part, and what a part that was read has.
+use mathlib.Core.Path.{_≡_, refl, sym, ap, _∙_}
+use mathlib.Core.Bool.{Bool, true, false, _&&_}
+use mathlib.Core.List.{List}
+use mathlib.Core.Option.{some}
+use Prim.Native.Nat.{ℕ, _<_}
+use native.Mathlib.Omega.{arith}
+use lib.ListN.{length}
+use Rattle.semantics.specs.Environment.{Environment}
+use Rattle.semantics.specs.Names.{Reached, exprOf, targetOf}
+use Rattle.semantics.specs.Rules.{plainExpr, plainTarget}
+use Rattle.semantics.specs.Script as Script
+use Rattle.semantics.specs.Syntax as Syntax
+use Rattle.semantics.specs.Trees.{Tree, Trees, end, _then_, Run, first, stackAt}
+use Rattle.semantics.proofs.Inversion.{none-some, some-inj}
+use Rattle.shapes.specs.Parts.{rest, closed, exprIn, targetIn, stmtIn}
+use Rattle.shapes.proofs.Expressions.{expr-end, target-end}
+use Rattle.shapes.proofs.Statements.{stmt-end}
+use Rattle.skips.specs.Skips.{Skips}
+use Rattle.plain.specs.Plain.{plainFirst}
+use Rattle.plain.proofs.Exprs.{expr-plain, target-plain}
+use Rattle.tables.specs.declared.Mask.{Mask}
+use Rattle.statements.specs.Chains.{many}
+use Rattle.kept.specs.Walks.{Near}
+
+-- ---- options
+
+pub closed-is : {A P : Type 0} {us : Trees Run} {a b : A} → closed us a ≡ some b → (us ≡ end → a ≡ b → P) → P
+unfolding closed
+closed-is {us = end} h k = k refl (some-inj h)
+closed-is {us = t then ts} h k = none-some h
+
+-- ---- parts
+
+pub no-end : {X : Type 0} {t : Tree Run} {ts : Trees Run} → (t then ts) ≡ end → X
+no-end h = let z : _≡_ {A = ℕ} 0 1 = cc in absurd (omega arith)
+
+-- where there is a part
+pub split : {P : Type 0} (us : Trees Run) → (us ≡ end → ⊥) → ((t : Tree Run) (ts : Trees Run) → us ≡ (t then ts) → P) → P
+split end h k = absurd (h refl)
+split (t then ts) h k = k t ts refl
+
+pub expr-some : (d : ℕ) {us : Trees Run} {e : Syntax.Expr} → exprIn d us ≡ some e → us ≡ end → ⊥
+expr-some d h e = none-some (sym (expr-end d) ∙ ap (exprIn d) (sym e) ∙ h)
+
+pub target-some : (d : ℕ) {us : Trees Run} {g : Syntax.Target} → targetIn d us ≡ some g → us ≡ end → ⊥
+target-some d h e = none-some (sym (target-end d) ∙ ap (targetIn d) (sym e) ∙ h)
+
+pub stmt-some : (d n : ℕ) {us : Trees Run} {p : Syntax.Stmt × ℕ} → stmtIn d n us ≡ some p → us ≡ end → ⊥
+stmt-some d n h e = none-some (sym (stmt-end d n) ∙ ap (stmtIn d n) (sym e) ∙ h)
+
+module _ {s : List ℕ} {at q : ℕ} (S : Skips s at q) where
+  pub skip-then : (t : Tree Run) (ts : Trees Run) → first (stackAt s at) ≡ (t then ts) → first (stackAt s q) ≡ ts
+  skip-then t ts e = sym (ap rest (sym e ∙ S .says t ts e .here))
+
+  pub skip-rest : (first (stackAt s at) ≡ end → ⊥) → first (stackAt s q) ≡ rest (first (stackAt s at))
+  skip-rest h = split (first (stackAt s at)) h λ t ts e. skip-then t ts e ∙ sym (ap rest e)
+
+  -- one part fewer
+  pub skip-falls : (first (stackAt s at) ≡ end → ⊥) → many (first (stackAt s q)) < many (first (stackAt s at))
+  unfolding many
+  skip-falls h = split (first (stackAt s at)) h λ t ts e. rw (skip-then t ts e, e) (omega arith)
+
+-- ---- constants
+
+module _ {s l : List ℕ} {count newest : ℕ} {loops : Mask} {σ : Environment} {js : List ℕ} (N : Near s l count newest loops σ js) where
+  pub expr-first : (us : Trees Run) (x : Syntax.Expr) (e : Script.Expr) → exprIn 33 us ≡ some x → exprOf σ x ≡ some e → plainExpr e ≡ plainFirst us
+  expr-first us x e h k = expr-plain σ (N .held .scene .table) (length (N .held .bs)) (N .held .scene .fair) 33 us x e h k
+
+  pub target-first : (us : Trees Run) (g : Syntax.Target) (r : Reached) → targetIn 33 us ≡ some g → targetOf σ g ≡ some r → plainTarget (r .target) ≡ plainFirst us
+  target-first us g r h k = target-plain σ (N .held .scene .table) (length (N .held .bs)) (N .held .scene .fair) 33 us g r h k
+
+-- ---- Booleans
+
+pub and-one : (b : Bool) → (b && true) ≡ b
+and-one true = refl
+and-one false = refl
+
+pub and-none : (b : Bool) → (b && false) ≡ false
+and-none true = refl
+and-none false = refl

@@ -1,0 +1,34 @@
+// The rules of a body.
+use crate::walk::stmt;
+use crate::walk::stmts;
+use skips::skip;
+use stmtnodes::last::Next;
+use stmtnodes::last::next_at;
+use tables::no_loops;
+ghost use Rattle.kept.specs.Walks.{KeepsBody};
+
+// All parts of a body, from an offset to the closing bracket.
+pub fn body_kept(text: &[u8], work: &[u32], count: u32, newest: u32, at: usize) -> bool
+    ensures { λ r. ⌜ KeepsBody (now (text .entry)) (now (work .entry)) count newest at r ⌝ }
+{
+    let w = no_loops();
+    let mut p = at;
+    loop {
+        let e = next_at(text, p);
+        match e {
+            Next::Past(_) => {
+                return true;
+            }
+            Next::Handler(q) => {
+                return stmts(text, work, count, newest, w, 33, q);
+            }
+            Next::Stmt => {
+                if stmt(text, work, count, newest, w, 33, p) {
+                    p = skip(text, p);
+                } else {
+                    return false;
+                }
+            }
+        }
+    }
+}

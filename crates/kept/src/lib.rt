@@ -1,0 +1,5 @@
+// The rules of row 8 beside kinds, for a body whose form and names have been found: constants, labels, control variables.
+pub mod arm_parts;
+pub mod body;
+pub mod control;
+pub mod walk;
