@@ -46,6 +46,16 @@ pub(crate) fn stands(text: &[u8], p: usize, bytes: &[u8]) -> bool
     true
 }
 
+// Whether the line at p begins a case for one machine alone.
+fn heads_alone(text: &[u8], p: usize) -> bool
+    requires { ⌜ p ≤ length (now text) ⌝ }
+{
+    if stands(text, p, b"drive ") {
+        return true;
+    }
+    stands(text, p, b"mark ")
+}
+
 // Whether a case begins with the line at p.
 fn heads(text: &[u8], p: usize) -> bool
     requires { ⌜ p ≤ length (now text) ⌝ }
@@ -56,7 +66,10 @@ fn heads(text: &[u8], p: usize) -> bool
     if stands(text, p, b"cut ") {
         return true;
     }
-    stands(text, p, b"short ")
+    if stands(text, p, b"short ") {
+        return true;
+    }
+    heads_alone(text, p)
 }
 
 // The first line from p on that is the sign between a script and what is expected of it.

@@ -1,9 +1,10 @@
-// Runs the cases that stand on standard input and compares each answer with what is expected; prints the number and the first line of each
-// case that differs, and at the end how many there are and how many differ.
+// Runs the cases that stand on standard input through both machines and compares each answer with what is expected; prints the number and
+// the first line of each case that differs, and at the end how many there are and how many differ.
 //
-// A case is a heading, the script's lines, a line `=`, and the lines that `runscript` is to print. The heading is `run` and the budget; then,
-// if the store is lent, a value and a mark for each cell, else every cell is undefined. `cut` for `run`: the script's last line feed is left
-// out. `short` for `run`: the working list is one number too short.
+// A case is a heading, the script's lines, a line `=`, and the lines that `runscript` and `markscript` are to print. The heading is `run` and
+// the budget; then, if the store is lent, a value and a mark for each cell, else every cell is undefined. `cut` for `run`: the script's last
+// line feed is left out. `short` for `run`: the working list is one number too short. `drive` for `run`: the checker and the runner alone.
+// `mark` for `run`: the marking machine alone.
 mod headings;
 mod lines;
 
@@ -22,6 +23,8 @@ use lines::line_after;
 use lines::line_end;
 use lines::sign_from;
 use lines::stands;
+use marking::owning::mark_owners;
+use printing::markings::mark_scripted;
 use printing::reports::scripted;
 use writing::rows::refused;
 ghost use Prim.Native.Nat.{_≤_, _<_};
@@ -62,7 +65,32 @@ fn run_cells(
     )
 }
 
-// Writes the answer for a script; how many bytes that is.
+// The same by the marking machine.
+fn mark_cells(
+    text: &[u8],
+    work: &mut [u32],
+    names: &[usize],
+    values: &mut [i64],
+    marks: &mut [u8],
+    out: &mut [u8],
+    cells: usize,
+    numbers: usize,
+    budget: u32,
+) -> usize {
+    let v = lent(cells, numbers, numbers - numbers / 2, values.len());
+    let m = lent(cells, numbers, numbers / 2, marks.len());
+    mark_scripted(
+        out,
+        text,
+        work,
+        names,
+        &mut values[..v],
+        &mut marks[..m],
+        budget,
+    )
+}
+
+// Writes the checker's and the runner's answer for a script; how many bytes that is.
 fn answer(
     text: &[u8],
     work: &mut [u32],
@@ -77,6 +105,34 @@ fn answer(
     match c {
         Counted::Refused(number, line) => refused(out, 0, number, line),
         Counted::Cells(cells) => run_cells(
+            text,
+            work,
+            names,
+            values,
+            marks,
+            out,
+            cells,
+            numbers,
+            budget,
+        ),
+    }
+}
+
+// The same of the marking machine's answer.
+fn mark_answer(
+    text: &[u8],
+    work: &mut [u32],
+    names: &mut [usize],
+    values: &mut [i64],
+    marks: &mut [u8],
+    out: &mut [u8],
+    numbers: usize,
+    budget: u32,
+) -> usize {
+    let c = mark_owners(text, work, names);
+    match c {
+        Counted::Refused(number, line) => refused(out, 0, number, line),
+        Counted::Cells(cells) => mark_cells(
             text,
             work,
             names,
@@ -114,7 +170,7 @@ fn list_length(head: u8, n: usize) -> usize
     n
 }
 
-// Whether a script is answered as expected, by the heading's line.
+// Whether the checker and the runner answer a script as expected, by the heading's line.
 fn passes(heading: &[u8], script: &[u8], wanted: &[u8], work: &mut [u32], out: &mut [u8]) -> bool {
     let mut names = [0usize; 2048];
     let mut values = [0i64; 2048];
@@ -134,6 +190,49 @@ fn passes(heading: &[u8], script: &[u8], wanted: &[u8], work: &mut [u32], out: &
         budget_at(heading, p),
     );
     expected(out, n, wanted)
+}
+
+// The same of the marking machine.
+fn mark_passes(
+    heading: &[u8],
+    script: &[u8],
+    wanted: &[u8],
+    work: &mut [u32],
+    out: &mut [u8],
+) -> bool {
+    let mut names = [0usize; 2048];
+    let mut values = [0i64; 2048];
+    let mut marks = [0u8; 2048];
+    let p = word_after(heading, 0);
+    let q = word_after(heading, p);
+    let numbers = lend(heading, q, &mut values, &mut marks);
+    let k = list_length(byte_at(heading, 0), work.len());
+    let n = mark_answer(
+        script,
+        &mut work[..k],
+        &mut names,
+        &mut values,
+        &mut marks,
+        out,
+        numbers,
+        budget_at(heading, p),
+    );
+    expected(out, n, wanted)
+}
+
+// Whether a script is answered as expected by each machine that the heading names.
+fn agrees(heading: &[u8], script: &[u8], wanted: &[u8], work: &mut [u32], out: &mut [u8]) -> bool {
+    let h = byte_at(heading, 0);
+    if h == 109 {
+        return mark_passes(heading, script, wanted, work, out);
+    }
+    if passes(heading, script, wanted, work, out) {
+        if h == 100 {
+            return true;
+        }
+        return mark_passes(heading, script, wanted, work, out);
+    }
+    false
 }
 
 // The end of a script that stands from a up to b, by its heading's first byte.
@@ -157,7 +256,7 @@ fn passes_at(case: &[u8], a: usize, work: &mut [u32], out: &mut [u8]) -> bool
     if s < case.len() {
         let w = line_after(case, s);
         let b = script_end(byte_at(case, 0), a, s);
-        return passes(&case[..a], &case[a..b], &case[w..], work, out);
+        return agrees(&case[..a], &case[a..b], &case[w..], work, out);
     }
     false
 }

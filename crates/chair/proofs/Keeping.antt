@@ -31,7 +31,7 @@ due-k : {f : State → Answer} → Keeps f → (n : ℕ) (s : State) → cellsOf
 due-k h zero s = refl
 due-k h (suc n) s = h .by (state (s .store) n)
 
-step-k : {f : State → Answer} → Keeps f → Keeps (λ s. step s f)
+pub step-k : {f : State → Answer} → Keeps f → Keeps (λ s. step s f)
 step-k h = record { by = λ s. due-k h (s .left) s }
 
 onto-k : {f : State → Answer} → Keeps f → (o : Outcome) (s : State) → cellsOf (continued o s f .state) ≡ cellsOf s
@@ -40,7 +40,7 @@ onto-k h spent s = refl
 onto-k h sticks s = refl
 onto-k h (raised z n) s = refl
 
-then-k : {f g : State → Answer} → Keeps f → Keeps g → Keeps (λ s. andThen (f s) g)
+pub then-k : {f g : State → Answer} → Keeps f → Keeps g → Keeps (λ s. andThen (f s) g)
 then-k {f} hf hg = record { by = λ s. onto-k hg (f s .outcome) (f s .state) ∙ hf .by s }
 
 caught-k : {f : State → Answer} → Keeps f → (o : Outcome) (s : State) → cellsOf (caught o s f .state) ≡ cellsOf s
@@ -49,21 +49,21 @@ caught-k h spent s = refl
 caught-k h sticks s = refl
 caught-k h (raised z n) s = h .by s
 
-handled-k : {f g : State → Answer} (b : Bool) → Keeps f → Keeps g → Keeps (λ s. handled b (f s) g)
+pub handled-k : {f g : State → Answer} (b : Bool) → Keeps f → Keeps g → Keeps (λ s. handled b (f s) g)
 handled-k {f} true hf hg = record { by = λ s. caught-k hg (f s .outcome) (f s .state) ∙ hf .by s }
 handled-k false hf hg = hf
 
-branch-k : (q : Bool) {f g : State → Answer} → Keeps f → Keeps g → Keeps (branch q f g)
+pub branch-k : (q : Bool) {f g : State → Answer} → Keeps f → Keeps g → Keeps (branch q f g)
 branch-k true hf hg = hf
 branch-k false hf hg = hg
 
-answer-k : {o : Outcome} → Keeps (answer o)
+pub answer-k : {o : Outcome} → Keeps (answer o)
 answer-k = record { by = λ s. refl }
 
-raising-k : (z : ℤ) (n : ℕ) → Keeps (raising z n)
+pub raising-k : (z : ℤ) (n : ℕ) → Keeps (raising z n)
 raising-k z n = record { by = λ s. refl }
 
-after-k : {A : Type 0} (n : ℕ) (v : Store → Result A) {f : A → State → Answer} → ((a : A) → Keeps (f a)) → Keeps (λ s. withResult n s (v (s .store)) (λ a. f a s))
+pub after-k : {A : Type 0} (n : ℕ) (v : Store → Result A) {f : A → State → Answer} → ((a : A) → Keeps (f a)) → Keeps (λ s. withResult n s (v (s .store)) (λ a. f a s))
 after-k {A} n v {f} h = record { by = λ s. go s (v (s .store)) }
   where
     go : (s : State) (w : Result A) → cellsOf (withResult n s w (λ a. f a s) .state) ≡ cellsOf s
@@ -88,16 +88,16 @@ unfolding forRounds
 turns-k zero a h z = answer-k
 turns-k (suc j) a h z = step-k (then-k (control-k a z h) (turns-k j a h (sucℤ z)))
 
-counting-k : (n a : ℕ) (lo hi x y : ℤ) {body : State → Answer} → Keeps body → Keeps (countUp n a lo hi x y body)
+pub counting-k : (n a : ℕ) (lo hi x y : ℤ) {body : State → Answer} → Keeps body → Keeps (countUp n a lo hi x y body)
 unfolding countUp
 counting-k n a lo hi x y h =
     branch-k (leZ x y) (branch-k (inside lo hi x && inside lo hi y) (turns-k (natOf (sucℤ (y -ℤ x))) a h x) (raising-k _ n)) answer-k
 
-ordinal-k : (n a : ℕ) (lo hi z : ℤ) → Keeps (storeOrdinal n a lo hi z)
+pub ordinal-k : (n a : ℕ) (lo hi z : ℤ) → Keeps (storeOrdinal n a lo hi z)
 unfolding storeOrdinal
 ordinal-k n a lo hi z = branch-k (inside lo hi z) (record { by = λ s. length-sets (s .store .values) a (z ∷ []) }) (raising-k _ n)
 
-whole-k : (a : ℕ) (zs : List ℤ) → Keeps (storeWhole a zs)
+pub whole-k : (a : ℕ) (zs : List ℤ) → Keeps (storeWhole a zs)
 unfolding storeWhole
 whole-k a zs = record { by = λ s. length-sets (s .store .values) a zs }
 
@@ -105,7 +105,7 @@ passes-k : (n : ℕ) → Keeps (passOn n)
 unfolding passOn
 passes-k n = record { by = λ s. branch-k (isZero (s .store .latest)) (raising-k _ n) answer-k .by s }
 
-raises-k : (n : ℕ) (z : ℤ) → Keeps (raiseNumber n z)
+pub raises-k : (n : ℕ) (z : ℤ) → Keeps (raiseNumber n z)
 unfolding raiseNumber
 raises-k n z = branch-k (isZero z) (passes-k n) (raising-k z n)
 

@@ -31,7 +31,7 @@ use Rattle.drive.specs.Running.{endingOf, Reports, RunsLoaded, RunsCheck
 use Rattle.drive.proofs.Lending.{lent-store}
 use Rattle.drive.proofs.Texts.{verdict-same, part-long, zeros}
 
-no-row : (b c : Bool) → faultOf b c ≡ some 0 → ⊥
+pub no-row : (b c : Bool) → faultOf b c ≡ some 0 → ⊥
 unfolding faultOf
 no-row false c h = let e : _≡_ {A = ℕ} 10 0 = cc in omega arith
 no-row true false h = let e : _≡_ {A = ℕ} 11 0 = cc in omega arith

@@ -17,7 +17,7 @@ use Rattle.semantics.specs.Environment.{nothingDeclared}
 use Rattle.semantics.specs.LayoutSize.{sizeBodies, sizeSymbols, sizeTypes}
 use Rattle.semantics.specs.Lines.{linesOf, refusedAt}
 use Rattle.semantics.specs.Verdict as Meaning
-use Rattle.semantics.specs.Verdict.{Read, has, accepted, refused, opening, judge, judgeLines, strictly}
+use Rattle.semantics.specs.Verdict.{Fitting, Read, has, accepted, refused, opening, judge, judgeLines, strictly}
 use Rattle.semantics.specs.Whole.{verdictOf, workAfter}
 use Rattle.semantics.proofs.LayoutBodies.{no-bodies}
 use Rattle.semantics.proofs.LinesMeasured.{measured-start}
@@ -137,16 +137,20 @@ part-again l l′ n i e = let k = part-long l n i in rw (take-at l′ (drop n l)
 
 pub ruleset part-laws = (part-long, part-again)
 
-pub verdict-same : (s : List ℕ) (n : ℕ) → verdictOf s (min 16384 n) ≡ verdictOf s n
-unfolding verdictOf judge
-verdict-same s n = go (leb 16384 n) refl
+pub judged-same : (fitting : Fitting) (s : List ℕ) (n : ℕ) → judge fitting s (min 16384 n) ≡ judge fitting s n
+unfolding judge
+judged-same fitting s n = go (leb 16384 n) refl
   where
-    go : (b : Bool) → leb 16384 n ≡ b → judge strictly s (min 16384 n) ≡ judge strictly s n
+    go : (b : Bool) → leb 16384 n ≡ b → judge fitting s (min 16384 n) ≡ judge fitting s n
     go true e = let i : min 16384 n ≡ 16384 = min-eq-left (leb-true 16384 n e) in rw (i, e) refl
     go false e = let i : n < 16384 = leb-false 16384 n e in let k : min 16384 n ≡ n = omega arith in rw k refl
 
+pub verdict-same : (s : List ℕ) (n : ℕ) → verdictOf s (min 16384 n) ≡ verdictOf s n
+unfolding verdictOf
+verdict-same s n = judged-same strictly s n
+
 -- and the others stay
-after-same : (l l′ : List ℕ) (n : ℕ) → n ≡ min 16384 (length l) → length l′ ≡ length (take n l) → workAfter (l′ ++ drop n l) ≡ workAfter l
+pub after-same : (l l′ : List ℕ) (n : ℕ) → n ≡ min 16384 (length l) → length l′ ≡ length (take n l) → workAfter (l′ ++ drop n l) ≡ workAfter l
 unfolding workAfter
 after-same l l′ n i e = go (leb 16384 (length l)) refl
   where

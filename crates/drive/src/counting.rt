@@ -29,7 +29,7 @@ fn count_of(c: Checked) -> Counted
 }
 
 // The names of the cells' variables, as far as there is room.
-fn name_cells(work: &[u32], types: &[u32], st: State, names: &mut [usize])
+pub fn name_cells(work: &[u32], types: &[u32], st: State, names: &mut [usize])
     ensures { λ r. ⌜ Names (now (work .entry)) (now (types .entry)) st (now (names .exit)) ⌝ }
 {
     let mut i = 0;

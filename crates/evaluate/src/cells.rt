@@ -1,4 +1,4 @@
-// The store as words: a cell holds its value, or the word of an Undefined_Error. Above the cells stand what else a run needs.
+// The store as words: a cell holds its value, or the word of an Undefined_Error; the last exception stands above the cells.
 use crate::words::GREATEST;
 use crate::words::UNDEFINED;
 use crate::words::natural;

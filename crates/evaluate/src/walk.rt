@@ -21,7 +21,7 @@ ghost use Rattle.evaluate.specs.Words.{codeIn};
 ghost use Rattle.evaluate.specs.Walks.{Evaluates, Places, Gathers};
 
 // The value of the expression at pc: the most common ones here, in ways that need no stack. Past 16,376 a node may reach over
-// the code's end; below it the compiler needs no such test.
+// the code's end; up to it the compiler drops the bounds tests.
 pub fn eval(code: &[u32; 16384], store: &[i64; 2056], pc: u32, depth: u32) -> i64
     ensures { λ r. ⌜ Evaluates (codeIn (now (code .entry))) (now (store .entry)) pc depth r ⌝ }
 {

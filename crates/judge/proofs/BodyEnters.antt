@@ -158,7 +158,7 @@ taken-name : (σ : Environment) (w : Name) (m : NameSort) → find (σ .names) w
 unfolding newNames distinct noneKnown isKnown listedIn
 taken-name σ w m h = rw (h, isKnown) refl
 
-new-name : (σ : Environment) (bs : List ℕ) (x : Meaning) (w : Name) → Told σ bs x (find (σ .names) w) → newFault Clear x ≡ cond (newNames σ (w ∷ [])) Clear Unnamed
+pub new-name : (σ : Environment) (bs : List ℕ) (x : Meaning) (w : Name) → Told σ bs x (find (σ .names) w) → newFault Clear x ≡ cond (newNames σ (w ∷ [])) Clear Unnamed
 new-name σ bs x w T = go (find (σ .names) w) refl x T
   where
     go : (o : Option NameSort) → find (σ .names) w ≡ o → (x : Meaning) → Told σ bs x o → newFault Clear x ≡ cond (newNames σ (w ∷ [])) Clear Unnamed
@@ -172,7 +172,7 @@ proc-open : (k : Declared) (w : Name) (y : Body) (n nn : ℕ) → declareLine k 
 unfolding declareLine
 proc-open k w y n nn = refl
 
-name-first : {A B : Type 0} (o : Option A) (a : A) (f : A → Option B) → o ≡ some a → (o >>= f) ≡ f a
+pub name-first : {A B : Type 0} (o : Option A) (a : A) (f : A → Option B) → o ≡ some a → (o >>= f) ≡ f a
 unfolding _>>=_
 name-first o a f h = rw h refl
 
@@ -180,11 +180,11 @@ last-proc : (w : Name) (o : Option (Syntax.Body × ℕ)) (p : Syntax.Body × ℕ
 unfolding _>>=_
 last-proc w o p h = rw h refl
 
-known-or : (b : Bool) (f : Fault) → lowest f (cond b Clear Unnamed) ≡ cond b f (lowest f Unnamed)
+pub known-or : (b : Bool) (f : Fault) → lowest f (cond b Clear Unnamed) ≡ cond b f (lowest f Unnamed)
 known-or true f = lowest-clear f
 known-or false f = refl
 
-below-32 : (n : ℕ) → ltb n 32 ≡ leb (suc n) 32
+pub below-32 : (n : ℕ) → ltb n 32 ≡ leb (suc n) 32
 below-32 n = go (ltb n 32) refl
   where
     go : (b : Bool) → ltb n 32 ≡ b → b ≡ leb (suc n) 32

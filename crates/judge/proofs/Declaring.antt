@@ -52,7 +52,7 @@ unfolding entryOf strictly
 no-body σ f (a-type {w} {t}) e h = bind-some h λ d hd i. rw (← some-inj i) refl
 no-body σ f (a-var {w} {t}) e h = bind-some h λ n hn i. given-some i λ _ j. rw (← j) refl
 
-not-last : (σ : Environment) (k : Declared) (f : LineForm) → Plain f → (e : Entry) → entryOf σ f ≡ some e → (n nn : ℕ) → declareLine k e n nn .ended ≡ false
+pub not-last : (σ : Environment) (k : Declared) (f : LineForm) → Plain f → (e : Entry) → entryOf σ f ≡ some e → (n nn : ℕ) → declareLine k e n nn .ended ≡ false
 unfolding entryOf declareLine
 not-last σ k f (a-type {w} {t}) e h n nn = bind-some h λ d hd i. rw (← some-inj i) refl
 not-last σ k f (a-var {w} {t}) e h n nn = bind-some h λ m hm i. given-some i λ _ j. rw (← j) refl
@@ -103,7 +103,7 @@ none-first : {A B : Type 0} (o : Option A) (f : A → Option B) → o ≡ none �
 unfolding _>>=_
 none-first o f h = rw h refl
 
-entry-there : (k : Declared) (o : Option LineForm) (e : Entry) → entryStaged k o ≡ fits e → (f : LineForm) × (o ≡ some f) × (entryOf (k .env) f ≡ some e)
+pub entry-there : (k : Declared) (o : Option LineForm) (e : Entry) → entryStaged k o ≡ fits e → (f : LineForm) × (o ≡ some f) × (entryOf (k .env) f ≡ some e)
 unfolding entryStaged
 entry-there k o e h = let x = fits-inv (entryOf (k .env)) (keepsRules (k .env .types)) some o e h in (x .0, x .2, rw (some-inj (x .4)) at (x .3))
 
@@ -202,15 +202,15 @@ type-fixed = record {
   plain-is = λ n ts p h. bind-some h λ q hq i. bind-some i λ w hw j. bind-some j λ t ht e. rw (← some-inj e) a-type;
 }
 
-head-first : (h : Forms.LineHead) → Fixed h → (n : ℕ) (us : Trees Run) → (headIn h n us >>= λ p. some (p .0)) ≡ lineOf h 0 us
+pub head-first : (h : Forms.LineHead) → Fixed h → (n : ℕ) (us : Trees Run) → (headIn h n us >>= λ p. some (p .0)) ≡ lineOf h 0 us
 unfolding headIn lineOf
 head-first h F n us = bind-assoc (wordedAll us) (λ vs. lineBy h n (list vs)) (λ p. some (p .0)) ∙ bind-cong (wordedAll us) (λ vs. F .first-is n 0 (list vs))
 
-head-last : (h : Forms.LineHead) → Fixed h → (n : ℕ) (us : Trees Run) (p : LineForm × ℕ) → headIn h n us ≡ some p → p .1 ≡ n
+pub head-last : (h : Forms.LineHead) → Fixed h → (n : ℕ) (us : Trees Run) (p : LineForm × ℕ) → headIn h n us ≡ some p → p .1 ≡ n
 unfolding headIn
 head-last h F n us p e = bind-some e λ vs hv i. F .last-is n (list vs) p i
 
-head-plain : (h : Forms.LineHead) → Fixed h → (us : Trees Run) (f : LineForm) → lineOf h 0 us ≡ some f → Plain f
+pub head-plain : (h : Forms.LineHead) → Fixed h → (us : Trees Run) (f : LineForm) → lineOf h 0 us ≡ some f → Plain f
 unfolding lineOf
 head-plain h F us f e = bind-some e λ vs hv i. bind-some i λ p hp j. rw (← some-inj j) (F .plain-is 0 (list vs) p hp)
 

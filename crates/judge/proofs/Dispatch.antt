@@ -56,11 +56,11 @@ use Rattle.judge.proofs.Stepping.{line-answer}
 
 -- ---- counts
 
-less-nodes : (us vs : Trees Run) (w : Run) → us ≡ (word w then vs) → (m : ℕ) → m + nodesIn us ≤ 65535 → m + nodesIn vs ≤ 65535
+pub less-nodes : (us vs : Trees Run) (w : Run) → us ≡ (word w then vs) → (m : ℕ) → m + nodesIn us ≤ 65535 → m + nodesIn vs ≤ 65535
 unfolding nodes
 less-nodes us vs w h m i = let j : nodesIn us ≡ nodesIn (word w then vs) = ap (λ (ts : Trees Run). nodesIn ts) h in omega arith
 
-line-nodes : (us vs : Trees Run) (w : Run) → us ≡ (word w then vs) → (n : ℕ) → n ≡ nodes (form us) → nodesIn vs ≤ n
+pub line-nodes : (us vs : Trees Run) (w : Run) → us ≡ (word w then vs) → (n : ℕ) → n ≡ nodes (form us) → nodesIn vs ≤ n
 unfolding nodes
 line-nodes us vs w h n e = let j : n ≡ nodes (form (word w then vs)) = e ∙ ap (λ (ts : Trees Run). nodes (form ts)) h in omega arith
 

@@ -48,7 +48,7 @@ none-judged : {B : Type 0} (k : Declared) (f : LineForm × ℕ → Judged B) (g 
 unfolding wholeStaged staged judgedBy orBad _>>=_ Base._>>=_
 none-judged k f g = refl
 
-must-open : {B : Type 0} (b : Bool) → b ≡ false → (j : Judged B) → (must 6 (not b) >>= λ _. j) ≡ j
+pub must-open : {B : Type 0} (b : Bool) → b ≡ false → (j : Judged B) → (must 6 (not b) >>= λ _. j) ≡ j
 unfolding must _>>=_
 must-open b h j = rw h refl
 

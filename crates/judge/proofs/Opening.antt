@@ -10,7 +10,7 @@ use Rattle.lexis.specs.declared.words.Word as Kind
 use Rattle.semantics.specs.Environment.{Declared}
 use Rattle.semantics.specs.Lines.{Line}
 use Rattle.semantics.specs.Trees.{Tree, word, form, Trees, end, _then_, Run, nodes, formOf, first, later, before, wordAt, stackAt}
-use Rattle.semantics.specs.Verdict.{Read, Judged, bad, _>>=_, orBad, must, strictly, judgeLine}
+use Rattle.semantics.specs.Verdict.{Read, Fitting, Judged, bad, _>>=_, orBad, must, strictly, judgeLine}
 use Rattle.semantics.specs.Words.{Word, worded}
 use Rattle.semantics.proofs.TextsAgree.{stage-on}
 use Rattle.reader.specs.Passes.{lineAt, balancedFrom, knownTree, knownAll, nodesAll}
@@ -25,34 +25,34 @@ use Rattle.judge.specs.Forms.{LineIs, JudgesForm, KnownLine, JudgesKnown
 use Rattle.judge.specs.Judging.{Standing, JudgedBy, JudgesLine}
 use Rattle.judge.proofs.Counts.{nodes-short}
 
--- ---- a line's refusals 4 and 5
+-- ---- a line's refusals 4 and 5, however kinds are judged
 
-fourth : (k : Declared) (l : Line) → formOf l ≡ none → judgeLine strictly k l ≡ bad 4
+pub fourth : (fitting : Fitting) (k : Declared) (l : Line) → formOf l ≡ none → judgeLine fitting k l ≡ bad 4
 unfolding judgeLine orBad _>>=_
-fourth k l h = rw h refl
+fourth fitting k l h = rw h refl
 
-fifth : (k : Declared) (l : Line) (t : Tree Run) → formOf l ≡ some t → worded t ≡ none → judgeLine strictly k l ≡ bad 5
+pub fifth : (fitting : Fitting) (k : Declared) (l : Line) (t : Tree Run) → formOf l ≡ some t → worded t ≡ none → judgeLine fitting k l ≡ bad 5
 unfolding judgeLine orBad _>>=_
-fifth k l t h i = rw (h, i) refl
+fifth fitting k l t h i = rw (h, i) refl
 
 must-shut : {B : Type 0} (b : Bool) → b ≡ true → (j : Judged B) → (must 6 (not b) >>= λ _. j) ≡ bad 6
 unfolding must _>>=_
 must-shut b h j = rw h refl
 
-sixth : (k : Declared) (l : Line) (t : Tree Run) (v : Tree Word) → formOf l ≡ some t → worded t ≡ some v → k .ended ≡ true → judgeLine strictly k l ≡ bad 6
+pub sixth : (fitting : Fitting) (k : Declared) (l : Line) (t : Tree Run) (v : Tree Word) → formOf l ≡ some t → worded t ≡ some v → k .ended ≡ true → judgeLine fitting k l ≡ bad 6
 unfolding judgeLine
-sixth k l t v h i e = rw (h, stage-on, i, stage-on) (must-shut (k .ended) e _)
+sixth fitting k l t v h i e = rw (h, stage-on, i, stage-on) (must-shut (k .ended) e _)
 
 module _ (s l ts : List ℕ) (kn : Known) (at : ℕ) (j : Judgement) (b : Bool) (e : b ≡ balancedFrom (drop at s) before) where
   pub line-unbalanced : b ≡ false → j ≡ refusedJudgement 4 kn → JudgesLine s l ts kn at j l ts
-  line-unbalanced h m = rw m (record { says = λ r bs S. rw (fourth (r .known) (lineAt (drop at s)) (unformed s at (sym e ∙ h))) (refl, omega arith) })
+  line-unbalanced h m = rw m (record { says = λ r bs S. rw (fourth strictly (r .known) (lineAt (drop at s)) (unformed s at (sym e ∙ h))) (refl, omega arith) })
 
   module _ (h : b ≡ true) (c : Bool) (k : c ≡ knownAll (stackAt s at)) where
     pub line-unknown : c ≡ false → j ≡ refusedJudgement 5 kn → JudgesLine s l ts kn at j l ts
     line-unknown i m = rw m (record {
       says = λ r bs S.
           let F = formed s at (sym e ∙ h) in
-          rw (fifth (r .known) (lineAt (drop at s)) (form (F .0)) (F .1) (worded-none (form (F .0)) (sym (ap knownAll (F .2) ∙ line-known (F .0)) ∙ sym k ∙ i))) (refl, omega arith);
+          rw (fifth strictly (r .known) (lineAt (drop at s)) (form (F .0)) (F .1) (worded-none (form (F .0)) (sym (ap knownAll (F .2) ∙ line-known (F .0)) ∙ sym k ∙ i))) (refl, omega arith);
     })
 
     pub line-known-so : c ≡ true → (l′ ts′ : List ℕ) → JudgesKnown s l ts kn at j l′ ts′ → JudgesLine s l ts kn at j l′ ts′
@@ -68,18 +68,18 @@ module _ (s l ts : List ℕ) (kn : Known) (at : ℕ) (j : Judgement) where
     says = λ r bs S K.
         let F = formed s at (K .balanced) in
         let R = worded-some (form (F .0)) (sym (ap knownAll (F .2) ∙ line-known (F .0)) ∙ K .known) in
-        rw (sixth (r .known) (lineAt (drop at s)) (form (F .0)) (R .0) (F .1) (R .1) (sym (S .ended-is) ∙ h)) (refl, omega arith);
+        rw (sixth strictly (r .known) (lineAt (drop at s)) (form (F .0)) (R .0) (F .1) (R .1) (sym (S .ended-is) ∙ h)) (refl, omega arith);
   })
 
   module _ (x : Part) (c : Stands s at x) where
-    no-leaf : (p q : ℕ) (w : Kind.Word) → x ≡ part.Leaf w p q → KnownLine s at → ⊥
+    pub no-leaf : (p q : ℕ) (w : Kind.Word) → x ≡ part.Leaf w p q → KnownLine s at → ⊥
     no-leaf p q w h K =
         let F = formed s at (K .balanced) in
         let Z = rw h at (c .says) in
         let y : (form (F .0) then end) ≡ (word (wordAt s p) then first (stackAt s q)) = sym (ap first (F .2)) ∙ Z .0 .leaf .here in
         let z : _≡_ {A = ℕ} 0 1 = cc in omega arith
 
-    no-shut : (q : ℕ) → x ≡ part.Shut q → KnownLine s at → ⊥
+    pub no-shut : (q : ℕ) → x ≡ part.Shut q → KnownLine s at → ⊥
     no-shut q h K =
         let F = formed s at (K .balanced) in
         let Z = rw h at (c .says) in

@@ -42,14 +42,14 @@ use Rattle.judge.specs.Whole.{lineIn, wholeStaged}
 use Rattle.judge.proofs.Lines.{ninth, line-judged, line-in}
 use Rattle.judgements.proofs.Rows.{fits-nodes, good-nodes}
 
-declared-stmts : (k : Declared) (e : Entry) (s n : ℕ) → declareLine k e s n .stmts ≡ s
+pub declared-stmts : (k : Declared) (e : Entry) (s n : ℕ) → declareLine k e s n .stmts ≡ s
 unfolding declareLine
 declared-stmts k (newType w d) s n = refl
 declared-stmts k (newVar w t) s n = refl
 declared-stmts k (newProc w b) s n = refl
 declared-stmts k (newMain b) s n = refl
 
-declared-count : (k : Declared) (e : Entry) (s n : ℕ) → declareLine k e s n .nodes ≡ n
+pub declared-count : (k : Declared) (e : Entry) (s n : ℕ) → declareLine k e s n .nodes ≡ n
 unfolding declareLine
 declared-count k (newType w d) s n = refl
 declared-count k (newVar w t) s n = refl

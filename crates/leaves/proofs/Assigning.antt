@@ -183,7 +183,7 @@ module _ (ws : List ℤ) (s : ℕ) (m : Store) (x : ℤ) (n : ℕ) (S : Stands w
       go false true g = absurd (subst T (sym g) tt)
       go true false g = absurd (subst T g tt)
 
-  raise-ends : Ends (raiseNumber n x (state m s)) (numberIn x n ws) r
+  pub raise-ends : Ends (raiseNumber n x (state m s)) (numberIn x n ws) r
   unfolding raiseNumber numberIn pick
   raise-ends = go (isZero x)
     where

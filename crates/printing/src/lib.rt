@@ -1,2 +1,3 @@
-// What `runscript` prints, written into lent bytes.
+// What `runscript` and `markscript` print, written into lent bytes.
+pub mod markings;
 pub mod reports;

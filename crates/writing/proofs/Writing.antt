@@ -195,6 +195,10 @@ module _ (l : List ℕ) (p q : ℕ) (k : List ℕ) (r : ℕ) (m : List ℕ) wher
   unfolding row bytes
   normal-is n f g = puts-then (110 ∷ 111 ∷ 114 ∷ 109 ∷ 97 ∷ 108 ∷ 32 ∷ []) (row (decimalOf n ∷ [])) l p q k r m f g
 
+  pub stuck-is : (n : ℕ) → Puts (115 ∷ 116 ∷ 117 ∷ 99 ∷ 107 ∷ 32 ∷ []) l p q k → Puts (row (decimalOf n ∷ [])) k q r m → Puts (row (bytes "stuck" ∷ decimalOf n ∷ [])) l p r m
+  unfolding row bytes
+  stuck-is n f g = puts-then (115 ∷ 116 ∷ 117 ∷ 99 ∷ 107 ∷ 32 ∷ []) (row (decimalOf n ∷ [])) l p q k r m f g
+
   pub spent-is : (n : ℕ) → Puts (115 ∷ 112 ∷ 101 ∷ 110 ∷ 116 ∷ 32 ∷ []) l p q k → Puts (row (decimalOf n ∷ [])) k q r m → Puts (row (bytes "spent" ∷ decimalOf n ∷ [])) l p r m
   unfolding row bytes
   spent-is n f g = puts-then (115 ∷ 112 ∷ 101 ∷ 110 ∷ 116 ∷ 32 ∷ []) (row (decimalOf n ∷ [])) l p q k r m f g

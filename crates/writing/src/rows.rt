@@ -46,6 +46,14 @@ pub fn spent(out: &mut [u8], at: usize, steps: u32) -> usize
     ended(out, p, steps as u64)
 }
 
+// The row of a stuck run.
+pub fn stuck(out: &mut [u8], at: usize, steps: u32) -> usize
+    ensures { λ r. ⌜ Puts (row (bytes "stuck" ∷ decimalOf steps ∷ [])) (now (out .entry)) at r (now (out .exit)) ⌝ }
+{
+    let p = put_all(out, at, b"stuck ");
+    ended(out, p, steps as u64)
+}
+
 // The statement of an exception and the steps.
 fn place_and_steps(out: &mut [u8], at: usize, place: u32, steps: u32) -> usize
     ensures { λ r. ⌜ Puts (32 ∷ row (decimalOf place ∷ decimalOf steps ∷ [])) (now (out .entry)) at r (now (out .exit)) ⌝ }

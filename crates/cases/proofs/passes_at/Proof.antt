@@ -7,7 +7,7 @@ use Rattle.cases.proofs.passes_at.Lts as lts
 use Rattle.cases.proofs.headings.byte_at.Reads as byte-at-reads
 use Rattle.cases.proofs.lines.line_after.Reads as line-after-reads
 use Rattle.cases.proofs.lines.sign_from.Reads as sign-from-reads
-use Rattle.cases.proofs.passes.Reads as passes-reads
+use Rattle.cases.proofs.agrees.Reads as agrees-reads
 use Rattle.cases.proofs.script_end.Reads as script-end-reads
 
 -- src/main.rt:110:9
@@ -27,36 +27,36 @@ script-end-requires : tie.Need-script-end-requires
 script-end-requires c κs = search needs
 
 -- src/main.rt:114:23
-slice-aggregate-passes : tie.Need-slice-aggregate-passes
-slice-aggregate-passes c = search (part-long, needs)
+slice-aggregate-agrees : tie.Need-slice-aggregate-agrees
+slice-aggregate-agrees c = search (part-long, needs)
 
 -- src/main.rt:114:35
-sub-passes : tie.Need-sub-passes
-sub-passes c = search needs
+sub-agrees : tie.Need-sub-agrees
+sub-agrees c = search needs
 
 -- src/main.rt:114:35
-part-passes-start : tie.Need-part-passes-start
-part-passes-start c = search needs
+part-agrees-start : tie.Need-part-agrees-start
+part-agrees-start c = search needs
 
 -- src/main.rt:114:35
-part-passes-end : tie.Need-part-passes-end
-part-passes-end c = search needs
+part-agrees-end : tie.Need-part-agrees-end
+part-agrees-end c = search needs
 
 -- src/main.rt:114:48
-sub-passes-2 : tie.Need-sub-passes-2
-sub-passes-2 c = search needs
+sub-agrees-2 : tie.Need-sub-agrees-2
+sub-agrees-2 c = search needs
 
 -- src/main.rt:114:48
-part-passes-start-2 : tie.Need-part-passes-start-2
-part-passes-start-2 c = search needs
+part-agrees-start-2 : tie.Need-part-agrees-start-2
+part-agrees-start-2 c = search needs
 
 -- src/main.rt:114:48
-part-passes-end-2 : tie.Need-part-passes-end-2
-part-passes-end-2 c = search needs
+part-agrees-end-2 : tie.Need-part-agrees-end-2
+part-agrees-end-2 c = search needs
 
 -- src/main.rt:114:9
-passes-requires : tie.Need-passes-requires
-passes-requires c κs = search needs
+agrees-requires : tie.Need-agrees-requires
+agrees-requires c κs = search needs
 
 -- src/main.rt:114:9
 same-length : tie.Need-same-length
@@ -82,14 +82,14 @@ passes-at-spec =
     line-after-requires
     byte-at-requires
     script-end-requires
-    slice-aggregate-passes
-    sub-passes
-    part-passes-start
-    part-passes-end
-    sub-passes-2
-    part-passes-start-2
-    part-passes-end-2
-    passes-requires
+    slice-aggregate-agrees
+    sub-agrees
+    part-agrees-start
+    part-agrees-end
+    sub-agrees-2
+    part-agrees-start-2
+    part-agrees-end-2
+    agrees-requires
     same-length
     same-length-2
     returns

@@ -1,0 +1,56 @@
+-- A body's fault with the kinds left out, from the checker's walk and the other rules.
+use mathlib.Core.Path.{_≡_, refl, ap, _∙_}
+use mathlib.Core.Bool.{Bool, true, false}
+use mathlib.Core.List.{List}
+use mathlib.Core.Option.{Option, none, some}
+use Prim.Native.Nat.{ℕ}
+use lib.ListN.{length}
+use Rattle.semantics.specs.Base.{_>>=_}
+use Rattle.semantics.specs.Code.{BodyCode}
+use Rattle.semantics.specs.Elaborate.{elabBody}
+use Rattle.semantics.specs.Environment.{Environment}
+use Rattle.semantics.specs.Names.{bodyOf}
+use Rattle.semantics.specs.Rules.{keptBody}
+use Rattle.semantics.specs.Script.{Body}
+use Rattle.semantics.specs.Stages.{ruled, named, staged, bodyStaged}
+use Rattle.semantics.specs.Syntax as Syntax
+use Rattle.semantics.specs.Trees.{first, stackAt}
+use Rattle.shapes.specs.Parts.{bodyIn}
+use Rattle.tables.specs.declared.Fault.{Fault}
+use Rattle.parts.specs.declared.Got.{Got}
+use Rattle.parts.specs.Got.{faultOf}
+use Rattle.statements.specs.Walks.{bare, GivesBody}
+use Rattle.kept.specs.Walks.{KeepsBody}
+use Rattle.judgements.specs.declared.Known.{Known}
+use Rattle.loosely.specs.Easing.{easedBy, looseBody, GivesEased}
+
+-- the checker's fault is that of the rules, or of the kinds alone
+ruled-eased : (t kept : Bool) (u : Option BodyCode) (b : Body) → kept ≡ t → easedBy (faultOf (ruled t u)) kept ≡ faultOf (ruled t (some b))
+unfolding ruled
+ruled-eased false kept u b e = rw e refl
+ruled-eased true kept none b e = rw e refl
+ruled-eased true kept (some c) b e = refl
+
+eased-is : (σ : Environment) (o : Option (Syntax.Body × ℕ)) (kept : Bool) → ((p : Syntax.Body × ℕ) (b : Body) → o ≡ some p → bodyOf σ (p .0) ≡ some b → kept ≡ keptBody b)
+    → easedBy (faultOf (bodyStaged σ (bare o))) kept ≡ faultOf (looseBody σ (bare o))
+unfolding bodyStaged looseBody staged named _>>=_
+eased-is σ none kept h = refl
+eased-is σ (some p) kept h = go (bodyOf σ (p .0)) refl
+  where
+    go : (u : Option Body) → bodyOf σ (p .0) ≡ u → easedBy (faultOf (named u keptBody (elabBody (σ .types) (σ .vars)))) kept ≡ faultOf (named u keptBody some)
+    go none e = refl
+    go (some b) e = ruled-eased (keptBody b) kept (elabBody (σ .types) (σ .vars) b) b (h p b refl e)
+
+pub body-eased : (s l ts : List ℕ) (kn : Known) (at : ℕ) (kept : Bool) (g : Got) (l′ : List ℕ) (f : Fault) → KeepsBody s l (kn .state .count) (kn .state .newest) at kept
+    → GivesBody s l ts (kn .state .count) (kn .state .newest) (kn .state .procs) (kn .stmts) at (kn .state .top) g l′ → f ≡ easedBy (g .fault) kept → length l′ ≡ length l
+    → GivesEased s l ts kn at (record { fault = f; stmts = g .kind }) l′
+body-eased s l ts kn at kept g l′ f K B e h = record {
+  keeps = B .leaves .keeps;
+  long = h;
+  says = λ σ bs S v n.
+      let T = B .says σ bs S v n in
+      record {
+        fault-is = e ∙ ap (λ (x : Fault). easedBy x kept) (T .fault-is) ∙ eased-is σ (bodyIn (kn .stmts) (first (stackAt s at))) kept (λ p b h i. K .says ts (kn .state .top) σ bs S v (kn .stmts) p b h i);
+        number = T .number;
+      };
+}

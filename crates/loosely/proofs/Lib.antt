@@ -1,0 +1,9 @@
+pub mod Easings
+pub mod Notes
+pub mod Keeping
+pub mod Staging
+pub mod BodyLines
+pub mod Declarations
+pub mod Rows
+pub mod Dispatch
+pub mod Driving

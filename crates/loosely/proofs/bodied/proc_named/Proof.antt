@@ -1,0 +1,56 @@
+use Rattle.loosely.proofs.Dispatch.{proc-enters}
+use borrow.Author.Needs.{needs}
+use Rattle.loosely.proofs.bodied.proc_named.Statement.{statement}
+use Rattle.loosely.proofs.bodied.proc_named.Tie as tie
+use Rattle.loosely.proofs.bodied.proc_named.Reads as reads
+use Rattle.loosely.proofs.bodied.proc_named.Lts as lts
+use Rattle.declarations.proofs.named_fault.Reads as named-fault-reads
+use Rattle.loosely.proofs.bodied.proc_end.Reads as proc-end-reads
+use Rattle.loosely.proofs.easing.loose_body.Reads as loose-body-reads
+use Rattle.loosely.proofs.noting.note_body.Reads as note-body-reads
+use Rattle.parts.proofs.lowest.Reads as lowest-reads
+
+-- src/bodied.rt:131:9
+named-fault-requires : tie.Need-named-fault-requires
+named-fault-requires c κs = search needs
+
+-- src/bodied.rt:132:9
+loose-body-requires : tie.Need-loose-body-requires
+loose-body-requires c κs = search needs
+
+-- src/bodied.rt:134:5
+note-body-requires : tie.Need-note-body-requires
+note-body-requires c κs = search needs
+
+-- src/bodied.rt:135:24
+lowest-requires : tie.Need-lowest-requires
+lowest-requires c κs = search needs
+
+-- src/bodied.rt:135:5
+proc-end-requires : tie.Need-proc-end-requires
+proc-end-requires c κs = search needs
+
+-- src/bodied.rt:119:1
+same-length : tie.Need-same-length
+same-length c = search needs
+
+-- src/bodied.rt:119:1
+same-length-2 : tie.Need-same-length-2
+same-length-2 c = search needs
+
+-- src/bodied.rt:119:1
+returns : tie.Need-returns
+returns c = search proc-enters
+
+pub proc-named-spec : {M : Type 1} → statement M
+proc-named-spec =
+    tie.close
+    (tie.spec
+    named-fault-requires
+    loose-body-requires
+    note-body-requires
+    lowest-requires
+    proc-end-requires
+    same-length
+    same-length-2
+    returns)

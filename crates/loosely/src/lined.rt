@@ -1,0 +1,125 @@
+// A line at an offset: rows 4 to 9, the kinds of bodies left out.
+use crate::bodied::faulty;
+use crate::bodied::main_line;
+use crate::bodied::proc_line;
+use declarations::var_line;
+use judgements::Entered;
+use judgements::Judgement;
+use judgements::Known;
+use judgements::judging::declared;
+use judgements::judging::judge;
+use judgements::judging::refused;
+use lexis::words::Word;
+use parts::Part;
+use parts::part_at;
+use reader::lines::balance;
+use reader::lines::count_nodes;
+use reader::lines::words_known;
+use shapes::LineHead;
+use shapes::line_head;
+use tables::Fault;
+use typeforms::type_line;
+ghost use Rattle.loosely.specs.Entering.{LooseEnters};
+ghost use Rattle.loosely.specs.Judging.{LooseHeaded, LooseForm, LooseKnown, JudgesLoosely};
+
+// The parts after the head word.
+fn loose_enter(
+    text: &[u8],
+    work: &mut [u32],
+    types: &mut [u32],
+    bodies: &mut [u32],
+    kn: Known,
+    head: LineHead,
+    at: usize,
+) -> Entered
+    ensures { λ r. ⌜ LooseEnters (now (text .entry)) (now (work .entry)) (now (types .entry)) (now (bodies .entry)) kn head at r (now (work .exit)) (now (types .exit)) (now (bodies .exit)) ⌝ }
+{
+    let st = kn.state;
+    match head {
+        LineHead::Type => declared(kn, type_line(text, work, types, st, at)),
+        LineHead::Var => declared(kn, var_line(text, work, types, st, at)),
+        LineHead::Proc => proc_line(text, work, types, bodies, kn, at),
+        LineHead::Main => main_line(text, work, types, bodies, kn, at),
+        LineHead::Nothing => faulty(kn, Fault::Form),
+    }
+}
+
+// The parts after the head word w, of a line of n brackets and words.
+fn loose_headed(
+    text: &[u8],
+    work: &mut [u32],
+    types: &mut [u32],
+    bodies: &mut [u32],
+    kn: Known,
+    w: Word,
+    at: usize,
+    n: usize,
+) -> Judgement
+    ensures { λ r. ⌜ LooseHeaded (now (text .entry)) (now (work .entry)) (now (types .entry)) (now (bodies .entry)) kn w at n r (now (work .exit)) (now (types .exit)) (now (bodies .exit)) ⌝ }
+{
+    let g = loose_enter(text, work, types, bodies, kn, line_head(w), at);
+    judge(kn, g, n)
+}
+
+// The form whose parts begin at an offset, of n brackets and words.
+fn loose_form(
+    text: &[u8],
+    work: &mut [u32],
+    types: &mut [u32],
+    bodies: &mut [u32],
+    kn: Known,
+    at: usize,
+    n: usize,
+) -> Judgement
+    ensures { λ r. ⌜ LooseForm (now (text .entry)) (now (work .entry)) (now (types .entry)) (now (bodies .entry)) kn at n r (now (work .exit)) (now (types .exit)) (now (bodies .exit)) ⌝ }
+{
+    let p = part_at(text, at);
+    match p {
+        Part::Leaf(w, _, q) => loose_headed(text, work, types, bodies, kn, w, q, n),
+        Part::Form(_) => refused(6, kn),
+        Part::Shut(_) => refused(6, kn),
+    }
+}
+
+// A line whose brackets and words are in order.
+fn loose_known(
+    text: &[u8],
+    work: &mut [u32],
+    types: &mut [u32],
+    bodies: &mut [u32],
+    kn: Known,
+    at: usize,
+) -> Judgement
+    ensures { λ r. ⌜ LooseKnown (now (text .entry)) (now (work .entry)) (now (types .entry)) (now (bodies .entry)) kn at r (now (work .exit)) (now (types .exit)) (now (bodies .exit)) ⌝ }
+{
+    if kn.ended {
+        return refused(6, kn);
+    }
+    let n = count_nodes(text, at);
+    let p = part_at(text, at);
+    match p {
+        Part::Form(q) => loose_form(text, work, types, bodies, kn, q, n),
+        Part::Leaf(_, _, _) => refused(6, kn),
+        Part::Shut(_) => refused(6, kn),
+    }
+}
+
+// The line at an offset.
+pub fn loose_line(
+    text: &[u8],
+    work: &mut [u32],
+    types: &mut [u32],
+    bodies: &mut [u32],
+    kn: Known,
+    at: usize,
+) -> Judgement
+    ensures { λ r. ⌜ JudgesLoosely (now (text .entry)) (now (work .entry)) (now (types .entry)) (now (bodies .entry)) kn at r (now (work .exit)) (now (types .exit)) (now (bodies .exit)) ⌝ }
+{
+    if balance(text, at) {
+        if words_known(text, at) {
+            return loose_known(text, work, types, bodies, kn, at);
+        }
+        return refused(5, kn);
+    }
+    refused(4, kn)
+}

@@ -1,0 +1,44 @@
+// A body's line in the bodies' table.
+use judgements::Known;
+use worklist::put;
+ghost use mathlib.Core.Path.{_≡_};
+ghost use Rattle.loosely.specs.Noting.{offsetIn, notedFirst, notedLast, noted};
+
+// An offset as a number of the table.
+fn offset_in(text: &[u8], at: usize) -> u32
+    ensures { λ r. ⌜ r ≡ offsetIn (now (text .entry)) at ⌝ }
+{
+    if at < text.len() {
+        return (at % 65536) as u32;
+    }
+    (text.len() % 65536) as u32
+}
+
+// Writes the first three numbers of the next body, whose parts begin at an offset.
+fn note_first(text: &[u8], bodies: &mut [u32], kn: Known, at: usize)
+    ensures { λ _. ⌜ now (bodies .exit) ≡ notedFirst (now (text .entry)) kn at (now (bodies .entry)) ⌝ }
+{
+    let st = kn.state;
+    let p = 5 * (st.procs % 64) as usize;
+    put(bodies, p, offset_in(text, at));
+    put(bodies, p + 1, st.count);
+    put(bodies, p + 2, st.newest);
+}
+
+// Writes the other two.
+fn note_last(bodies: &mut [u32], kn: Known)
+    ensures { λ _. ⌜ now (bodies .exit) ≡ notedLast kn (now (bodies .entry)) ⌝ }
+{
+    let st = kn.state;
+    let p = 5 * (st.procs % 64) as usize;
+    put(bodies, p + 3, kn.stmts);
+    put(bodies, p + 4, st.types);
+}
+
+// Writes the line of the next body, whose parts begin at an offset.
+pub fn note_body(text: &[u8], bodies: &mut [u32], kn: Known, at: usize)
+    ensures { λ _. ⌜ now (bodies .exit) ≡ noted (now (text .entry)) kn at (now (bodies .entry)) ⌝ }
+{
+    note_first(text, bodies, kn, at);
+    note_last(bodies, kn);
+}

@@ -1,0 +1,5 @@
+pub mod Ending
+pub mod Placing
+pub mod Acting
+pub mod Bounding
+pub mod Shapes

@@ -1,0 +1,56 @@
+use Rattle.markacts.proofs.Placing.{value-laws}
+use borrow.Author.Needs.{needs}
+use Rattle.markacts.proofs.storing.store_value.Statement.{statement}
+use Rattle.markacts.proofs.storing.store_value.Tie as tie
+use Rattle.markacts.proofs.storing.store_value.Reads as reads
+use Rattle.markacts.proofs.storing.store_value.Lts as lts
+use Rattle.markacts.proofs.ends.sticking.Reads as sticking-reads
+use Rattle.markacts.proofs.storing.store_ordinal.Reads as store-ordinal-reads
+use Rattle.markacts.proofs.storing.store_whole.Reads as store-whole-reads
+use Rattle.tables.proofs.describe.Reads as describe-reads
+use Rattle.tables.proofs.host_of.Reads as host-of-reads
+
+-- src/storing.rt:66:9
+host-of-requires : tie.Need-host-of-requires
+host-of-requires c κs = search needs
+
+-- src/storing.rt:68:9
+sticking-requires : tie.Need-sticking-requires
+sticking-requires c κs = search needs
+
+-- src/storing.rt:68:9
+returns : tie.Need-returns
+returns c = search value-laws
+
+-- src/storing.rt:70:9
+describe-requires : tie.Need-describe-requires
+describe-requires c κs = search needs
+
+-- src/storing.rt:72:9
+store-ordinal-requires : tie.Need-store-ordinal-requires
+store-ordinal-requires c κs = search needs
+
+-- src/storing.rt:72:9
+returns-2 : tie.Need-returns-2
+returns-2 c = search value-laws
+
+-- src/storing.rt:74:5
+store-whole-requires : tie.Need-store-whole-requires
+store-whole-requires c κs = search needs
+
+-- src/storing.rt:55:1
+returns-3 : tie.Need-returns-3
+returns-3 c = search value-laws
+
+pub store-value-spec : {M : Type 1} → statement M
+store-value-spec =
+    tie.close
+    (tie.spec
+    host-of-requires
+    sticking-requires
+    returns
+    describe-requires
+    store-ordinal-requires
+    returns-2
+    store-whole-requires
+    returns-3)

@@ -1,0 +1,4 @@
+pub mod Ends
+pub mod Storing
+pub mod Acts
+pub mod Bounds

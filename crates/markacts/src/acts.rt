@@ -1,0 +1,107 @@
+// Assignments and `raise`, whose parts begin at an offset; conditions and the selectors of cases.
+use crate::ends::halting;
+use crate::storing::store_value;
+use carried::values::Carried;
+use carried::values::STUCK;
+use carried::values::value;
+use carried::values::wanted;
+use evaluate::words::GREATEST;
+use markexprs::walk::mark_expr;
+use markexprs::walk::mark_target;
+use skips::skip;
+use steps::ends::raise_number;
+use tables::describe;
+ghost use Rattle.markacts.specs.Acts.{Assigns, Raising, Conditions, Selects};
+
+// `(:= G E)` as statement n, after its step: the value is worked out before the target, and both before their kinds are met.
+pub fn assign(
+    text: &[u8],
+    work: &[u32],
+    types: &[u32],
+    count: u32,
+    newest: u32,
+    store: &mut [i64; 2056],
+    left: u64,
+    n: u32,
+    at: usize,
+) -> u64
+    ensures { λ r. ⌜ Assigns (now (text .entry)) (now (work .entry)) (now (types .entry)) count newest n at (now (store .entry)) left (now (store .exit)) r ⌝ }
+{
+    let x = mark_expr(text, work, types, count, newest, store, 33, skip(text, at));
+    let v = x.word;
+    if v > GREATEST {
+        return halting(store, left, v, n);
+    }
+    let g = mark_target(text, work, types, count, newest, store, 33, at);
+    let a = g.word;
+    if a > GREATEST {
+        return halting(store, left, a, n);
+    }
+    store_value(work, types, store, left, n, x, g)
+}
+
+// `(raise E)` as statement n, after its step.
+pub fn raise(
+    text: &[u8],
+    work: &[u32],
+    types: &[u32],
+    count: u32,
+    newest: u32,
+    store: &mut [i64; 2056],
+    left: u64,
+    n: u32,
+    at: usize,
+) -> u64
+    ensures { λ r. ⌜ Raising (now (text .entry)) (now (work .entry)) (now (types .entry)) count newest n at (now (store .entry)) left (now (store .exit)) r ⌝ }
+{
+    let z = wanted(
+        0,
+        mark_expr(text, work, types, count, newest, store, 33, at),
+    );
+    if z > GREATEST {
+        return halting(store, left, z, n);
+    }
+    raise_number(store, left, z, n)
+}
+
+// The word of the condition at an offset, which must be boolean.
+pub fn condition(
+    text: &[u8],
+    work: &[u32],
+    types: &[u32],
+    count: u32,
+    newest: u32,
+    store: &[i64; 2056],
+    at: usize,
+) -> i64
+    ensures { λ r. ⌜ Conditions (now (text .entry)) (now (work .entry)) (now (types .entry)) (now (store .entry)) count newest at r ⌝ }
+{
+    wanted(
+        1,
+        mark_expr(text, work, types, count, newest, store, 33, at),
+    )
+}
+
+// The selector of a case at an offset, which must be an ordinal.
+pub fn selector(
+    text: &[u8],
+    work: &[u32],
+    types: &[u32],
+    count: u32,
+    newest: u32,
+    store: &[i64; 2056],
+    at: usize,
+) -> Carried
+    ensures { λ r. ⌜ Selects (now (text .entry)) (now (work .entry)) (now (types .entry)) (now (store .entry)) count newest at r ⌝ }
+{
+    let x = mark_expr(text, work, types, count, newest, store, 33, at);
+    let w = x.word;
+    if w > GREATEST {
+        return value(0, w);
+    }
+    let i = describe(work, types, x.kind);
+    if i.shape == 0 {
+        return value(x.kind, w);
+    }
+    value(0, STUCK)
+}

@@ -1,0 +1,72 @@
+use Rattle.marker.proofs.Whole.{mark-is}
+use borrow.Author.Needs.{needs}
+use Rattle.marker.proofs.mark_with.Statement.{statement}
+use Rattle.marker.proofs.mark_with.Tie as tie
+use Rattle.marker.proofs.mark_with.Reads as reads
+use Rattle.marker.proofs.mark_with.Lts as lts
+use Rattle.chair.proofs.begin.Reads as begin-reads
+use Rattle.chair.proofs.load_words.Reads as load-words-reads
+use Rattle.chair.proofs.save_cells.Reads as save-cells-reads
+use Rattle.marker.proofs.told.Reads as told-reads
+use Rattle.markstmts.proofs.walk.mark_body.Reads as mark-body-reads
+use Rattle.steps.proofs.ends.left_in.Reads as left-in-reads
+
+-- src/lib.rt:55:5
+load-words-requires : tie.Need-load-words-requires
+load-words-requires c κs = search needs
+
+-- src/lib.rt:56:5
+begin-requires : tie.Need-begin-requires
+begin-requires c κs = search needs
+
+-- src/lib.rt:57:9
+mark-body-requires : tie.Need-mark-body-requires
+mark-body-requires c κs = search needs
+
+-- src/lib.rt:58:5
+save-cells-requires : tie.Need-save-cells-requires
+save-cells-requires c κs = search needs
+
+-- src/lib.rt:60:25
+left-in-requires : tie.Need-left-in-requires
+left-in-requires c κs = search needs
+
+-- src/lib.rt:60:25
+cast-t26 : tie.Need-cast-t26
+cast-t26 c = search needs
+
+-- src/lib.rt:60:16
+sub-t27 : tie.Need-sub-t27
+sub-t27 c = search needs
+
+-- src/lib.rt:61:17
+told-requires : tie.Need-told-requires
+told-requires c κs = search needs
+
+-- src/lib.rt:42:1
+same-length : tie.Need-same-length
+same-length c = search needs
+
+-- src/lib.rt:42:1
+same-length-2 : tie.Need-same-length-2
+same-length-2 c = search needs
+
+-- src/lib.rt:42:1
+returns : tie.Need-returns
+returns c = search (mark-is, needs)
+
+pub mark-with-spec : {M : Type 1} → statement M
+mark-with-spec =
+    tie.close
+    (tie.spec
+    load-words-requires
+    begin-requires
+    mark-body-requires
+    save-cells-requires
+    left-in-requires
+    cast-t26
+    sub-t27
+    told-requires
+    same-length
+    same-length-2
+    returns)

@@ -1,0 +1,35 @@
+-- A whole run of the marking machine: what its answer and the two lists say of a body's run.
+use mathlib.Core.List.{List}
+use mathlib.Core.Path.{_≡_}
+use Prim.Native.Nat.{ℕ, _-_, _<_}
+use lib.IntN.{ℤ}
+use lib.ListN.{length, getD}
+use Rattle.semantics.specs.Environment.{PlacedBody}
+use Rattle.semantics.specs.Machine as Machine
+use Rattle.semantics.specs.Machine.{state, normal, spent, sticks, raised}
+use Rattle.semantics.specs.Whole.{fresh, markBody}
+use Rattle.bodies.specs.Procedures.{procsOf}
+use Rattle.bodies.specs.Table.{AllStand}
+use Rattle.chair.specs.Answers.{Lent}
+use Rattle.marker.specs.declared.Marked.{Marked}
+use Rattle.marker.specs.declared.Ending.{Ending}
+use Rattle.marker.specs.declared.Ending.the-variants.{Normal, Raised, Spent, Stuck}
+
+-- document 01's outcomes by the cases of ours: an exception has its number and its statement
+unfoldable pub markOutcome : Ending → Machine.Outcome
+markOutcome Normal = normal
+markOutcome (Raised z p) = raised z p
+markOutcome Spent = spent
+markOutcome Stuck = sticks
+
+-- the answer z of a machine that was given so many steps
+pub record MarkAnswers (z : Machine.Answer) (budget : ℕ) (r : Marked) (vs′ : List ℤ) (ms′ : List ℕ) : Type 0 where
+  pub outcome : markOutcome (r .ending) ≡ z .outcome
+  pub steps : r .steps ≡ budget - z .state .left
+  pub values : vs′ ≡ z .state .store .values
+  pub marks : ms′ ≡ z .state .store .marks
+
+-- the run of body q of the table, where all bodies stand
+pub record MarksLent (s l ts tb : List ℕ) (q : ℕ) (vs : List ℤ) (ms : List ℕ) (budget : ℕ) (r : Marked) (vs′ : List ℤ) (ms′ : List ℕ) : Type 0 where
+  pub says : (pbs : List PlacedBody) (other : PlacedBody) → AllStand s l ts tb pbs other → q < length pbs → Lent vs ms
+      → MarkAnswers (markBody (getD pbs q other) (procsOf other pbs q) (state (fresh vs ms) budget)) budget r vs′ ms′

@@ -1,0 +1,2 @@
+pub mod MarkWays
+pub mod Counts

@@ -1,0 +1,10 @@
+-- How many cells a text has that the marking machine takes.
+use mathlib.Core.Bool.{cond}
+use lib.Dec.{eqb}
+use Rattle.drive.specs.declared.counting.Counted.{Counted}
+use Rattle.drive.specs.declared.counting.Counted.the-variants.{Refused, Cells}
+use Rattle.loosely.specs.declared.texts.Admitted.{Admitted}
+
+-- by the answer for the text: its refusal, or how many cells it has
+unfoldable pub admittedCount : Admitted → Counted
+admittedCount c = cond (eqb (c .refusal) 0) (Cells (c .known .state .cells)) (Refused (c .refusal) (c .line))

@@ -1,0 +1,40 @@
+// The cells of a text that the marking machine takes, and the name of each one's variable.
+use drive::counting::Counted;
+use drive::counting::name_cells;
+use drive::working;
+use loosely::texts::Admitted;
+use loosely::texts::check_loosely;
+use worklist::clear;
+ghost use mathlib.Core.Path.{_≡_};
+ghost use lib.ListN.{length};
+ghost use Rattle.semantics.specs.Verdict.{judge, loosely};
+ghost use Rattle.semantics.specs.Whole.{workAfter};
+ghost use Rattle.drive.specs.Cells.{cellsTold, Owners};
+ghost use Rattle.marking.specs.Owning.{admittedCount};
+
+// How many cells by the answer for a text.
+fn count_of(c: Admitted) -> Counted
+    ensures { λ r. ⌜ r ≡ admittedCount c ⌝ }
+{
+    if c.refusal == 0 {
+        let known = c.known;
+        let state = known.state;
+        return Counted::Cells(state.cells as usize);
+    }
+    Counted::Refused(c.refusal, c.line)
+}
+
+// How many cells a text has; names[i] becomes the offset of the name of cell i's variable, for each cell that there is room for.
+pub fn mark_owners(text: &[u8], work: &mut [u32], names: &mut [usize]) -> Counted
+    ensures { λ r. ⌜ (r ≡ cellsTold (judge loosely (now (text .entry)) (length (now (work .entry))))) × (now (work .exit) ≡ workAfter (now (work .entry))) × Owners (now (text .entry)) (judge loosely (now (text .entry)) (length (now (work .entry)))) (now (names .exit)) ⌝ }
+{
+    let mut types = [0; 66];
+    let mut bodies = [0; 165];
+    let n = working(work.len());
+    let c = check_loosely(text, &mut work[..n], &mut types, &mut bodies);
+    let known = c.known;
+    let state = known.state;
+    name_cells(&work[..n], &types, state, names);
+    clear(work);
+    count_of(c)
+}

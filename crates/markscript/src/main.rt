@@ -1,0 +1,90 @@
+// Runs the script on standard input by the marking machine, every cell undefined at the start, budget 10,000, and prints the outcome and the cells.
+use drive::counting::Counted;
+use input::Input;
+use input::read_text;
+use libc::STDOUT_FILENO;
+use marking::owning::mark_owners;
+use printing::markings::mark_scripted;
+use writing::rows::refused;
+ghost use Prim.Native.Nat.{_≤_};
+ghost use lib.ListN.{length};
+
+// The smaller of two numbers.
+fn least(a: usize, b: usize) -> usize
+    ensures { λ r. ⌜ (r ≤ a) × (r ≤ b) ⌝ }
+{
+    if a < b {
+        return a;
+    }
+    b
+}
+
+// Writes the report of a run of a script that has so many cells; the lists have room for them.
+fn run_cells(
+    text: &[u8],
+    work: &mut [u32],
+    names: &[usize],
+    values: &mut [i64],
+    marks: &mut [u8],
+    out: &mut [u8],
+    cells: usize,
+) -> usize {
+    let v = least(cells, values.len());
+    let m = least(cells, marks.len());
+    mark_scripted(
+        out,
+        text,
+        work,
+        names,
+        &mut values[..v],
+        &mut marks[..m],
+        10000,
+    )
+}
+
+// Writes what is to be printed for a script; how many bytes that is.
+fn answer(
+    text: &[u8],
+    work: &mut [u32],
+    names: &mut [usize],
+    values: &mut [i64],
+    marks: &mut [u8],
+    out: &mut [u8],
+) -> usize {
+    let c = mark_owners(text, work, names);
+    match c {
+        Counted::Refused(number, line) => refused(out, 0, number, line),
+        Counted::Cells(cells) => run_cells(text, work, names, values, marks, out, cells),
+    }
+}
+
+// Prints the first n bytes.
+fn tell(out: &[u8], n: usize) {
+    let k = least(n, out.len());
+    io::write_all(STDOUT_FILENO, &out[..k]);
+}
+
+// Answers for a script.
+fn serve(text: &[u8], work: &mut [u32], out: &mut [u8]) {
+    let mut names = [0usize; 2048];
+    let mut values = [0i64; 2048];
+    let mut marks = [0u8; 2048];
+    let n = answer(text, work, &mut names, &mut values, &mut marks, out);
+    tell(out, n);
+}
+
+// Answers for what comes from standard input; text holds one byte more than a script may have.
+fn read_and_serve(text: &mut [u8], work: &mut [u32], out: &mut [u8]) {
+    let came = read_text(text);
+    match came {
+        Input::Failed => {}
+        Input::Came(n) => serve(&text[..n], work, out),
+    }
+}
+
+fn main() {
+    let mut text = [0u8; 32769];
+    let mut work = [0u32; 16384];
+    let mut out = [0u8; 131072];
+    read_and_serve(&mut text, &mut work, &mut out);
+}
