@@ -8,8 +8,9 @@
 mod headings;
 mod lines;
 
-use drive::counting::Counted;
-use drive::counting::owners;
+use drive::Counted;
+use drive::mark_owners;
+use drive::owners;
 use headings::budget_at;
 use headings::byte_at;
 use headings::least;
@@ -23,7 +24,6 @@ use lines::line_after;
 use lines::line_end;
 use lines::sign_from;
 use lines::stands;
-use marking::owning::mark_owners;
 use printing::markings::mark_scripted;
 use printing::reports::scripted;
 use writing::rows::refused;

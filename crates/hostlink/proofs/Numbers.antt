@@ -12,13 +12,13 @@ use Rattle.chair.specs.Answers.{outcomeOf}
 use Rattle.chair.specs.declared.Answer.{Answer}
 use Rattle.chair.specs.declared.Outcome.{Outcome}
 use Rattle.chair.specs.declared.Outcome.the-variants.{Normal, Raised, Spent}
-use Rattle.drive.specs.Running.{endingOf, Reports}
-use Rattle.drive.specs.declared.Verdict.{Verdict}
-use Rattle.drive.specs.declared.Verdict.the-variants as verdict
-use Rattle.drive.specs.declared.counting.Counted.{Counted}
-use Rattle.drive.specs.declared.counting.Counted.the-variants as counting
-use Rattle.drive.specs.declared.running.Report.{Report}
-use Rattle.drive.specs.declared.running.Report.the-variants as report
+use Rattle.running.specs.Running.{endingOf, Reports}
+use Rattle.texts.specs.declared.Verdict.{Verdict}
+use Rattle.texts.specs.declared.Verdict.the-variants as verdict
+use Rattle.counting.specs.declared.Counted.{Counted}
+use Rattle.counting.specs.declared.Counted.the-variants as counting
+use Rattle.running.specs.declared.Report.{Report}
+use Rattle.running.specs.declared.Report.the-variants as report
 use Rattle.hostlink.specs.declared.replies.Reply.{Reply}
 use Rattle.hostlink.specs.Replies.{refusedReply, cellsReply, endedReply, outcomeReply, verdictReply, countReply, endingReply, Replies}
 

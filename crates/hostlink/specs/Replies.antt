@@ -6,10 +6,10 @@ use lib.IntN.{ℤ, pos}
 use Rattle.semantics.specs.Machine as Machine
 use Rattle.semantics.specs.Machine.{normal, spent, sticks, raised}
 use Rattle.semantics.specs.Whole.{Ending, Report, refusal, ran}
-use Rattle.drive.specs.declared.Verdict.{Verdict}
-use Rattle.drive.specs.declared.Verdict.the-variants as verdict
-use Rattle.drive.specs.declared.counting.Counted.{Counted}
-use Rattle.drive.specs.declared.counting.Counted.the-variants as counted
+use Rattle.texts.specs.declared.Verdict.{Verdict}
+use Rattle.texts.specs.declared.Verdict.the-variants as verdict
+use Rattle.counting.specs.declared.Counted.{Counted}
+use Rattle.counting.specs.declared.Counted.the-variants as counted
 use Rattle.hostlink.specs.declared.replies.Reply.{Reply}
 
 -- a refusal's number and line

@@ -5,15 +5,15 @@ use crate::replies::Reply;
 use crate::replies::counted;
 use crate::replies::reported;
 use crate::replies::told;
-use drive::counting::cells;
-use drive::counting::owners;
-use drive::running::run;
+use drive::cells;
+use drive::owners;
+use drive::run;
 use drive::verdict_of;
 ghost use mathlib.Core.Path.{_≡_};
 ghost use lib.ListN.{length};
 ghost use Rattle.semantics.specs.Whole.{verdictOf, runOf, workAfter};
-ghost use Rattle.drive.specs.Answers.{toldVerdict};
-ghost use Rattle.drive.specs.Cells.{cellsTold, Owners};
+ghost use Rattle.texts.specs.Answers.{toldVerdict};
+ghost use Rattle.counting.specs.Cells.{cellsTold, Owners};
 ghost use Rattle.hostlink.specs.Replies.{verdictReply, countReply, Replies};
 
 // The verdict on a text.

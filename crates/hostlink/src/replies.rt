@@ -1,12 +1,12 @@
 // The answers of `drive` in numbers, by the definitions of `Replies`.
 use chair::Answer;
 use chair::Outcome;
+use drive::Counted;
+use drive::Report;
 use drive::Verdict;
-use drive::counting::Counted;
-use drive::running::Report;
 ghost use mathlib.Core.Path.{_≡_};
 ghost use Rattle.chair.specs.Answers.{outcomeOf};
-ghost use Rattle.drive.specs.Running.{endingOf};
+ghost use Rattle.running.specs.Running.{endingOf};
 ghost use Rattle.hostlink.specs.Replies.{refusedReply, cellsReply, endedReply, outcomeReply, verdictReply, countReply, endingReply};
 
 // `drive_reply` of the header: a refusal's number, or 0 and the rest; what a call has nothing to say of is 0.

@@ -11,10 +11,10 @@ use Rattle.semantics.proofs.LinesCover.{judged-covered}
 use Rattle.bodies.specs.Table.{upTo}
 use Rattle.loosely.specs.declared.texts.Admitted.{Admitted}
 use Rattle.loosely.specs.Texts.{AdmittedBy, Admits}
-use Rattle.drive.specs.declared.counting.Counted.{Counted}
-use Rattle.drive.specs.declared.counting.Counted.the-variants as told
-use Rattle.drive.specs.Cells.{cellsTold, Names, Owners, OwnedBy}
-use Rattle.drive.proofs.Texts.{part-long}
+use Rattle.counting.specs.declared.Counted.{Counted}
+use Rattle.counting.specs.declared.Counted.the-variants as told
+use Rattle.counting.specs.Cells.{cellsTold, Names, Owners, OwnedBy}
+use Rattle.texts.proofs.Texts.{part-long}
 use Rattle.marking.specs.Owning.{admittedCount}
 use Rattle.marking.proofs.MarkWays.{judged-here}
 

@@ -26,9 +26,9 @@ use Rattle.loosely.specs.Texts.{AdmittedBy, Admits}
 use Rattle.loosely.proofs.Keeping.{all-stand}
 use Rattle.marker.specs.declared.Marked.{Marked}
 use Rattle.marker.specs.Answers.{MarkAnswers, MarksLent}
-use Rattle.drive.proofs.Lending.{lent-store}
-use Rattle.drive.proofs.RunWays.{no-row}
-use Rattle.drive.proofs.Texts.{after-same, judged-same, part-long, zeros}
+use Rattle.running.proofs.Lending.{lent-store}
+use Rattle.running.proofs.RunWays.{no-row}
+use Rattle.texts.proofs.Texts.{after-same, judged-same, part-long, zeros}
 use Rattle.marking.specs.declared.MarkReport.{MarkReport}
 use Rattle.marking.specs.declared.MarkReport.the-variants.{Refused, Ran}
 use Rattle.marking.specs.Reports.{markEnding, MarkReports, MarksLoaded, MarksChecked}

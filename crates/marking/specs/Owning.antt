@@ -1,8 +1,8 @@
 -- How many cells a text has that the marking machine takes.
 use mathlib.Core.Bool.{cond}
 use lib.Dec.{eqb}
-use Rattle.drive.specs.declared.counting.Counted.{Counted}
-use Rattle.drive.specs.declared.counting.Counted.the-variants.{Refused, Cells}
+use Rattle.counting.specs.declared.Counted.{Counted}
+use Rattle.counting.specs.declared.Counted.the-variants.{Refused, Cells}
 use Rattle.loosely.specs.declared.texts.Admitted.{Admitted}
 
 -- by the answer for the text: its refusal, or how many cells it has

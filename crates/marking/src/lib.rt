@@ -1,13 +1,13 @@
 // The marking machine on a whole text: rows 1 to 9 with the kinds of bodies left out, the lent store tested, and the run; and the text's cells.
 pub mod owning;
 
-use drive::working;
 use judgements::Known;
 use loosely::texts::Admitted;
 use loosely::texts::check_loosely;
 use marker::Marked;
 use marker::mark_lent;
 use stores::store_fault;
+use texts::working;
 use worklist::clear;
 ghost use mathlib.Core.Path.{_≡_};
 ghost use Prim.Native.Nat.{_-_};

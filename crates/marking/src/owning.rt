@@ -1,15 +1,15 @@
 // The cells of a text that the marking machine takes, and the name of each one's variable.
-use drive::counting::Counted;
-use drive::counting::name_cells;
-use drive::working;
+use counting::Counted;
+use counting::name_cells;
 use loosely::texts::Admitted;
 use loosely::texts::check_loosely;
+use texts::working;
 use worklist::clear;
 ghost use mathlib.Core.Path.{_≡_};
 ghost use lib.ListN.{length};
 ghost use Rattle.semantics.specs.Verdict.{judge, loosely};
 ghost use Rattle.semantics.specs.Whole.{workAfter};
-ghost use Rattle.drive.specs.Cells.{cellsTold, Owners};
+ghost use Rattle.counting.specs.Cells.{cellsTold, Owners};
 ghost use Rattle.marking.specs.Owning.{admittedCount};
 
 // How many cells by the answer for a text.

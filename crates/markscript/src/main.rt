@@ -1,9 +1,9 @@
 // Runs the script on standard input by the marking machine, every cell undefined at the start, budget 10,000, and prints the outcome and the cells.
-use drive::counting::Counted;
+use drive::Counted;
+use drive::mark_owners;
 use input::Input;
 use input::read_text;
 use libc::STDOUT_FILENO;
-use marking::owning::mark_owners;
 use printing::markings::mark_scripted;
 use writing::rows::refused;
 ghost use Prim.Native.Nat.{_≤_};

@@ -12,11 +12,11 @@ use Rattle.semantics.specs.Print.{decimalOf, signedOf, row, outcome, cells, sho
 use Rattle.chair.specs.declared.Outcome.{Outcome}
 use Rattle.chair.specs.declared.Outcome.the-variants.{Normal, Raised, Spent}
 use Rattle.chair.specs.declared.Answer.{Answer}
-use Rattle.drive.specs.declared.running.Report.{Report}
-use Rattle.drive.specs.declared.running.Report.the-variants.{Refused, Ran}
+use Rattle.running.specs.declared.Report.{Report}
+use Rattle.running.specs.declared.Report.the-variants.{Refused, Ran}
 use Rattle.writing.specs.Written.{Puts, namesAt}
 use Rattle.chair.specs.Answers.{outcomeOf}
-use Rattle.drive.specs.Running.{endingOf, Reports}
+use Rattle.running.specs.Running.{endingOf, Reports}
 use Rattle.semantics.specs.Whole as Whole
 use Rattle.printing.specs.Told.{answerRow, reportRows}
 use Rattle.writing.proofs.Writing.{puts-then}

@@ -6,8 +6,8 @@ use Rattle.lexis.specs.Bytes.{bytes}
 use Rattle.semantics.specs.Print.{decimalOf, row, outcome, cells}
 use Rattle.chair.specs.Answers.{outcomeOf}
 use Rattle.chair.specs.declared.Answer.{Answer}
-use Rattle.drive.specs.declared.running.Report.{Report}
-use Rattle.drive.specs.declared.running.Report.the-variants.{Refused, Ran}
+use Rattle.running.specs.declared.Report.{Report}
+use Rattle.running.specs.declared.Report.the-variants.{Refused, Ran}
 use Rattle.writing.specs.Written.{namesAt}
 
 -- the row of an answer

@@ -1,8 +1,8 @@
 // A whole report, as `runscript` prints it.
 use chair::Answer;
 use chair::Outcome;
-use drive::running::Report;
-use drive::running::run;
+use drive::Report;
+use drive::run;
 use writing::rows::cell_rows;
 use writing::rows::exception;
 use writing::rows::normal;

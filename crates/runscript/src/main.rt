@@ -1,6 +1,6 @@
 // Runs the script on standard input, every cell undefined at the start, budget 10,000, and prints the outcome and the cells.
-use drive::counting::Counted;
-use drive::counting::owners;
+use drive::Counted;
+use drive::owners;
 use input::Input;
 use input::read_text;
 use libc::STDOUT_FILENO;

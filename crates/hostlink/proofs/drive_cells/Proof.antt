@@ -4,7 +4,7 @@ use Rattle.hostlink.proofs.drive_cells.Statement.{statement}
 use Rattle.hostlink.proofs.drive_cells.Tie as tie
 use Rattle.hostlink.proofs.drive_cells.Reads as reads
 use Rattle.hostlink.proofs.drive_cells.Lts as lts
-use Rattle.drive.proofs.counting.cells.Reads as cells-reads
+use Rattle.counting.proofs.cells.Reads as cells-reads
 use Rattle.hostlink.proofs.replies.counted.Reads as counted-reads
 
 -- src/lib.rt:33:9

@@ -4,7 +4,7 @@ use Rattle.hostlink.proofs.drive_owners.Statement.{statement}
 use Rattle.hostlink.proofs.drive_owners.Tie as tie
 use Rattle.hostlink.proofs.drive_owners.Reads as reads
 use Rattle.hostlink.proofs.drive_owners.Lts as lts
-use Rattle.drive.proofs.counting.owners.Reads as owners-reads
+use Rattle.counting.proofs.owners.Reads as owners-reads
 use Rattle.hostlink.proofs.replies.counted.Reads as counted-reads
 
 -- src/lib.rt:42:9

@@ -4,7 +4,7 @@ use Rattle.hostlink.proofs.drive_run.Statement.{statement}
 use Rattle.hostlink.proofs.drive_run.Tie as tie
 use Rattle.hostlink.proofs.drive_run.Reads as reads
 use Rattle.hostlink.proofs.drive_run.Lts as lts
-use Rattle.drive.proofs.running.run.Reads as run-reads
+use Rattle.running.proofs.run.Reads as run-reads
 use Rattle.hostlink.proofs.replies.reported.Reads as reported-reads
 
 -- src/lib.rt:57:9

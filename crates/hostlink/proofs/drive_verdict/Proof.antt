@@ -4,7 +4,7 @@ use Rattle.hostlink.proofs.drive_verdict.Statement.{statement}
 use Rattle.hostlink.proofs.drive_verdict.Tie as tie
 use Rattle.hostlink.proofs.drive_verdict.Reads as reads
 use Rattle.hostlink.proofs.drive_verdict.Lts as lts
-use Rattle.drive.proofs.verdict_of.Reads as verdict-of-reads
+use Rattle.texts.proofs.verdict_of.Reads as verdict-of-reads
 use Rattle.hostlink.proofs.replies.told.Reads as told-reads
 
 -- src/lib.rt:24:9

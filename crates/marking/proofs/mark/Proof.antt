@@ -1,11 +1,11 @@
-use Rattle.drive.proofs.Texts.{part-laws}
+use Rattle.texts.proofs.Texts.{part-laws}
 use Rattle.marking.proofs.MarkWays.{list-clears, mark-told}
 use borrow.Author.Needs.{needs}
 use Rattle.marking.proofs.mark.Statement.{statement}
 use Rattle.marking.proofs.mark.Tie as tie
 use Rattle.marking.proofs.mark.Reads as reads
 use Rattle.marking.proofs.mark.Lts as lts
-use Rattle.drive.proofs.working.Reads as working-reads
+use Rattle.texts.proofs.working.Reads as working-reads
 use Rattle.loosely.proofs.texts.check_loosely.Reads as check-loosely-reads
 use Rattle.marking.proofs.mark_checked.Reads as mark-checked-reads
 use Rattle.worklist.proofs.clear.Reads as clear-reads

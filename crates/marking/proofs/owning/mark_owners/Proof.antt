@@ -1,4 +1,4 @@
-use Rattle.drive.proofs.Texts.{part-laws}
+use Rattle.texts.proofs.Texts.{part-laws}
 use Rattle.marking.proofs.Counts.{cells-told, owners-told}
 use Rattle.marking.proofs.MarkWays.{list-clears}
 use borrow.Author.Needs.{needs}
@@ -6,8 +6,8 @@ use Rattle.marking.proofs.owning.mark_owners.Statement.{statement}
 use Rattle.marking.proofs.owning.mark_owners.Tie as tie
 use Rattle.marking.proofs.owning.mark_owners.Reads as reads
 use Rattle.marking.proofs.owning.mark_owners.Lts as lts
-use Rattle.drive.proofs.counting.name_cells.Reads as name-cells-reads
-use Rattle.drive.proofs.working.Reads as working-reads
+use Rattle.counting.proofs.name_cells.Reads as name-cells-reads
+use Rattle.texts.proofs.working.Reads as working-reads
 use Rattle.loosely.proofs.texts.check_loosely.Reads as check-loosely-reads
 use Rattle.marking.proofs.owning.count_of.Reads as count-of-reads
 use Rattle.worklist.proofs.clear.Reads as clear-reads

@@ -4,7 +4,7 @@ use Rattle.printing.proofs.reports.scripted.Statement.{statement}
 use Rattle.printing.proofs.reports.scripted.Tie as tie
 use Rattle.printing.proofs.reports.scripted.Reads as reads
 use Rattle.printing.proofs.reports.scripted.Lts as lts
-use Rattle.drive.proofs.running.run.Reads as run-reads
+use Rattle.running.proofs.run.Reads as run-reads
 use Rattle.printing.proofs.reports.shown.Reads as shown-reads
 
 -- src/reports.rt:116:9

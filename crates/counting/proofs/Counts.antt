@@ -1,0 +1,86 @@
+-- How many cells a text has, and whose they are.
+use mathlib.Core.Path.{_≡_, refl, sym, ap, subst, _∙_}
+use mathlib.Core.Bool.{Bool, true, false}
+use mathlib.Core.List.{List, _++_}
+use Prim.Native.Nat.{ℕ, _+_, _-_, _<_, _≤_, min}
+use native.Mathlib.Decide.{ℕ-discrete}
+use native.Mathlib.Omega.{arith}
+use borrow.Author.Tests.{eq-eqb, ne-eqb}
+use lib.ListN.{length, getD, set, take, drop, replicate, length-set}
+use lib.Seq.{take-at, getD-set-same, getD-set-other}
+use Rattle.semantics.specs.Verdict as Meaning
+use Rattle.semantics.specs.Verdict.{Read, accepted, refused}
+use Rattle.semantics.specs.Whole.{verdictOf}
+use Rattle.semantics.proofs.LinesCover.{text-covered}
+use Rattle.declarations.specs.declared.State.{State}
+use Rattle.stores.specs.Stores.{Owner}
+use Rattle.texts.specs.declared.Checked.{Checked}
+use Rattle.counting.specs.declared.Counted.{Counted}
+use Rattle.counting.specs.declared.Counted.the-variants as told
+use Rattle.texts.specs.Answers.{CheckedBy, Checks}
+use Rattle.counting.specs.Cells.{cellsTold, countedBy, Named, Names, Owners, OwnedBy}
+use Rattle.texts.proofs.Texts.{verdict-same, part-long, zeros}
+
+pub counted-no : (c : Checked) (r : Counted) → c .refusal ≡ 0 → r ≡ told.Cells (c .known .state .cells) → r ≡ countedBy c
+unfolding countedBy
+counted-no c r h e = rw (eq-eqb (c .refusal) 0 h) e
+
+pub counted-yes : (c : Checked) (r : Counted) → ((c .refusal ≡ 0) → ⊥) → r ≡ told.Refused (c .refusal) (c .line) → r ≡ countedBy c
+unfolding countedBy
+counted-yes c r h e = rw (ne-eqb (c .refusal) 0 h) e
+
+pub ruleset counted-laws = (counted-no, counted-yes)
+
+-- ---- the names, one by one
+
+module _ (l ts : List ℕ) (st : State) where
+  pub named-start : (names : List ℕ) → Named l ts st 0 names
+  named-start names = record { each = λ j h. absurd (omega arith) }
+
+  module _ (i : ℕ) (names : List ℕ) (N : Named l ts st i names) where
+    pub named-next : (r : ℕ) → i < length names → Owner l ts st i r → Named l ts st (i + 1) (set names i r)
+    named-next r h O = record { each = λ j a b c. go j (ℕ-discrete j i) a (rw length-set at b) c }
+      where
+        go : (j : ℕ) → Dec (j ≡ i) → j < i + 1 → j < length names → j < st .cells → Owner l ts st j (getD (set names i r) j 0)
+        go j (yes e) a b c = rw (e, getD-set-same names i r 0 h) O
+        go j (no e) a b c = rw (getD-set-other names i j r 0 e) (N .each j (omega arith) b c)
+
+    pub names-all : length names ≤ i → Names l ts st names
+    names-all h = record { each = λ j b c. N .each j (omega arith) b c }
+
+    pub names-enough : st .cells ≤ i → Names l ts st names
+    names-enough h = record { each = λ j b c. N .each j (omega arith) b c }
+
+pub names-less : (names : List ℕ) (i r : ℕ) → i < length names → length (set names i r) - (i + 1) < length names - i
+names-less names i r h = rw (length-set names i r) (omega arith)
+
+pub ruleset names-laws = (names-all, names-enough)
+
+-- ---- the whole
+
+counted-is : (s l ts : List ℕ) (v : Meaning.Verdict Read) (c : Checked) → CheckedBy s l ts v c → countedBy c ≡ cellsTold v
+unfolding countedBy cellsTold
+counted-is s l ts (accepted q) c h = rw (eq-eqb (c .refusal) 0 (h .0), h .2 .holds .cells-are) refl
+counted-is s l ts (refused m n) c h = rw (ne-eqb (c .refusal) 0 (λ e. omega (arith, h .0, h .2)), h .0, h .1) refl
+
+module _ (s l : List ℕ) (n : ℕ) (i : n ≡ min 16384 (length l)) (c : Checked) (l′ ts′ : List ℕ) (C : Checks s (take n l) (replicate 66 0) c l′ ts′) where
+  same-verdict : verdictOf s (length (take n l)) ≡ verdictOf s (length l)
+  same-verdict = ap (λ m. verdictOf s m) (sym (part-long l n i) ∙ i) ∙ verdict-same s (length l)
+
+  checked : CheckedBy s l′ ts′ (verdictOf s (length l)) c
+  checked = subst (λ (x : Meaning.Verdict Read). CheckedBy s l′ ts′ x c) same-verdict (C .says (omega arith) (zeros 66))
+
+  pub cells-told : (r : Counted) → r ≡ countedBy c → r ≡ cellsTold (verdictOf s (length l))
+  cells-told r e = e ∙ counted-is s l′ ts′ (verdictOf s (length l)) c checked
+
+  pub owners-told : (names : List ℕ) → length l′ ≡ length (take n l) → Names (take n (l′ ++ drop n l)) ts′ (c .known .state) names → Owners s (verdictOf s (length l)) names
+  owners-told names e N = record { says = go (verdictOf s (length l)) refl checked }
+    where
+      front : take n (l′ ++ drop n l) ≡ l′
+      front = take-at l′ (drop n l) n (e ∙ sym (part-long l n i))
+
+      go : (v : Meaning.Verdict Read) → verdictOf s (length l) ≡ v → CheckedBy s l′ ts′ v c → OwnedBy s v names
+      go (refused m k) h D = tt
+      go (accepted q) h D = λ j a b.
+          let O = subst (λ (x : List ℕ). Names x ts′ (c .known .state) names) front N .each j a (omega (arith, D .2 .holds .cells-are)) in
+          O .says s (q .known) (D .1) (D .2 .holds) (text-covered s (length l) q h) b

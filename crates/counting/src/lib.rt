@@ -1,0 +1,68 @@
+// The cells of a script: how many there are, and the name of each one's variable.
+use declarations::State;
+use stores::owner;
+use texts::Checked;
+use texts::check;
+use texts::working;
+use worklist::clear;
+ghost use mathlib.Core.Path.{_≡_};
+ghost use lib.ListN.{length};
+ghost use Rattle.semantics.specs.Whole.{verdictOf, workAfter};
+ghost use Rattle.counting.specs.Cells.{cellsTold, countedBy, Names, Owners};
+
+// The answer for a text: its refusal, or how many cells it has.
+pub enum Counted {
+    Refused(u32, usize),
+    Cells(usize),
+}
+
+// How many cells by the answer for a text.
+fn count_of(c: Checked) -> Counted
+    ensures { λ r. ⌜ r ≡ countedBy c ⌝ }
+{
+    if c.refusal == 0 {
+        let known = c.known;
+        let state = known.state;
+        return Counted::Cells(state.cells as usize);
+    }
+    Counted::Refused(c.refusal, c.line)
+}
+
+// The names of the cells' variables, as far as there is room.
+pub fn name_cells(work: &[u32], types: &[u32], st: State, names: &mut [usize])
+    ensures { λ r. ⌜ Names (now (work .entry)) (now (types .entry)) st (now (names .exit)) ⌝ }
+{
+    let mut i = 0;
+    while i < names.len() {
+        if i >= st.cells as usize {
+            return;
+        }
+        names[i] = owner(work, types, st, i);
+        i += 1;
+    }
+}
+
+// How many cells a text has.
+pub fn cells(text: &[u8], work: &mut [u32]) -> Counted
+    ensures { λ r. ⌜ (r ≡ cellsTold (verdictOf (now (text .entry)) (length (now (work .entry))))) × (now (work .exit) ≡ workAfter (now (work .entry))) ⌝ }
+{
+    let mut types = [0; 66];
+    let n = working(work.len());
+    let c = check(text, &mut work[..n], &mut types);
+    clear(work);
+    count_of(c)
+}
+
+// How many cells a text has; names[i] becomes the offset of the name of cell i's variable, for each cell that there is room for.
+pub fn owners(text: &[u8], work: &mut [u32], names: &mut [usize]) -> Counted
+    ensures { λ r. ⌜ (r ≡ cellsTold (verdictOf (now (text .entry)) (length (now (work .entry))))) × (now (work .exit) ≡ workAfter (now (work .entry))) × Owners (now (text .entry)) (verdictOf (now (text .entry)) (length (now (work .entry)))) (now (names .exit)) ⌝ }
+{
+    let mut types = [0; 66];
+    let n = working(work.len());
+    let c = check(text, &mut work[..n], &mut types);
+    let known = c.known;
+    let state = known.state;
+    name_cells(&work[..n], &types, state, names);
+    clear(work);
+    count_of(c)
+}

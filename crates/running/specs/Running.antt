@@ -1,0 +1,37 @@
+-- What the answer of a run says of `runOf` (semantics, Whole): the ending, and both lists of the store.
+use mathlib.Core.List.{List, []}
+use mathlib.Core.Path.{_≡_}
+use Prim.Native.Nat.{ℕ, _≤_}
+use lib.IntN.{ℤ}
+use lib.ListN.{length}
+use Rattle.semantics.specs.Verdict.{Read, accepted}
+use Rattle.semantics.specs.Whole as Whole
+use Rattle.semantics.specs.Whole.{Ending, refusal, ran, verdictOf, runAll, onStore, unless}
+use Rattle.judgements.specs.declared.Known.{Known}
+use Rattle.judge.specs.Judging.{Standing}
+use Rattle.chair.specs.Answers.{outcomeOf}
+use Rattle.texts.specs.declared.Checked.{Checked}
+use Rattle.running.specs.declared.Report.{Report}
+use Rattle.running.specs.declared.Report.the-variants.{Refused, Ran}
+use Rattle.texts.specs.Answers.{CheckedBy}
+
+-- document 01's endings by the cases of ours: a refusal's number and line, or the outcome and the steps
+unfoldable pub endingOf : Report → Ending
+endingOf (Refused n l) = refusal n l
+endingOf (Ran a) = ran (outcomeOf (a .outcome)) (a .steps)
+
+-- the answer and both lists are what q reports
+pub record Reports (q : Whole.Report) (r : Report) (vs′ : List ℤ) (ms′ : List ℕ) : Type 0 where
+  pub ending : endingOf r ≡ q .ending
+  pub values : vs′ ≡ q .values
+  pub marks : ms′ ≡ q .marks
+
+-- rows 10 and 11, and then the run, where the lists hold an accepted text
+pub record RunsLoaded (l ts : List ℕ) (kn : Known) (vs : List ℤ) (ms : List ℕ) (budget : ℕ) (r : Report) (vs′ : List ℤ) (ms′ : List ℕ) : Type 0 where
+  pub says : (s : List ℕ) (work : ℕ) (q : Read) (bs : List ℕ) → length l ≤ 16384 → verdictOf s work ≡ accepted q → Standing s l ts kn q bs
+      → Reports (onStore (q .known) (runAll (q .codes) []) vs ms budget) r vs′ ms′
+
+-- the same by the answer for the text: a refusal leaves the store as lent
+pub record RunsChecked (l ts : List ℕ) (c : Checked) (vs : List ℤ) (ms : List ℕ) (budget : ℕ) (r : Report) (vs′ : List ℤ) (ms′ : List ℕ) : Type 0 where
+  pub says : (s : List ℕ) (work : ℕ) → length l ≤ 16384 → CheckedBy s l ts (verdictOf s work) c
+      → Reports (unless (verdictOf s work) vs ms λ q. onStore (q .known) (runAll (q .codes) []) vs ms budget) r vs′ ms′
