@@ -1,4 +1,4 @@
-/* Drive scripts, checked and run: the functions of libhostlink.a (`rt staticlib hostlink`). Each function is proved to do what
+/* Drive scripts, checked, run and marked: the functions of libhostlink.a (`rt staticlib hostlink`). Each function is proved to do what
    it says here, for every text, list and budget.
 
    What the caller provides
@@ -46,7 +46,8 @@ enum {
 enum {
     DRIVE_NORMAL = 0,    /* the script came to its end */
     DRIVE_EXCEPTION = 1, /* an exception that nothing handled */
-    DRIVE_SPENT = 2      /* the budget was used up and one more step was due */
+    DRIVE_SPENT = 2,     /* the budget was used up and one more step was due */
+    DRIVE_STUCK = 3      /* drive_mark only: kinds that do not fit were met */
 };
 
 /* Exceptions. Any other number is the script's own, by `raise`. */
@@ -61,12 +62,12 @@ enum {
 /* The answer of a call. What a call has nothing to say of is 0. */
 typedef struct drive_reply {
     uint32_t refusal;   /* 0, or a refusal; then only `line` says more */
-    uint32_t outcome;   /* drive_run: DRIVE_NORMAL, DRIVE_EXCEPTION or DRIVE_SPENT */
+    uint32_t outcome;   /* drive_run, drive_mark: DRIVE_NORMAL, DRIVE_EXCEPTION or DRIVE_SPENT; drive_mark also DRIVE_STUCK */
     size_t line;        /* of a refusal, from 1; 0 for refusals 1, 2, 10, 11; one past the last for a missing `main` */
-    size_t cells;       /* drive_cells, drive_owners: how many cells the script has, 0 to DRIVE_CELLS */
+    size_t cells;       /* drive_cells, drive_owners, drive_mark_owners: how many cells the script has, 0 to DRIVE_CELLS */
     int64_t exception;  /* the exception's number, in 32 bits */
     uint32_t statement; /* the exception's statement, counted from 1 over the text by opening bracket */
-    uint32_t steps;     /* drive_run: the steps taken, at most the budget */
+    uint32_t steps;     /* drive_run, drive_mark: the steps taken, at most the budget */
 } drive_reply;
 
 /* The verdict on a text: a refusal of 1 to 9, or none, and then the text may be loaded. */
@@ -86,6 +87,19 @@ drive_reply drive_owners(const uint8_t *text, size_t text_len, uint32_t *work, s
    run too, the store is as the steps taken left it, and may be lent again. */
 drive_reply drive_run(const uint8_t *text, size_t text_len, uint32_t *work, size_t work_len, int64_t *values, size_t values_len,
                       uint8_t *marks, size_t marks_len, uint32_t budget);
+
+/* ---- the marking machine, for a desk program. It keeps a type with every value, and runs a text also where kinds do not fit inside the
+   bodies of `proc` and `main`, until it meets such a place. It is slower than drive_run. The chair runs nothing by it. */
+
+/* As drive_owners, of a text that drive_mark takes: a refusal of 1 to 9, where 8 for kinds that do not fit inside a body is left out, or
+   none. With names_len 0 it only counts the cells. */
+drive_reply drive_mark_owners(const uint8_t *text, size_t text_len, uint32_t *work, size_t work_len, size_t *names, size_t names_len);
+
+/* As drive_run, by the marking machine: the refusals are those of drive_mark_owners, 10 and 11. Where the next part to be carried out
+   meets kinds that do not fit, the outcome is DRIVE_STUCK, which no handler takes; the steps include that of the statement that met
+   them, and the store is as the steps taken left it. For a text that drive_verdict accepts, reply and store are those of drive_run. */
+drive_reply drive_mark(const uint8_t *text, size_t text_len, uint32_t *work, size_t work_len, int64_t *values, size_t values_len,
+                       uint8_t *marks, size_t marks_len, uint32_t budget);
 
 #ifdef __cplusplus
 }

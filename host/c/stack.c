@@ -1,6 +1,6 @@
 /* Measures the stack that a call takes: it runs in a thread whose stack was filled with a pattern, and the bytes that lost the
    pattern are counted, less those that a thread takes which calls nothing. The texts are the worst that are known.
-   usage: stack LIMIT    exit status 1 if a text takes more than LIMIT bytes */
+   usage: stack LIMIT MARK_LIMIT    exit status 1 if a verdict or run takes more than LIMIT bytes, or a marking more than MARK_LIMIT */
 #define _GNU_SOURCE
 #include "drive.h"
 #include <pthread.h>
@@ -17,7 +17,8 @@ static size_t len;
 static uint32_t work[DRIVE_WORK];
 static int64_t values[DRIVE_CELLS];
 static uint8_t marks[DRIVE_CELLS];
-static drive_reply reply;
+static size_t names[1];
+static drive_reply reply, marked;
 
 /* ---- the calls, each a thread's work */
 
@@ -38,6 +39,15 @@ static void *call_run(void *p)
     memset(values, 0, sizeof values);
     memset(marks, 0, sizeof marks);
     reply = drive_run(text, len, work, DRIVE_WORK, values, cells, marks, cells, 100000);
+    return p;
+}
+
+static void *call_mark(void *p)
+{
+    size_t cells = drive_mark_owners(text, len, work, DRIVE_WORK, names, 0).cells;
+    memset(values, 0, sizeof values);
+    memset(marks, 0, sizeof marks);
+    marked = drive_mark(text, len, work, DRIVE_WORK, values, cells, marks, cells, 100000);
     return p;
 }
 
@@ -126,20 +136,35 @@ static void put_calls(const char *head, const char *before, size_t times, const 
 
 /* ---- the table */
 
-static size_t most, idle;
+static size_t idle, most_checked, most_ran, most_marked;
+
+static void print_ending(drive_reply r)
+{
+    static const char *const outcomes[] = {"normal", "exception", "spent", "stuck"};
+    if (r.refusal != 0)
+        printf("  refused %u %zu", (unsigned)r.refusal, r.line);
+    else
+        printf("  %s %u", outcomes[r.outcome], (unsigned)r.steps);
+}
+
+/* The bytes that a call takes. */
+static size_t taken(void *(*call)(void *), size_t *most)
+{
+    size_t used = used_by(call) - idle;
+    *most = used > *most ? used : *most;
+    return used;
+}
 
 static void row(const char *what)
 {
-    static const char *const outcomes[] = {"normal", "exception", "spent"};
-    size_t checked = used_by(call_verdict) - idle;
-    size_t ran = used_by(call_run) - idle;
-    printf("%-46s %6zu %9zu %9zu  ", what, len, checked, ran);
-    if (reply.refusal != 0)
-        printf("refused %u %zu\n", (unsigned)reply.refusal, reply.line);
-    else
-        printf("%s %u\n", outcomes[reply.outcome], (unsigned)reply.steps);
-    most = checked > most ? checked : most;
-    most = ran > most ? ran : most;
+    size_t checked = taken(call_verdict, &most_checked);
+    size_t ran = taken(call_run, &most_ran);
+    size_t by_mark = taken(call_mark, &most_marked);
+    printf("%-46s %6zu %9zu %9zu %9zu", what, len, checked, ran, by_mark);
+    print_ending(reply);
+    if (reply.refusal != marked.refusal)
+        print_ending(marked);
+    printf("\n");
     len = 0;
 }
 
@@ -184,6 +209,7 @@ static void rows_of_depth(void)
     expression("30 indices", "(at c ", 30, "1", ")");
     expression("15 sets", "(setmin (members s ", 15, "1", "))");
     expression("a power", "(** 1 2147483647", 1, "", ")");
+    expression("30 sums, the inmost of kinds that do not fit", "(+ 1 ", 30, "true", ")");
 }
 
 static void calls(const char *what, const char *head, const char *before, size_t times, const char *after)
@@ -196,8 +222,9 @@ static void rows_of_calls(void)
 {
     calls("32 calls", " (begin ", "", 0, "");
     calls("32 calls, each from a handler", " (raise 1) (exception ", "", 0, "");
-    calls("32 calls, each in 29 begins", " (begin ", "(begin ", 28, ")");
-    calls("32 calls, each in 29 ifs", " (if true ", "(if true ", 28, ")");
+    calls("32 calls, each in 30 begins", " (begin ", "(begin ", 29, ")");
+    calls("32 calls, each in 29 begins in a handler", " (raise 1) (exception ", "(begin ", 29, ")");
+    calls("32 calls, each in 30 ifs", " (if true ", "(if true ", 29, ")");
     calls("32 calls, each in 14 cases", " (begin ", "(case 1 (arm 1 ", 14, "))");
     calls("32 calls, each in 30 whiles", " (while true ", "(while true ", 29, ")");
     calls("32 calls, each in 29 whiles in a handler", " (raise 1) (exception ", "(while true ", 29, ")");
@@ -205,12 +232,13 @@ static void rows_of_calls(void)
 
 int main(int argc, char **argv)
 {
-    size_t limit = argc == 2 ? strtoul(argv[1], NULL, 10) : 0;
+    size_t limit = argc == 3 ? strtoul(argv[1], NULL, 10) : 0;
+    size_t mark_limit = argc == 3 ? strtoul(argv[2], NULL, 10) : 0;
     idle = used_by(call_nothing);
-    printf("%-46s %6s %9s %9s  bytes of stack\n", "text", "bytes", "verdict", "run");
+    printf("%-46s %6s %9s %9s %9s  bytes of stack\n", "text", "bytes", "verdict", "run", "mark");
     rows_of_long_lines();
     rows_of_depth();
     rows_of_calls();
-    printf("most: %zu\n", most);
-    return most > limit;
+    printf("%-46s %6s %9zu %9zu %9zu\n", "most", "", most_checked, most_ran, most_marked);
+    return most_checked > limit || most_ran > limit || most_marked > mark_limit;
 }

@@ -2,10 +2,10 @@
 use mathlib.Core.Path.{_≡_, refl, sym, ap, _∙_}
 use mathlib.Core.Bool.{Bool, true, false, cond, _&&_, true≢false}
 use mathlib.Core.List.{List, [], _∷_}
-use Prim.Native.Nat.{ℕ, zero, suc, _+_, _-_, _<_, _≤_, min}
+use Prim.Native.Nat.{ℕ, zero, suc, _+_, _-_, _%_, _^_, _<_, _≤_, min}
 use native.Mathlib.Numerals.{sub-one}
 use native.Mathlib.Omega.{arith}
-use borrow.Author.Tests.{eq-eqb, ne-eqb, le-leb, lt-leb, lt-ltb, le-ltb, leb-false, ltb-false}
+use borrow.Author.Tests.{eq-eqb, ne-eqb, le-leb, lt-leb, lt-ltb, le-ltb, leb-false, leb-true, ltb-false}
 use borrow.Author.Needs.{sfits-of}
 use lib.Dec.{eqb, leb}
 use lib.Signed.{leZ, ltZ}
@@ -20,7 +20,7 @@ use mir.Val.{SFits, Fits, toZ, ofZ}
 use mir.Facts.{toZ-pos, toZ-ofZ}
 use Rattle.arith.proofs.Machine.{wire}
 use Rattle.lexis.specs.Numbers.{signed}
-use Rattle.lexis.proofs.DecimalHex.{signed-low, signed-fits, signed-high, below}
+use Rattle.lexis.proofs.DecimalHex.{below}
 use Rattle.semantics.specs.Calculate.{truth, natOf}
 use Rattle.semantics.specs.Base.{pick}
 use Rattle.semantics.specs.Readback.{integerAt}
@@ -51,20 +51,44 @@ unfolding latestIn
 latest-here l f = toZ-ofZ f
 
 -- ---- `signed_of`, `integer`, `truth_of`
-module _ (n : ℕ) (f : Fits w32 n) where
-  small : n ≤ 4294967295
-  small = omega (arith, f .fits)
+module _ (n k : ℕ) (f : Fits w32 n) (e : k ≡ (n + 2147483648) % 2 ^ 32) where
+  turned-low : n ≤ 2147483647 → k ≡ n + 2147483648
+  turned-low l = omega (arith, e)
 
-  pub signed-below : n ≤ 2147483647 → toZ w64 n ≡ signed n
-  signed-below l = signed-low n l
+  turned-high : 2147483647 < n → k ≡ n - 2147483648
+  turned-high h = omega (arith, e, f .fits)
 
-  pub signed-room : 2147483647 < n → SFits w64 (toZ w64 n -ℤ pos 4294967296)
-  signed-room h = signed-fits n small h
+  turned-small : k ≤ 4294967295
+  turned-small = omega (arith, e)
 
-  pub signed-above : 2147483647 < n → wire (toZ w64 n -ℤ pos 4294967296) ≡ signed n
-  signed-above h = signed-high n small h
+  signed-turned : pos k -ℤ pos 2147483648 ≡ signed n
+  unfolding signed
+  signed-turned = go (leb n 2147483647) refl
+    where
+      go : (t : Bool) → leb n 2147483647 ≡ t → pos k -ℤ pos 2147483648 ≡ cond t (pos n) (pos n -ℤ pos 4294967296)
+      go true i = let l = leb-true n 2147483647 i in rw (turned-low l, le-ltb (n + 2147483648) 2147483648 (omega arith)) (ap pos (omega arith))
+      go false i =
+          let h = leb-false n 2147483647 i in
+          rw (turned-high h, lt-ltb (n - 2147483648) 2147483648 (omega (arith, f .fits)), below n (omega (arith, f .fits)) h) (ap negsuc (omega (arith, f .fits)))
 
-pub ruleset signed-laws = (signed-below, signed-room, signed-above)
+  signed-fits : SFits w64 (signed n)
+  unfolding signed
+  signed-fits = go (leb n 2147483647) refl
+    where
+      go : (t : Bool) → leb n 2147483647 ≡ t → SFits w64 (cond t (pos n) (pos n -ℤ pos 4294967296))
+      go true i = record { sfits = omega (arith, leb-true n 2147483647 i) }
+      go false i = rw (below n (omega (arith, f .fits)) (leb-false n 2147483647 i)) (record { sfits = omega (arith, leb-false n 2147483647 i) })
+
+  turned-is : toZ w64 k -ℤ pos 2147483648 ≡ signed n
+  turned-is = let i : k < 2 ^ 63 = omega (arith, turned-small) in rw (toZ-pos w64 {n = k} i) signed-turned
+
+  pub signed-room : SFits w64 (toZ w64 k -ℤ pos 2147483648)
+  signed-room = rw turned-is signed-fits
+
+  pub signed-is : wire (toZ w64 k -ℤ pos 2147483648) ≡ signed n
+  signed-is = toZ-ofZ signed-room ∙ turned-is
+
+pub ruleset signed-laws = (signed-room, signed-is)
 
 pub small-signed : (n : ℕ) → Fits w32 n → inside least most (signed n) ≡ true
 unfolding signed

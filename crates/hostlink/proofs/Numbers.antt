@@ -19,6 +19,13 @@ use Rattle.counting.specs.declared.Counted.{Counted}
 use Rattle.counting.specs.declared.Counted.the-variants as counting
 use Rattle.running.specs.declared.Report.{Report}
 use Rattle.running.specs.declared.Report.the-variants as report
+use Rattle.marker.specs.Answers.{markOutcome}
+use Rattle.marker.specs.declared.Ending.{Ending}
+use Rattle.marker.specs.declared.Ending.the-variants as ending
+use Rattle.marker.specs.declared.Marked.{Marked}
+use Rattle.marking.specs.Reports.{markEnding, MarkReports}
+use Rattle.marking.specs.declared.MarkReport.{MarkReport}
+use Rattle.marking.specs.declared.MarkReport.the-variants as mark-report
 use Rattle.hostlink.specs.declared.replies.Reply.{Reply}
 use Rattle.hostlink.specs.Replies.{refusedReply, cellsReply, endedReply, outcomeReply, verdictReply, countReply, endingReply, Replies}
 
@@ -64,6 +71,35 @@ module _ (r : Reply) where
     unfolding endingOf endingReply
     report-ran a e f = f ∙ ap (λ (y : Report). endingReply (endingOf y)) (sym e)
 
+  module _ (a : Marked) where
+    mark-by : (o : Ending) → a .ending ≡ o → r ≡ outcomeReply (markOutcome o) (a .steps) → r ≡ outcomeReply (markOutcome (a .ending)) (a .steps)
+    mark-by o e f = f ∙ ap (λ (x : Ending). outcomeReply (markOutcome x) (a .steps)) (sym e)
+
+    pub mark-normal : a .ending ≡ ending.Normal → r ≡ endedReply 0 (pos 0) 0 (a .steps) → r ≡ outcomeReply (markOutcome (a .ending)) (a .steps)
+    unfolding markOutcome outcomeReply
+    mark-normal e f = mark-by ending.Normal e f
+
+    pub mark-spent : a .ending ≡ ending.Spent → r ≡ endedReply 2 (pos 0) 0 (a .steps) → r ≡ outcomeReply (markOutcome (a .ending)) (a .steps)
+    unfolding markOutcome outcomeReply
+    mark-spent e f = mark-by ending.Spent e f
+
+    pub mark-stuck : a .ending ≡ ending.Stuck → r ≡ endedReply 3 (pos 0) 0 (a .steps) → r ≡ outcomeReply (markOutcome (a .ending)) (a .steps)
+    unfolding markOutcome outcomeReply
+    mark-stuck e f = mark-by ending.Stuck e f
+
+    pub mark-raised : (z : ℤ) (n : ℕ) → a .ending ≡ ending.Raised z n → SFits w64 z → r ≡ endedReply 1 (wire z) n (a .steps) → r ≡ outcomeReply (markOutcome (a .ending)) (a .steps)
+    unfolding markOutcome outcomeReply
+    mark-raised z n e y f = mark-by (ending.Raised z n) e (f ∙ ap (λ (x : ℤ). endedReply 1 x n (a .steps)) (toZ-ofZ y))
+
+  module _ (x : MarkReport) where
+    pub mark-refused : (n l : ℕ) → x ≡ mark-report.Refused n l → r ≡ refusedReply n l → r ≡ endingReply (markEnding x)
+    unfolding markEnding endingReply
+    mark-refused n l e f = f ∙ ap (λ (y : MarkReport). endingReply (markEnding y)) (sym e)
+
+    pub mark-ran : (a : Marked) → x ≡ mark-report.Ran a → r ≡ outcomeReply (markOutcome (a .ending)) (a .steps) → r ≡ endingReply (markEnding x)
+    unfolding markEnding endingReply
+    mark-ran a e f = f ∙ ap (λ (y : MarkReport). endingReply (markEnding y)) (sym e)
+
 pub ruleset verdict-laws = (verdict-accepted, verdict-refused)
 
 pub ruleset count-laws = (count-cells, count-refused)
@@ -71,6 +107,10 @@ pub ruleset count-laws = (count-cells, count-refused)
 pub ruleset answer-laws = (by-normal, by-spent, by-raised)
 
 pub ruleset report-laws = (report-refused, report-ran)
+
+pub ruleset mark-answer-laws = (mark-normal, mark-spent, mark-stuck, mark-raised)
+
+pub ruleset mark-report-laws = (mark-refused, mark-ran)
 
 -- ---- the exported functions
 
@@ -82,3 +122,6 @@ count-told r c d e f = f ∙ ap countReply e
 
 pub run-told : (q : Whole.Report) (x : Report) (r : Reply) (vs : List ℤ) (ms : List ℕ) → Reports q x vs ms → r ≡ endingReply (endingOf x) → Replies q r vs ms
 run-told q x r vs ms R f = record { ending = f ∙ ap endingReply (R .ending); values = R .values; marks = R .marks }
+
+pub mark-told : (q : Whole.Report) (x : MarkReport) (r : Reply) (vs : List ℤ) (ms : List ℕ) → MarkReports q x vs ms → r ≡ endingReply (markEnding x) → Replies q r vs ms
+mark-told q x r vs ms R f = record { ending = f ∙ ap endingReply (R .ending); values = R .values; marks = R .marks }

@@ -1,17 +1,21 @@
-// The functions that a host in C or Rust calls (include/drive.h): each is one of `drive`, its answer told in numbers.
+// The functions that a host in C or Rust calls (include/drive.h): each is one of `drive` or `marking`, its answer told in numbers.
 pub mod replies;
 
 use crate::replies::Reply;
 use crate::replies::counted;
+use crate::replies::mark_reported;
 use crate::replies::reported;
 use crate::replies::told;
 use drive::cells;
+use drive::mark;
+use drive::mark_owners;
 use drive::owners;
 use drive::run;
 use drive::verdict_of;
 ghost use mathlib.Core.Path.{_≡_};
 ghost use lib.ListN.{length};
-ghost use Rattle.semantics.specs.Whole.{verdictOf, runOf, workAfter};
+ghost use Rattle.semantics.specs.Verdict.{judge, loosely};
+ghost use Rattle.semantics.specs.Whole.{verdictOf, runOf, markOf, workAfter};
 ghost use Rattle.texts.specs.Answers.{toldVerdict};
 ghost use Rattle.counting.specs.Cells.{cellsTold, Owners};
 ghost use Rattle.hostlink.specs.Replies.{verdictReply, countReply, Replies};
@@ -56,4 +60,28 @@ pub extern "C" fn drive_run(
 {
     let report = run(text, work, values, marks, budget);
     reported(report)
+}
+
+// As `drive_owners`, of a text that the marking machine takes.
+#[no_mangle]
+pub extern "C" fn drive_mark_owners(text: &[u8], work: &mut [u32], names: &mut [usize]) -> Reply
+    ensures { λ r. ⌜ (r ≡ countReply (cellsTold (judge loosely (now (text .entry)) (length (now (work .entry)))))) × (now (work .exit) ≡ workAfter (now (work .entry))) × Owners (now (text .entry)) (judge loosely (now (text .entry)) (length (now (work .entry)))) (now (names .exit)) ⌝ }
+{
+    let c = mark_owners(text, work, names);
+    counted(c)
+}
+
+// The run of a text on a lent store within a budget, by the marking machine.
+#[no_mangle]
+pub extern "C" fn drive_mark(
+    text: &[u8],
+    work: &mut [u32],
+    values: &mut [i64],
+    marks: &mut [u8],
+    budget: u32,
+) -> Reply
+    ensures { λ r. ⌜ Replies (markOf (now (text .entry)) (length (now (work .entry))) (now (values .entry)) (now (marks .entry)) budget) r (now (values .exit)) (now (marks .exit)) × (now (work .exit) ≡ workAfter (now (work .entry))) ⌝ }
+{
+    let report = mark(text, work, values, marks, budget);
+    mark_reported(report)
 }

@@ -2,11 +2,16 @@
 use chair::Answer;
 use chair::Outcome;
 use drive::Counted;
+use drive::MarkReport;
 use drive::Report;
 use drive::Verdict;
+use marker::Ending;
+use marker::Marked;
 ghost use mathlib.Core.Path.{_≡_};
 ghost use Rattle.chair.specs.Answers.{outcomeOf};
 ghost use Rattle.running.specs.Running.{endingOf};
+ghost use Rattle.marker.specs.Answers.{markOutcome};
+ghost use Rattle.marking.specs.Reports.{markEnding};
 ghost use Rattle.hostlink.specs.Replies.{refusedReply, cellsReply, endedReply, outcomeReply, verdictReply, countReply, endingReply};
 
 // `drive_reply` of the header: a refusal's number, or 0 and the rest; what a call has nothing to say of is 0.
@@ -106,5 +111,29 @@ pub fn reported(report: Report) -> Reply
     match report {
         Report::Refused(number, line) => refused(number, line),
         Report::Ran(answer) => answered(answer),
+    }
+}
+
+// The answer of a run by the marking machine.
+fn mark_answered(answer: Marked) -> Reply
+    ensures { λ r. ⌜ r ≡ outcomeReply (markOutcome (answer .ending)) (answer .steps) ⌝ }
+{
+    let steps = answer.steps;
+    let ending = answer.ending;
+    match ending {
+        Ending::Normal => ended(0, 0, 0, steps),
+        Ending::Raised(number, place) => ended(1, number, place, steps),
+        Ending::Spent => ended(2, 0, 0, steps),
+        Ending::Stuck => ended(3, 0, 0, steps),
+    }
+}
+
+// The report of a run by the marking machine.
+pub fn mark_reported(report: MarkReport) -> Reply
+    ensures { λ r. ⌜ r ≡ endingReply (markEnding report) ⌝ }
+{
+    match report {
+        MarkReport::Refused(number, line) => refused(number, line),
+        MarkReport::Ran(answer) => mark_answered(answer),
     }
 }

@@ -93,6 +93,15 @@ unfolding stepWord pick
 step-taken zero t e h = absurd (omega (arith, e, h))
 step-taken (suc k) t e h = omega (arith, e, step-one k)
 
+-- the same by the steps that were left
+pub step-due : (s t : ℕ) → t ≡ stepWord s → s ≡ 0 → 4294967295 < t
+unfolding stepWord pick
+step-due s t e z = omega (arith, e ∙ ap stepWord z)
+
+pub step-on : (s t : ℕ) → t ≡ stepWord s → ((s ≡ 0) → ⊥) → s ≡ suc t
+step-on zero t e h = absurd (h refl)
+step-on (suc k) t e h = omega (arith, e, step-one k)
+
 step-least : (s : ℕ) → leftIn (stepWord s) ≤ s
 unfolding stepWord pick leftIn
 step-least zero = omega arith

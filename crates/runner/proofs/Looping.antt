@@ -32,7 +32,7 @@ use Rattle.steps.specs.Stands.{Stands, Ends, Runs, after}
 use Rattle.steps.specs.Turns.{Increments}
 use Rattle.leaves.specs.Cells.{Puts}
 use Rattle.leaves.proofs.Assigning.{at-node, value-here, fault-here}
-use Rattle.leaves.proofs.Ending.{Cells, Faulty, left-most, left-of, raised-fewer, step-spent, step-taken, step-fewer, step-stands, normal-ends, spent-ends, raising-ends, fault-ends, is-ends}
+use Rattle.leaves.proofs.Ending.{Cells, Faulty, left-most, left-of, raised-fewer, step-due, step-on, step-fewer, step-stands, normal-ends, spent-ends, raising-ends, fault-ends, is-ends}
 use Rattle.leaves.proofs.Stored.{put-stands}
 use Rattle.leaves.proofs.Shapes as Shapes
 use Rattle.runner.specs.Loops.{Goes, Rounds, Repeating, Turns, Counting}
@@ -127,19 +127,19 @@ module _ (l : List ℕ) (calls d p : ℕ) (ws : List ℤ) (s : ℕ) (n c b : ℕ
         while-on f m S = while-tested true (not-le x (pos 0) (rw (toZ-ofZ h) at k)) f m S
 
         module _ (u : ℕ) (U : u ≡ stepWord t) where
-          pub while-spent : 4294967295 < u → Performs While l calls d p ws s us u
+          pub while-spent : t ≡ 0 → Performs While l calls d p ws s us u
           while-spent e = while-from us u (omega (arith, step-fewer t u U, R .fewer))
-              (λ L f m j S. go f m S (step-spent t u U e (S .steps)))
+              (λ L f m j S. go f m S e)
             where
               go : (f : ℕ) (m : Store) → Stands us t m → t ≡ 0 → Ends (whileRounds f (condition n (readCode d l c)) (runAct (callable calls l) (readAct d l b)) (state m t)) us u
               go f m S j = subst (λ (y : Answer). Ends y us u)
                   (sym (while-on f m S ∙ ap (λ (w : ℕ). onward n (readCode d l c) (runAct (callable calls l) (readAct d l b)) f (state m w)) j
                   ∙ onward-spent n (readCode d l c) (runAct (callable calls l) (readAct d l b)) f m ∙ ap (λ (w : ℕ). answer spent (state m w)) (sym j)))
-                  (spent-ends us t m S u U e)
+                  (spent-ends us t m S u U (step-due t u U j))
 
-          module _ (j : u ≤ 4294967295) (vs : List ℤ) (o : ℕ) (X : Executes l calls d b us u vs o) where
+          module _ (j : (t ≡ 0) → ⊥) (vs : List ℤ) (o : ℕ) (X : Executes l calls d b us u vs o) where
             taken : t ≡ suc u
-            taken = step-taken t u U j
+            taken = step-on t u U j
 
             -- the round
             round-ends : length l ≡ 16384 → (m : Store) → Stands us t m → Ends (runAct (callable calls l) (readAct d l b) (state m u)) vs o
@@ -257,19 +257,19 @@ module _ (l : List ℕ) (calls d p : ℕ) (x y : ℤ) (ws : List ℤ) (s : ℕ) 
             (g L Q (K .goes .store) (K .up) (K .ranged) (K .goes .stands))
 
     module _ (u : ℕ) (U : u ≡ stepWord t) where
-      turn-spent : 4294967295 < u → Counts l calls d p x y ws s us u
+      turn-spent : t ≡ 0 → Counts l calls d p x y ws s us u
       turn-spent e = turn-from us u (omega (arith, step-fewer t u U, C .fewer))
-          (λ L Q m h R S. go m S (step-spent t u U e (S .steps)))
+          (λ L Q m h R S. go m S e)
         where
           go : (m : Store) → Stands us t m → t ≡ 0 → Ends (forRounds (suc (natOf (y -ℤ z))) a (runAct (callable calls l) (readAct d l b)) z (state m t)) us u
           go m S j = subst (λ (v : Answer). Ends v us u)
               (sym (ap (λ (n : ℕ). forRounds (suc (natOf (y -ℤ z))) a (runAct (callable calls l) (readAct d l b)) z (state m n)) j
               ∙ for-spent (natOf (y -ℤ z)) a (runAct (callable calls l) (readAct d l b)) z m ∙ ap (λ (n : ℕ). answer spent (state m n)) (sym j)))
-              (spent-ends us t m S u U e)
+              (spent-ends us t m S u U (step-due t u U j))
 
-      module _ (j : u ≤ 4294967295) (vs os : List ℤ) (o : ℕ) (P : Puts us (cellsIn us) a z vs) (X : Executes l calls d b vs u os o) where
+      module _ (j : (t ≡ 0) → ⊥) (vs os : List ℤ) (o : ℕ) (P : Puts us (cellsIn us) a z vs) (X : Executes l calls d b vs u os o) where
         turned : t ≡ suc u
-        turned = step-taken t u U j
+        turned = step-on t u U j
 
         turn-stands : (m : Store) → InRange z → Stands us t m → Stands vs u (stored a (z ∷ []) m)
         turn-stands m R S = step-stands vs t u (stored a (z ∷ []) m) turned (put-stands us t m a a z vs S R (omega (arith, C .small)) P)
@@ -333,10 +333,10 @@ module _ (l : List ℕ) (calls d p : ℕ) (x y : ℤ) (ws : List ℤ) (s : ℕ) 
   plain vs r K = subst (λ (v : ℤ). Counts l calls d p v y ws s vs r) (toZ-ofZ f) (subst (λ (v : ℤ). Counts l calls d p (wire x) v ws s vs r) (toZ-ofZ g) K)
 
   module _ (u : ℕ) (U : u ≡ stepWord t) where
-    pub rounds-spent : 4294967295 < u → Counts l calls d p x y ws s us u
+    pub rounds-spent : t ≡ 0 → Counts l calls d p x y ws s us u
     rounds-spent e = plain us u (turn-spent l calls d p (wire x) (wire y) ws s a b z us t C u U e)
 
-    module _ (j : u ≤ 4294967295) (vs os : List ℤ) (o : ℕ) (P : Puts us (cellsIn us) a z vs) (X : Executes l calls d b vs u os o) where
+    module _ (j : (t ≡ 0) → ⊥) (vs os : List ℤ) (o : ℕ) (P : Puts us (cellsIn us) a z vs) (X : Executes l calls d b vs u os o) where
       pub rounds-stop : 4294967295 < o → Counts l calls d p x y ws s os o
       rounds-stop q = plain os o (turn-stops l calls d p (wire x) (wire y) ws s a b z us t C u U j vs os o P X q)
 

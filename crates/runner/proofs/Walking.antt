@@ -38,7 +38,7 @@ use Rattle.leaves.specs.declared.arms.Arm.the-variants.{Taken, Absent}
 use Rattle.leaves.specs.Arms.{Below, Chooses, byArm}
 use Rattle.leaves.specs.Does.{Does}
 use Rattle.leaves.proofs.Assigning.{at-node, value-here, fault-here}
-use Rattle.leaves.proofs.Ending.{Cells, left-most, left-of, raised-fewer, told-normal, told-spent, told-raised, step-spent, step-taken, step-fewer, step-stands, normal-ends, spent-ends, raising-ends, fault-ends, is-ends}
+use Rattle.leaves.proofs.Ending.{Cells, left-most, left-of, raised-fewer, told-normal, told-spent, told-raised, step-due, step-on, step-fewer, step-stands, normal-ends, spent-ends, raising-ends, fault-ends, is-ends}
 use Rattle.leaves.proofs.Shapes as Shapes
 use Rattle.runner.specs.Loops.{Goes, Following, actsAt}
 use Rattle.runner.specs.Runs.{Executes, Performs, Performing, Follows, Calls, Serves}
@@ -284,9 +284,9 @@ module _ (l : List ℕ) (calls d p : ℕ) (ws : List ℤ) (s : ℕ) where
       exec-above h = exec-idle (op-at l p n P N ∙ op-above n h)
 
       module _ (h : 43 ≤ n) (g : n ≤ 51) (t : ℕ) (T : t ≡ stepWord s) where
-        pub exec-spent : 4294967295 < t → Executes l calls d p ws s ws t
+        pub exec-spent : s ≡ 0 → Executes l calls d p ws s ws t
         exec-spent k = record {
-          runs = λ L. record { says = λ m S. go m S (step-spent s t T k (S .steps)) };
+          runs = λ L. record { says = λ m S. go m S k };
           fewer = step-fewer s t T;
         }
           where
@@ -295,17 +295,17 @@ module _ (l : List ℕ) (calls d p : ℕ) (ws : List ℤ) (s : ℕ) where
                 subst (λ (a : Answer). Ends a ws t)
                 (sym (ap (λ (c : ℕ). runAct (callable calls l) (readAct d l p) (state m c)) e ∙ by-op (callable calls l) (state m 0) (actOp n) (op-at l p n P N)
                 ∙ acted-spent (callable calls l) l (d - 1) p (actOp n) m (op-active n h g) ∙ ap (λ (c : ℕ). answer spent (state m c)) (sym e)))
-                (spent-ends ws s m S t T k)
+                (spent-ends ws s m S t T (step-due s t T e))
 
         -- the step, and what comes after it
-        exec-after : (ws′ : List ℤ) (r : ℕ) → t ≤ 4294967295 → leftIn r ≤ t → (length l ≡ 16384 → Runs (after (runAct (callable calls l) (readAct (suc (d - 1)) l p))) ws t ws′ r) → Executes l calls d p ws s ws′ r
+        exec-after : (ws′ : List ℤ) (r : ℕ) → ((s ≡ 0) → ⊥) → leftIn r ≤ t → (length l ≡ 16384 → Runs (after (runAct (callable calls l) (readAct (suc (d - 1)) l p))) ws t ws′ r) → Executes l calls d p ws s ws′ r
         exec-after ws′ r k f R = record {
           runs = λ L. record { says = λ m S. go m (R L .says m (step-stands ws s t m e S)) };
           fewer = omega (arith, e, f);
         }
           where
             e : s ≡ suc t
-            e = step-taken s t T k
+            e = step-on s t T k
 
             go : (m : Store) → Ends (after (runAct (callable calls l) (readAct (suc (d - 1)) l p)) (state m t)) ws′ r → Ends (runAct (callable calls l) (readAct d l p) (state m s)) ws′ r
             go m E =
@@ -313,10 +313,10 @@ module _ (l : List ℕ) (calls d p : ℕ) (ws : List ℤ) (s : ℕ) where
                 subst (λ (x : ℕ). Ends (runAct (callable calls l) (readAct x l p) (state m s)) ws′ r) (sym c)
                 (subst (λ (x : ℕ). Ends (runAct (callable calls l) (readAct (suc (d - 1)) l p) (state m x)) ws′ r) (sym e) (later l calls (d - 1) p m t ws′ r E))
 
-        pub exec-performs : (ws′ : List ℤ) (r : ℕ) → t ≤ 4294967295 → ((n ≡ 43) → ⊥) → Performing n l calls (d - 1) p ws t ws′ r → Executes l calls d p ws s ws′ r
+        pub exec-performs : (ws′ : List ℤ) (r : ℕ) → ((s ≡ 0) → ⊥) → ((n ≡ 43) → ⊥) → Performing n l calls (d - 1) p ws t ws′ r → Executes l calls d p ws s ws′ r
         exec-performs ws′ r k a R = exec-after ws′ r k (R .fewer) (λ L. R .runs L (omega (arith, h, a)) g (op-at l p n P N))
 
-        pub exec-assigns : (ws′ : List ℤ) (r : ℕ) → t ≤ 4294967295 → n ≡ 43 → Does AssignOrdinal l (d - 1) p ws t ws′ r → Executes l calls d p ws s ws′ r
+        pub exec-assigns : (ws′ : List ℤ) (r : ℕ) → ((s ≡ 0) → ⊥) → n ≡ 43 → Does AssignOrdinal l (d - 1) p ws t ws′ r → Executes l calls d p ws s ws′ r
         unfolding actOp
         exec-assigns ws′ r k a R = exec-after ws′ r k (R .fewer) (λ L. R .runs (callable calls l) (op-at l p n P N ∙ ap actOp a))
 

@@ -48,7 +48,7 @@ pub fn exec(
         return left;
     }
     let t = stepped(left);
-    if t > 4294967295 {
+    if left == 0 {
         return t;
     }
     if op == 43 {
@@ -157,7 +157,7 @@ fn repeat(
             return t;
         }
         let u = stepped(t);
-        if u > 4294967295 {
+        if t == 0 {
             return u;
         }
         let o = exec(code, store, u, b, depth, calls);
@@ -239,7 +239,7 @@ fn rounds(
     let mut t = left;
     loop {
         let u = stepped(t);
-        if u > 4294967295 {
+        if t == 0 {
             return u;
         }
         put(store, a, z);

@@ -3,14 +3,16 @@
 pub const USAGE: &str = "\
 usage: drive check FILE [--explain]
        drive run FILE [--budget N] [--store FILE] [--explain]
+       drive mark FILE [--budget N] [--store FILE] [--explain]
 
 check   prints `accepted`, or `refused NUMBER LINE`
 run     runs the script and prints its outcome and its cells, as `runscript` does
+mark    the same by the marking machine: runs also where kinds do not fit in a body, and prints `stuck STEPS` where it meets that
 FILE            a script; `-` is standard input
 --budget N      the most steps, 0 to 4294967295; 10000 if not given
 --store FILE    the cells at the start, a line `VALUE MARK` for each; all undefined if not given
 --explain       adds words for a person below
-Exit status: 0 accepted or normal; 1 refused, exception or spent; 2 usage, or a file that cannot be read
+Exit status: 0 accepted or normal; 1 refused, exception, spent or stuck; 2 usage, or a file that cannot be read
 ";
 
 #[derive(Debug, PartialEq, Eq)]
@@ -18,6 +20,7 @@ pub enum Command {
     Help,
     Check(Check),
     Run(Run),
+    Mark(Run),
 }
 
 #[derive(Debug, PartialEq, Eq)]
@@ -52,6 +55,7 @@ pub fn read(words: &[String]) -> Result<Command, String> {
         "-h" | "--help" | "help" => Ok(Command::Help),
         "check" => check(options(rest)?).map(Command::Check),
         "run" => run(options(rest)?).map(Command::Run),
+        "mark" => run(options(rest)?).map(Command::Mark),
         other => Err(wrong(&format!("no subcommand `{other}`"))),
     }
 }
@@ -113,8 +117,9 @@ mod tests {
         assert_eq!(read_line("check --explain a"), Ok(Command::Check(check)));
         let run = Run { file: "-".to_string(), budget: 7, store: Some("s".to_string()), explain: false };
         assert_eq!(read_line("run --store s - --budget 7"), Ok(Command::Run(run)));
-        let plain = Run { file: "a".to_string(), budget: 10_000, store: None, explain: false };
-        assert_eq!(read_line("run a"), Ok(Command::Run(plain)));
+        let plain = || Run { file: "a".to_string(), budget: 10_000, store: None, explain: false };
+        assert_eq!(read_line("run a"), Ok(Command::Run(plain())));
+        assert_eq!(read_line("mark a"), Ok(Command::Mark(plain())));
         assert_eq!(read_line("--help"), Ok(Command::Help));
     }
 
@@ -135,6 +140,8 @@ mod tests {
             "run a --store",
             "run a --fast",
             "run - --store -",
+            "mark",
+            "mark a --budget x",
         ] {
             let message = read_line(line).unwrap_err();
             assert!(message.starts_with("drive: ") && message.contains("usage: drive check FILE"), "{line}: {message}");

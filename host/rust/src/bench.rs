@@ -1,5 +1,5 @@
 //! The calls: a working list, and texts checked and run with it.
-use crate::library::{drive_cells, drive_owners, drive_run, drive_verdict, Reply};
+use crate::library::{drive_cells, drive_mark, drive_mark_owners, drive_owners, drive_run, drive_verdict, Reply};
 use crate::{Answer, Exception, Outcome, Refusal, Row, Store};
 
 /// Numbers in a working list.
@@ -51,16 +51,46 @@ impl Bench {
         // SAFETY: as in `verdict`; `names` is a slice of its own.
         let reply =
             unsafe { drive_owners(text.as_ptr(), text.len(), self.work.as_mut_ptr(), self.work.len(), names.as_mut_ptr(), names.len()) };
-        let cells = accepted(reply)?.cells;
-        Ok(names[..cells].iter().map(|&offset| name_at(text, offset)).collect())
+        named(text, reply, &names)
     }
 
-    /// Runs a text on a store within a budget of steps; a refusal leaves the store as it was. It takes up to 400 KB of stack.
+    /// The same of a text that the marking machine takes.
+    pub fn mark_owners(&mut self, text: &[u8]) -> Result<Vec<String>, Refusal> {
+        let mut names = vec![0; CELLS_MOST];
+        // SAFETY: as in `owners`.
+        let reply = unsafe {
+            drive_mark_owners(text.as_ptr(), text.len(), self.work.as_mut_ptr(), self.work.len(), names.as_mut_ptr(), names.len())
+        };
+        named(text, reply, &names)
+    }
+
+    /// Runs a text on a store within a budget of steps; a refusal leaves the store as it was. For its stack see `docs/EMBEDDING.md`.
     pub fn run(&mut self, text: &[u8], store: &mut Store, budget: u32) -> Result<Answer, Refusal> {
         let Store { values, marks } = store;
         // SAFETY: as in `verdict`; `values` and `marks` are slices of their own.
         let reply = unsafe {
             drive_run(
+                text.as_ptr(),
+                text.len(),
+                self.work.as_mut_ptr(),
+                self.work.len(),
+                values.as_mut_ptr(),
+                values.len(),
+                marks.as_mut_ptr(),
+                marks.len(),
+                budget,
+            )
+        };
+        accepted(reply).map(answer)
+    }
+
+    /// The same by the marking machine, which runs a text also where kinds do not fit in a body, until it meets such a place. It takes
+    /// far more stack and time.
+    pub fn mark(&mut self, text: &[u8], store: &mut Store, budget: u32) -> Result<Answer, Refusal> {
+        let Store { values, marks } = store;
+        // SAFETY: as in `run`.
+        let reply = unsafe {
+            drive_mark(
                 text.as_ptr(),
                 text.len(),
                 self.work.as_mut_ptr(),
@@ -88,12 +118,19 @@ fn answer(reply: Reply) -> Answer {
         0 => Outcome::Normal,
         1 => Outcome::Raised { exception: Exception::of_number(reply.exception), statement: reply.statement },
         2 => Outcome::Spent,
+        3 => Outcome::Stuck,
         other => unreachable!("outcome {other} of a run"),
     };
     Answer { outcome, steps: reply.steps }
 }
 
-/// The word that starts at an offset of an accepted text.
+/// The names that a reply found, by their offsets.
+fn named(text: &[u8], reply: Reply, offsets: &[usize]) -> Result<Vec<String>, Refusal> {
+    let cells = accepted(reply)?.cells;
+    Ok(offsets[..cells].iter().map(|&offset| name_at(text, offset)).collect())
+}
+
+/// The word that starts at an offset of a text.
 fn name_at(text: &[u8], offset: usize) -> String {
     let word = text[offset..].iter().take_while(|&&b| !matches!(b, b' ' | b'\n' | b'(' | b')'));
     word.map(|b| b.to_ascii_lowercase() as char).collect()
@@ -119,6 +156,41 @@ mod tests {
         let mut store = Store::undefined(2);
         assert_eq!(bench.run(SLOTS, &mut store, 10_000), Ok(Answer { outcome: Outcome::Normal, steps: 2 }));
         assert_eq!(store, Store { values: vec![3, 16], marks: vec![1, 1] });
+    }
+
+    #[test]
+    fn marking_agrees_where_a_text_is_accepted() {
+        let mut bench = Bench::new();
+        assert_eq!(bench.mark_owners(SLOTS), bench.owners(SLOTS));
+        for budget in [0, 1, 2, 10_000] {
+            let (mut ran, mut marked) = (Store::undefined(2), Store::undefined(2));
+            assert_eq!(bench.mark(SLOTS, &mut marked, budget), bench.run(SLOTS, &mut ran, budget));
+            assert_eq!(marked, ran);
+        }
+    }
+
+    #[test]
+    fn marking_sticks_where_kinds_do_not_fit() {
+        let mut bench = Bench::new();
+        let text = b"(var a integer)\n(proc p (:= a true))\n(main (:= a 1) (call p) (:= a 2) (exception (:= a 3)))\n";
+        assert_eq!(bench.verdict(text), Err(refused(Row::Type, 2)));
+        assert_eq!(bench.mark_owners(text), Ok(vec!["a".to_string()]));
+        let mut store = Store::undefined(1);
+        assert_eq!(bench.mark(text, &mut store, 10_000), Ok(Answer { outcome: Outcome::Stuck, steps: 3 }));
+        assert_eq!(store.get(0), Some(1));
+        assert_eq!(bench.mark(text, &mut store, 2), Ok(Answer { outcome: Outcome::Spent, steps: 2 }));
+        for m in [&b"(main (raise (+ 1 true)))\n"[..], b"(main (if 1 (begin)))\n"] {
+            let stuck = Answer { outcome: Outcome::Stuck, steps: 1 };
+            assert_eq!(bench.mark(m, &mut Store::default(), 10_000), Ok(stuck));
+        }
+    }
+
+    #[test]
+    fn marking_passes_a_misfit_that_is_not_met() {
+        let mut bench = Bench::new();
+        let text = b"(main (if false (raise true)) (raise 7))\n";
+        let raised = Outcome::Raised { exception: Exception::Own(7), statement: 3 };
+        assert_eq!(bench.mark(text, &mut Store::default(), 10_000), Ok(Answer { outcome: raised, steps: 2 }));
     }
 
     #[test]
@@ -151,7 +223,7 @@ mod tests {
             (b"(main (raise 2147483648))\n", Row::Word, 1),
             (b"", Row::Form, 1),
             (b"(main (call p))\n", Row::Name, 1),
-            (b"(main (raise true))\n", Row::Type, 1),
+            (b"(main (raise (- #80000000)))\n", Row::Type, 1),
             (b"(type a (range 0 300))\n(type b (array a integer))\n(main)\n", Row::Limit, 2),
             (&[b' '; TEXT_MOST + 1], Row::Length, 0),
         ];
@@ -161,22 +233,38 @@ mod tests {
             assert_eq!(bench.cells(text), Err(refused(row, line)));
             assert_eq!(bench.owners(text), Err(refused(row, line)));
             assert_eq!(bench.run(text, &mut Store::default(), 1), Err(refused(row, line)));
+            assert_eq!(bench.mark_owners(text), Err(refused(row, line)));
+            assert_eq!(bench.mark(text, &mut Store::default(), 1), Err(refused(row, line)));
         }
     }
+
+    /// Each function of the header, on `SLOTS`.
+    const CALLS: [fn(&mut Bench) -> Result<(), Refusal>; 6] = [
+        |bench| bench.verdict(SLOTS),
+        |bench| bench.cells(SLOTS).map(|_| ()),
+        |bench| bench.owners(SLOTS).map(|_| ()),
+        |bench| bench.run(SLOTS, &mut Store::undefined(2), 10).map(|_| ()),
+        |bench| bench.mark_owners(SLOTS).map(|_| ()),
+        |bench| bench.mark(SLOTS, &mut Store::undefined(2), 10).map(|_| ()),
+    ];
 
     #[test]
     fn short_and_long_working_lists() {
         for length in [0, 1, WORK - 1] {
             let mut bench = Bench::of_length(length);
-            bench.work.fill(7);
-            assert_eq!(bench.verdict(SLOTS), Err(refused(Row::Bench, 0)));
-            assert!(bench.work.iter().all(|&n| n == 0));
+            for call in CALLS {
+                bench.work.fill(7);
+                assert_eq!(call(&mut bench), Err(refused(Row::Bench, 0)));
+                assert!(bench.work.iter().all(|&n| n == 0));
+            }
         }
         let mut bench = Bench::of_length(WORK + 2);
-        bench.work.fill(7);
-        assert_eq!(bench.verdict(SLOTS), Ok(()));
-        assert!(bench.work[..WORK].iter().all(|&n| n == 0));
-        assert_eq!(bench.work[WORK..], [7, 7]);
+        for call in CALLS {
+            bench.work.fill(7);
+            assert_eq!(call(&mut bench), Ok(()));
+            assert!(bench.work[..WORK].iter().all(|&n| n == 0));
+            assert_eq!(bench.work[WORK..], [7, 7]);
+        }
     }
 
     #[test]
@@ -197,21 +285,25 @@ mod tests {
         for (lent, row) in cases {
             let mut left = lent.clone();
             assert_eq!(bench.run(SLOTS, &mut left, 10), Err(refused(row, 0)));
+            assert_eq!(bench.mark(SLOTS, &mut left, 10), Err(refused(row, 0)));
             assert_eq!(left, lent);
         }
     }
+
     #[test]
     fn names_as_far_as_there_is_room() {
         let mut bench = Bench::new();
         let offsets = [SLOTS.windows(7).position(|w| w == b"At_Slot").unwrap(), SLOTS.windows(3).position(|w| w == b"sum").unwrap()];
         for room in 0..=2 {
-            let mut names = [usize::MAX; 3];
-            // SAFETY: `room` is at most the length of `names`.
-            let reply =
-                unsafe { drive_owners(SLOTS.as_ptr(), SLOTS.len(), bench.work.as_mut_ptr(), bench.work.len(), names.as_mut_ptr(), room) };
-            assert_eq!((reply.refusal, reply.cells), (0, 2));
-            assert_eq!(names[..room], offsets[..room]);
-            assert!(names[room..].iter().all(|&n| n == usize::MAX));
+            for call in [drive_owners, drive_mark_owners] {
+                let mut names = [usize::MAX; 3];
+                // SAFETY: `room` is at most the length of `names`.
+                let reply =
+                    unsafe { call(SLOTS.as_ptr(), SLOTS.len(), bench.work.as_mut_ptr(), bench.work.len(), names.as_mut_ptr(), room) };
+                assert_eq!((reply.refusal, reply.cells), (0, 2));
+                assert_eq!(names[..room], offsets[..room]);
+                assert!(names[room..].iter().all(|&n| n == usize::MAX));
+            }
         }
     }
 
@@ -221,6 +313,8 @@ mod tests {
         let mut left = lent.clone();
         assert_eq!(Bench::of_length(WORK - 1).run(SLOTS, &mut left, 10), Err(refused(Row::Bench, 0)));
         assert_eq!(Bench::new().run(b"(main", &mut left, 10), Err(refused(Row::Bracket, 1)));
+        assert_eq!(Bench::of_length(WORK - 1).mark(SLOTS, &mut left, 10), Err(refused(Row::Bench, 0)));
+        assert_eq!(Bench::new().mark(b"(main", &mut left, 10), Err(refused(Row::Bracket, 1)));
         assert_eq!(left, lent);
     }
 }

@@ -26,6 +26,10 @@ pub fn answer(text: &[u8], answer: &Answer) -> String {
             "The script was not at its end after {} steps, which is all of its budget.\nLook for a loop that does not end, or allow more steps by --budget.\n",
             answer.steps
         ),
+        Outcome::Stuck => format!(
+            "The marking machine stuck at step {}: what it carried out met kinds that do not fit.\nCorrect what `drive check --explain` shows; until then no chair may load the script.\n",
+            answer.steps
+        ),
         Outcome::Raised { exception, statement } => raised(text, exception, statement),
     }
 }
@@ -111,5 +115,12 @@ mod tests {
         let raised = |number| Answer { outcome: Outcome::Raised { exception: Exception::of_number(number), statement: 1 }, steps: 1 };
         assert!(answer(text, &raised(-101)).starts_with("Exception -101, Numeric_Error, at statement 1, on line 2:\n    (raise 5)\n"));
         assert!(answer(text, &raised(5)).starts_with("Exception 5, raised by the script, at statement 1, on line 2:\n"));
+    }
+
+    #[test]
+    fn a_stuck_run_points_to_the_checker() {
+        let stuck = Answer { outcome: Outcome::Stuck, steps: 3 };
+        let said = answer(b"(main (raise true))\n", &stuck);
+        assert!(said.starts_with("The marking machine stuck at step 3:") && said.contains("drive check --explain"), "{said}");
     }
 }

@@ -28,4 +28,23 @@ extern "C" {
         marks_len: usize,
         budget: u32,
     ) -> Reply;
+    pub fn drive_mark_owners(
+        text: *const u8,
+        text_len: usize,
+        work: *mut u32,
+        work_len: usize,
+        names: *mut usize,
+        names_len: usize,
+    ) -> Reply;
+    pub fn drive_mark(
+        text: *const u8,
+        text_len: usize,
+        work: *mut u32,
+        work_len: usize,
+        values: *mut i64,
+        values_len: usize,
+        marks: *mut u8,
+        marks_len: usize,
+        budget: u32,
+    ) -> Reply;
 }

@@ -1,11 +1,20 @@
-//! `drive`: checks and runs drive scripts.
+//! `drive`: checks, runs and marks drive scripts.
 mod arguments;
 mod files;
 
 use arguments::{Check, Command, Run};
-use drive::{explain, report, Bench, Refusal, Store};
+use drive::{explain, report, Answer, Bench, Refusal, Store};
 use std::io::Write;
 use std::process::ExitCode;
+
+/// A machine's calls: the names of the cells, and the run.
+struct Machine {
+    owners: fn(&mut Bench, &[u8]) -> Result<Vec<String>, Refusal>,
+    run: fn(&mut Bench, &[u8], &mut Store, u32) -> Result<Answer, Refusal>,
+}
+
+const CHAIR: Machine = Machine { owners: Bench::owners, run: Bench::run };
+const MARKING: Machine = Machine { owners: Bench::mark_owners, run: Bench::mark };
 
 /// What is printed, and whether the script was accepted, or ran to its normal end.
 struct Said {
@@ -39,7 +48,8 @@ fn obey(command: &Command) -> Result<Said, String> {
     match command {
         Command::Help => Ok(Said { rows: arguments::USAGE.to_string(), good: true }),
         Command::Check(check) => obey_check(check),
-        Command::Run(run) => obey_run(run),
+        Command::Run(run) => obey_run(run, &CHAIR),
+        Command::Mark(run) => obey_run(run, &MARKING),
     }
 }
 
@@ -53,10 +63,10 @@ fn obey_check(check: &Check) -> Result<Said, String> {
     Ok(Said { rows: format!("accepted\n{words}"), good: true })
 }
 
-fn obey_run(run: &Run) -> Result<Said, String> {
+fn obey_run(run: &Run, machine: &Machine) -> Result<Said, String> {
     let text = files::script(&run.file)?;
     let mut bench = Bench::new();
-    let owners = match bench.owners(&text) {
+    let owners = match (machine.owners)(&mut bench, &text) {
         Err(refusal) => return Ok(refused(&text, &refusal, run.explain)),
         Ok(owners) => owners,
     };
@@ -64,7 +74,7 @@ fn obey_run(run: &Run) -> Result<Said, String> {
         Some(path) => files::store(path)?,
         None => Store::undefined(owners.len()),
     };
-    let answer = match bench.run(&text, &mut store, run.budget) {
+    let answer = match (machine.run)(&mut bench, &text, &mut store, run.budget) {
         Err(refusal) => return Ok(refused(&text, &refusal, run.explain)),
         Ok(answer) => answer,
     };

@@ -55,8 +55,13 @@ impl Exception {
 #[derive(Clone, Copy, Debug, PartialEq, Eq, Hash)]
 pub enum Outcome {
     Normal,
-    Raised { exception: Exception, statement: u32 },
+    Raised {
+        exception: Exception,
+        statement: u32,
+    },
     Spent,
+    /// Kinds that do not fit were met; only the marking machine answers this.
+    Stuck,
 }
 
 /// The answer of a run.
@@ -72,6 +77,7 @@ impl fmt::Display for Answer {
             Outcome::Normal => write!(f, "normal {}", self.steps),
             Outcome::Raised { exception, statement } => write!(f, "exception {} {} {}", exception.number(), statement, self.steps),
             Outcome::Spent => write!(f, "spent {}", self.steps),
+            Outcome::Stuck => write!(f, "stuck {}", self.steps),
         }
     }
 }

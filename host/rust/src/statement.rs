@@ -1,4 +1,4 @@
-//! Where a statement stands in an accepted text.
+//! Where a statement stands in a text that ran.
 
 const HEADS: [&[u8]; 8] = [b":=", b"begin", b"if", b"while", b"for", b"case", b"call", b"raise"];
 

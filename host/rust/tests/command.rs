@@ -38,9 +38,11 @@ fn examples_print_as_runscript_does() {
         let path = entry.unwrap().path();
         if path.extension().is_some_and(|e| e == "txt") {
             let want = fs::read_to_string(path.with_extension("out")).unwrap();
-            let (status, out, err) = drive(&["run", path.to_str().unwrap()], "");
-            assert_eq!((out.as_str(), err.as_str()), (want.as_str(), ""), "{}", path.display());
-            assert_eq!(status, if want.starts_with("normal") { 0 } else { 1 }, "{}", path.display());
+            for command in ["run", "mark"] {
+                let (status, out, err) = drive(&[command, path.to_str().unwrap()], "");
+                assert_eq!((out.as_str(), err.as_str()), (want.as_str(), ""), "{}", path.display());
+                assert_eq!(status, if want.starts_with("normal") { 0 } else { 1 }, "{}", path.display());
+            }
             assert_eq!(drive(&["check", path.to_str().unwrap()], ""), (0, "accepted\n".to_string(), String::new()));
             seen += 1;
         }
@@ -60,16 +62,32 @@ fn standard_input_and_budgets() {
 
 #[test]
 fn refusals() {
-    let cases =
-        [("", "refused 6 1\n"), ("(main)", "refused 4 1\n"), ("(main)\n\t\n", "refused 3 2\n"), ("(main (raise true))\n", "refused 8 1\n")];
+    let cases = [
+        ("", "refused 6 1\n"),
+        ("(main)", "refused 4 1\n"),
+        ("(main)\n\t\n", "refused 3 2\n"),
+        ("(type t (range 2 1))\n(main)\n", "refused 8 1\n"),
+    ];
     for (text, want) in cases {
-        for command in ["check", "run"] {
+        for command in ["check", "run", "mark"] {
             assert_eq!(drive(&[command, "-"], text), (1, want.to_string(), String::new()), "{text:?}");
         }
     }
     let long = " ".repeat(40_000);
     assert_eq!(drive(&["check", "-"], &long).1, "refused 2 0\n");
     assert_eq!(drive(&["check", "-"], &long[..32_768]).1, "refused 4 1\n");
+}
+
+#[test]
+fn kinds_that_do_not_fit() {
+    let script = "(var a integer)\n(main (:= a 1) (if (= a 1) (raise true)) (exception (:= a 2)))\n";
+    for command in ["check", "run"] {
+        assert_eq!(drive(&[command, "-"], script), (1, "refused 8 2\n".to_string(), String::new()));
+    }
+    assert_eq!(drive(&["mark", "-"], script), (1, "stuck 3\n1 a 1\n".to_string(), String::new()));
+    assert_eq!(drive(&["mark", "-", "--budget", "2"], script), (1, "spent 2\n1 a 1\n".to_string(), String::new()));
+    let unmet = script.replace("(= a 1)", "(= a 0)");
+    assert_eq!(drive(&["mark", "-"], &unmet), (0, "normal 2\n1 a 1\n".to_string(), String::new()));
 }
 
 #[test]
@@ -95,7 +113,9 @@ fn store_files() {
     assert_eq!((status, out.as_str()), (2, ""));
     assert!(err.contains("line 2"), "{err}");
     let script_file = file("script", script);
-    assert_eq!(drive(&["run", &script_file, "--store", "-"], "1 1\n1 1\n").1, "normal 1\n1 a 2\n2 b 1\n");
+    for command in ["run", "mark"] {
+        assert_eq!(drive(&[command, &script_file, "--store", "-"], "1 1\n1 1\n").1, "normal 1\n1 a 2\n2 b 1\n");
+    }
 }
 
 #[test]
@@ -112,6 +132,8 @@ fn words_for_a_person() {
     let (_, out, _) = drive(&["run", "-", "--explain"], "(main (while true (begin)))\n");
     assert!(out.starts_with("spent 10000\nThe script was not at its end after 10000 steps"), "{out}");
     assert_eq!(drive(&["run", "-", "--explain"], "(main)\n").1, "normal 0\nThe script ran to its end.\n");
+    let (_, out, _) = drive(&["mark", "-", "--explain"], "(main (raise true))\n");
+    assert!(out.starts_with("stuck 1\nThe marking machine stuck at step 1: ") && out.contains("drive check --explain"), "{out}");
 }
 
 #[test]

@@ -7,19 +7,19 @@ use Rattle.hostlink.proofs.drive_cells.Lts as lts
 use Rattle.counting.proofs.cells.Reads as cells-reads
 use Rattle.hostlink.proofs.replies.counted.Reads as counted-reads
 
--- src/lib.rt:33:9
+-- src/lib.rt:37:9
 cells-requires : tie.Need-cells-requires
 cells-requires c κs = search needs
 
--- src/lib.rt:34:5
+-- src/lib.rt:38:5
 counted-requires : tie.Need-counted-requires
 counted-requires c κs = search needs
 
--- src/lib.rt:29:1
+-- src/lib.rt:33:1
 same-length : tie.Need-same-length
 same-length c = search needs
 
--- src/lib.rt:29:1
+-- src/lib.rt:33:1
 returns : tie.Need-returns
 returns c = (search count-told, search needs)
 

@@ -7,23 +7,23 @@ use Rattle.hostlink.proofs.drive_owners.Lts as lts
 use Rattle.counting.proofs.owners.Reads as owners-reads
 use Rattle.hostlink.proofs.replies.counted.Reads as counted-reads
 
--- src/lib.rt:42:9
+-- src/lib.rt:46:9
 owners-requires : tie.Need-owners-requires
 owners-requires c κs = search needs
 
--- src/lib.rt:43:5
+-- src/lib.rt:47:5
 counted-requires : tie.Need-counted-requires
 counted-requires c κs = search needs
 
--- src/lib.rt:38:1
+-- src/lib.rt:42:1
 same-length : tie.Need-same-length
 same-length c = search needs
 
--- src/lib.rt:38:1
+-- src/lib.rt:42:1
 same-length-2 : tie.Need-same-length-2
 same-length-2 c = search needs
 
--- src/lib.rt:38:1
+-- src/lib.rt:42:1
 returns : tie.Need-returns
 returns c = (search count-told, search needs, search needs)
 

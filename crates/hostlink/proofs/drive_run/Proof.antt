@@ -7,27 +7,27 @@ use Rattle.hostlink.proofs.drive_run.Lts as lts
 use Rattle.running.proofs.run.Reads as run-reads
 use Rattle.hostlink.proofs.replies.reported.Reads as reported-reads
 
--- src/lib.rt:57:9
+-- src/lib.rt:61:9
 run-requires : tie.Need-run-requires
 run-requires c κs = search needs
 
--- src/lib.rt:58:5
+-- src/lib.rt:62:5
 reported-requires : tie.Need-reported-requires
 reported-requires c κs = search needs
 
--- src/lib.rt:47:1
+-- src/lib.rt:51:1
 same-length : tie.Need-same-length
 same-length c = search needs
 
--- src/lib.rt:47:1
+-- src/lib.rt:51:1
 same-length-2 : tie.Need-same-length-2
 same-length-2 c = search needs
 
--- src/lib.rt:47:1
+-- src/lib.rt:51:1
 same-length-3 : tie.Need-same-length-3
 same-length-3 c = search needs
 
--- src/lib.rt:47:1
+-- src/lib.rt:51:1
 returns : tie.Need-returns
 returns c = (search run-told, search needs)
 

@@ -7,19 +7,19 @@ use Rattle.hostlink.proofs.drive_verdict.Lts as lts
 use Rattle.texts.proofs.verdict_of.Reads as verdict-of-reads
 use Rattle.hostlink.proofs.replies.told.Reads as told-reads
 
--- src/lib.rt:24:9
+-- src/lib.rt:28:9
 verdict-of-requires : tie.Need-verdict-of-requires
 verdict-of-requires c κs = search needs
 
--- src/lib.rt:25:5
+-- src/lib.rt:29:5
 told-requires : tie.Need-told-requires
 told-requires c κs = search needs
 
--- src/lib.rt:20:1
+-- src/lib.rt:24:1
 same-length : tie.Need-same-length
 same-length c = search needs
 
--- src/lib.rt:20:1
+-- src/lib.rt:24:1
 returns : tie.Need-returns
 returns c = (search verdict-told, search needs)
 

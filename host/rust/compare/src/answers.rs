@@ -2,12 +2,22 @@
 use drive::{Bench, Outcome, Store};
 use peer::gen::Case;
 
-/// All answers for a case: a refusal is its number and line.
+/// A refusal's number and line.
+pub type Refused = (u32, usize);
+
+/// All answers for a case.
 #[derive(Clone, Debug, PartialEq, Eq)]
 pub struct Answers {
-    pub verdict: Result<(), (u32, usize)>,
-    pub owners: Result<Vec<String>, (u32, usize)>,
-    pub run: Result<Ended, (u32, usize)>,
+    pub verdict: Result<(), Refused>,
+    pub run: Played,
+    pub mark: Played,
+}
+
+/// A machine's answers: the names of the cells, how the run ended, and the store that it left.
+#[derive(Clone, Debug, PartialEq, Eq)]
+pub struct Played {
+    pub owners: Result<Vec<String>, Refused>,
+    pub ended: Result<Ended, Refused>,
     pub store: Store,
 }
 
@@ -23,46 +33,70 @@ pub enum End {
     Normal,
     Exception(i64, u32),
     Spent,
+    Stuck,
 }
 
 /// The library's answers.
 pub fn of_library(case: &Case) -> Answers {
     let mut bench = Bench::of_length(case.work_len);
+    let owners = bench.owners(&case.text);
+    assert_eq!(bench.cells(&case.text), owners.as_ref().map(Vec::len).map_err(|r| *r), "cells and owners");
+    let run = library_played(case, owners, |store| bench.run(&case.text, store, case.budget));
+    let owners = bench.mark_owners(&case.text);
+    let mark = library_played(case, owners, |store| bench.mark(&case.text, store, case.budget));
+    Answers { verdict: bench.verdict(&case.text).map_err(told), run, mark }
+}
+
+fn told(refusal: drive::Refusal) -> Refused {
+    (refusal.row.number(), refusal.line)
+}
+
+fn library_played(
+    case: &Case,
+    owners: Result<Vec<String>, drive::Refusal>,
+    machine: impl FnOnce(&mut Store) -> Result<drive::Answer, drive::Refusal>,
+) -> Played {
     let mut store = Store { values: case.values.clone(), marks: case.marks.clone() };
-    let refused = |r: drive::Refusal| (r.row.number(), r.line);
-    let run = bench.run(&case.text, &mut store, case.budget).map(|answer| Ended {
+    let answer = machine(&mut store);
+    let ended = answer.map(|answer| Ended {
         outcome: match answer.outcome {
             Outcome::Normal => End::Normal,
             Outcome::Raised { exception, statement } => End::Exception(exception.number(), statement),
             Outcome::Spent => End::Spent,
+            Outcome::Stuck => End::Stuck,
         },
         steps: answer.steps,
     });
-    let owners = bench.owners(&case.text);
-    let cells = bench.cells(&case.text);
-    assert_eq!(cells, owners.as_ref().map(Vec::len).map_err(|r| *r), "cells and owners");
-    Answers { verdict: bench.verdict(&case.text).map_err(refused), owners: owners.map_err(refused), run: run.map_err(refused), store }
+    Played { owners: owners.map_err(told), ended: ended.map_err(told), store }
 }
 
 /// The peer's answers.
 pub fn of_peer(case: &Case) -> Answers {
-    let refused = |r: peer::Refusal| (r.number, r.line as usize);
-    let (run, (values, marks)) = case.run();
-    let run = run.map(|answer| Ended {
+    Answers {
+        verdict: peer::verdict(&case.text, case.work_len).map(|_| ()).map_err(peer_told),
+        run: peer_played(peer::owners(&case.text, case.work_len), case.run()),
+        mark: peer_played(peer::mark_owners(&case.text, case.work_len), case.mark()),
+    }
+}
+
+fn peer_told(refusal: peer::Refusal) -> Refused {
+    (refusal.number, refusal.line as usize)
+}
+
+fn peer_played(
+    owners: Result<Vec<String>, peer::Refusal>,
+    (answer, (values, marks)): (Result<peer::Answer, peer::Refusal>, peer::gen::Store),
+) -> Played {
+    let ended = answer.map(|answer| Ended {
         outcome: match answer.outcome {
             peer::Outcome::Normal => End::Normal,
             peer::Outcome::Exception { number, statement } => End::Exception(number, statement),
             peer::Outcome::Spent => End::Spent,
-            peer::Outcome::Stuck => unreachable!("a run does not stick"),
+            peer::Outcome::Stuck => End::Stuck,
         },
         steps: answer.steps,
     });
-    Answers {
-        verdict: peer::verdict(&case.text, case.work_len).map(|_| ()).map_err(refused),
-        owners: peer::owners(&case.text, case.work_len).map_err(refused),
-        run: run.map_err(refused),
-        store: Store { values, marks },
-    }
+    Played { owners: owners.map_err(peer_told), ended: ended.map_err(peer_told), store: Store { values, marks } }
 }
 
 /// Whether the two differ on a case.

@@ -1,5 +1,5 @@
 //! How many cases got which answer.
-use crate::answers::{Answers, End};
+use crate::answers::{Answers, End, Ended, Refused};
 use std::collections::BTreeMap;
 use std::fmt;
 
@@ -7,37 +7,49 @@ use std::fmt;
 pub struct Tally {
     pub cases: u64,
     bytes: u64,
-    steps: u64,
+    run_steps: u64,
+    mark_steps: u64,
     counts: BTreeMap<String, u64>,
 }
 
 impl Tally {
     /// Counts a case.
     pub fn add(&mut self, text: &[u8], answers: &Answers) {
+        let Answers { verdict, run, mark } = answers;
         self.cases += 1;
         self.bytes += text.len() as u64;
-        self.steps += answers.run.map_or(0, |ended| u64::from(ended.steps));
-        let verdict = match answers.verdict {
-            Ok(()) => "verdict accepted".to_string(),
-            Err((number, _)) => format!("verdict refused {number:2}"),
+        self.run_steps += steps(&run.ended);
+        self.mark_steps += steps(&mark.ended);
+        let verdict = match verdict {
+            Ok(()) => "accepted".to_string(),
+            Err((number, _)) => format!("refused {number:2}"),
         };
-        let run = match answers.run {
-            Err((number, _)) => format!("run refused {number:2}"),
-            Ok(ended) => match ended.outcome {
-                End::Normal => "run normal".to_string(),
-                End::Exception(number @ -105..=-101, _) => format!("run exception {number}"),
-                End::Exception(..) => "run exception of its own".to_string(),
-                End::Spent => "run spent".to_string(),
-            },
-        };
-        *self.counts.entry(verdict).or_default() += 1;
-        *self.counts.entry(run).or_default() += 1;
+        for key in [format!("verdict {verdict}"), format!("run {}", word(&run.ended)), format!("mark {}", word(&mark.ended))] {
+            *self.counts.entry(key).or_default() += 1;
+        }
+    }
+}
+
+fn steps(ended: &Result<Ended, Refused>) -> u64 {
+    ended.map_or(0, |ended| u64::from(ended.steps))
+}
+
+fn word(ended: &Result<Ended, Refused>) -> String {
+    match ended {
+        Err((number, _)) => format!("refused {number:2}"),
+        Ok(ended) => match ended.outcome {
+            End::Normal => "normal".to_string(),
+            End::Exception(number @ -105..=-101, _) => format!("exception {number}"),
+            End::Exception(..) => "exception of its own".to_string(),
+            End::Spent => "spent".to_string(),
+            End::Stuck => "stuck".to_string(),
+        },
     }
 }
 
 impl fmt::Display for Tally {
     fn fmt(&self, f: &mut fmt::Formatter<'_>) -> fmt::Result {
-        writeln!(f, "{} cases, {} bytes, {} steps", self.cases, self.bytes, self.steps)?;
+        writeln!(f, "{} cases, {} bytes, {} steps run, {} steps marked", self.cases, self.bytes, self.run_steps, self.mark_steps)?;
         let share = |count: u64| count as f64 * 100.0 / self.cases as f64;
         self.counts.iter().try_for_each(|(what, &count)| writeln!(f, "{what:28} {count:9} {:6.2} %", share(count)))
     }

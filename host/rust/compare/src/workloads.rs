@@ -38,3 +38,29 @@ pub fn enum_names(count: usize) -> Vec<u8> {
     }
     format!("{lines}(main{cases})\n").into_bytes()
 }
+
+/// A loop whose rounds pass a part of some 4,000 nodes, which is not done.
+pub fn passing() -> Vec<u8> {
+    let part = " (:= a (+ a 1))".repeat(580);
+    format!("(var a integer)\n(main (while true (if false (begin{part}))))\n").into_bytes()
+}
+
+/// A loop whose rounds make a set of the first of so many enum names, named as often.
+pub fn first_name(count: usize) -> Vec<u8> {
+    let name = |i: usize| format!("n{i:06}");
+    let types = (1..count).step_by(256).map(|start| {
+        let names: Vec<String> = (start..count.min(start + 256)).map(name).collect();
+        format!("(type t{start} (enum {}))\n", names.join(" "))
+    });
+    let first = name(0);
+    let lines = format!("(type t (enum {first}))\n(type s (setof t))\n(var v s)\n") + &types.collect::<String>();
+    let parts = format!(" {first}").repeat(count);
+    format!("{lines}(main (while true (:= v (members s{parts}))))\n").into_bytes()
+}
+
+/// So many enum names of several types, all labels of one case; only the marking machine takes it.
+pub fn mixed_labels(count: usize) -> Vec<u8> {
+    let names: Vec<String> = (0..count).map(|i| format!("n{i}")).collect();
+    let types = names.chunks(256).enumerate().map(|(i, names)| format!("(type t{i} (enum {}))\n", names.join(" ")));
+    format!("{}(main (case 1 (arm {} (begin))))\n", types.collect::<String>(), names.join(" ")).into_bytes()
+}

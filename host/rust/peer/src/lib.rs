@@ -37,8 +37,17 @@ pub fn cells(text: &[u8], work_len: usize) -> Result<usize, Refusal> {
 
 /// For each cell the name of its variable, in small letters.
 pub fn owners(text: &[u8], work_len: usize) -> Result<Vec<String>, Refusal> {
-    let world = verdict(text, work_len)?.world;
-    Ok(world.owners().into_iter().map(|owner| world.variables[owner].name.clone()).collect())
+    verdict(text, work_len).map(|script| names(&script))
+}
+
+/// The same of a text that the marking machine takes.
+pub fn mark_owners(text: &[u8], work_len: usize) -> Result<Vec<String>, Refusal> {
+    judge::judge(text, work_len, Fits::LeftOut).map(|script| names(&script))
+}
+
+fn names(script: &Script) -> Vec<String> {
+    let world = &script.world;
+    world.owners().into_iter().map(|owner| world.variables[owner].name.clone()).collect()
 }
 
 /// Rows 1 to 11, then the chair's runner. A refusal leaves the store as lent.

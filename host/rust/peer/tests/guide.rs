@@ -4,7 +4,7 @@ use std::collections::HashMap;
 use std::path::Path;
 
 use peer::bytes::WORK;
-use peer::print::{runscript, BUDGET};
+use peer::print::{markscript, runscript, BUDGET};
 
 const ROOT: &str = concat!(env!("CARGO_MANIFEST_DIR"), "/../../..");
 
@@ -56,7 +56,7 @@ fn answers<'a>(guide: &'a str, kind: &str) -> Vec<(&'a str, &'a str)> {
 fn kinds_of_boxes() {
     for (kind, _) in boxes(&guide()) {
         assert!(
-            ["script", "output", "declare", "values", "judged", "sh"].contains(&kind),
+            ["script", "output", "marked", "declare", "values", "judged", "sh"].contains(&kind),
             "{kind}"
         );
     }
@@ -68,6 +68,23 @@ fn scripts_print_what_is_shown() {
     for (script, output) in scripts(&guide) {
         assert_eq!(runscript(script.as_bytes(), BUDGET), output, "{script}");
     }
+}
+
+#[test]
+fn marked_scripts_print_what_is_shown() {
+    let guide = guide();
+    let (mut script, mut seen) = ("", 0);
+    for (kind, text) in boxes(&guide) {
+        match kind {
+            "script" => script = text,
+            "marked" => {
+                assert_eq!(markscript(script.as_bytes(), BUDGET), text, "{script}");
+                seen += 1;
+            }
+            _ => {}
+        }
+    }
+    assert!(seen > 0);
 }
 
 #[test]

@@ -7,39 +7,39 @@ use Rattle.hostlink.proofs.replies.answered.Reads as reads
 use Rattle.hostlink.proofs.replies.answered.Lts as lts
 use Rattle.hostlink.proofs.replies.ended.Reads as ended-reads
 
--- src/replies.rt:96:28
+-- src/replies.rt:101:28
 enum-told : tie.Need-enum-told
 enum-told c = search needs
 
--- src/replies.rt:96:28
+-- src/replies.rt:101:28
 ended-requires : tie.Need-ended-requires
 ended-requires c κs = search needs
 
--- src/replies.rt:97:25
+-- src/replies.rt:102:25
 enum-known-outcome : tie.Need-enum-known-outcome
 enum-known-outcome c = search needs
 
--- src/replies.rt:97:43
+-- src/replies.rt:102:43
 ended-requires-2 : tie.Need-ended-requires-2
 ended-requires-2 c κs = search needs
 
--- src/replies.rt:98:27
+-- src/replies.rt:103:27
 enum-told-2 : tie.Need-enum-told-2
 enum-told-2 c = search needs
 
--- src/replies.rt:98:27
+-- src/replies.rt:103:27
 ended-requires-3 : tie.Need-ended-requires-3
 ended-requires-3 c κs = search needs
 
--- src/replies.rt:90:1
+-- src/replies.rt:95:1
 returns : tie.Need-returns
 returns c = search answer-laws
 
--- src/replies.rt:90:1
+-- src/replies.rt:95:1
 returns-2 : tie.Need-returns-2
 returns-2 c = search (answer-laws, sfits-of)
 
--- src/replies.rt:90:1
+-- src/replies.rt:95:1
 returns-3 : tie.Need-returns-3
 returns-3 c = search answer-laws
 

@@ -7,27 +7,27 @@ use Rattle.hostlink.proofs.replies.reported.Lts as lts
 use Rattle.hostlink.proofs.replies.answered.Reads as answered-reads
 use Rattle.hostlink.proofs.replies.refused.Reads as refused-reads
 
--- src/replies.rt:107:25
+-- src/replies.rt:112:25
 enum-known-report : tie.Need-enum-known-report
 enum-known-report c = search needs
 
--- src/replies.rt:107:42
+-- src/replies.rt:112:42
 refused-requires : tie.Need-refused-requires
 refused-requires c κs = search needs
 
--- src/replies.rt:108:21
+-- src/replies.rt:113:21
 enum-known-report-2 : tie.Need-enum-known-report-2
 enum-known-report-2 c = search needs
 
--- src/replies.rt:108:32
+-- src/replies.rt:113:32
 answered-requires : tie.Need-answered-requires
 answered-requires c κs = search needs
 
--- src/replies.rt:103:1
+-- src/replies.rt:108:1
 returns : tie.Need-returns
 returns c = search report-laws
 
--- src/replies.rt:103:1
+-- src/replies.rt:108:1
 returns-2 : tie.Need-returns-2
 returns-2 c = search report-laws
 

@@ -7,27 +7,27 @@ use Rattle.hostlink.proofs.replies.told.Lts as lts
 use Rattle.hostlink.proofs.replies.accepted.Reads as accepted-reads
 use Rattle.hostlink.proofs.replies.refused.Reads as refused-reads
 
--- src/replies.rt:74:30
+-- src/replies.rt:79:30
 enum-told : tie.Need-enum-told
 enum-told c = search needs
 
--- src/replies.rt:74:30
+-- src/replies.rt:79:30
 accepted-requires : tie.Need-accepted-requires
 accepted-requires c κs = search needs
 
--- src/replies.rt:75:26
+-- src/replies.rt:80:26
 enum-known-v : tie.Need-enum-known-v
 enum-known-v c = search needs
 
--- src/replies.rt:75:43
+-- src/replies.rt:80:43
 refused-requires : tie.Need-refused-requires
 refused-requires c κs = search needs
 
--- src/replies.rt:70:1
+-- src/replies.rt:75:1
 returns : tie.Need-returns
 returns c = search verdict-laws
 
--- src/replies.rt:70:1
+-- src/replies.rt:75:1
 returns-2 : tie.Need-returns-2
 returns-2 c = search verdict-laws
 

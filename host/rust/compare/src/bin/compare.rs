@@ -1,23 +1,23 @@
-//! `compare FROM TO`: both on the cases of the seeds from FROM up to, not with, TO. Exit status 1 if they differ on any.
+//! `compare FROM TO [misfits]`: both on the cases of the seeds from FROM up to, not with, TO; with `misfits`, on scripts in whose bodies some
+//! kinds do not fit. Exit status 1 if they differ on any.
 use compare::answers::{differ, of_library, of_peer};
 use compare::shrink::shrunk;
 use compare::tally::Tally;
-use peer::gen::{case, Case};
+use peer::gen::{case, misfit_case, Case};
 use std::process::ExitCode;
 
 /// Differences that are shown; the rest are only counted.
 const SHOWN: u64 = 5;
 
 fn main() -> ExitCode {
-    let numbers: Vec<u64> = std::env::args().skip(1).filter_map(|word| word.parse().ok()).collect();
-    let [from, to] = numbers[..] else {
-        eprintln!("usage: compare FROM TO");
+    let Some((from, to, made)) = read(&std::env::args().skip(1).collect::<Vec<_>>()) else {
+        eprintln!("usage: compare FROM TO [misfits]");
         return ExitCode::from(2);
     };
     let mut tally = Tally::default();
     let mut bad = 0;
     for seed in from..to {
-        let case = case(seed);
+        let case = made(seed);
         let answers = of_library(&case);
         tally.add(&case.text, &answers);
         if answers != of_peer(&case) {
@@ -30,6 +30,16 @@ fn main() -> ExitCode {
     print!("{tally}");
     println!("seeds {from} to {to}: {} compared, {bad} differ", tally.cases);
     ExitCode::from(u8::from(bad > 0))
+}
+
+/// The seeds, and what makes a case of one.
+fn read(words: &[String]) -> Option<(u64, u64, fn(u64) -> Case)> {
+    let made = match words.get(2).map(String::as_str) {
+        None => case,
+        Some("misfits") => misfit_case,
+        Some(_) => return None,
+    };
+    Some((words.first()?.parse().ok()?, words.get(1)?.parse().ok()?, made))
 }
 
 fn show(seed: u64, case: &Case) {

@@ -1,25 +1,54 @@
-//! `timing`: the time of both in one run, verdicts per byte and runs per step. Least of five rounds, in which the two take turns.
+//! `timing`: the time of both in one run, checks per byte, runs and markings per step. Least of five rounds, in which the two take turns.
 //! Before each run the store is cleared, outside the time taken; the working list is all 0 from the call before, and that the library
 //! clears it again is part of its time. The peer lends no working list and makes its own lists.
-use compare::workloads::{enum_names, examples, full, generated, LOOPS};
+use compare::workloads::{enum_names, examples, first_name, full, generated, mixed_labels, passing, LOOPS};
 use drive::{Bench, Store, WORK};
 use std::hint::black_box;
 use std::time::Instant;
 
 const ROUNDS: usize = 5;
-const BUDGET: u32 = 1_000_000;
+
+/// A check of both: whether a text is accepted.
+struct Check {
+    library: fn(&mut Bench, &[u8]) -> bool,
+    peer: fn(&[u8]) -> bool,
+}
+
+const VERDICT: Check = Check { library: |bench, text| bench.verdict(text).is_ok(), peer: |text| peer::verdict(text, WORK).is_ok() };
+const LOOSELY: Check = Check { library: |bench, text| bench.mark_owners(text).is_ok(), peer: |text| peer::mark_owners(text, WORK).is_ok() };
+
+/// A machine of both.
+struct Machine {
+    library: fn(&mut Bench, &[u8], &mut Store, u32) -> Result<drive::Answer, drive::Refusal>,
+    peer: fn(&[u8], usize, &mut [i64], &mut [u8], u32) -> Result<peer::Answer, peer::Refusal>,
+}
+
+const CHAIR: Machine = Machine { library: Bench::run, peer: peer::run };
+const MARKING: Machine = Machine { library: Bench::mark, peer: peer::mark };
 
 fn main() {
-    println!("{:44} {:>9} {:>10} {:>10}", "verdict, ns per byte", "bytes", "library", "peer");
-    verdicts("the ten examples", &examples(), 100);
-    verdicts("300 generated texts, accepted", &generated(300, true), 1);
-    verdicts("300 generated texts, refused", &generated(300, false), 1);
-    verdicts("a text of 4,096 nodes", &[full()], 10);
-    verdicts("a text of 1,780 enum names, each used", &[enum_names(1780)], 1);
-    println!("{:44} {:>9} {:>10} {:>10}", "run, ns per step", "steps", "library", "peer");
+    head("verdict, ns per byte", "bytes");
+    checks(&VERDICT);
+    bytes("a text of 1,780 enum names, each used", &[enum_names(1780)], 1, &VERDICT);
+    head("mark_owners, ns per byte", "bytes");
+    checks(&LOOSELY);
+    bytes("500 enum names, all labels of one case", &[mixed_labels(500)], 1, &LOOSELY);
+    head("run, ns per step", "steps");
     for (what, text) in LOOPS {
-        run(what, text);
+        steps(what, text, 1_000_000, &CHAIR);
     }
+    steps("a loop that passes 4,000 nodes", &passing(), 10_000, &CHAIR);
+    steps("a set of one of 2,000 names, 2,000 times", &first_name(2_000), 10_000, &CHAIR);
+    head("mark, ns per step", "steps");
+    for (what, text) in LOOPS {
+        steps(what, text, 100_000, &MARKING);
+    }
+    steps("a loop that passes 4,000 nodes", &passing(), 1_000, &MARKING);
+    steps("a set of one of 2,000 names, 2,000 times", &first_name(2_000), 50, &MARKING);
+}
+
+fn head(what: &str, unit: &str) {
+    println!("{what:44} {unit:>9} {:>10} {:>10}", "library", "peer");
 }
 
 /// The time of some work in nanoseconds.
@@ -29,13 +58,21 @@ fn nanoseconds(work: impl FnOnce()) -> f64 {
     start.elapsed().as_nanos() as f64
 }
 
-fn verdicts(what: &str, texts: &[Vec<u8>], times: usize) {
+fn checks(check: &Check) {
+    bytes("the ten examples", &examples(), 100, check);
+    bytes("300 generated texts, accepted", &generated(300, true), 1, check);
+    bytes("300 generated texts, refused", &generated(300, false), 1, check);
+    bytes("a text of 4,096 nodes", &[full()], 10, check);
+    bytes("one of 2,000 enum names, used 2,000 times", &[first_name(2_000)], 1, check);
+}
+
+fn bytes(what: &str, texts: &[Vec<u8>], times: usize, check: &Check) {
     let mut bench = Bench::new();
     let bytes = texts.iter().map(Vec::len).sum::<usize>();
     let (mut library, mut peer) = (f64::MAX, f64::MAX);
     for _ in 0..ROUNDS {
-        library = library.min(nanoseconds(|| each(texts, times, |text| bench.verdict(text).is_ok())));
-        peer = peer.min(nanoseconds(|| each(texts, times, |text| peer::verdict(text, WORK).is_ok())));
+        library = library.min(nanoseconds(|| each(texts, times, |text| (check.library)(&mut bench, text))));
+        peer = peer.min(nanoseconds(|| each(texts, times, check.peer)));
     }
     let per = (bytes * times) as f64;
     println!("{what:44} {bytes:9} {:10.1} {:10.1}", library / per, peer / per);
@@ -49,17 +86,20 @@ fn each(texts: &[Vec<u8>], times: usize, mut verdict: impl FnMut(&[u8]) -> bool)
     }
 }
 
-fn run(what: &str, text: &[u8]) {
+/// A script that takes more than so many steps.
+fn steps(what: &str, text: &[u8], budget: u32, machine: &Machine) {
     let mut bench = Bench::new();
     let cells = bench.cells(text).expect("a script that is accepted");
     let (mut library, mut peer) = (f64::MAX, f64::MAX);
     for _ in 0..ROUNDS {
         let mut store = Store::undefined(cells);
-        library = library.min(nanoseconds(|| assert_eq!(bench.run(text, &mut store, BUDGET).map(|a| a.steps), Ok(BUDGET))));
+        let run = || assert_eq!((machine.library)(&mut bench, text, &mut store, budget).map(|a| a.steps), Ok(budget));
+        library = library.min(nanoseconds(run));
         let mut other = Store::undefined(cells);
         let (values, marks) = (&mut other.values, &mut other.marks);
-        peer = peer.min(nanoseconds(|| assert_eq!(peer::run(text, WORK, values, marks, BUDGET).map(|a| a.steps), Ok(BUDGET))));
+        let run = || assert_eq!((machine.peer)(text, WORK, values, marks, budget).map(|a| a.steps), Ok(budget));
+        peer = peer.min(nanoseconds(run));
         assert_eq!(store, other);
     }
-    println!("{what:44} {BUDGET:9} {:10.1} {:10.1}", library / f64::from(BUDGET), peer / f64::from(BUDGET));
+    println!("{what:44} {budget:9} {:10.1} {:10.1}", library / f64::from(budget), peer / f64::from(budget));
 }

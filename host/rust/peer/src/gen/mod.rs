@@ -41,10 +41,7 @@ pub fn sorted_text(seed: u64) -> (Sort, Vec<u8>) {
     let mut rng = Rng::new(seed);
     match rng.weighted(&[40, 18, 26, 10, 4, 2]) {
         0 => (Sort::Good, good(&mut rng, 0)),
-        1 => {
-            let wild = *rng.pick(&[5, 15, 40, 100, 300]);
-            (Sort::Misfit, good(&mut rng, wild))
-        }
+        1 => (Sort::Misfit, misfit(&mut rng)),
         2 => (Sort::Damaged, damaged(&mut rng)),
         3 => (Sort::Ceiling, ceilings::text(&mut rng)),
         4 => (Sort::Soup, soup::words(&mut rng)),
@@ -73,6 +70,12 @@ fn good(rng: &mut Rng, wild: usize) -> Vec<u8> {
     let scene = script(Rng::new(rng.draw()), size);
     let style = node::style(rng);
     node::write(&scene.lines, style, rng)
+}
+
+/// A script in whose bodies some kinds do not fit.
+fn misfit(rng: &mut Rng) -> Vec<u8> {
+    let wild = *rng.pick(&[5, 15, 40, 100, 300]);
+    good(rng, wild)
 }
 
 fn damaged(rng: &mut Rng) -> Vec<u8> {
@@ -110,6 +113,16 @@ const TRIAL: u32 = 50_000;
 /// A text with a store and a budget. Both machines end within few steps at that budget.
 pub fn case(seed: u64) -> Case {
     let (sort, text) = sorted_text(seed);
+    case_of(seed, sort, text)
+}
+
+/// The same, of a script in whose bodies some kinds do not fit: what the marking machine alone runs.
+pub fn misfit_case(seed: u64) -> Case {
+    let text = misfit(&mut Rng::new(seed ^ 7_169_396));
+    case_of(seed, Sort::Misfit, text)
+}
+
+fn case_of(seed: u64, sort: Sort, text: Vec<u8>) -> Case {
     let mut rng = Rng::new(seed ^ 6_513_500);
     let work_len = match rng.below(100) {
         0 => WORK - 1,
