@@ -131,3 +131,27 @@ module _ (a : ℤ) (fa : SFits w64 a) where
           element-is z r s = toZ-ofZ s ∙ r ∙ rw (cell-value a (rw (toZ-ofZ fa) at h), value-again d (rw (toZ-ofZ fd) at g), e, f, toZ-ofZ fa, toZ-ofZ fd)
 
 pub ruleset element-laws = (element-left, element-right, element-times, element-plus, element-is, shifted-fault, shifted-fits, shifted-is, sfits-of)
+
+-- ---- `element_of`
+module _ (low high : ℕ) (fl : Fits w32 low) (fh : Fits w32 high) (x : ℤ) (fx : SFits w64 x) (a : ℤ) (fa : SFits w64 a) (n : ℕ) where
+  pub index-left : ltZ (pos 4294967295) (wire a) ≡ true → wire a ≡ elementWord a (distanceWord (signed low) (signed high) x) n
+  index-left h = element-left a fa (distanceWord (signed low) (signed high) x) n h
+
+  module _ (h : ltZ (pos 4294967295) (wire a) ≡ false) where
+    pub index-right : ltZ (pos 4294967295) (wire x) ≡ true → wire x ≡ elementWord a (distanceWord (signed low) (signed high) x) n
+    index-right g =
+        element-right a fa h x fx n g
+        ∙ ap (λ (d : ℤ). elementWord a d n) (sym (toZ-ofZ fx) ∙ distance-fault low high fl fh x fx g)
+
+    module _ (g : ltZ (pos 4294967295) (wire x) ≡ false) (lo hi : ℤ) (e : lo ≡ signed low) (f : hi ≡ signed high) (sl : SFits w64 lo) (sh : SFits w64 hi) (b : Bool) (i : b ≡ inside (wire lo) (wire hi) (wire x)) where
+      pub index-in : (r : ℤ) → b ≡ true → r ≡ elementWord (wire a) (wire (wire x -ℤ wire lo)) n → SFits w64 r → wire r ≡ elementWord a (distanceWord (signed low) (signed high) x) n
+      index-in r k R fr =
+          toZ-ofZ fr ∙ R ∙ ap (λ (c : ℤ). elementWord c (wire (wire x -ℤ wire lo)) n) (toZ-ofZ fa)
+          ∙ ap (λ (d : ℤ). elementWord a d n) (distance-in low high fl fh x fx lo hi e f sl sh b i g k)
+
+      pub index-out : b ≡ false → pos 8589934489 ≡ elementWord a (distanceWord (signed low) (signed high) x) n
+      index-out k =
+          element-right a fa h (pos 8589934489) (fits-mag (pos 8589934489) (omega arith)) n refl
+          ∙ ap (λ (d : ℤ). elementWord a d n) (distance-out low high fl fh x fx lo hi e f sl sh b i g k)
+
+pub ruleset index-laws = (index-left, index-right, distance-fits, index-in, index-out, sfits-of)

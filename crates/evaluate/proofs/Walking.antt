@@ -641,18 +641,18 @@ module _ (l : List ℕ) (ws : List ℤ) (p d : ℕ) where
               (shift-means w z c (placeCode (readPlace (d - 1) l a) m) (located w (placeCode (readPlace (d - 1) l a) m) (r .says m h)) (v ∙ ap (λ (q : ℤ). shiftedWord q c) (toZ-ofZ fw))));
         })
 
-    pub finds-element : (a b i j c : ℕ) (w x y z : ℤ) → n ≡ 41 → a ≡ getD l (p + 1) 0 → b ≡ getD l (p + 2) 0 → i ≡ getD l (p + 3) 0 → j ≡ getD l (p + 4) 0 → c ≡ getD l (p + 5) 0
-        → Places l ws a (d - 1) w → Evaluates l ws b (d - 1) x → y ≡ distanceWord (signed i) (signed j) (wire x) → z ≡ elementWord (wire w) (wire y) c
-        → Fits w32 i → Fits w32 j → SFits w64 w → SFits w64 x → SFits w64 y → SFits w64 z → Places l ws p d (wire z)
+    pub finds-element : (a b i j c : ℕ) (w x z : ℤ) → n ≡ 41 → a ≡ getD l (p + 1) 0 → b ≡ getD l (p + 2) 0 → i ≡ getD l (p + 3) 0 → j ≡ getD l (p + 4) 0 → c ≡ getD l (p + 5) 0
+        → Places l ws a (d - 1) w → Evaluates l ws b (d - 1) x → z ≡ elementWord (wire w) (distanceWord (signed i) (signed j) (wire x)) c
+        → Fits w32 i → Fits w32 j → SFits w64 w → SFits w64 x → SFits w64 z → Places l ws p d (wire z)
     unfolding placeFrom placeCode placeOp integerAt
-    finds-element a b i j c w x y z o fa fb fi fj fc r t u v gi gj fw fx fy s =
+    finds-element a b i j c w x z o fa fb fi fj fc r t v gi gj fw fx s =
         rw (toZ-ofZ s) (record {
           says = λ m h. rw (place-is Index (rw o), ← fa, ← fb, ← fi, ← fj, ← fc)
               (subst (λ (q : Result ℕ). Means z (capped q)) (index-join (signed i) (signed j) c (placeCode (readPlace (d - 1) l a) m) (evalCode (readCode (d - 1) l b) m))
               (means-place z (placeCode (readPlace (d - 1) l a) m >>= λ q. (first (evalCode (readCode (d - 1) l b) m) >>= λ q. tested rangeError (signed i) (signed j) q >>= λ g. is (g -ℤ signed i)) >>= λ g. is (q + natOf g * c))
-              (element-means w y z c (placeCode (readPlace (d - 1) l a) m) (first (evalCode (readCode (d - 1) l b) m) >>= λ q. tested rangeError (signed i) (signed j) q >>= λ g. is (g -ℤ signed i)) (located w (placeCode (readPlace (d - 1) l a) m) (r .says m h))
-              (distance-means (signed i) (signed j) x y (first (evalCode (readCode (d - 1) l b) m)) (small-signed i gi) (small-signed j gj) (t .says m h) (u ∙ ap (distanceWord (signed i) (signed j)) (toZ-ofZ fx)))
-              (v ∙ rw (toZ-ofZ fw, toZ-ofZ fy)))));
+              (element-means w (distanceWord (signed i) (signed j) x) z c (placeCode (readPlace (d - 1) l a) m) (first (evalCode (readCode (d - 1) l b) m) >>= λ q. tested rangeError (signed i) (signed j) q >>= λ g. is (g -ℤ signed i)) (located w (placeCode (readPlace (d - 1) l a) m) (r .says m h))
+              (distance-means (signed i) (signed j) x (distanceWord (signed i) (signed j) x) (first (evalCode (readCode (d - 1) l b) m)) (small-signed i gi) (small-signed j gj) (t .says m h) refl)
+              (v ∙ rw (toZ-ofZ fw, toZ-ofZ fx)))));
         })
 
     pub finds-left : (a : ℕ) (w : ℤ) → n ≡ 41 → a ≡ getD l (p + 1) 0 → Places l ws a (d - 1) w → SFits w64 w → ltZ (pos 4294967295) (wire w) ≡ true → Places l ws p d (wire w)

@@ -282,6 +282,23 @@ pub fn element(a: i64, d: i64, n: u32) -> i64
     capped(natural(a) + t)
 }
 
+// The place of an element of size n, by the words of the array's place and of the index, whose bounds are low and high.
+pub fn element_of(a: i64, x: i64, low: u32, high: u32, n: u32) -> i64
+    ensures { λ r. ⌜ r ≡ elementWord a (distanceWord (signed low) (signed high) x) n ⌝ }
+{
+    if a > GREATEST {
+        return a;
+    }
+    if x > GREATEST {
+        return x;
+    }
+    let lo = signed_of(low);
+    if arith::in_range(x, lo, signed_of(high)) {
+        return element(a, x - lo, n);
+    }
+    RANGE
+}
+
 // The place of a field, by the word of the record's place.
 pub fn shifted(a: i64, k: u32) -> i64
     ensures { λ r. ⌜ r ≡ shiftedWord a k ⌝ }

@@ -4,8 +4,7 @@ use crate::cells::cells;
 use crate::cells::cells_at;
 use crate::cells::latest;
 use crate::operators::binary;
-use crate::operators::distance;
-use crate::operators::element;
+use crate::operators::element_of;
 use crate::operators::pred;
 use crate::operators::shifted;
 use crate::operators::succ;
@@ -194,8 +193,9 @@ fn component(code: &[u32; 16384], store: &[i64; 2056], pc: u32, depth: u32) -> i
         if x > GREATEST {
             return x;
         }
-        let d = distance(x, number(code, p + 3), number(code, p + 4));
-        return element(a, d, number(code, p + 5));
+        let low = number(code, p + 3);
+        let high = number(code, p + 4);
+        return element_of(a, x, low, high, number(code, p + 5));
     }
     place_form(code, store, pc, depth)
 }
@@ -212,8 +212,9 @@ fn place_form(code: &[u32; 16384], store: &[i64; 2056], pc: u32, depth: u32) -> 
     if op == 41 {
         let a = place(code, store, number(code, p + 1), depth - 1);
         let x = eval(code, store, number(code, p + 2), depth - 1);
-        let d = distance(x, number(code, p + 3), number(code, p + 4));
-        return element(a, d, number(code, p + 5));
+        let low = number(code, p + 3);
+        let high = number(code, p + 4);
+        return element_of(a, x, low, high, number(code, p + 5));
     }
     if op == 42 {
         let a = place(code, store, number(code, p + 1), depth - 1);

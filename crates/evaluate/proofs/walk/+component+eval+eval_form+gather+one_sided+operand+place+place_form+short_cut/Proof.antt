@@ -42,8 +42,7 @@ use Rattle.evaluate.proofs.cells.cells.Reads as cells-reads
 use Rattle.evaluate.proofs.cells.cells_at.Reads as cells-at-reads
 use Rattle.evaluate.proofs.cells.latest.Reads as latest-reads
 use Rattle.evaluate.proofs.operators.binary.Reads as binary-reads
-use Rattle.evaluate.proofs.operators.distance.Reads as distance-reads
-use Rattle.evaluate.proofs.operators.element.Reads as element-reads
+use Rattle.evaluate.proofs.operators.element_of.Reads as element-of-reads
 use Rattle.evaluate.proofs.operators.pred.Reads as pred-reads
 use Rattle.evaluate.proofs.operators.shifted.Reads as shifted-reads
 use Rattle.evaluate.proofs.operators.succ.Reads as succ-reads
@@ -147,7 +146,7 @@ abbrev short-cut-below : ℕ → In 2 short-cut-kinds.ps
 short-cut-below t =
     and 2 short-cut-kinds.ps (falls 2 short-cut-kinds.ps _<_ μ-short-cut t) short-cut.Pre
 
--- src/walk.rt:181:9
+-- src/walk.rt:180:9
 component-returns : (t : ℕ) → component-lts.Need-returns (
   place-form-below t,
   place-form.Post,
@@ -157,14 +156,12 @@ component-returns : (t : ℕ) → component-lts.Need-returns (
   place.Post,
   operand-below t,
   operand.Post,
-  distance-reads.Asked,
-  distance-reads.Learnt,
-  element-reads.Asked,
-  element-reads.Learnt,
+  element-of-reads.Asked,
+  element-of-reads.Learnt,
 ) (component-at t) component.Post
 component-returns t c = search (finds-zero)
 
--- src/walk.rt:184:9
+-- src/walk.rt:183:9
 component-place-form-requires : (t : ℕ) → component-lts.Need-place-form-requires (
   place-form-below t,
   place-form.Post,
@@ -174,14 +171,12 @@ component-place-form-requires : (t : ℕ) → component-lts.Need-place-form-requ
   place.Post,
   operand-below t,
   operand.Post,
-  distance-reads.Asked,
-  distance-reads.Learnt,
-  element-reads.Asked,
-  element-reads.Learnt,
+  element-of-reads.Asked,
+  element-of-reads.Learnt,
 ) (component-at t) component.Post
 component-place-form-requires t c κs = search needs
 
--- src/walk.rt:184:9
+-- src/walk.rt:183:9
 component-returns-2 : (t : ℕ) → component-lts.Need-returns-2 (
   place-form-below t,
   place-form.Post,
@@ -191,14 +186,12 @@ component-returns-2 : (t : ℕ) → component-lts.Need-returns-2 (
   place.Post,
   operand-below t,
   operand.Post,
-  distance-reads.Asked,
-  distance-reads.Learnt,
-  element-reads.Asked,
-  element-reads.Learnt,
+  element-of-reads.Asked,
+  element-of-reads.Learnt,
 ) (component-at t) component.Post
 component-returns-2 t c = search (finds-passed, sfits-of)
 
--- src/walk.rt:187:9
+-- src/walk.rt:186:9
 component-number-requires : (t : ℕ) → component-lts.Need-number-requires (
   place-form-below t,
   place-form.Post,
@@ -208,14 +201,12 @@ component-number-requires : (t : ℕ) → component-lts.Need-number-requires (
   place.Post,
   operand-below t,
   operand.Post,
-  distance-reads.Asked,
-  distance-reads.Learnt,
-  element-reads.Asked,
-  element-reads.Learnt,
+  element-of-reads.Asked,
+  element-of-reads.Learnt,
 ) (component-at t) component.Post
 component-number-requires t c κs = search needs
 
--- src/walk.rt:189:49
+-- src/walk.rt:188:49
 component-add-number : (t : ℕ) → component-lts.Need-add-number (
   place-form-below t,
   place-form.Post,
@@ -225,14 +216,12 @@ component-add-number : (t : ℕ) → component-lts.Need-add-number (
   place.Post,
   operand-below t,
   operand.Post,
-  distance-reads.Asked,
-  distance-reads.Learnt,
-  element-reads.Asked,
-  element-reads.Learnt,
+  element-of-reads.Asked,
+  element-of-reads.Learnt,
 ) (component-at t) component.Post
 component-add-number t c = search needs
 
--- src/walk.rt:189:36
+-- src/walk.rt:188:36
 component-number-requires-2 : (t : ℕ) → component-lts.Need-number-requires-2 (
   place-form-below t,
   place-form.Post,
@@ -242,14 +231,12 @@ component-number-requires-2 : (t : ℕ) → component-lts.Need-number-requires-2
   place.Post,
   operand-below t,
   operand.Post,
-  distance-reads.Asked,
-  distance-reads.Learnt,
-  element-reads.Asked,
-  element-reads.Learnt,
+  element-of-reads.Asked,
+  element-of-reads.Learnt,
 ) (component-at t) component.Post
 component-number-requires-2 t c κs = search needs
 
--- src/walk.rt:189:57
+-- src/walk.rt:188:57
 component-sub-place : (t : ℕ) → component-lts.Need-sub-place (
   place-form-below t,
   place-form.Post,
@@ -259,14 +246,12 @@ component-sub-place : (t : ℕ) → component-lts.Need-sub-place (
   place.Post,
   operand-below t,
   operand.Post,
-  distance-reads.Asked,
-  distance-reads.Learnt,
-  element-reads.Asked,
-  element-reads.Learnt,
+  element-of-reads.Asked,
+  element-of-reads.Learnt,
 ) (component-at t) component.Post
 component-sub-place t c = search needs
 
--- src/walk.rt:189:13
+-- src/walk.rt:188:13
 component-place-requires : (t : ℕ) → component-lts.Need-place-requires (
   place-form-below t,
   place-form.Post,
@@ -276,14 +261,12 @@ component-place-requires : (t : ℕ) → component-lts.Need-place-requires (
   place.Post,
   operand-below t,
   operand.Post,
-  distance-reads.Asked,
-  distance-reads.Learnt,
-  element-reads.Asked,
-  element-reads.Learnt,
+  element-of-reads.Asked,
+  element-of-reads.Learnt,
 ) (component-at t) component.Post
 component-place-requires t c κs = search needs
 
--- src/walk.rt:191:13
+-- src/walk.rt:190:13
 component-returns-3 : (t : ℕ) → component-lts.Need-returns-3 (
   place-form-below t,
   place-form.Post,
@@ -293,14 +276,12 @@ component-returns-3 : (t : ℕ) → component-lts.Need-returns-3 (
   place.Post,
   operand-below t,
   operand.Post,
-  distance-reads.Asked,
-  distance-reads.Learnt,
-  element-reads.Asked,
-  element-reads.Learnt,
+  element-of-reads.Asked,
+  element-of-reads.Learnt,
 ) (component-at t) component.Post
 component-returns-3 t c = search (finds-left, deep-not, sfits-of)
 
--- src/walk.rt:193:51
+-- src/walk.rt:192:51
 component-add-number-2 : (t : ℕ) → component-lts.Need-add-number-2 (
   place-form-below t,
   place-form.Post,
@@ -310,14 +291,12 @@ component-add-number-2 : (t : ℕ) → component-lts.Need-add-number-2 (
   place.Post,
   operand-below t,
   operand.Post,
-  distance-reads.Asked,
-  distance-reads.Learnt,
-  element-reads.Asked,
-  element-reads.Learnt,
+  element-of-reads.Asked,
+  element-of-reads.Learnt,
 ) (component-at t) component.Post
 component-add-number-2 t c = search needs
 
--- src/walk.rt:193:38
+-- src/walk.rt:192:38
 component-number-requires-3 : (t : ℕ) → component-lts.Need-number-requires-3 (
   place-form-below t,
   place-form.Post,
@@ -327,14 +306,12 @@ component-number-requires-3 : (t : ℕ) → component-lts.Need-number-requires-3
   place.Post,
   operand-below t,
   operand.Post,
-  distance-reads.Asked,
-  distance-reads.Learnt,
-  element-reads.Asked,
-  element-reads.Learnt,
+  element-of-reads.Asked,
+  element-of-reads.Learnt,
 ) (component-at t) component.Post
 component-number-requires-3 t c κs = search needs
 
--- src/walk.rt:193:59
+-- src/walk.rt:192:59
 component-sub-operand : (t : ℕ) → component-lts.Need-sub-operand (
   place-form-below t,
   place-form.Post,
@@ -344,14 +321,12 @@ component-sub-operand : (t : ℕ) → component-lts.Need-sub-operand (
   place.Post,
   operand-below t,
   operand.Post,
-  distance-reads.Asked,
-  distance-reads.Learnt,
-  element-reads.Asked,
-  element-reads.Learnt,
+  element-of-reads.Asked,
+  element-of-reads.Learnt,
 ) (component-at t) component.Post
 component-sub-operand t c = search needs
 
--- src/walk.rt:193:13
+-- src/walk.rt:192:13
 component-operand-requires : (t : ℕ) → component-lts.Need-operand-requires (
   place-form-below t,
   place-form.Post,
@@ -361,14 +336,12 @@ component-operand-requires : (t : ℕ) → component-lts.Need-operand-requires (
   place.Post,
   operand-below t,
   operand.Post,
-  distance-reads.Asked,
-  distance-reads.Learnt,
-  element-reads.Asked,
-  element-reads.Learnt,
+  element-of-reads.Asked,
+  element-of-reads.Learnt,
 ) (component-at t) component.Post
 component-operand-requires t c κs = search needs
 
--- src/walk.rt:195:13
+-- src/walk.rt:194:13
 component-returns-4 : (t : ℕ) → component-lts.Need-returns-4 (
   place-form-below t,
   place-form.Post,
@@ -378,14 +351,12 @@ component-returns-4 : (t : ℕ) → component-lts.Need-returns-4 (
   place.Post,
   operand-below t,
   operand.Post,
-  distance-reads.Asked,
-  distance-reads.Learnt,
-  element-reads.Asked,
-  element-reads.Learnt,
+  element-of-reads.Asked,
+  element-of-reads.Learnt,
 ) (component-at t) component.Post
 component-returns-4 t c = search (finds-right, deep-not, sfits-of)
 
--- src/walk.rt:197:42
+-- src/walk.rt:196:32
 component-add-number-3 : (t : ℕ) → component-lts.Need-add-number-3 (
   place-form-below t,
   place-form.Post,
@@ -395,14 +366,12 @@ component-add-number-3 : (t : ℕ) → component-lts.Need-add-number-3 (
   place.Post,
   operand-below t,
   operand.Post,
-  distance-reads.Asked,
-  distance-reads.Learnt,
-  element-reads.Asked,
-  element-reads.Learnt,
+  element-of-reads.Asked,
+  element-of-reads.Learnt,
 ) (component-at t) component.Post
 component-add-number-3 t c = search needs
 
--- src/walk.rt:197:29
+-- src/walk.rt:196:13
 component-number-requires-4 : (t : ℕ) → component-lts.Need-number-requires-4 (
   place-form-below t,
   place-form.Post,
@@ -412,14 +381,12 @@ component-number-requires-4 : (t : ℕ) → component-lts.Need-number-requires-4
   place.Post,
   operand-below t,
   operand.Post,
-  distance-reads.Asked,
-  distance-reads.Learnt,
-  element-reads.Asked,
-  element-reads.Learnt,
+  element-of-reads.Asked,
+  element-of-reads.Learnt,
 ) (component-at t) component.Post
 component-number-requires-4 t c κs = search needs
 
--- src/walk.rt:197:63
+-- src/walk.rt:197:33
 component-add-number-4 : (t : ℕ) → component-lts.Need-add-number-4 (
   place-form-below t,
   place-form.Post,
@@ -429,14 +396,12 @@ component-add-number-4 : (t : ℕ) → component-lts.Need-add-number-4 (
   place.Post,
   operand-below t,
   operand.Post,
-  distance-reads.Asked,
-  distance-reads.Learnt,
-  element-reads.Asked,
-  element-reads.Learnt,
+  element-of-reads.Asked,
+  element-of-reads.Learnt,
 ) (component-at t) component.Post
 component-add-number-4 t c = search needs
 
--- src/walk.rt:197:50
+-- src/walk.rt:197:13
 component-number-requires-5 : (t : ℕ) → component-lts.Need-number-requires-5 (
   place-form-below t,
   place-form.Post,
@@ -446,31 +411,12 @@ component-number-requires-5 : (t : ℕ) → component-lts.Need-number-requires-5
   place.Post,
   operand-below t,
   operand.Post,
-  distance-reads.Asked,
-  distance-reads.Learnt,
-  element-reads.Asked,
-  element-reads.Learnt,
+  element-of-reads.Asked,
+  element-of-reads.Learnt,
 ) (component-at t) component.Post
 component-number-requires-5 t c κs = search needs
 
--- src/walk.rt:197:13
-component-distance-requires : (t : ℕ) → component-lts.Need-distance-requires (
-  place-form-below t,
-  place-form.Post,
-  number-reads.Asked,
-  number-reads.Learnt,
-  place-below t,
-  place.Post,
-  operand-below t,
-  operand.Post,
-  distance-reads.Asked,
-  distance-reads.Learnt,
-  element-reads.Asked,
-  element-reads.Learnt,
-) (component-at t) component.Post
-component-distance-requires t c κs = search needs
-
--- src/walk.rt:198:43
+-- src/walk.rt:198:57
 component-add-number-5 : (t : ℕ) → component-lts.Need-add-number-5 (
   place-form-below t,
   place-form.Post,
@@ -480,14 +426,12 @@ component-add-number-5 : (t : ℕ) → component-lts.Need-add-number-5 (
   place.Post,
   operand-below t,
   operand.Post,
-  distance-reads.Asked,
-  distance-reads.Learnt,
-  element-reads.Asked,
-  element-reads.Learnt,
+  element-of-reads.Asked,
+  element-of-reads.Learnt,
 ) (component-at t) component.Post
 component-add-number-5 t c = search needs
 
--- src/walk.rt:198:30
+-- src/walk.rt:198:44
 component-number-requires-6 : (t : ℕ) → component-lts.Need-number-requires-6 (
   place-form-below t,
   place-form.Post,
@@ -497,15 +441,13 @@ component-number-requires-6 : (t : ℕ) → component-lts.Need-number-requires-6
   place.Post,
   operand-below t,
   operand.Post,
-  distance-reads.Asked,
-  distance-reads.Learnt,
-  element-reads.Asked,
-  element-reads.Learnt,
+  element-of-reads.Asked,
+  element-of-reads.Learnt,
 ) (component-at t) component.Post
 component-number-requires-6 t c κs = search needs
 
 -- src/walk.rt:198:9
-component-element-requires : (t : ℕ) → component-lts.Need-element-requires (
+component-element-of-requires : (t : ℕ) → component-lts.Need-element-of-requires (
   place-form-below t,
   place-form.Post,
   number-reads.Asked,
@@ -514,12 +456,10 @@ component-element-requires : (t : ℕ) → component-lts.Need-element-requires (
   place.Post,
   operand-below t,
   operand.Post,
-  distance-reads.Asked,
-  distance-reads.Learnt,
-  element-reads.Asked,
-  element-reads.Learnt,
+  element-of-reads.Asked,
+  element-of-reads.Learnt,
 ) (component-at t) component.Post
-component-element-requires t c κs = search needs
+component-element-of-requires t c κs = search needs
 
 -- src/walk.rt:198:9
 component-returns-5 : (t : ℕ) → component-lts.Need-returns-5 (
@@ -531,10 +471,8 @@ component-returns-5 : (t : ℕ) → component-lts.Need-returns-5 (
   place.Post,
   operand-below t,
   operand.Post,
-  distance-reads.Asked,
-  distance-reads.Learnt,
-  element-reads.Asked,
-  element-reads.Learnt,
+  element-of-reads.Asked,
+  element-of-reads.Learnt,
 ) (component-at t) component.Post
 component-returns-5 t c = search (finds-element, deep-not, needs)
 
@@ -548,14 +486,12 @@ component-place-form-requires-2 : (t : ℕ) → component-lts.Need-place-form-re
   place.Post,
   operand-below t,
   operand.Post,
-  distance-reads.Asked,
-  distance-reads.Learnt,
-  element-reads.Asked,
-  element-reads.Learnt,
+  element-of-reads.Asked,
+  element-of-reads.Learnt,
 ) (component-at t) component.Post
 component-place-form-requires-2 t c κs = search needs
 
--- src/walk.rt:177:1
+-- src/walk.rt:176:1
 component-returns-6 : (t : ℕ) → component-lts.Need-returns-6 (
   place-form-below t,
   place-form.Post,
@@ -565,14 +501,12 @@ component-returns-6 : (t : ℕ) → component-lts.Need-returns-6 (
   place.Post,
   operand-below t,
   operand.Post,
-  distance-reads.Asked,
-  distance-reads.Learnt,
-  element-reads.Asked,
-  element-reads.Learnt,
+  element-of-reads.Asked,
+  element-of-reads.Learnt,
 ) (component-at t) component.Post
 component-returns-6 t c = search (finds-passed, sfits-of)
 
--- src/walk.rt:29:9
+-- src/walk.rt:28:9
 eval-returns : (t : ℕ) → eval-lts.Need-returns (
   eval-form-below t,
   eval-form.Post,
@@ -595,7 +529,7 @@ eval-returns : (t : ℕ) → eval-lts.Need-returns (
 ) (eval-at t) eval.Post
 eval-returns t c = search (evals-zero)
 
--- src/walk.rt:32:9
+-- src/walk.rt:31:9
 eval-eval-form-requires : (t : ℕ) → eval-lts.Need-eval-form-requires (
   eval-form-below t,
   eval-form.Post,
@@ -618,7 +552,7 @@ eval-eval-form-requires : (t : ℕ) → eval-lts.Need-eval-form-requires (
 ) (eval-at t) eval.Post
 eval-eval-form-requires t c κs = search needs
 
--- src/walk.rt:32:9
+-- src/walk.rt:31:9
 eval-returns-2 : (t : ℕ) → eval-lts.Need-returns-2 (
   eval-form-below t,
   eval-form.Post,
@@ -641,7 +575,7 @@ eval-returns-2 : (t : ℕ) → eval-lts.Need-returns-2 (
 ) (eval-at t) eval.Post
 eval-returns-2 t c = search (evals-passed, sfits-of)
 
--- src/walk.rt:35:9
+-- src/walk.rt:34:9
 eval-number-requires : (t : ℕ) → eval-lts.Need-number-requires (
   eval-form-below t,
   eval-form.Post,
@@ -664,7 +598,7 @@ eval-number-requires : (t : ℕ) → eval-lts.Need-number-requires (
 ) (eval-at t) eval.Post
 eval-number-requires t c κs = search needs
 
--- src/walk.rt:38:55
+-- src/walk.rt:37:55
 eval-add-number : (t : ℕ) → eval-lts.Need-add-number (
   eval-form-below t,
   eval-form.Post,
@@ -687,7 +621,7 @@ eval-add-number : (t : ℕ) → eval-lts.Need-add-number (
 ) (eval-at t) eval.Post
 eval-add-number t c = search needs
 
--- src/walk.rt:38:42
+-- src/walk.rt:37:42
 eval-number-requires-2 : (t : ℕ) → eval-lts.Need-number-requires-2 (
   eval-form-below t,
   eval-form.Post,
@@ -710,7 +644,7 @@ eval-number-requires-2 : (t : ℕ) → eval-lts.Need-number-requires-2 (
 ) (eval-at t) eval.Post
 eval-number-requires-2 t c κs = search needs
 
--- src/walk.rt:38:63
+-- src/walk.rt:37:63
 eval-sub-operand : (t : ℕ) → eval-lts.Need-sub-operand (
   eval-form-below t,
   eval-form.Post,
@@ -733,7 +667,7 @@ eval-sub-operand : (t : ℕ) → eval-lts.Need-sub-operand (
 ) (eval-at t) eval.Post
 eval-sub-operand t c = search needs
 
--- src/walk.rt:38:17
+-- src/walk.rt:37:17
 eval-operand-requires : (t : ℕ) → eval-lts.Need-operand-requires (
   eval-form-below t,
   eval-form.Post,
@@ -756,7 +690,7 @@ eval-operand-requires : (t : ℕ) → eval-lts.Need-operand-requires (
 ) (eval-at t) eval.Post
 eval-operand-requires t c κs = search needs
 
--- src/walk.rt:39:55
+-- src/walk.rt:38:55
 eval-add-number-2 : (t : ℕ) → eval-lts.Need-add-number-2 (
   eval-form-below t,
   eval-form.Post,
@@ -779,7 +713,7 @@ eval-add-number-2 : (t : ℕ) → eval-lts.Need-add-number-2 (
 ) (eval-at t) eval.Post
 eval-add-number-2 t c = search needs
 
--- src/walk.rt:39:42
+-- src/walk.rt:38:42
 eval-number-requires-3 : (t : ℕ) → eval-lts.Need-number-requires-3 (
   eval-form-below t,
   eval-form.Post,
@@ -802,7 +736,7 @@ eval-number-requires-3 : (t : ℕ) → eval-lts.Need-number-requires-3 (
 ) (eval-at t) eval.Post
 eval-number-requires-3 t c κs = search needs
 
--- src/walk.rt:39:63
+-- src/walk.rt:38:63
 eval-sub-operand-2 : (t : ℕ) → eval-lts.Need-sub-operand-2 (
   eval-form-below t,
   eval-form.Post,
@@ -825,7 +759,7 @@ eval-sub-operand-2 : (t : ℕ) → eval-lts.Need-sub-operand-2 (
 ) (eval-at t) eval.Post
 eval-sub-operand-2 t c = search needs
 
--- src/walk.rt:39:17
+-- src/walk.rt:38:17
 eval-operand-requires-2 : (t : ℕ) → eval-lts.Need-operand-requires-2 (
   eval-form-below t,
   eval-form.Post,
@@ -848,7 +782,7 @@ eval-operand-requires-2 : (t : ℕ) → eval-lts.Need-operand-requires-2 (
 ) (eval-at t) eval.Post
 eval-operand-requires-2 t c κs = search needs
 
--- src/walk.rt:40:13
+-- src/walk.rt:39:13
 eval-binary-requires : (t : ℕ) → eval-lts.Need-binary-requires (
   eval-form-below t,
   eval-form.Post,
@@ -871,7 +805,7 @@ eval-binary-requires : (t : ℕ) → eval-lts.Need-binary-requires (
 ) (eval-at t) eval.Post
 eval-binary-requires t c κs = search needs
 
--- src/walk.rt:40:13
+-- src/walk.rt:39:13
 eval-returns-3 : (t : ℕ) → eval-lts.Need-returns-3 (
   eval-form-below t,
   eval-form.Post,
@@ -894,7 +828,7 @@ eval-returns-3 : (t : ℕ) → eval-lts.Need-returns-3 (
 ) (eval-at t) eval.Post
 eval-returns-3 t c = search (evals-binary, deep-not, sfits-of)
 
--- src/walk.rt:42:9
+-- src/walk.rt:41:9
 eval-one-sided-requires : (t : ℕ) → eval-lts.Need-one-sided-requires (
   eval-form-below t,
   eval-form.Post,
@@ -917,7 +851,7 @@ eval-one-sided-requires : (t : ℕ) → eval-lts.Need-one-sided-requires (
 ) (eval-at t) eval.Post
 eval-one-sided-requires t c κs = search needs
 
--- src/walk.rt:42:9
+-- src/walk.rt:41:9
 eval-returns-4 : (t : ℕ) → eval-lts.Need-returns-4 (
   eval-form-below t,
   eval-form.Post,
@@ -940,7 +874,7 @@ eval-returns-4 : (t : ℕ) → eval-lts.Need-returns-4 (
 ) (eval-at t) eval.Post
 eval-returns-4 t c = search (evals-passed, sfits-of)
 
--- src/walk.rt:45:41
+-- src/walk.rt:44:41
 eval-add-number-3 : (t : ℕ) → eval-lts.Need-add-number-3 (
   eval-form-below t,
   eval-form.Post,
@@ -963,7 +897,7 @@ eval-add-number-3 : (t : ℕ) → eval-lts.Need-add-number-3 (
 ) (eval-at t) eval.Post
 eval-add-number-3 t c = search needs
 
--- src/walk.rt:45:28
+-- src/walk.rt:44:28
 eval-number-requires-4 : (t : ℕ) → eval-lts.Need-number-requires-4 (
   eval-form-below t,
   eval-form.Post,
@@ -986,7 +920,7 @@ eval-number-requires-4 : (t : ℕ) → eval-lts.Need-number-requires-4 (
 ) (eval-at t) eval.Post
 eval-number-requires-4 t c κs = search needs
 
--- src/walk.rt:45:28
+-- src/walk.rt:44:28
 eval-cast-cell : (t : ℕ) → eval-lts.Need-cast-cell (
   eval-form-below t,
   eval-form.Post,
@@ -1009,7 +943,7 @@ eval-cast-cell : (t : ℕ) → eval-lts.Need-cast-cell (
 ) (eval-at t) eval.Post
 eval-cast-cell t c = search needs
 
--- src/walk.rt:45:9
+-- src/walk.rt:44:9
 eval-cell-requires : (t : ℕ) → eval-lts.Need-cell-requires (
   eval-form-below t,
   eval-form.Post,
@@ -1032,7 +966,7 @@ eval-cell-requires : (t : ℕ) → eval-lts.Need-cell-requires (
 ) (eval-at t) eval.Post
 eval-cell-requires t c κs = search needs
 
--- src/walk.rt:45:9
+-- src/walk.rt:44:9
 eval-returns-5 : (t : ℕ) → eval-lts.Need-returns-5 (
   eval-form-below t,
   eval-form.Post,
@@ -1055,7 +989,7 @@ eval-returns-5 : (t : ℕ) → eval-lts.Need-returns-5 (
 ) (eval-at t) eval.Post
 eval-returns-5 t c = search (evals-cell, deep-not, sfits-of)
 
--- src/walk.rt:48:31
+-- src/walk.rt:47:31
 eval-add-integral : (t : ℕ) → eval-lts.Need-add-integral (
   eval-form-below t,
   eval-form.Post,
@@ -1078,7 +1012,7 @@ eval-add-integral : (t : ℕ) → eval-lts.Need-add-integral (
 ) (eval-at t) eval.Post
 eval-add-integral t c = search needs
 
--- src/walk.rt:48:9
+-- src/walk.rt:47:9
 eval-integral-requires : (t : ℕ) → eval-lts.Need-integral-requires (
   eval-form-below t,
   eval-form.Post,
@@ -1101,7 +1035,7 @@ eval-integral-requires : (t : ℕ) → eval-lts.Need-integral-requires (
 ) (eval-at t) eval.Post
 eval-integral-requires t c κs = search needs
 
--- src/walk.rt:48:9
+-- src/walk.rt:47:9
 eval-returns-6 : (t : ℕ) → eval-lts.Need-returns-6 (
   eval-form-below t,
   eval-form.Post,
@@ -1124,7 +1058,7 @@ eval-returns-6 : (t : ℕ) → eval-lts.Need-returns-6 (
 ) (eval-at t) eval.Post
 eval-returns-6 t c = search (evals-literal, deep-not, sfits-of)
 
--- src/walk.rt:51:49
+-- src/walk.rt:50:49
 eval-add-number-4 : (t : ℕ) → eval-lts.Need-add-number-4 (
   eval-form-below t,
   eval-form.Post,
@@ -1147,7 +1081,7 @@ eval-add-number-4 : (t : ℕ) → eval-lts.Need-add-number-4 (
 ) (eval-at t) eval.Post
 eval-add-number-4 t c = search needs
 
--- src/walk.rt:51:36
+-- src/walk.rt:50:36
 eval-number-requires-5 : (t : ℕ) → eval-lts.Need-number-requires-5 (
   eval-form-below t,
   eval-form.Post,
@@ -1170,7 +1104,7 @@ eval-number-requires-5 : (t : ℕ) → eval-lts.Need-number-requires-5 (
 ) (eval-at t) eval.Post
 eval-number-requires-5 t c κs = search needs
 
--- src/walk.rt:51:57
+-- src/walk.rt:50:57
 eval-sub-place : (t : ℕ) → eval-lts.Need-sub-place (
   eval-form-below t,
   eval-form.Post,
@@ -1193,7 +1127,7 @@ eval-sub-place : (t : ℕ) → eval-lts.Need-sub-place (
 ) (eval-at t) eval.Post
 eval-sub-place t c = search needs
 
--- src/walk.rt:51:13
+-- src/walk.rt:50:13
 eval-place-requires : (t : ℕ) → eval-lts.Need-place-requires (
   eval-form-below t,
   eval-form.Post,
@@ -1216,7 +1150,7 @@ eval-place-requires : (t : ℕ) → eval-lts.Need-place-requires (
 ) (eval-at t) eval.Post
 eval-place-requires t c κs = search needs
 
--- src/walk.rt:52:48
+-- src/walk.rt:51:48
 eval-add-number-5 : (t : ℕ) → eval-lts.Need-add-number-5 (
   eval-form-below t,
   eval-form.Post,
@@ -1239,7 +1173,7 @@ eval-add-number-5 : (t : ℕ) → eval-lts.Need-add-number-5 (
 ) (eval-at t) eval.Post
 eval-add-number-5 t c = search needs
 
--- src/walk.rt:52:35
+-- src/walk.rt:51:35
 eval-number-requires-6 : (t : ℕ) → eval-lts.Need-number-requires-6 (
   eval-form-below t,
   eval-form.Post,
@@ -1262,7 +1196,7 @@ eval-number-requires-6 : (t : ℕ) → eval-lts.Need-number-requires-6 (
 ) (eval-at t) eval.Post
 eval-number-requires-6 t c κs = search needs
 
--- src/walk.rt:52:9
+-- src/walk.rt:51:9
 eval-cells-at-requires : (t : ℕ) → eval-lts.Need-cells-at-requires (
   eval-form-below t,
   eval-form.Post,
@@ -1285,7 +1219,7 @@ eval-cells-at-requires : (t : ℕ) → eval-lts.Need-cells-at-requires (
 ) (eval-at t) eval.Post
 eval-cells-at-requires t c κs = search needs
 
--- src/walk.rt:52:9
+-- src/walk.rt:51:9
 eval-returns-7 : (t : ℕ) → eval-lts.Need-returns-7 (
   eval-form-below t,
   eval-form.Post,
@@ -1308,7 +1242,7 @@ eval-returns-7 : (t : ℕ) → eval-lts.Need-returns-7 (
 ) (eval-at t) eval.Post
 eval-returns-7 t c = search (evals-at, deep-not, sfits-of)
 
--- src/walk.rt:54:5
+-- src/walk.rt:53:5
 eval-eval-form-requires-2 : (t : ℕ) → eval-lts.Need-eval-form-requires-2 (
   eval-form-below t,
   eval-form.Post,
@@ -1331,7 +1265,7 @@ eval-eval-form-requires-2 : (t : ℕ) → eval-lts.Need-eval-form-requires-2 (
 ) (eval-at t) eval.Post
 eval-eval-form-requires-2 t c κs = search needs
 
--- src/walk.rt:25:1
+-- src/walk.rt:24:1
 eval-returns-8 : (t : ℕ) → eval-lts.Need-returns-8 (
   eval-form-below t,
   eval-form.Post,
@@ -1354,7 +1288,7 @@ eval-returns-8 : (t : ℕ) → eval-lts.Need-returns-8 (
 ) (eval-at t) eval.Post
 eval-returns-8 t c = search (evals-passed, sfits-of)
 
--- src/walk.rt:103:9
+-- src/walk.rt:102:9
 eval-form-returns : (t : ℕ) → eval-form-lts.Need-returns (
   number-reads.Asked,
   number-reads.Learnt,
@@ -1383,7 +1317,7 @@ eval-form-returns : (t : ℕ) → eval-form-lts.Need-returns (
 ) (eval-form-at t) eval-form.Post
 eval-form-returns t c = search (evals-zero)
 
--- src/walk.rt:106:9
+-- src/walk.rt:105:9
 eval-form-number-requires : (t : ℕ) → eval-form-lts.Need-number-requires (
   number-reads.Asked,
   number-reads.Learnt,
@@ -1412,7 +1346,7 @@ eval-form-number-requires : (t : ℕ) → eval-form-lts.Need-number-requires (
 ) (eval-form-at t) eval-form.Post
 eval-form-number-requires t c κs = search needs
 
--- src/walk.rt:108:9
+-- src/walk.rt:107:9
 eval-form-one-sided-requires : (t : ℕ) → eval-form-lts.Need-one-sided-requires (
   number-reads.Asked,
   number-reads.Learnt,
@@ -1441,7 +1375,7 @@ eval-form-one-sided-requires : (t : ℕ) → eval-form-lts.Need-one-sided-requir
 ) (eval-form-at t) eval-form.Post
 eval-form-one-sided-requires t c κs = search needs
 
--- src/walk.rt:108:9
+-- src/walk.rt:107:9
 eval-form-returns-2 : (t : ℕ) → eval-form-lts.Need-returns-2 (
   number-reads.Asked,
   number-reads.Learnt,
@@ -1470,7 +1404,7 @@ eval-form-returns-2 : (t : ℕ) → eval-form-lts.Need-returns-2 (
 ) (eval-form-at t) eval-form.Post
 eval-form-returns-2 t c = search (evals-passed, sfits-of)
 
--- src/walk.rt:111:48
+-- src/walk.rt:110:48
 eval-form-add-number : (t : ℕ) → eval-form-lts.Need-add-number (
   number-reads.Asked,
   number-reads.Learnt,
@@ -1499,7 +1433,7 @@ eval-form-add-number : (t : ℕ) → eval-form-lts.Need-add-number (
 ) (eval-form-at t) eval-form.Post
 eval-form-add-number t c = search needs
 
--- src/walk.rt:111:35
+-- src/walk.rt:110:35
 eval-form-number-requires-2 : (t : ℕ) → eval-form-lts.Need-number-requires-2 (
   number-reads.Asked,
   number-reads.Learnt,
@@ -1528,7 +1462,7 @@ eval-form-number-requires-2 : (t : ℕ) → eval-form-lts.Need-number-requires-2
 ) (eval-form-at t) eval-form.Post
 eval-form-number-requires-2 t c κs = search needs
 
--- src/walk.rt:111:56
+-- src/walk.rt:110:56
 eval-form-sub-eval : (t : ℕ) → eval-form-lts.Need-sub-eval (
   number-reads.Asked,
   number-reads.Learnt,
@@ -1557,7 +1491,7 @@ eval-form-sub-eval : (t : ℕ) → eval-form-lts.Need-sub-eval (
 ) (eval-form-at t) eval-form.Post
 eval-form-sub-eval t c = search needs
 
--- src/walk.rt:111:13
+-- src/walk.rt:110:13
 eval-form-eval-requires : (t : ℕ) → eval-form-lts.Need-eval-requires (
   number-reads.Asked,
   number-reads.Learnt,
@@ -1586,7 +1520,7 @@ eval-form-eval-requires : (t : ℕ) → eval-form-lts.Need-eval-requires (
 ) (eval-form-at t) eval-form.Post
 eval-form-eval-requires t c κs = search needs
 
--- src/walk.rt:112:48
+-- src/walk.rt:111:48
 eval-form-add-number-2 : (t : ℕ) → eval-form-lts.Need-add-number-2 (
   number-reads.Asked,
   number-reads.Learnt,
@@ -1615,7 +1549,7 @@ eval-form-add-number-2 : (t : ℕ) → eval-form-lts.Need-add-number-2 (
 ) (eval-form-at t) eval-form.Post
 eval-form-add-number-2 t c = search needs
 
--- src/walk.rt:112:35
+-- src/walk.rt:111:35
 eval-form-number-requires-3 : (t : ℕ) → eval-form-lts.Need-number-requires-3 (
   number-reads.Asked,
   number-reads.Learnt,
@@ -1644,7 +1578,7 @@ eval-form-number-requires-3 : (t : ℕ) → eval-form-lts.Need-number-requires-3
 ) (eval-form-at t) eval-form.Post
 eval-form-number-requires-3 t c κs = search needs
 
--- src/walk.rt:112:56
+-- src/walk.rt:111:56
 eval-form-sub-eval-2 : (t : ℕ) → eval-form-lts.Need-sub-eval-2 (
   number-reads.Asked,
   number-reads.Learnt,
@@ -1673,7 +1607,7 @@ eval-form-sub-eval-2 : (t : ℕ) → eval-form-lts.Need-sub-eval-2 (
 ) (eval-form-at t) eval-form.Post
 eval-form-sub-eval-2 t c = search needs
 
--- src/walk.rt:112:13
+-- src/walk.rt:111:13
 eval-form-eval-requires-2 : (t : ℕ) → eval-form-lts.Need-eval-requires-2 (
   number-reads.Asked,
   number-reads.Learnt,
@@ -1702,7 +1636,7 @@ eval-form-eval-requires-2 : (t : ℕ) → eval-form-lts.Need-eval-requires-2 (
 ) (eval-form-at t) eval-form.Post
 eval-form-eval-requires-2 t c κs = search needs
 
--- src/walk.rt:113:9
+-- src/walk.rt:112:9
 eval-form-binary-requires : (t : ℕ) → eval-form-lts.Need-binary-requires (
   number-reads.Asked,
   number-reads.Learnt,
@@ -1731,7 +1665,7 @@ eval-form-binary-requires : (t : ℕ) → eval-form-lts.Need-binary-requires (
 ) (eval-form-at t) eval-form.Post
 eval-form-binary-requires t c κs = search needs
 
--- src/walk.rt:113:9
+-- src/walk.rt:112:9
 eval-form-returns-3 : (t : ℕ) → eval-form-lts.Need-returns-3 (
   number-reads.Asked,
   number-reads.Learnt,
@@ -1760,7 +1694,7 @@ eval-form-returns-3 : (t : ℕ) → eval-form-lts.Need-returns-3 (
 ) (eval-form-at t) eval-form.Post
 eval-form-returns-3 t c = search (binary-form, deep-not, sfits-of)
 
--- src/walk.rt:116:9
+-- src/walk.rt:115:9
 eval-form-short-cut-requires : (t : ℕ) → eval-form-lts.Need-short-cut-requires (
   number-reads.Asked,
   number-reads.Learnt,
@@ -1789,7 +1723,7 @@ eval-form-short-cut-requires : (t : ℕ) → eval-form-lts.Need-short-cut-requir
 ) (eval-form-at t) eval-form.Post
 eval-form-short-cut-requires t c κs = search needs
 
--- src/walk.rt:116:9
+-- src/walk.rt:115:9
 eval-form-returns-4 : (t : ℕ) → eval-form-lts.Need-returns-4 (
   number-reads.Asked,
   number-reads.Learnt,
@@ -1818,7 +1752,7 @@ eval-form-returns-4 : (t : ℕ) → eval-form-lts.Need-returns-4 (
 ) (eval-form-at t) eval-form.Post
 eval-form-returns-4 t c = search (evals-passed, sfits-of)
 
--- src/walk.rt:119:29
+-- src/walk.rt:118:29
 eval-form-add-integral : (t : ℕ) → eval-form-lts.Need-add-integral (
   number-reads.Asked,
   number-reads.Learnt,
@@ -1847,7 +1781,7 @@ eval-form-add-integral : (t : ℕ) → eval-form-lts.Need-add-integral (
 ) (eval-form-at t) eval-form.Post
 eval-form-add-integral t c = search needs
 
--- src/walk.rt:119:14
+-- src/walk.rt:118:14
 eval-form-integral-requires : (t : ℕ) → eval-form-lts.Need-integral-requires (
   number-reads.Asked,
   number-reads.Learnt,
@@ -1876,7 +1810,7 @@ eval-form-integral-requires : (t : ℕ) → eval-form-lts.Need-integral-requires
 ) (eval-form-at t) eval-form.Post
 eval-form-integral-requires t c κs = search needs
 
--- src/walk.rt:120:39
+-- src/walk.rt:119:39
 eval-form-add-number-3 : (t : ℕ) → eval-form-lts.Need-add-number-3 (
   number-reads.Asked,
   number-reads.Learnt,
@@ -1905,7 +1839,7 @@ eval-form-add-number-3 : (t : ℕ) → eval-form-lts.Need-add-number-3 (
 ) (eval-form-at t) eval-form.Post
 eval-form-add-number-3 t c = search needs
 
--- src/walk.rt:120:26
+-- src/walk.rt:119:26
 eval-form-number-requires-4 : (t : ℕ) → eval-form-lts.Need-number-requires-4 (
   number-reads.Asked,
   number-reads.Learnt,
@@ -1934,7 +1868,7 @@ eval-form-number-requires-4 : (t : ℕ) → eval-form-lts.Need-number-requires-4
 ) (eval-form-at t) eval-form.Post
 eval-form-number-requires-4 t c κs = search needs
 
--- src/walk.rt:120:26
+-- src/walk.rt:119:26
 eval-form-cast-cell : (t : ℕ) → eval-form-lts.Need-cast-cell (
   number-reads.Asked,
   number-reads.Learnt,
@@ -1963,7 +1897,7 @@ eval-form-cast-cell : (t : ℕ) → eval-form-lts.Need-cast-cell (
 ) (eval-form-at t) eval-form.Post
 eval-form-cast-cell t c = search needs
 
--- src/walk.rt:120:14
+-- src/walk.rt:119:14
 eval-form-cell-requires : (t : ℕ) → eval-form-lts.Need-cell-requires (
   number-reads.Asked,
   number-reads.Learnt,
@@ -1992,7 +1926,7 @@ eval-form-cell-requires : (t : ℕ) → eval-form-lts.Need-cell-requires (
 ) (eval-form-at t) eval-form.Post
 eval-form-cell-requires t c κs = search needs
 
--- src/walk.rt:122:34
+-- src/walk.rt:121:34
 eval-form-add-number-4 : (t : ℕ) → eval-form-lts.Need-add-number-4 (
   number-reads.Asked,
   number-reads.Learnt,
@@ -2021,7 +1955,7 @@ eval-form-add-number-4 : (t : ℕ) → eval-form-lts.Need-add-number-4 (
 ) (eval-form-at t) eval-form.Post
 eval-form-add-number-4 t c = search needs
 
--- src/walk.rt:122:17
+-- src/walk.rt:121:17
 eval-form-number-requires-5 : (t : ℕ) → eval-form-lts.Need-number-requires-5 (
   number-reads.Asked,
   number-reads.Learnt,
@@ -2050,7 +1984,7 @@ eval-form-number-requires-5 : (t : ℕ) → eval-form-lts.Need-number-requires-5
 ) (eval-form-at t) eval-form.Post
 eval-form-number-requires-5 t c κs = search needs
 
--- src/walk.rt:123:13
+-- src/walk.rt:122:13
 eval-form-cells-requires : (t : ℕ) → eval-form-lts.Need-cells-requires (
   number-reads.Asked,
   number-reads.Learnt,
@@ -2079,7 +2013,7 @@ eval-form-cells-requires : (t : ℕ) → eval-form-lts.Need-cells-requires (
 ) (eval-form-at t) eval-form.Post
 eval-form-cells-requires t c κs = search needs
 
--- src/walk.rt:126:53
+-- src/walk.rt:125:53
 eval-form-add-number-5 : (t : ℕ) → eval-form-lts.Need-add-number-5 (
   number-reads.Asked,
   number-reads.Learnt,
@@ -2108,7 +2042,7 @@ eval-form-add-number-5 : (t : ℕ) → eval-form-lts.Need-add-number-5 (
 ) (eval-form-at t) eval-form.Post
 eval-form-add-number-5 t c = search needs
 
--- src/walk.rt:126:40
+-- src/walk.rt:125:40
 eval-form-number-requires-6 : (t : ℕ) → eval-form-lts.Need-number-requires-6 (
   number-reads.Asked,
   number-reads.Learnt,
@@ -2137,7 +2071,7 @@ eval-form-number-requires-6 : (t : ℕ) → eval-form-lts.Need-number-requires-6
 ) (eval-form-at t) eval-form.Post
 eval-form-number-requires-6 t c κs = search needs
 
--- src/walk.rt:126:61
+-- src/walk.rt:125:61
 eval-form-sub-place : (t : ℕ) → eval-form-lts.Need-sub-place (
   number-reads.Asked,
   number-reads.Learnt,
@@ -2166,7 +2100,7 @@ eval-form-sub-place : (t : ℕ) → eval-form-lts.Need-sub-place (
 ) (eval-form-at t) eval-form.Post
 eval-form-sub-place t c = search needs
 
--- src/walk.rt:126:17
+-- src/walk.rt:125:17
 eval-form-place-requires : (t : ℕ) → eval-form-lts.Need-place-requires (
   number-reads.Asked,
   number-reads.Learnt,
@@ -2195,7 +2129,7 @@ eval-form-place-requires : (t : ℕ) → eval-form-lts.Need-place-requires (
 ) (eval-form-at t) eval-form.Post
 eval-form-place-requires t c κs = search needs
 
--- src/walk.rt:127:45
+-- src/walk.rt:126:45
 eval-form-add-number-6 : (t : ℕ) → eval-form-lts.Need-add-number-6 (
   number-reads.Asked,
   number-reads.Learnt,
@@ -2224,7 +2158,7 @@ eval-form-add-number-6 : (t : ℕ) → eval-form-lts.Need-add-number-6 (
 ) (eval-form-at t) eval-form.Post
 eval-form-add-number-6 t c = search needs
 
--- src/walk.rt:127:32
+-- src/walk.rt:126:32
 eval-form-number-requires-7 : (t : ℕ) → eval-form-lts.Need-number-requires-7 (
   number-reads.Asked,
   number-reads.Learnt,
@@ -2253,7 +2187,7 @@ eval-form-number-requires-7 : (t : ℕ) → eval-form-lts.Need-number-requires-7
 ) (eval-form-at t) eval-form.Post
 eval-form-number-requires-7 t c κs = search needs
 
--- src/walk.rt:127:13
+-- src/walk.rt:126:13
 eval-form-cells-at-requires : (t : ℕ) → eval-form-lts.Need-cells-at-requires (
   number-reads.Asked,
   number-reads.Learnt,
@@ -2282,7 +2216,7 @@ eval-form-cells-at-requires : (t : ℕ) → eval-form-lts.Need-cells-at-requires
 ) (eval-form-at t) eval-form.Post
 eval-form-cells-at-requires t c κs = search needs
 
--- src/walk.rt:129:14
+-- src/walk.rt:128:14
 eval-form-latest-requires : (t : ℕ) → eval-form-lts.Need-latest-requires (
   number-reads.Asked,
   number-reads.Learnt,
@@ -2311,7 +2245,7 @@ eval-form-latest-requires : (t : ℕ) → eval-form-lts.Need-latest-requires (
 ) (eval-form-at t) eval-form.Post
 eval-form-latest-requires t c κs = search needs
 
--- src/walk.rt:130:38
+-- src/walk.rt:129:38
 eval-form-sub-gather : (t : ℕ) → eval-form-lts.Need-sub-gather (
   number-reads.Asked,
   number-reads.Learnt,
@@ -2340,7 +2274,7 @@ eval-form-sub-gather : (t : ℕ) → eval-form-lts.Need-sub-gather (
 ) (eval-form-at t) eval-form.Post
 eval-form-sub-gather t c = search needs
 
--- src/walk.rt:130:14
+-- src/walk.rt:129:14
 eval-form-gather-requires : (t : ℕ) → eval-form-lts.Need-gather-requires (
   number-reads.Asked,
   number-reads.Learnt,
@@ -2369,7 +2303,7 @@ eval-form-gather-requires : (t : ℕ) → eval-form-lts.Need-gather-requires (
 ) (eval-form-at t) eval-form.Post
 eval-form-gather-requires t c κs = search needs
 
--- src/walk.rt:99:1
+-- src/walk.rt:98:1
 eval-form-returns-5 : (t : ℕ) → eval-form-lts.Need-returns-5 (
   number-reads.Asked,
   number-reads.Learnt,
@@ -2398,7 +2332,7 @@ eval-form-returns-5 : (t : ℕ) → eval-form-lts.Need-returns-5 (
 ) (eval-form-at t) eval-form.Post
 eval-form-returns-5 t c = search (evals-literal, deep-not, sfits-of)
 
--- src/walk.rt:99:1
+-- src/walk.rt:98:1
 eval-form-returns-6 : (t : ℕ) → eval-form-lts.Need-returns-6 (
   number-reads.Asked,
   number-reads.Learnt,
@@ -2427,7 +2361,7 @@ eval-form-returns-6 : (t : ℕ) → eval-form-lts.Need-returns-6 (
 ) (eval-form-at t) eval-form.Post
 eval-form-returns-6 t c = search (evals-cell, deep-not, sfits-of)
 
--- src/walk.rt:99:1
+-- src/walk.rt:98:1
 eval-form-returns-7 : (t : ℕ) → eval-form-lts.Need-returns-7 (
   number-reads.Asked,
   number-reads.Learnt,
@@ -2456,7 +2390,7 @@ eval-form-returns-7 : (t : ℕ) → eval-form-lts.Need-returns-7 (
 ) (eval-form-at t) eval-form.Post
 eval-form-returns-7 t c = search (evals-cells, deep-not, sfits-of)
 
--- src/walk.rt:99:1
+-- src/walk.rt:98:1
 eval-form-returns-8 : (t : ℕ) → eval-form-lts.Need-returns-8 (
   number-reads.Asked,
   number-reads.Learnt,
@@ -2485,7 +2419,7 @@ eval-form-returns-8 : (t : ℕ) → eval-form-lts.Need-returns-8 (
 ) (eval-form-at t) eval-form.Post
 eval-form-returns-8 t c = search (evals-at, deep-not, sfits-of)
 
--- src/walk.rt:99:1
+-- src/walk.rt:98:1
 eval-form-returns-9 : (t : ℕ) → eval-form-lts.Need-returns-9 (
   number-reads.Asked,
   number-reads.Learnt,
@@ -2514,7 +2448,7 @@ eval-form-returns-9 : (t : ℕ) → eval-form-lts.Need-returns-9 (
 ) (eval-form-at t) eval-form.Post
 eval-form-returns-9 t c = search (evals-last, deep-not, sfits-of)
 
--- src/walk.rt:99:1
+-- src/walk.rt:98:1
 eval-form-returns-10 : (t : ℕ) → eval-form-lts.Need-returns-10 (
   number-reads.Asked,
   number-reads.Learnt,
@@ -2543,7 +2477,7 @@ eval-form-returns-10 : (t : ℕ) → eval-form-lts.Need-returns-10 (
 ) (eval-form-at t) eval-form.Post
 eval-form-returns-10 t c = search (evals-gather, deep-not, sfits-of)
 
--- src/walk.rt:99:1
+-- src/walk.rt:98:1
 eval-form-returns-11 : (t : ℕ) → eval-form-lts.Need-returns-11 (
   number-reads.Asked,
   number-reads.Learnt,
@@ -2578,7 +2512,7 @@ gather-Inv-loop code store pc depth p lo hi s₀ d₀ q₀ s d q = Gathering (co
 abbrev gather-μ-loop : gather-lts.MeasureT-loop
 gather-μ-loop code store pc depth p lo hi s₀ d₀ q₀ s d q = d
 
--- src/walk.rt:233:29
+-- src/walk.rt:234:29
 gather-add-integral : (t : ℕ) → gather-lts.Need-add-integral (
   integral-reads.Asked,
   integral-reads.Learnt,
@@ -2595,7 +2529,7 @@ gather-add-integral : (t : ℕ) → gather-lts.Need-add-integral (
 ) (gather-at t) gather.Post gather-Inv-loop gather-μ-loop
 gather-add-integral t c = search needs
 
--- src/walk.rt:233:9
+-- src/walk.rt:234:9
 gather-integral-requires : (t : ℕ) → gather-lts.Need-integral-requires (
   integral-reads.Asked,
   integral-reads.Learnt,
@@ -2612,7 +2546,7 @@ gather-integral-requires : (t : ℕ) → gather-lts.Need-integral-requires (
 ) (gather-at t) gather.Post gather-Inv-loop gather-μ-loop
 gather-integral-requires t c κs = search needs
 
--- src/walk.rt:234:29
+-- src/walk.rt:235:29
 gather-add-integral-2 : (t : ℕ) → gather-lts.Need-add-integral-2 (
   integral-reads.Asked,
   integral-reads.Learnt,
@@ -2629,7 +2563,7 @@ gather-add-integral-2 : (t : ℕ) → gather-lts.Need-add-integral-2 (
 ) (gather-at t) gather.Post gather-Inv-loop gather-μ-loop
 gather-add-integral-2 t c = search needs
 
--- src/walk.rt:234:9
+-- src/walk.rt:235:9
 gather-integral-requires-2 : (t : ℕ) → gather-lts.Need-integral-requires-2 (
   integral-reads.Asked,
   integral-reads.Learnt,
@@ -2646,7 +2580,7 @@ gather-integral-requires-2 : (t : ℕ) → gather-lts.Need-integral-requires-2 (
 ) (gather-at t) gather.Post gather-Inv-loop gather-μ-loop
 gather-integral-requires-2 t c κs = search needs
 
--- src/walk.rt:237:43
+-- src/walk.rt:238:43
 gather-add-number : (t : ℕ) → gather-lts.Need-add-number (
   integral-reads.Asked,
   integral-reads.Learnt,
@@ -2663,7 +2597,7 @@ gather-add-number : (t : ℕ) → gather-lts.Need-add-number (
 ) (gather-at t) gather.Post gather-Inv-loop gather-μ-loop
 gather-add-number t c = search needs
 
--- src/walk.rt:237:30
+-- src/walk.rt:238:30
 gather-number-requires : (t : ℕ) → gather-lts.Need-number-requires (
   integral-reads.Asked,
   integral-reads.Learnt,
@@ -2680,7 +2614,7 @@ gather-number-requires : (t : ℕ) → gather-lts.Need-number-requires (
 ) (gather-at t) gather.Post gather-Inv-loop gather-μ-loop
 gather-number-requires t c κs = search needs
 
--- src/walk.rt:237:30
+-- src/walk.rt:238:30
 gather-cast-number : (t : ℕ) → gather-lts.Need-cast-number (
   integral-reads.Asked,
   integral-reads.Learnt,
@@ -2697,7 +2631,7 @@ gather-cast-number : (t : ℕ) → gather-lts.Need-cast-number (
 ) (gather-at t) gather.Post gather-Inv-loop gather-μ-loop
 gather-cast-number t c = search needs
 
--- src/walk.rt:237:9
+-- src/walk.rt:238:9
 gather-number-requires-2 : (t : ℕ) → gather-lts.Need-number-requires-2 (
   integral-reads.Asked,
   integral-reads.Learnt,
@@ -2714,7 +2648,7 @@ gather-number-requires-2 : (t : ℕ) → gather-lts.Need-number-requires-2 (
 ) (gather-at t) gather.Post gather-Inv-loop gather-μ-loop
 gather-number-requires-2 t c κs = search needs
 
--- src/walk.rt:238:5
+-- src/walk.rt:239:5
 gather-loop-holds : (t : ℕ) → gather-lts.Need-loop-holds (
   integral-reads.Asked,
   integral-reads.Learnt,
@@ -2731,7 +2665,7 @@ gather-loop-holds : (t : ℕ) → gather-lts.Need-loop-holds (
 ) (gather-at t) gather.Post gather-Inv-loop gather-μ-loop
 gather-loop-holds t c = search (gather-start, needs)
 
--- src/walk.rt:240:13
+-- src/walk.rt:241:13
 gather-value-requires : (t : ℕ) → gather-lts.Need-value-requires (
   integral-reads.Asked,
   integral-reads.Learnt,
@@ -2748,7 +2682,7 @@ gather-value-requires : (t : ℕ) → gather-lts.Need-value-requires (
 ) (gather-at t) gather.Post gather-Inv-loop gather-μ-loop
 gather-value-requires t c κs = search needs
 
--- src/walk.rt:240:13
+-- src/walk.rt:241:13
 gather-returns : (t : ℕ) → gather-lts.Need-returns (
   integral-reads.Asked,
   integral-reads.Learnt,
@@ -2765,7 +2699,7 @@ gather-returns : (t : ℕ) → gather-lts.Need-returns (
 ) (gather-at t) gather.Post gather-Inv-loop gather-μ-loop
 gather-returns t c = search (gather-done, sfits-of)
 
--- src/walk.rt:242:9
+-- src/walk.rt:243:9
 gather-sub-d : (t : ℕ) → gather-lts.Need-sub-d (
   integral-reads.Asked,
   integral-reads.Learnt,
@@ -2782,7 +2716,7 @@ gather-sub-d : (t : ℕ) → gather-lts.Need-sub-d (
 ) (gather-at t) gather.Post gather-Inv-loop gather-μ-loop
 gather-sub-d t c = search needs
 
--- src/walk.rt:243:48
+-- src/walk.rt:244:48
 gather-cast-number-2 : (t : ℕ) → gather-lts.Need-cast-number-2 (
   integral-reads.Asked,
   integral-reads.Learnt,
@@ -2799,7 +2733,7 @@ gather-cast-number-2 : (t : ℕ) → gather-lts.Need-cast-number-2 (
 ) (gather-at t) gather.Post gather-Inv-loop gather-μ-loop
 gather-cast-number-2 t c = search link-laws
 
--- src/walk.rt:243:35
+-- src/walk.rt:244:35
 gather-number-requires-3 : (t : ℕ) → gather-lts.Need-number-requires-3 (
   integral-reads.Asked,
   integral-reads.Learnt,
@@ -2816,7 +2750,7 @@ gather-number-requires-3 : (t : ℕ) → gather-lts.Need-number-requires-3 (
 ) (gather-at t) gather.Post gather-Inv-loop gather-μ-loop
 gather-number-requires-3 t c κs = search needs
 
--- src/walk.rt:243:13
+-- src/walk.rt:244:13
 gather-eval-requires : (t : ℕ) → gather-lts.Need-eval-requires (
   integral-reads.Asked,
   integral-reads.Learnt,
@@ -2833,7 +2767,7 @@ gather-eval-requires : (t : ℕ) → gather-lts.Need-eval-requires (
 ) (gather-at t) gather.Post gather-Inv-loop gather-μ-loop
 gather-eval-requires t c κs = search needs
 
--- src/walk.rt:244:13
+-- src/walk.rt:245:13
 gather-test-requires : (t : ℕ) → gather-lts.Need-test-requires (
   integral-reads.Asked,
   integral-reads.Learnt,
@@ -2850,7 +2784,7 @@ gather-test-requires : (t : ℕ) → gather-lts.Need-test-requires (
 ) (gather-at t) gather.Post gather-Inv-loop gather-μ-loop
 gather-test-requires t c κs = search needs
 
--- src/walk.rt:246:13
+-- src/walk.rt:247:13
 gather-returns-2 : (t : ℕ) → gather-lts.Need-returns-2 (
   integral-reads.Asked,
   integral-reads.Learnt,
@@ -2867,7 +2801,7 @@ gather-returns-2 : (t : ℕ) → gather-lts.Need-returns-2 (
 ) (gather-at t) gather.Post gather-Inv-loop gather-μ-loop
 gather-returns-2 t c = search (gather-fault, sfits-of)
 
--- src/walk.rt:248:9
+-- src/walk.rt:249:9
 gather-insert-requires : (t : ℕ) → gather-lts.Need-insert-requires (
   integral-reads.Asked,
   integral-reads.Learnt,
@@ -2884,7 +2818,7 @@ gather-insert-requires : (t : ℕ) → gather-lts.Need-insert-requires (
 ) (gather-at t) gather.Post gather-Inv-loop gather-μ-loop
 gather-insert-requires t c κs = search needs
 
--- src/walk.rt:249:26
+-- src/walk.rt:250:26
 gather-cast-number-3 : (t : ℕ) → gather-lts.Need-cast-number-3 (
   integral-reads.Asked,
   integral-reads.Learnt,
@@ -2901,7 +2835,7 @@ gather-cast-number-3 : (t : ℕ) → gather-lts.Need-cast-number-3 (
 ) (gather-at t) gather.Post gather-Inv-loop gather-μ-loop
 gather-cast-number-3 t c = search link-laws
 
--- src/walk.rt:249:26
+-- src/walk.rt:250:26
 gather-add-number-2 : (t : ℕ) → gather-lts.Need-add-number-2 (
   integral-reads.Asked,
   integral-reads.Learnt,
@@ -2918,7 +2852,7 @@ gather-add-number-2 : (t : ℕ) → gather-lts.Need-add-number-2 (
 ) (gather-at t) gather.Post gather-Inv-loop gather-μ-loop
 gather-add-number-2 t c = search link-laws
 
--- src/walk.rt:249:9
+-- src/walk.rt:250:9
 gather-number-requires-4 : (t : ℕ) → gather-lts.Need-number-requires-4 (
   integral-reads.Asked,
   integral-reads.Learnt,
@@ -2935,7 +2869,7 @@ gather-number-requires-4 : (t : ℕ) → gather-lts.Need-number-requires-4 (
 ) (gather-at t) gather.Post gather-Inv-loop gather-μ-loop
 gather-number-requires-4 t c κs = search needs
 
--- src/walk.rt:238:5
+-- src/walk.rt:239:5
 gather-loop-less : (t : ℕ) → gather-lts.Need-loop-less (
   integral-reads.Asked,
   integral-reads.Learnt,
@@ -2952,7 +2886,7 @@ gather-loop-less : (t : ℕ) → gather-lts.Need-loop-less (
 ) (gather-at t) gather.Post gather-Inv-loop gather-μ-loop
 gather-loop-less t c = omega arith
 
--- src/walk.rt:238:5
+-- src/walk.rt:239:5
 gather-loop-again : (t : ℕ) → gather-lts.Need-loop-again (
   integral-reads.Asked,
   integral-reads.Learnt,
@@ -2969,7 +2903,7 @@ gather-loop-again : (t : ℕ) → gather-lts.Need-loop-again (
 ) (gather-at t) gather.Post gather-Inv-loop gather-μ-loop
 gather-loop-again t c = search (gather-step, sfits-of)
 
--- src/walk.rt:251:5
+-- src/walk.rt:252:5
 gather-value-requires-2 : (t : ℕ) → gather-lts.Need-value-requires-2 (
   integral-reads.Asked,
   integral-reads.Learnt,
@@ -2986,7 +2920,7 @@ gather-value-requires-2 : (t : ℕ) → gather-lts.Need-value-requires-2 (
 ) (gather-at t) gather.Post gather-Inv-loop gather-μ-loop
 gather-value-requires-2 t c κs = search needs
 
--- src/walk.rt:229:1
+-- src/walk.rt:230:1
 gather-returns-3 : (t : ℕ) → gather-lts.Need-returns-3 (
   integral-reads.Asked,
   integral-reads.Learnt,
@@ -3003,7 +2937,7 @@ gather-returns-3 : (t : ℕ) → gather-lts.Need-returns-3 (
 ) (gather-at t) gather.Post gather-Inv-loop gather-μ-loop
 gather-returns-3 t c = search (gather-end, sfits-of)
 
--- src/walk.rt:84:9
+-- src/walk.rt:83:9
 one-sided-number-requires : (t : ℕ) → one-sided-lts.Need-number-requires (
   number-reads.Asked,
   number-reads.Learnt,
@@ -3020,7 +2954,7 @@ one-sided-number-requires : (t : ℕ) → one-sided-lts.Need-number-requires (
 ) (one-sided-at t) one-sided.Post
 one-sided-number-requires t c κs = search needs
 
--- src/walk.rt:86:9
+-- src/walk.rt:85:9
 one-sided-returns : (t : ℕ) → one-sided-lts.Need-returns (
   number-reads.Asked,
   number-reads.Learnt,
@@ -3037,7 +2971,7 @@ one-sided-returns : (t : ℕ) → one-sided-lts.Need-returns (
 ) (one-sided-at t) one-sided.Post
 one-sided-returns t c = search (evals-none, sfits-of)
 
--- src/walk.rt:88:47
+-- src/walk.rt:87:47
 one-sided-add-number : (t : ℕ) → one-sided-lts.Need-add-number (
   number-reads.Asked,
   number-reads.Learnt,
@@ -3054,7 +2988,7 @@ one-sided-add-number : (t : ℕ) → one-sided-lts.Need-add-number (
 ) (one-sided-at t) one-sided.Post
 one-sided-add-number t c = search needs
 
--- src/walk.rt:88:34
+-- src/walk.rt:87:34
 one-sided-number-requires-2 : (t : ℕ) → one-sided-lts.Need-number-requires-2 (
   number-reads.Asked,
   number-reads.Learnt,
@@ -3071,7 +3005,7 @@ one-sided-number-requires-2 : (t : ℕ) → one-sided-lts.Need-number-requires-2
 ) (one-sided-at t) one-sided.Post
 one-sided-number-requires-2 t c κs = search needs
 
--- src/walk.rt:88:55
+-- src/walk.rt:87:55
 one-sided-sub-operand : (t : ℕ) → one-sided-lts.Need-sub-operand (
   number-reads.Asked,
   number-reads.Learnt,
@@ -3088,7 +3022,7 @@ one-sided-sub-operand : (t : ℕ) → one-sided-lts.Need-sub-operand (
 ) (one-sided-at t) one-sided.Post
 one-sided-sub-operand t c = search needs
 
--- src/walk.rt:88:9
+-- src/walk.rt:87:9
 one-sided-operand-requires : (t : ℕ) → one-sided-lts.Need-operand-requires (
   number-reads.Asked,
   number-reads.Learnt,
@@ -3105,7 +3039,7 @@ one-sided-operand-requires : (t : ℕ) → one-sided-lts.Need-operand-requires (
 ) (one-sided-at t) one-sided.Post
 one-sided-operand-requires t c κs = search needs
 
--- src/walk.rt:90:39
+-- src/walk.rt:89:39
 one-sided-add-integral : (t : ℕ) → one-sided-lts.Need-add-integral (
   number-reads.Asked,
   number-reads.Learnt,
@@ -3122,7 +3056,7 @@ one-sided-add-integral : (t : ℕ) → one-sided-lts.Need-add-integral (
 ) (one-sided-at t) one-sided.Post
 one-sided-add-integral t c = search needs
 
--- src/walk.rt:90:24
+-- src/walk.rt:89:24
 one-sided-integral-requires : (t : ℕ) → one-sided-lts.Need-integral-requires (
   number-reads.Asked,
   number-reads.Learnt,
@@ -3139,7 +3073,7 @@ one-sided-integral-requires : (t : ℕ) → one-sided-lts.Need-integral-requires
 ) (one-sided-at t) one-sided.Post
 one-sided-integral-requires t c κs = search needs
 
--- src/walk.rt:90:62
+-- src/walk.rt:89:62
 one-sided-add-integral-2 : (t : ℕ) → one-sided-lts.Need-add-integral-2 (
   number-reads.Asked,
   number-reads.Learnt,
@@ -3156,7 +3090,7 @@ one-sided-add-integral-2 : (t : ℕ) → one-sided-lts.Need-add-integral-2 (
 ) (one-sided-at t) one-sided.Post
 one-sided-add-integral-2 t c = search needs
 
--- src/walk.rt:90:47
+-- src/walk.rt:89:47
 one-sided-integral-requires-2 : (t : ℕ) → one-sided-lts.Need-integral-requires-2 (
   number-reads.Asked,
   number-reads.Learnt,
@@ -3173,7 +3107,7 @@ one-sided-integral-requires-2 : (t : ℕ) → one-sided-lts.Need-integral-requir
 ) (one-sided-at t) one-sided.Post
 one-sided-integral-requires-2 t c κs = search needs
 
--- src/walk.rt:90:9
+-- src/walk.rt:89:9
 one-sided-pred-requires : (t : ℕ) → one-sided-lts.Need-pred-requires (
   number-reads.Asked,
   number-reads.Learnt,
@@ -3190,7 +3124,7 @@ one-sided-pred-requires : (t : ℕ) → one-sided-lts.Need-pred-requires (
 ) (one-sided-at t) one-sided.Post
 one-sided-pred-requires t c κs = search needs
 
--- src/walk.rt:90:9
+-- src/walk.rt:89:9
 one-sided-returns-2 : (t : ℕ) → one-sided-lts.Need-returns-2 (
   number-reads.Asked,
   number-reads.Learnt,
@@ -3207,7 +3141,7 @@ one-sided-returns-2 : (t : ℕ) → one-sided-lts.Need-returns-2 (
 ) (one-sided-at t) one-sided.Post
 one-sided-returns-2 t c = search (evals-pred, sfits-of)
 
--- src/walk.rt:93:39
+-- src/walk.rt:92:39
 one-sided-add-integral-3 : (t : ℕ) → one-sided-lts.Need-add-integral-3 (
   number-reads.Asked,
   number-reads.Learnt,
@@ -3224,7 +3158,7 @@ one-sided-add-integral-3 : (t : ℕ) → one-sided-lts.Need-add-integral-3 (
 ) (one-sided-at t) one-sided.Post
 one-sided-add-integral-3 t c = search needs
 
--- src/walk.rt:93:24
+-- src/walk.rt:92:24
 one-sided-integral-requires-3 : (t : ℕ) → one-sided-lts.Need-integral-requires-3 (
   number-reads.Asked,
   number-reads.Learnt,
@@ -3241,7 +3175,7 @@ one-sided-integral-requires-3 : (t : ℕ) → one-sided-lts.Need-integral-requir
 ) (one-sided-at t) one-sided.Post
 one-sided-integral-requires-3 t c κs = search needs
 
--- src/walk.rt:93:62
+-- src/walk.rt:92:62
 one-sided-add-integral-4 : (t : ℕ) → one-sided-lts.Need-add-integral-4 (
   number-reads.Asked,
   number-reads.Learnt,
@@ -3258,7 +3192,7 @@ one-sided-add-integral-4 : (t : ℕ) → one-sided-lts.Need-add-integral-4 (
 ) (one-sided-at t) one-sided.Post
 one-sided-add-integral-4 t c = search needs
 
--- src/walk.rt:93:47
+-- src/walk.rt:92:47
 one-sided-integral-requires-4 : (t : ℕ) → one-sided-lts.Need-integral-requires-4 (
   number-reads.Asked,
   number-reads.Learnt,
@@ -3275,7 +3209,7 @@ one-sided-integral-requires-4 : (t : ℕ) → one-sided-lts.Need-integral-requir
 ) (one-sided-at t) one-sided.Post
 one-sided-integral-requires-4 t c κs = search needs
 
--- src/walk.rt:93:9
+-- src/walk.rt:92:9
 one-sided-succ-requires : (t : ℕ) → one-sided-lts.Need-succ-requires (
   number-reads.Asked,
   number-reads.Learnt,
@@ -3292,7 +3226,7 @@ one-sided-succ-requires : (t : ℕ) → one-sided-lts.Need-succ-requires (
 ) (one-sided-at t) one-sided.Post
 one-sided-succ-requires t c κs = search needs
 
--- src/walk.rt:93:9
+-- src/walk.rt:92:9
 one-sided-returns-3 : (t : ℕ) → one-sided-lts.Need-returns-3 (
   number-reads.Asked,
   number-reads.Learnt,
@@ -3309,7 +3243,7 @@ one-sided-returns-3 : (t : ℕ) → one-sided-lts.Need-returns-3 (
 ) (one-sided-at t) one-sided.Post
 one-sided-returns-3 t c = search (evals-succ, sfits-of)
 
--- src/walk.rt:95:5
+-- src/walk.rt:94:5
 one-sided-unary-requires : (t : ℕ) → one-sided-lts.Need-unary-requires (
   number-reads.Asked,
   number-reads.Learnt,
@@ -3326,7 +3260,7 @@ one-sided-unary-requires : (t : ℕ) → one-sided-lts.Need-unary-requires (
 ) (one-sided-at t) one-sided.Post
 one-sided-unary-requires t c κs = search needs
 
--- src/walk.rt:79:1
+-- src/walk.rt:78:1
 one-sided-returns-4 : (t : ℕ) → one-sided-lts.Need-returns-4 (
   number-reads.Asked,
   number-reads.Learnt,
@@ -3343,7 +3277,7 @@ one-sided-returns-4 : (t : ℕ) → one-sided-lts.Need-returns-4 (
 ) (one-sided-at t) one-sided.Post
 one-sided-returns-4 t c = search (unary-node, sfits-of)
 
--- src/walk.rt:62:9
+-- src/walk.rt:61:9
 operand-returns : (t : ℕ) → operand-lts.Need-returns (
   eval-form-below t,
   eval-form.Post,
@@ -3358,7 +3292,7 @@ operand-returns : (t : ℕ) → operand-lts.Need-returns (
 ) (operand-at t) operand.Post
 operand-returns t c = search (evals-zero)
 
--- src/walk.rt:65:9
+-- src/walk.rt:64:9
 operand-eval-form-requires : (t : ℕ) → operand-lts.Need-eval-form-requires (
   eval-form-below t,
   eval-form.Post,
@@ -3373,7 +3307,7 @@ operand-eval-form-requires : (t : ℕ) → operand-lts.Need-eval-form-requires (
 ) (operand-at t) operand.Post
 operand-eval-form-requires t c κs = search needs
 
--- src/walk.rt:65:9
+-- src/walk.rt:64:9
 operand-returns-2 : (t : ℕ) → operand-lts.Need-returns-2 (
   eval-form-below t,
   eval-form.Post,
@@ -3388,7 +3322,7 @@ operand-returns-2 : (t : ℕ) → operand-lts.Need-returns-2 (
 ) (operand-at t) operand.Post
 operand-returns-2 t c = search (evals-passed, sfits-of)
 
--- src/walk.rt:68:9
+-- src/walk.rt:67:9
 operand-number-requires : (t : ℕ) → operand-lts.Need-number-requires (
   eval-form-below t,
   eval-form.Post,
@@ -3403,7 +3337,7 @@ operand-number-requires : (t : ℕ) → operand-lts.Need-number-requires (
 ) (operand-at t) operand.Post
 operand-number-requires t c κs = search needs
 
--- src/walk.rt:70:41
+-- src/walk.rt:69:41
 operand-add-number : (t : ℕ) → operand-lts.Need-add-number (
   eval-form-below t,
   eval-form.Post,
@@ -3418,7 +3352,7 @@ operand-add-number : (t : ℕ) → operand-lts.Need-add-number (
 ) (operand-at t) operand.Post
 operand-add-number t c = search needs
 
--- src/walk.rt:70:28
+-- src/walk.rt:69:28
 operand-number-requires-2 : (t : ℕ) → operand-lts.Need-number-requires-2 (
   eval-form-below t,
   eval-form.Post,
@@ -3433,7 +3367,7 @@ operand-number-requires-2 : (t : ℕ) → operand-lts.Need-number-requires-2 (
 ) (operand-at t) operand.Post
 operand-number-requires-2 t c κs = search needs
 
--- src/walk.rt:70:28
+-- src/walk.rt:69:28
 operand-cast-cell : (t : ℕ) → operand-lts.Need-cast-cell (
   eval-form-below t,
   eval-form.Post,
@@ -3448,7 +3382,7 @@ operand-cast-cell : (t : ℕ) → operand-lts.Need-cast-cell (
 ) (operand-at t) operand.Post
 operand-cast-cell t c = search needs
 
--- src/walk.rt:70:9
+-- src/walk.rt:69:9
 operand-cell-requires : (t : ℕ) → operand-lts.Need-cell-requires (
   eval-form-below t,
   eval-form.Post,
@@ -3463,7 +3397,7 @@ operand-cell-requires : (t : ℕ) → operand-lts.Need-cell-requires (
 ) (operand-at t) operand.Post
 operand-cell-requires t c κs = search needs
 
--- src/walk.rt:70:9
+-- src/walk.rt:69:9
 operand-returns-3 : (t : ℕ) → operand-lts.Need-returns-3 (
   eval-form-below t,
   eval-form.Post,
@@ -3478,7 +3412,7 @@ operand-returns-3 : (t : ℕ) → operand-lts.Need-returns-3 (
 ) (operand-at t) operand.Post
 operand-returns-3 t c = search (evals-cell, deep-not, sfits-of)
 
--- src/walk.rt:73:31
+-- src/walk.rt:72:31
 operand-add-integral : (t : ℕ) → operand-lts.Need-add-integral (
   eval-form-below t,
   eval-form.Post,
@@ -3493,7 +3427,7 @@ operand-add-integral : (t : ℕ) → operand-lts.Need-add-integral (
 ) (operand-at t) operand.Post
 operand-add-integral t c = search needs
 
--- src/walk.rt:73:9
+-- src/walk.rt:72:9
 operand-integral-requires : (t : ℕ) → operand-lts.Need-integral-requires (
   eval-form-below t,
   eval-form.Post,
@@ -3508,7 +3442,7 @@ operand-integral-requires : (t : ℕ) → operand-lts.Need-integral-requires (
 ) (operand-at t) operand.Post
 operand-integral-requires t c κs = search needs
 
--- src/walk.rt:73:9
+-- src/walk.rt:72:9
 operand-returns-4 : (t : ℕ) → operand-lts.Need-returns-4 (
   eval-form-below t,
   eval-form.Post,
@@ -3523,7 +3457,7 @@ operand-returns-4 : (t : ℕ) → operand-lts.Need-returns-4 (
 ) (operand-at t) operand.Post
 operand-returns-4 t c = search (evals-literal, deep-not, sfits-of)
 
--- src/walk.rt:75:5
+-- src/walk.rt:74:5
 operand-eval-requires : (t : ℕ) → operand-lts.Need-eval-requires (
   eval-form-below t,
   eval-form.Post,
@@ -3538,7 +3472,7 @@ operand-eval-requires : (t : ℕ) → operand-lts.Need-eval-requires (
 ) (operand-at t) operand.Post
 operand-eval-requires t c κs = search needs
 
--- src/walk.rt:58:1
+-- src/walk.rt:57:1
 operand-returns-5 : (t : ℕ) → operand-lts.Need-returns-5 (
   eval-form-below t,
   eval-form.Post,
@@ -3553,7 +3487,7 @@ operand-returns-5 : (t : ℕ) → operand-lts.Need-returns-5 (
 ) (operand-at t) operand.Post
 operand-returns-5 t c = search (evals-passed, sfits-of)
 
--- src/walk.rt:163:9
+-- src/walk.rt:162:9
 place-returns : (t : ℕ) → place-lts.Need-returns (
   place-form-below t,
   place-form.Post,
@@ -3564,7 +3498,7 @@ place-returns : (t : ℕ) → place-lts.Need-returns (
 ) (place-at t) place.Post
 place-returns t c = search (finds-zero)
 
--- src/walk.rt:166:9
+-- src/walk.rt:165:9
 place-place-form-requires : (t : ℕ) → place-lts.Need-place-form-requires (
   place-form-below t,
   place-form.Post,
@@ -3575,7 +3509,7 @@ place-place-form-requires : (t : ℕ) → place-lts.Need-place-form-requires (
 ) (place-at t) place.Post
 place-place-form-requires t c κs = search needs
 
--- src/walk.rt:166:9
+-- src/walk.rt:165:9
 place-returns-2 : (t : ℕ) → place-lts.Need-returns-2 (
   place-form-below t,
   place-form.Post,
@@ -3586,7 +3520,7 @@ place-returns-2 : (t : ℕ) → place-lts.Need-returns-2 (
 ) (place-at t) place.Post
 place-returns-2 t c = search (finds-passed, sfits-of)
 
--- src/walk.rt:169:9
+-- src/walk.rt:168:9
 place-number-requires : (t : ℕ) → place-lts.Need-number-requires (
   place-form-below t,
   place-form.Post,
@@ -3597,7 +3531,7 @@ place-number-requires : (t : ℕ) → place-lts.Need-number-requires (
 ) (place-at t) place.Post
 place-number-requires t c κs = search needs
 
--- src/walk.rt:171:29
+-- src/walk.rt:170:29
 place-add-number : (t : ℕ) → place-lts.Need-add-number (
   place-form-below t,
   place-form.Post,
@@ -3608,7 +3542,7 @@ place-add-number : (t : ℕ) → place-lts.Need-add-number (
 ) (place-at t) place.Post
 place-add-number t c = search needs
 
--- src/walk.rt:171:16
+-- src/walk.rt:170:16
 place-number-requires-2 : (t : ℕ) → place-lts.Need-number-requires-2 (
   place-form-below t,
   place-form.Post,
@@ -3619,7 +3553,7 @@ place-number-requires-2 : (t : ℕ) → place-lts.Need-number-requires-2 (
 ) (place-at t) place.Post
 place-number-requires-2 t c κs = search needs
 
--- src/walk.rt:171:16
+-- src/walk.rt:170:16
 place-cast-result : (t : ℕ) → place-lts.Need-cast-result (
   place-form-below t,
   place-form.Post,
@@ -3630,7 +3564,7 @@ place-cast-result : (t : ℕ) → place-lts.Need-cast-result (
 ) (place-at t) place.Post
 place-cast-result t c = search needs
 
--- src/walk.rt:171:9
+-- src/walk.rt:170:9
 place-returns-3 : (t : ℕ) → place-lts.Need-returns-3 (
   place-form-below t,
   place-form.Post,
@@ -3641,7 +3575,7 @@ place-returns-3 : (t : ℕ) → place-lts.Need-returns-3 (
 ) (place-at t) place.Post
 place-returns-3 t c = search (finds-cell, deep-not, needs)
 
--- src/walk.rt:173:5
+-- src/walk.rt:172:5
 place-component-requires : (t : ℕ) → place-lts.Need-component-requires (
   place-form-below t,
   place-form.Post,
@@ -3652,7 +3586,7 @@ place-component-requires : (t : ℕ) → place-lts.Need-component-requires (
 ) (place-at t) place.Post
 place-component-requires t c κs = search needs
 
--- src/walk.rt:159:1
+-- src/walk.rt:158:1
 place-returns-4 : (t : ℕ) → place-lts.Need-returns-4 (
   place-form-below t,
   place-form.Post,
@@ -3671,10 +3605,8 @@ place-form-returns : (t : ℕ) → place-form-lts.Need-returns (
   place.Post,
   eval-below t,
   eval.Post,
-  distance-reads.Asked,
-  distance-reads.Learnt,
-  element-reads.Asked,
-  element-reads.Learnt,
+  element-of-reads.Asked,
+  element-of-reads.Learnt,
   shifted-reads.Asked,
   shifted-reads.Learnt,
 ) (place-form-at t) place-form.Post
@@ -3688,10 +3620,8 @@ place-form-number-requires : (t : ℕ) → place-form-lts.Need-number-requires (
   place.Post,
   eval-below t,
   eval.Post,
-  distance-reads.Asked,
-  distance-reads.Learnt,
-  element-reads.Asked,
-  element-reads.Learnt,
+  element-of-reads.Asked,
+  element-of-reads.Learnt,
   shifted-reads.Asked,
   shifted-reads.Learnt,
 ) (place-form-at t) place-form.Post
@@ -3705,10 +3635,8 @@ place-form-add-number : (t : ℕ) → place-form-lts.Need-add-number (
   place.Post,
   eval-below t,
   eval.Post,
-  distance-reads.Asked,
-  distance-reads.Learnt,
-  element-reads.Asked,
-  element-reads.Learnt,
+  element-of-reads.Asked,
+  element-of-reads.Learnt,
   shifted-reads.Asked,
   shifted-reads.Learnt,
 ) (place-form-at t) place-form.Post
@@ -3722,10 +3650,8 @@ place-form-number-requires-2 : (t : ℕ) → place-form-lts.Need-number-requires
   place.Post,
   eval-below t,
   eval.Post,
-  distance-reads.Asked,
-  distance-reads.Learnt,
-  element-reads.Asked,
-  element-reads.Learnt,
+  element-of-reads.Asked,
+  element-of-reads.Learnt,
   shifted-reads.Asked,
   shifted-reads.Learnt,
 ) (place-form-at t) place-form.Post
@@ -3739,10 +3665,8 @@ place-form-sub-place : (t : ℕ) → place-form-lts.Need-sub-place (
   place.Post,
   eval-below t,
   eval.Post,
-  distance-reads.Asked,
-  distance-reads.Learnt,
-  element-reads.Asked,
-  element-reads.Learnt,
+  element-of-reads.Asked,
+  element-of-reads.Learnt,
   shifted-reads.Asked,
   shifted-reads.Learnt,
 ) (place-form-at t) place-form.Post
@@ -3756,10 +3680,8 @@ place-form-place-requires : (t : ℕ) → place-form-lts.Need-place-requires (
   place.Post,
   eval-below t,
   eval.Post,
-  distance-reads.Asked,
-  distance-reads.Learnt,
-  element-reads.Asked,
-  element-reads.Learnt,
+  element-of-reads.Asked,
+  element-of-reads.Learnt,
   shifted-reads.Asked,
   shifted-reads.Learnt,
 ) (place-form-at t) place-form.Post
@@ -3773,10 +3695,8 @@ place-form-add-number-2 : (t : ℕ) → place-form-lts.Need-add-number-2 (
   place.Post,
   eval-below t,
   eval.Post,
-  distance-reads.Asked,
-  distance-reads.Learnt,
-  element-reads.Asked,
-  element-reads.Learnt,
+  element-of-reads.Asked,
+  element-of-reads.Learnt,
   shifted-reads.Asked,
   shifted-reads.Learnt,
 ) (place-form-at t) place-form.Post
@@ -3790,10 +3710,8 @@ place-form-number-requires-3 : (t : ℕ) → place-form-lts.Need-number-requires
   place.Post,
   eval-below t,
   eval.Post,
-  distance-reads.Asked,
-  distance-reads.Learnt,
-  element-reads.Asked,
-  element-reads.Learnt,
+  element-of-reads.Asked,
+  element-of-reads.Learnt,
   shifted-reads.Asked,
   shifted-reads.Learnt,
 ) (place-form-at t) place-form.Post
@@ -3807,10 +3725,8 @@ place-form-sub-eval : (t : ℕ) → place-form-lts.Need-sub-eval (
   place.Post,
   eval-below t,
   eval.Post,
-  distance-reads.Asked,
-  distance-reads.Learnt,
-  element-reads.Asked,
-  element-reads.Learnt,
+  element-of-reads.Asked,
+  element-of-reads.Learnt,
   shifted-reads.Asked,
   shifted-reads.Learnt,
 ) (place-form-at t) place-form.Post
@@ -3824,16 +3740,14 @@ place-form-eval-requires : (t : ℕ) → place-form-lts.Need-eval-requires (
   place.Post,
   eval-below t,
   eval.Post,
-  distance-reads.Asked,
-  distance-reads.Learnt,
-  element-reads.Asked,
-  element-reads.Learnt,
+  element-of-reads.Asked,
+  element-of-reads.Learnt,
   shifted-reads.Asked,
   shifted-reads.Learnt,
 ) (place-form-at t) place-form.Post
 place-form-eval-requires t c κs = search needs
 
--- src/walk.rt:215:42
+-- src/walk.rt:215:32
 place-form-add-number-3 : (t : ℕ) → place-form-lts.Need-add-number-3 (
   number-reads.Asked,
   number-reads.Learnt,
@@ -3841,16 +3755,14 @@ place-form-add-number-3 : (t : ℕ) → place-form-lts.Need-add-number-3 (
   place.Post,
   eval-below t,
   eval.Post,
-  distance-reads.Asked,
-  distance-reads.Learnt,
-  element-reads.Asked,
-  element-reads.Learnt,
+  element-of-reads.Asked,
+  element-of-reads.Learnt,
   shifted-reads.Asked,
   shifted-reads.Learnt,
 ) (place-form-at t) place-form.Post
 place-form-add-number-3 t c = search needs
 
--- src/walk.rt:215:29
+-- src/walk.rt:215:13
 place-form-number-requires-4 : (t : ℕ) → place-form-lts.Need-number-requires-4 (
   number-reads.Asked,
   number-reads.Learnt,
@@ -3858,16 +3770,14 @@ place-form-number-requires-4 : (t : ℕ) → place-form-lts.Need-number-requires
   place.Post,
   eval-below t,
   eval.Post,
-  distance-reads.Asked,
-  distance-reads.Learnt,
-  element-reads.Asked,
-  element-reads.Learnt,
+  element-of-reads.Asked,
+  element-of-reads.Learnt,
   shifted-reads.Asked,
   shifted-reads.Learnt,
 ) (place-form-at t) place-form.Post
 place-form-number-requires-4 t c κs = search needs
 
--- src/walk.rt:215:63
+-- src/walk.rt:216:33
 place-form-add-number-4 : (t : ℕ) → place-form-lts.Need-add-number-4 (
   number-reads.Asked,
   number-reads.Learnt,
@@ -3875,16 +3785,14 @@ place-form-add-number-4 : (t : ℕ) → place-form-lts.Need-add-number-4 (
   place.Post,
   eval-below t,
   eval.Post,
-  distance-reads.Asked,
-  distance-reads.Learnt,
-  element-reads.Asked,
-  element-reads.Learnt,
+  element-of-reads.Asked,
+  element-of-reads.Learnt,
   shifted-reads.Asked,
   shifted-reads.Learnt,
 ) (place-form-at t) place-form.Post
 place-form-add-number-4 t c = search needs
 
--- src/walk.rt:215:50
+-- src/walk.rt:216:13
 place-form-number-requires-5 : (t : ℕ) → place-form-lts.Need-number-requires-5 (
   number-reads.Asked,
   number-reads.Learnt,
@@ -3892,33 +3800,14 @@ place-form-number-requires-5 : (t : ℕ) → place-form-lts.Need-number-requires
   place.Post,
   eval-below t,
   eval.Post,
-  distance-reads.Asked,
-  distance-reads.Learnt,
-  element-reads.Asked,
-  element-reads.Learnt,
+  element-of-reads.Asked,
+  element-of-reads.Learnt,
   shifted-reads.Asked,
   shifted-reads.Learnt,
 ) (place-form-at t) place-form.Post
 place-form-number-requires-5 t c κs = search needs
 
--- src/walk.rt:215:13
-place-form-distance-requires : (t : ℕ) → place-form-lts.Need-distance-requires (
-  number-reads.Asked,
-  number-reads.Learnt,
-  place-below t,
-  place.Post,
-  eval-below t,
-  eval.Post,
-  distance-reads.Asked,
-  distance-reads.Learnt,
-  element-reads.Asked,
-  element-reads.Learnt,
-  shifted-reads.Asked,
-  shifted-reads.Learnt,
-) (place-form-at t) place-form.Post
-place-form-distance-requires t c κs = search needs
-
--- src/walk.rt:216:43
+-- src/walk.rt:217:57
 place-form-add-number-5 : (t : ℕ) → place-form-lts.Need-add-number-5 (
   number-reads.Asked,
   number-reads.Learnt,
@@ -3926,16 +3815,14 @@ place-form-add-number-5 : (t : ℕ) → place-form-lts.Need-add-number-5 (
   place.Post,
   eval-below t,
   eval.Post,
-  distance-reads.Asked,
-  distance-reads.Learnt,
-  element-reads.Asked,
-  element-reads.Learnt,
+  element-of-reads.Asked,
+  element-of-reads.Learnt,
   shifted-reads.Asked,
   shifted-reads.Learnt,
 ) (place-form-at t) place-form.Post
 place-form-add-number-5 t c = search needs
 
--- src/walk.rt:216:30
+-- src/walk.rt:217:44
 place-form-number-requires-6 : (t : ℕ) → place-form-lts.Need-number-requires-6 (
   number-reads.Asked,
   number-reads.Learnt,
@@ -3943,33 +3830,29 @@ place-form-number-requires-6 : (t : ℕ) → place-form-lts.Need-number-requires
   place.Post,
   eval-below t,
   eval.Post,
-  distance-reads.Asked,
-  distance-reads.Learnt,
-  element-reads.Asked,
-  element-reads.Learnt,
+  element-of-reads.Asked,
+  element-of-reads.Learnt,
   shifted-reads.Asked,
   shifted-reads.Learnt,
 ) (place-form-at t) place-form.Post
 place-form-number-requires-6 t c κs = search needs
 
--- src/walk.rt:216:9
-place-form-element-requires : (t : ℕ) → place-form-lts.Need-element-requires (
+-- src/walk.rt:217:9
+place-form-element-of-requires : (t : ℕ) → place-form-lts.Need-element-of-requires (
   number-reads.Asked,
   number-reads.Learnt,
   place-below t,
   place.Post,
   eval-below t,
   eval.Post,
-  distance-reads.Asked,
-  distance-reads.Learnt,
-  element-reads.Asked,
-  element-reads.Learnt,
+  element-of-reads.Asked,
+  element-of-reads.Learnt,
   shifted-reads.Asked,
   shifted-reads.Learnt,
 ) (place-form-at t) place-form.Post
-place-form-element-requires t c κs = search needs
+place-form-element-of-requires t c κs = search needs
 
--- src/walk.rt:216:9
+-- src/walk.rt:217:9
 place-form-returns-2 : (t : ℕ) → place-form-lts.Need-returns-2 (
   number-reads.Asked,
   number-reads.Learnt,
@@ -3977,16 +3860,14 @@ place-form-returns-2 : (t : ℕ) → place-form-lts.Need-returns-2 (
   place.Post,
   eval-below t,
   eval.Post,
-  distance-reads.Asked,
-  distance-reads.Learnt,
-  element-reads.Asked,
-  element-reads.Learnt,
+  element-of-reads.Asked,
+  element-of-reads.Learnt,
   shifted-reads.Asked,
   shifted-reads.Learnt,
 ) (place-form-at t) place-form.Post
 place-form-returns-2 t c = search (finds-element, deep-not, needs)
 
--- src/walk.rt:219:49
+-- src/walk.rt:220:49
 place-form-add-number-6 : (t : ℕ) → place-form-lts.Need-add-number-6 (
   number-reads.Asked,
   number-reads.Learnt,
@@ -3994,16 +3875,14 @@ place-form-add-number-6 : (t : ℕ) → place-form-lts.Need-add-number-6 (
   place.Post,
   eval-below t,
   eval.Post,
-  distance-reads.Asked,
-  distance-reads.Learnt,
-  element-reads.Asked,
-  element-reads.Learnt,
+  element-of-reads.Asked,
+  element-of-reads.Learnt,
   shifted-reads.Asked,
   shifted-reads.Learnt,
 ) (place-form-at t) place-form.Post
 place-form-add-number-6 t c = search needs
 
--- src/walk.rt:219:36
+-- src/walk.rt:220:36
 place-form-number-requires-7 : (t : ℕ) → place-form-lts.Need-number-requires-7 (
   number-reads.Asked,
   number-reads.Learnt,
@@ -4011,16 +3890,14 @@ place-form-number-requires-7 : (t : ℕ) → place-form-lts.Need-number-requires
   place.Post,
   eval-below t,
   eval.Post,
-  distance-reads.Asked,
-  distance-reads.Learnt,
-  element-reads.Asked,
-  element-reads.Learnt,
+  element-of-reads.Asked,
+  element-of-reads.Learnt,
   shifted-reads.Asked,
   shifted-reads.Learnt,
 ) (place-form-at t) place-form.Post
 place-form-number-requires-7 t c κs = search needs
 
--- src/walk.rt:219:57
+-- src/walk.rt:220:57
 place-form-sub-place-2 : (t : ℕ) → place-form-lts.Need-sub-place-2 (
   number-reads.Asked,
   number-reads.Learnt,
@@ -4028,16 +3905,14 @@ place-form-sub-place-2 : (t : ℕ) → place-form-lts.Need-sub-place-2 (
   place.Post,
   eval-below t,
   eval.Post,
-  distance-reads.Asked,
-  distance-reads.Learnt,
-  element-reads.Asked,
-  element-reads.Learnt,
+  element-of-reads.Asked,
+  element-of-reads.Learnt,
   shifted-reads.Asked,
   shifted-reads.Learnt,
 ) (place-form-at t) place-form.Post
 place-form-sub-place-2 t c = search needs
 
--- src/walk.rt:219:13
+-- src/walk.rt:220:13
 place-form-place-requires-2 : (t : ℕ) → place-form-lts.Need-place-requires-2 (
   number-reads.Asked,
   number-reads.Learnt,
@@ -4045,16 +3920,14 @@ place-form-place-requires-2 : (t : ℕ) → place-form-lts.Need-place-requires-2
   place.Post,
   eval-below t,
   eval.Post,
-  distance-reads.Asked,
-  distance-reads.Learnt,
-  element-reads.Asked,
-  element-reads.Learnt,
+  element-of-reads.Asked,
+  element-of-reads.Learnt,
   shifted-reads.Asked,
   shifted-reads.Learnt,
 ) (place-form-at t) place-form.Post
 place-form-place-requires-2 t c κs = search needs
 
--- src/walk.rt:220:40
+-- src/walk.rt:221:40
 place-form-add-number-7 : (t : ℕ) → place-form-lts.Need-add-number-7 (
   number-reads.Asked,
   number-reads.Learnt,
@@ -4062,16 +3935,14 @@ place-form-add-number-7 : (t : ℕ) → place-form-lts.Need-add-number-7 (
   place.Post,
   eval-below t,
   eval.Post,
-  distance-reads.Asked,
-  distance-reads.Learnt,
-  element-reads.Asked,
-  element-reads.Learnt,
+  element-of-reads.Asked,
+  element-of-reads.Learnt,
   shifted-reads.Asked,
   shifted-reads.Learnt,
 ) (place-form-at t) place-form.Post
 place-form-add-number-7 t c = search needs
 
--- src/walk.rt:220:27
+-- src/walk.rt:221:27
 place-form-number-requires-8 : (t : ℕ) → place-form-lts.Need-number-requires-8 (
   number-reads.Asked,
   number-reads.Learnt,
@@ -4079,16 +3950,14 @@ place-form-number-requires-8 : (t : ℕ) → place-form-lts.Need-number-requires
   place.Post,
   eval-below t,
   eval.Post,
-  distance-reads.Asked,
-  distance-reads.Learnt,
-  element-reads.Asked,
-  element-reads.Learnt,
+  element-of-reads.Asked,
+  element-of-reads.Learnt,
   shifted-reads.Asked,
   shifted-reads.Learnt,
 ) (place-form-at t) place-form.Post
 place-form-number-requires-8 t c κs = search needs
 
--- src/walk.rt:220:9
+-- src/walk.rt:221:9
 place-form-shifted-requires : (t : ℕ) → place-form-lts.Need-shifted-requires (
   number-reads.Asked,
   number-reads.Learnt,
@@ -4096,16 +3965,14 @@ place-form-shifted-requires : (t : ℕ) → place-form-lts.Need-shifted-requires
   place.Post,
   eval-below t,
   eval.Post,
-  distance-reads.Asked,
-  distance-reads.Learnt,
-  element-reads.Asked,
-  element-reads.Learnt,
+  element-of-reads.Asked,
+  element-of-reads.Learnt,
   shifted-reads.Asked,
   shifted-reads.Learnt,
 ) (place-form-at t) place-form.Post
 place-form-shifted-requires t c κs = search needs
 
--- src/walk.rt:220:9
+-- src/walk.rt:221:9
 place-form-returns-3 : (t : ℕ) → place-form-lts.Need-returns-3 (
   number-reads.Asked,
   number-reads.Learnt,
@@ -4113,16 +3980,14 @@ place-form-returns-3 : (t : ℕ) → place-form-lts.Need-returns-3 (
   place.Post,
   eval-below t,
   eval.Post,
-  distance-reads.Asked,
-  distance-reads.Learnt,
-  element-reads.Asked,
-  element-reads.Learnt,
+  element-of-reads.Asked,
+  element-of-reads.Learnt,
   shifted-reads.Asked,
   shifted-reads.Learnt,
 ) (place-form-at t) place-form.Post
 place-form-returns-3 t c = search (finds-shift, deep-not, sfits-of)
 
--- src/walk.rt:223:29
+-- src/walk.rt:224:29
 place-form-add-number-8 : (t : ℕ) → place-form-lts.Need-add-number-8 (
   number-reads.Asked,
   number-reads.Learnt,
@@ -4130,16 +3995,14 @@ place-form-add-number-8 : (t : ℕ) → place-form-lts.Need-add-number-8 (
   place.Post,
   eval-below t,
   eval.Post,
-  distance-reads.Asked,
-  distance-reads.Learnt,
-  element-reads.Asked,
-  element-reads.Learnt,
+  element-of-reads.Asked,
+  element-of-reads.Learnt,
   shifted-reads.Asked,
   shifted-reads.Learnt,
 ) (place-form-at t) place-form.Post
 place-form-add-number-8 t c = search needs
 
--- src/walk.rt:223:16
+-- src/walk.rt:224:16
 place-form-number-requires-9 : (t : ℕ) → place-form-lts.Need-number-requires-9 (
   number-reads.Asked,
   number-reads.Learnt,
@@ -4147,16 +4010,14 @@ place-form-number-requires-9 : (t : ℕ) → place-form-lts.Need-number-requires
   place.Post,
   eval-below t,
   eval.Post,
-  distance-reads.Asked,
-  distance-reads.Learnt,
-  element-reads.Asked,
-  element-reads.Learnt,
+  element-of-reads.Asked,
+  element-of-reads.Learnt,
   shifted-reads.Asked,
   shifted-reads.Learnt,
 ) (place-form-at t) place-form.Post
 place-form-number-requires-9 t c κs = search needs
 
--- src/walk.rt:223:16
+-- src/walk.rt:224:16
 place-form-cast-result : (t : ℕ) → place-form-lts.Need-cast-result (
   number-reads.Asked,
   number-reads.Learnt,
@@ -4164,16 +4025,14 @@ place-form-cast-result : (t : ℕ) → place-form-lts.Need-cast-result (
   place.Post,
   eval-below t,
   eval.Post,
-  distance-reads.Asked,
-  distance-reads.Learnt,
-  element-reads.Asked,
-  element-reads.Learnt,
+  element-of-reads.Asked,
+  element-of-reads.Learnt,
   shifted-reads.Asked,
   shifted-reads.Learnt,
 ) (place-form-at t) place-form.Post
 place-form-cast-result t c = search needs
 
--- src/walk.rt:223:9
+-- src/walk.rt:224:9
 place-form-returns-4 : (t : ℕ) → place-form-lts.Need-returns-4 (
   number-reads.Asked,
   number-reads.Learnt,
@@ -4181,10 +4040,8 @@ place-form-returns-4 : (t : ℕ) → place-form-lts.Need-returns-4 (
   place.Post,
   eval-below t,
   eval.Post,
-  distance-reads.Asked,
-  distance-reads.Learnt,
-  element-reads.Asked,
-  element-reads.Learnt,
+  element-of-reads.Asked,
+  element-of-reads.Learnt,
   shifted-reads.Asked,
   shifted-reads.Learnt,
 ) (place-form-at t) place-form.Post
@@ -4198,16 +4055,14 @@ place-form-returns-5 : (t : ℕ) → place-form-lts.Need-returns-5 (
   place.Post,
   eval-below t,
   eval.Post,
-  distance-reads.Asked,
-  distance-reads.Learnt,
-  element-reads.Asked,
-  element-reads.Learnt,
+  element-of-reads.Asked,
+  element-of-reads.Learnt,
   shifted-reads.Asked,
   shifted-reads.Learnt,
 ) (place-form-at t) place-form.Post
 place-form-returns-5 t c = search (finds-none, deep-not, sfits-of)
 
--- src/walk.rt:141:9
+-- src/walk.rt:140:9
 short-cut-number-requires : (t : ℕ) → short-cut-lts.Need-number-requires (
   number-reads.Asked,
   number-reads.Learnt,
@@ -4218,7 +4073,7 @@ short-cut-number-requires : (t : ℕ) → short-cut-lts.Need-number-requires (
 ) (short-cut-at t) short-cut.Post
 short-cut-number-requires t c κs = search needs
 
--- src/walk.rt:142:44
+-- src/walk.rt:141:44
 short-cut-add-number : (t : ℕ) → short-cut-lts.Need-add-number (
   number-reads.Asked,
   number-reads.Learnt,
@@ -4229,7 +4084,7 @@ short-cut-add-number : (t : ℕ) → short-cut-lts.Need-add-number (
 ) (short-cut-at t) short-cut.Post
 short-cut-add-number t c = search needs
 
--- src/walk.rt:142:31
+-- src/walk.rt:141:31
 short-cut-number-requires-2 : (t : ℕ) → short-cut-lts.Need-number-requires-2 (
   number-reads.Asked,
   number-reads.Learnt,
@@ -4240,7 +4095,7 @@ short-cut-number-requires-2 : (t : ℕ) → short-cut-lts.Need-number-requires-2
 ) (short-cut-at t) short-cut.Post
 short-cut-number-requires-2 t c κs = search needs
 
--- src/walk.rt:142:52
+-- src/walk.rt:141:52
 short-cut-sub-eval : (t : ℕ) → short-cut-lts.Need-sub-eval (
   number-reads.Asked,
   number-reads.Learnt,
@@ -4251,7 +4106,7 @@ short-cut-sub-eval : (t : ℕ) → short-cut-lts.Need-sub-eval (
 ) (short-cut-at t) short-cut.Post
 short-cut-sub-eval t c = search needs
 
--- src/walk.rt:142:9
+-- src/walk.rt:141:9
 short-cut-eval-requires : (t : ℕ) → short-cut-lts.Need-eval-requires (
   number-reads.Asked,
   number-reads.Learnt,
@@ -4262,7 +4117,7 @@ short-cut-eval-requires : (t : ℕ) → short-cut-lts.Need-eval-requires (
 ) (short-cut-at t) short-cut.Post
 short-cut-eval-requires t c κs = search needs
 
--- src/walk.rt:144:9
+-- src/walk.rt:143:9
 short-cut-returns : (t : ℕ) → short-cut-lts.Need-returns (
   number-reads.Asked,
   number-reads.Learnt,
@@ -4273,7 +4128,7 @@ short-cut-returns : (t : ℕ) → short-cut-lts.Need-returns (
 ) (short-cut-at t) short-cut.Post
 short-cut-returns t c = search (short-laws)
 
--- src/walk.rt:148:56
+-- src/walk.rt:147:56
 short-cut-add-number-2 : (t : ℕ) → short-cut-lts.Need-add-number-2 (
   number-reads.Asked,
   number-reads.Learnt,
@@ -4284,7 +4139,7 @@ short-cut-add-number-2 : (t : ℕ) → short-cut-lts.Need-add-number-2 (
 ) (short-cut-at t) short-cut.Post
 short-cut-add-number-2 t c = search needs
 
--- src/walk.rt:148:43
+-- src/walk.rt:147:43
 short-cut-number-requires-3 : (t : ℕ) → short-cut-lts.Need-number-requires-3 (
   number-reads.Asked,
   number-reads.Learnt,
@@ -4295,7 +4150,7 @@ short-cut-number-requires-3 : (t : ℕ) → short-cut-lts.Need-number-requires-3
 ) (short-cut-at t) short-cut.Post
 short-cut-number-requires-3 t c κs = search needs
 
--- src/walk.rt:148:64
+-- src/walk.rt:147:64
 short-cut-sub-eval-form : (t : ℕ) → short-cut-lts.Need-sub-eval-form (
   number-reads.Asked,
   number-reads.Learnt,
@@ -4306,7 +4161,7 @@ short-cut-sub-eval-form : (t : ℕ) → short-cut-lts.Need-sub-eval-form (
 ) (short-cut-at t) short-cut.Post
 short-cut-sub-eval-form t c = search needs
 
--- src/walk.rt:148:13
+-- src/walk.rt:147:13
 short-cut-eval-form-requires : (t : ℕ) → short-cut-lts.Need-eval-form-requires (
   number-reads.Asked,
   number-reads.Learnt,
@@ -4317,7 +4172,7 @@ short-cut-eval-form-requires : (t : ℕ) → short-cut-lts.Need-eval-form-requir
 ) (short-cut-at t) short-cut.Post
 short-cut-eval-form-requires t c κs = search needs
 
--- src/walk.rt:148:13
+-- src/walk.rt:147:13
 short-cut-returns-2 : (t : ℕ) → short-cut-lts.Need-returns-2 (
   number-reads.Asked,
   number-reads.Learnt,
@@ -4328,7 +4183,7 @@ short-cut-returns-2 : (t : ℕ) → short-cut-lts.Need-returns-2 (
 ) (short-cut-at t) short-cut.Post
 short-cut-returns-2 t c = search (short-laws)
 
--- src/walk.rt:150:9
+-- src/walk.rt:149:9
 short-cut-returns-3 : (t : ℕ) → short-cut-lts.Need-returns-3 (
   number-reads.Asked,
   number-reads.Learnt,
@@ -4339,7 +4194,7 @@ short-cut-returns-3 : (t : ℕ) → short-cut-lts.Need-returns-3 (
 ) (short-cut-at t) short-cut.Post
 short-cut-returns-3 t c = search (short-laws)
 
--- src/walk.rt:153:9
+-- src/walk.rt:152:9
 short-cut-returns-4 : (t : ℕ) → short-cut-lts.Need-returns-4 (
   number-reads.Asked,
   number-reads.Learnt,
@@ -4350,7 +4205,7 @@ short-cut-returns-4 : (t : ℕ) → short-cut-lts.Need-returns-4 (
 ) (short-cut-at t) short-cut.Post
 short-cut-returns-4 t c = search (short-laws)
 
--- src/walk.rt:155:41
+-- src/walk.rt:154:41
 short-cut-add-number-3 : (t : ℕ) → short-cut-lts.Need-add-number-3 (
   number-reads.Asked,
   number-reads.Learnt,
@@ -4361,7 +4216,7 @@ short-cut-add-number-3 : (t : ℕ) → short-cut-lts.Need-add-number-3 (
 ) (short-cut-at t) short-cut.Post
 short-cut-add-number-3 t c = search needs
 
--- src/walk.rt:155:28
+-- src/walk.rt:154:28
 short-cut-number-requires-4 : (t : ℕ) → short-cut-lts.Need-number-requires-4 (
   number-reads.Asked,
   number-reads.Learnt,
@@ -4372,7 +4227,7 @@ short-cut-number-requires-4 : (t : ℕ) → short-cut-lts.Need-number-requires-4
 ) (short-cut-at t) short-cut.Post
 short-cut-number-requires-4 t c κs = search needs
 
--- src/walk.rt:155:49
+-- src/walk.rt:154:49
 short-cut-sub-eval-form-2 : (t : ℕ) → short-cut-lts.Need-sub-eval-form-2 (
   number-reads.Asked,
   number-reads.Learnt,
@@ -4383,7 +4238,7 @@ short-cut-sub-eval-form-2 : (t : ℕ) → short-cut-lts.Need-sub-eval-form-2 (
 ) (short-cut-at t) short-cut.Post
 short-cut-sub-eval-form-2 t c = search needs
 
--- src/walk.rt:155:5
+-- src/walk.rt:154:5
 short-cut-eval-form-requires-2 : (t : ℕ) → short-cut-lts.Need-eval-form-requires-2 (
   number-reads.Asked,
   number-reads.Learnt,
@@ -4394,7 +4249,7 @@ short-cut-eval-form-requires-2 : (t : ℕ) → short-cut-lts.Need-eval-form-requ
 ) (short-cut-at t) short-cut.Post
 short-cut-eval-form-requires-2 t c κs = search needs
 
--- src/walk.rt:136:1
+-- src/walk.rt:135:1
 short-cut-returns-5 : (t : ℕ) → short-cut-lts.Need-returns-5 (
   number-reads.Asked,
   number-reads.Learnt,
@@ -4427,10 +4282,8 @@ pub +component+eval+eval-form+gather+one-sided+operand+place+place-form+short-cu
       place.Post,
       operand-below t,
       operand.Post,
-      distance-reads.Asked,
-      distance-reads.Learnt,
-      element-reads.Asked,
-      element-reads.Learnt,
+      element-of-reads.Asked,
+      element-of-reads.Learnt,
     )
     (component-at t)
     component.Post
@@ -4452,10 +4305,9 @@ pub +component+eval+eval-form+gather+one-sided+operand+place+place-form+short-cu
     (component-number-requires-4 t)
     (component-add-number-4 t)
     (component-number-requires-5 t)
-    (component-distance-requires t)
     (component-add-number-5 t)
     (component-number-requires-6 t)
-    (component-element-requires t)
+    (component-element-of-requires t)
     (component-returns-5 t)
     (component-place-form-requires-2 t)
     (component-returns-6 t))
@@ -4719,10 +4571,8 @@ pub +component+eval+eval-form+gather+one-sided+operand+place+place-form+short-cu
       place.Post,
       eval-below t,
       eval.Post,
-      distance-reads.Asked,
-      distance-reads.Learnt,
-      element-reads.Asked,
-      element-reads.Learnt,
+      element-of-reads.Asked,
+      element-of-reads.Learnt,
       shifted-reads.Asked,
       shifted-reads.Learnt,
     )
@@ -4742,10 +4592,9 @@ pub +component+eval+eval-form+gather+one-sided+operand+place+place-form+short-cu
     (place-form-number-requires-4 t)
     (place-form-add-number-4 t)
     (place-form-number-requires-5 t)
-    (place-form-distance-requires t)
     (place-form-add-number-5 t)
     (place-form-number-requires-6 t)
-    (place-form-element-requires t)
+    (place-form-element-of-requires t)
     (place-form-returns-2 t)
     (place-form-add-number-6 t)
     (place-form-number-requires-7 t)
