@@ -17,7 +17,7 @@ pub enum Counted {
 }
 
 // How many cells by the answer for a text.
-fn count_of(c: Checked) -> Counted
+pub fn count_of(c: Checked) -> Counted
     ensures { λ r. ⌜ r ≡ countedBy c ⌝ }
 {
     if c.refusal == 0 {

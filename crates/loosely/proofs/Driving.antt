@@ -1,18 +1,12 @@
 -- The lines of a text in their order, and rows 1 to 3 before them.
 use mathlib.Core.Path.{_≡_, refl, sym, ap, _∙_}
-use mathlib.Core.Bool.{Bool, true, false, cond}
+use mathlib.Core.Bool.{Bool, true, false}
 use mathlib.Core.List.{List, [], _∷_, _++_}
-use mathlib.Core.Option.{Option, none, some}
 use Prim.Native.Nat.{ℕ, suc, _+_, _-_, _<_, _≤_}
 use native.Mathlib.Numerals.{add-one}
 use native.Mathlib.Omega.{arith}
 use borrow.Author.Tests.{le-leb, lt-leb}
-use lib.Dec.{eqb}
-use lib.ListN.{length, getD, drop, drop-of-length-le, length-drop}
-use lib.Seq.{drop-cons}
-use Rattle.lexis.specs.declared.bytes.Class.{Class}
-use Rattle.lexis.specs.declared.bytes.Class.the-variants.{Feed, Space, Open, Close, Visible, Refused}
-use Rattle.lexis.specs.Bytes.{classOf}
+use lib.ListN.{length, getD, drop, drop-of-length-le}
 use Rattle.semantics.specs.Code.{BodyCode}
 use Rattle.semantics.specs.Environment.{Declared, nothingDeclared}
 use Rattle.semantics.specs.LayoutSize.{sizeSymbols, sizeTypes}
@@ -20,57 +14,19 @@ use Rattle.semantics.specs.Lines.{Line, linesOf, refusedAt}
 use Rattle.semantics.specs.Verdict.{Verdict, Judged, good, bad, Read, has, accepted, must, onward, opening, loosely, judge, judgeLine, judgeLines}
 use Rattle.semantics.proofs.TypeSizes.{small-start}
 use Rattle.reader.specs.Passes.{lineAt, afterLine, lineOr}
-use Rattle.reader.proofs.Ties.{lines-cons, lines-at}
+use Rattle.reader.proofs.Ties.{lines-at}
 use Rattle.declarations.specs.State.{startState}
 use Rattle.declarations.proofs.Starting.{holds-start}
 use Rattle.bodies.specs.Table.{upTo}
 use Rattle.judgements.specs.declared.Known.{Known}
 use Rattle.judgements.specs.declared.Judgement.{Judgement}
-use Rattle.loosely.specs.declared.texts.Admitted.{Admitted}
+use Rattle.texts.specs.declared.Checked.{Checked}
+use Rattle.texts.specs.Answers.{startKnown, refusedBy, endsBy}
+use Rattle.texts.proofs.Driving.{next-less, lines-here}
+use Rattle.texts.proofs.Texts.{none-refused, some-refused}
 use Rattle.loosely.specs.Standing.{LooseStanding}
 use Rattle.loosely.specs.Judging.{LooselyBy, JudgesLoosely}
-use Rattle.loosely.specs.Texts.{startKnown, refusedBy, endsBy, AdmittedBy, AdmitsLines, Admits}
-
--- ---- answers that need no lists
-
-pub start-is : record { state = record { count = 0; newest = 0; top = 1; types = 2; lines = 0; vars = 0; cells = 0; procs = 0 }; stmts = 0; nodes = 0; ended = false; main = 0 } ≡ startKnown
-unfolding startKnown startState
-start-is = refl
-
-pub refusal-is : (m n : ℕ) (kn : Known) → kn ≡ startKnown → refusedBy m n kn ≡ refusedBy m n startKnown
-refusal-is m n kn e = rw e refl
-
-pub end-good : (n : ℕ) (kn : Known) → kn .ended ≡ true → record { refusal = 0; line = 0; known = kn } ≡ endsBy (kn .ended) n kn
-end-good n kn e = rw e refl
-
-pub end-bad : (n : ℕ) (kn : Known) → kn .ended ≡ false → record { refusal = 6; line = n; known = kn } ≡ endsBy (kn .ended) n kn
-end-bad n kn e = rw e refl
-
-pub ruleset end-laws = (end-good, end-bad)
-
--- ---- the next line is further on
-
-after-short : (b : ℕ) (s : List ℕ) → length (afterLine (b ∷ s)) ≤ length s
-unfolding afterLine
-after-short b [] = go (eqb b 10)
-  where
-    go : (t : Bool) → length (cond t [] (afterLine [])) ≤ 0
-    go true = omega arith
-    go false = omega arith
-after-short b (c ∷ s) = more (eqb b 10) (after-short c s)
-  where
-    more : (t : Bool) → length (afterLine (c ∷ s)) ≤ length s → length (cond t (c ∷ s) (afterLine (c ∷ s))) ≤ length (c ∷ s)
-    more true h = omega arith
-    more false h = omega arith
-
-pub next-less : (s : List ℕ) (p q : ℕ) → p < length s → drop q s ≡ afterLine (drop p s) → length s - q < length s - p
-next-less s p q h e =
-    let f : drop p s ≡ getD s p 0 ∷ drop (suc p) s = drop-cons s p 0 h in
-    let a : length (drop q s) ≤ length (drop (suc p) s) = rw (e, f) (after-short (getD s p 0) (drop (suc p) s)) in
-    omega (arith, length-drop q s, length-drop (suc p) s)
-
-lines-here : (s : List ℕ) (p : ℕ) → p < length s → linesOf (drop p s) ≡ lineAt (drop p s) ∷ linesOf (afterLine (drop p s))
-lines-here s p h = let f : drop p s ≡ getD s p 0 ∷ drop (suc p) s = drop-cons s p 0 h in rw f (lines-cons (getD s p 0) (drop (suc p) s))
+use Rattle.loosely.specs.Texts.{AdmittedBy, AdmitsLines, Admits}
 
 -- ---- one line's answer
 
@@ -158,7 +114,7 @@ module _ (s l₀ ts₀ tb₀ : List ℕ) (kn₀ : Known) (n p : ℕ) (kn : Known
   ends false true q S e i = absurd (let z : _≡_ {A = ℕ} 0 1 = cc in omega arith)
   ends false false q S e i = (refl, refl, omega arith)
 
-  pub drive-ends : (c : Admitted) → length s ≤ p → c ≡ endsBy (kn .ended) n kn → AdmitsLines s l₀ ts₀ tb₀ kn₀ c l ts tb
+  pub drive-ends : (c : Checked) → length s ≤ p → c ≡ endsBy (kn .ended) n kn → AdmitsLines s l₀ ts₀ tb₀ kn₀ c l ts tb
   unfolding judgeLines linesOf
   drive-ends c h e = record {
     says = λ r S.
@@ -191,46 +147,9 @@ standing-start s l ts tb a b c h d = record {
   bodies = record { each = λ none q g. absurd (omega (arith, g)) };
 }
 
--- ---- row 3: a line's number is never 0
-
-line-number : (n : ℕ) (s : List ℕ) (m : ℕ) → 1 ≤ n → refusedAt n s ≡ some m → 1 ≤ m
-unfolding refusedAt
-line-number n [] m h e = absurd (let z : _≡_ {A = ℕ} 0 1 = cc in omega arith)
-line-number n (b ∷ s) m h e = go (classOf b) (λ k i f. line-number k s m i f) e
-  where
-    go : (k : Class) → ((k : ℕ) → 1 ≤ k → refusedAt k s ≡ some m → 1 ≤ m)
-        → elim k [
-          | Feed ↦ refusedAt (suc n) s
-          | Space ↦ refusedAt n s
-          | Open ↦ refusedAt n s
-          | Close ↦ refusedAt n s
-          | Visible ↦ refusedAt n s
-          | Refused ↦ some n
-        ] ≡ some m → 1 ≤ m
-    go Feed f e = f (suc n) (omega arith) e
-    go Space f e = f n h e
-    go Open f e = f n h e
-    go Close f e = f n h e
-    go Visible f e = f n h e
-    go Refused f e = let d : n ≡ m = cc in omega arith
-
-none-refused : (s : List ℕ) → lineOr (refusedAt 1 s) ≡ 0 → refusedAt 1 s ≡ none
-none-refused s h = go (refusedAt 1 s) refl h
-  where
-    go : (o : Option ℕ) → refusedAt 1 s ≡ o → lineOr o ≡ 0 → o ≡ none
-    go none e h = refl
-    go (some m) e h = absurd (let d = line-number 1 s m (omega arith) e in omega arith)
-
-some-refused : (s : List ℕ) → ((lineOr (refusedAt 1 s) ≡ 0) → ⊥) → refusedAt 1 s ≡ some (lineOr (refusedAt 1 s))
-some-refused s h = go (refusedAt 1 s) h
-  where
-    go : (o : Option ℕ) → ((lineOr o ≡ 0) → ⊥) → o ≡ some (lineOr o)
-    go none h = absurd (h refl)
-    go (some m) h = refl
-
 -- ---- the rows in their order
 
-module _ (s l ts tb : List ℕ) (c : Admitted) where
+module _ (s l ts tb : List ℕ) (c : Checked) where
   pub check-bench : length l < 16384 → c ≡ refusedBy 1 0 startKnown → Admits s l ts tb c l ts tb
   unfolding judge opening
   check-bench h e = record { says = λ _ _ _. rw (e, lt-leb 16384 (length l) h) (refl, refl, omega arith) }

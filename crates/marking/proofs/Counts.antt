@@ -9,32 +9,20 @@ use lib.Seq.{take-at}
 use Rattle.semantics.specs.Verdict.{Verdict, Read, accepted, refused, judge, loosely}
 use Rattle.semantics.proofs.LinesCover.{judged-covered}
 use Rattle.bodies.specs.Table.{upTo}
-use Rattle.loosely.specs.declared.texts.Admitted.{Admitted}
+use Rattle.texts.specs.declared.Checked.{Checked}
 use Rattle.loosely.specs.Texts.{AdmittedBy, Admits}
 use Rattle.counting.specs.declared.Counted.{Counted}
-use Rattle.counting.specs.declared.Counted.the-variants as told
-use Rattle.counting.specs.Cells.{cellsTold, Names, Owners, OwnedBy}
+use Rattle.counting.specs.Cells.{cellsTold, countedBy, Names, Owners, OwnedBy}
 use Rattle.texts.proofs.Texts.{part-long}
-use Rattle.marking.specs.Owning.{admittedCount}
 use Rattle.marking.proofs.MarkWays.{judged-here}
 
-pub counted-no : (c : Admitted) (r : Counted) → c .refusal ≡ 0 → r ≡ told.Cells (c .known .state .cells) → r ≡ admittedCount c
-unfolding admittedCount
-counted-no c r h e = rw (eq-eqb (c .refusal) 0 h) e
-
-pub counted-yes : (c : Admitted) (r : Counted) → ((c .refusal ≡ 0) → ⊥) → r ≡ told.Refused (c .refusal) (c .line) → r ≡ admittedCount c
-unfolding admittedCount
-counted-yes c r h e = rw (ne-eqb (c .refusal) 0 h) e
-
-pub ruleset counted-laws = (counted-no, counted-yes)
-
-counted-is : (s l ts tb : List ℕ) (v : Verdict Read) (c : Admitted) → AdmittedBy s l ts tb v c → admittedCount c ≡ cellsTold v
-unfolding admittedCount cellsTold
+counted-is : (s l ts tb : List ℕ) (v : Verdict Read) (c : Checked) → AdmittedBy s l ts tb v c → countedBy c ≡ cellsTold v
+unfolding countedBy cellsTold
 counted-is s l ts tb (accepted q) c h = rw (eq-eqb (c .refusal) 0 (h .0), h .1 .holds .cells-are) refl
 counted-is s l ts tb (refused m n) c h = rw (ne-eqb (c .refusal) 0 (λ e. omega (arith, h .0, h .2)), h .0, h .1) refl
 
-module _ (s l : List ℕ) (n : ℕ) (i : n ≡ min 16384 (length l)) (c : Admitted) (l′ ts′ tb′ : List ℕ) (C : Admits s (take n l) (replicate 66 0) (replicate 165 0) c l′ ts′ tb′) where
-  pub cells-told : (r : Counted) → r ≡ admittedCount c → r ≡ cellsTold (judge loosely s (length l))
+module _ (s l : List ℕ) (n : ℕ) (i : n ≡ min 16384 (length l)) (c : Checked) (l′ ts′ tb′ : List ℕ) (C : Admits s (take n l) (replicate 66 0) (replicate 165 0) c l′ ts′ tb′) where
+  pub cells-told : (r : Counted) → r ≡ countedBy c → r ≡ cellsTold (judge loosely s (length l))
   cells-told r e = e ∙ counted-is s l′ ts′ tb′ (judge loosely s (length l)) c (judged-here s l n i c l′ ts′ tb′ C)
 
   pub owners-told : (names : List ℕ) → length l′ ≡ length (take n l) → Names (take n (l′ ++ drop n l)) ts′ (c .known .state) names → Owners s (judge loosely s (length l)) names

@@ -20,7 +20,7 @@ use Rattle.stores.specs.Stores.{StoreFault, rowNumber}
 use Rattle.judgements.specs.declared.Known.{Known}
 use Rattle.bodies.specs.Table.{upTo}
 use Rattle.bodies.proofs.Calling.{all-is}
-use Rattle.loosely.specs.declared.texts.Admitted.{Admitted}
+use Rattle.texts.specs.declared.Checked.{Checked}
 use Rattle.loosely.specs.Standing.{LooseStanding}
 use Rattle.loosely.specs.Texts.{AdmittedBy, Admits}
 use Rattle.loosely.proofs.Keeping.{all-stand}
@@ -75,7 +75,7 @@ module _ (s l ts tb : List ℕ) (kn : Known) (vs : List ℤ) (ms : List ℕ) (bu
 
 pub ruleset loaded-laws = (loaded-refused, loaded-run)
 
-module _ (s l ts tb : List ℕ) (c : Admitted) (vs : List ℤ) (ms : List ℕ) (budget : ℕ) where
+module _ (s l ts tb : List ℕ) (c : Checked) (vs : List ℤ) (ms : List ℕ) (budget : ℕ) where
   pub checked-refused : (r : MarkReport) → ((c .refusal ≡ 0) → ⊥) → r ≡ Refused (c .refusal) (c .line) → MarksChecked s l ts tb c vs ms budget r vs ms
   unfolding unless markEnding
   checked-refused r ne e = record { says = λ work C. go (judge loosely s work) C }
@@ -97,7 +97,7 @@ pub ruleset checked-laws = (checked-refused, checked-run)
 
 -- ---- the whole
 
-module _ (s l : List ℕ) (n : ℕ) (i : n ≡ min 16384 (length l)) (c : Admitted) (l′ ts′ tb′ : List ℕ) where
+module _ (s l : List ℕ) (n : ℕ) (i : n ≡ min 16384 (length l)) (c : Checked) (l′ ts′ tb′ : List ℕ) where
   pub judged-here : Admits s (take n l) (replicate 66 0) (replicate 165 0) c l′ ts′ tb′ → AdmittedBy s l′ ts′ tb′ (judge loosely s (length l)) c
   judged-here C =
       let k : n ≡ length (take n l) = part-long l n i in

@@ -8,7 +8,7 @@ use Rattle.semantics.specs.Verdict.{Read, accepted, judge, loosely}
 use Rattle.semantics.specs.Whole as Whole
 use Rattle.semantics.specs.Whole.{Ending, refusal, ran, markAll, onStore, unless}
 use Rattle.judgements.specs.declared.Known.{Known}
-use Rattle.loosely.specs.declared.texts.Admitted.{Admitted}
+use Rattle.texts.specs.declared.Checked.{Checked}
 use Rattle.loosely.specs.Standing.{LooseStanding}
 use Rattle.loosely.specs.Texts.{AdmittedBy}
 use Rattle.marker.specs.Answers.{markOutcome}
@@ -32,6 +32,6 @@ pub record MarksLoaded (s l ts tb : List ℕ) (kn : Known) (vs : List ℤ) (ms :
       → MarkReports (onStore (q .known) (markAll (q .known .bodies) []) vs ms budget) r vs′ ms′
 
 -- the same by the answer for the text: a refusal leaves the store as lent
-pub record MarksChecked (s l ts tb : List ℕ) (c : Admitted) (vs : List ℤ) (ms : List ℕ) (budget : ℕ) (r : MarkReport) (vs′ : List ℤ) (ms′ : List ℕ) : Type 0 where
+pub record MarksChecked (s l ts tb : List ℕ) (c : Checked) (vs : List ℤ) (ms : List ℕ) (budget : ℕ) (r : MarkReport) (vs′ : List ℤ) (ms′ : List ℕ) : Type 0 where
   pub says : (work : ℕ) → AdmittedBy s l ts tb (judge loosely s work) c
       → MarkReports (unless (judge loosely s work) vs ms λ q. onStore (q .known) (markAll (q .known .bodies) []) vs ms budget) r vs′ ms′

@@ -2,11 +2,11 @@
 pub mod owning;
 
 use judgements::Known;
-use loosely::texts::Admitted;
-use loosely::texts::check_loosely;
+use loosely::checking::check_loosely;
 use marker::Marked;
 use marker::mark_lent;
 use stores::store_fault;
+use texts::Checked;
 use texts::working;
 use worklist::clear;
 ghost use mathlib.Core.Path.{_≡_};
@@ -60,7 +60,7 @@ fn mark_checked(
     work: &[u32],
     types: &[u32],
     bodies: &[u32],
-    c: Admitted,
+    c: Checked,
     values: &mut [i64],
     marks: &mut [u8],
     budget: u32,

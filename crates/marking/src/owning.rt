@@ -1,8 +1,8 @@
 // The cells of a text that the marking machine takes, and the name of each one's variable.
 use counting::Counted;
+use counting::count_of;
 use counting::name_cells;
-use loosely::texts::Admitted;
-use loosely::texts::check_loosely;
+use loosely::checking::check_loosely;
 use texts::working;
 use worklist::clear;
 ghost use mathlib.Core.Path.{_≡_};
@@ -10,19 +10,6 @@ ghost use lib.ListN.{length};
 ghost use Rattle.semantics.specs.Verdict.{judge, loosely};
 ghost use Rattle.semantics.specs.Whole.{workAfter};
 ghost use Rattle.counting.specs.Cells.{cellsTold, Owners};
-ghost use Rattle.marking.specs.Owning.{admittedCount};
-
-// How many cells by the answer for a text.
-fn count_of(c: Admitted) -> Counted
-    ensures { λ r. ⌜ r ≡ admittedCount c ⌝ }
-{
-    if c.refusal == 0 {
-        let known = c.known;
-        let state = known.state;
-        return Counted::Cells(state.cells as usize);
-    }
-    Counted::Refused(c.refusal, c.line)
-}
 
 // How many cells a text has; names[i] becomes the offset of the name of cell i's variable, for each cell that there is room for.
 pub fn mark_owners(text: &[u8], work: &mut [u32], names: &mut [usize]) -> Counted

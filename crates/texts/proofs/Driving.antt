@@ -42,7 +42,7 @@ next-less s p q h e =
     let a : length (drop q s) ≤ length (drop (suc p) s) = rw (e, f) (after-short (getD s p 0) (drop (suc p) s)) in
     omega (arith, length-drop q s, length-drop (suc p) s)
 
-lines-here : (s : List ℕ) (p : ℕ) → p < length s → linesOf (drop p s) ≡ lineAt (drop p s) ∷ linesOf (afterLine (drop p s))
+pub lines-here : (s : List ℕ) (p : ℕ) → p < length s → linesOf (drop p s) ≡ lineAt (drop p s) ∷ linesOf (afterLine (drop p s))
 lines-here s p h = let f : drop p s ≡ getD s p 0 ∷ drop (suc p) s = drop-cons s p 0 h in rw f (lines-cons (getD s p 0) (drop (suc p) s))
 
 -- ---- one line's answer

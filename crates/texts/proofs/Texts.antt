@@ -71,14 +71,14 @@ line-number n (b ∷ s) m h e = go (classOf b) (λ k i f. line-number k s m i f)
     go Visible f e = f n h e
     go Refused f e = let d : n ≡ m = cc in omega arith
 
-none-refused : (s : List ℕ) → lineOr (refusedAt 1 s) ≡ 0 → refusedAt 1 s ≡ none
+pub none-refused : (s : List ℕ) → lineOr (refusedAt 1 s) ≡ 0 → refusedAt 1 s ≡ none
 none-refused s h = go (refusedAt 1 s) refl h
   where
     go : (o : Option ℕ) → refusedAt 1 s ≡ o → lineOr o ≡ 0 → o ≡ none
     go none e h = refl
     go (some m) e h = absurd (let d = line-number 1 s m (omega arith) e in omega arith)
 
-some-refused : (s : List ℕ) → ((lineOr (refusedAt 1 s) ≡ 0) → ⊥) → refusedAt 1 s ≡ some (lineOr (refusedAt 1 s))
+pub some-refused : (s : List ℕ) → ((lineOr (refusedAt 1 s) ≡ 0) → ⊥) → refusedAt 1 s ≡ some (lineOr (refusedAt 1 s))
 some-refused s h = go (refusedAt 1 s) h
   where
     go : (o : Option ℕ) → ((lineOr o ≡ 0) → ⊥) → o ≡ some (lineOr o)

@@ -25,7 +25,7 @@ pub enum Verdict {
 }
 
 // What is known before any line.
-fn nothing_known() -> Known
+pub fn nothing_known() -> Known
     ensures { λ r. ⌜ r ≡ startKnown ⌝ }
 {
     let state = State {
@@ -48,7 +48,7 @@ fn nothing_known() -> Known
 }
 
 // A refusal of the text before its lines are judged.
-fn refusal(number: u32, line: usize) -> Checked
+pub fn refusal(number: u32, line: usize) -> Checked
     ensures { λ r. ⌜ r ≡ refusedBy number line startKnown ⌝ }
 {
     Checked {
@@ -59,7 +59,7 @@ fn refusal(number: u32, line: usize) -> Checked
 }
 
 // The answer after all lines, where n is one past the last: `main` must have come.
-fn at_end(n: usize, known: Known) -> Checked
+pub fn at_end(n: usize, known: Known) -> Checked
     ensures { λ r. ⌜ r ≡ endsBy (known .ended) n known ⌝ }
 {
     if known.ended {

@@ -5,72 +5,72 @@ use Rattle.marking.proofs.mark.Statement.{statement}
 use Rattle.marking.proofs.mark.Tie as tie
 use Rattle.marking.proofs.mark.Reads as reads
 use Rattle.marking.proofs.mark.Lts as lts
-use Rattle.texts.proofs.working.Reads as working-reads
-use Rattle.loosely.proofs.texts.check_loosely.Reads as check-loosely-reads
+use Rattle.loosely.proofs.checking.check_loosely.Reads as check-loosely-reads
 use Rattle.marking.proofs.mark_checked.Reads as mark-checked-reads
+use Rattle.texts.proofs.working.Reads as working-reads
 use Rattle.worklist.proofs.clear.Reads as clear-reads
 
--- src/lib.rt:90:9
+-- src/lib.rt:89:9
 working-requires : tie.Need-working-requires
 working-requires c κs = search needs
 
--- src/lib.rt:91:33
+-- src/lib.rt:90:33
 slice-relend-prefix-check-loosely : tie.Need-slice-relend-prefix-check-loosely
 slice-relend-prefix-check-loosely c = search needs
 
--- src/lib.rt:91:33
+-- src/lib.rt:90:33
 slice-aggregate-check-loosely : tie.Need-slice-aggregate-check-loosely
 slice-aggregate-check-loosely c = search (part-laws, needs)
 
--- src/lib.rt:91:49
+-- src/lib.rt:90:49
 slice-aggregate-check-loosely-2 : tie.Need-slice-aggregate-check-loosely-2
 slice-aggregate-check-loosely-2 c = search needs
 
--- src/lib.rt:91:61
+-- src/lib.rt:90:61
 slice-aggregate-check-loosely-3 : tie.Need-slice-aggregate-check-loosely-3
 slice-aggregate-check-loosely-3 c = search needs
 
--- src/lib.rt:91:9
+-- src/lib.rt:90:9
 check-loosely-requires : tie.Need-check-loosely-requires
 check-loosely-requires c κs = search needs
 
--- src/lib.rt:92:32
+-- src/lib.rt:91:32
 slice-reshare-prefix-mark-checked : tie.Need-slice-reshare-prefix-mark-checked
 slice-reshare-prefix-mark-checked c = search needs
 
--- src/lib.rt:92:32
+-- src/lib.rt:91:32
 slice-aggregate-mark-checked : tie.Need-slice-aggregate-mark-checked
 slice-aggregate-mark-checked c = search (part-laws, needs)
 
--- src/lib.rt:92:44
+-- src/lib.rt:91:44
 slice-aggregate-mark-checked-2 : tie.Need-slice-aggregate-mark-checked-2
 slice-aggregate-mark-checked-2 c = search needs
 
--- src/lib.rt:92:52
+-- src/lib.rt:91:52
 slice-aggregate-mark-checked-3 : tie.Need-slice-aggregate-mark-checked-3
 slice-aggregate-mark-checked-3 c = search needs
 
--- src/lib.rt:92:9
+-- src/lib.rt:91:9
 mark-checked-requires : tie.Need-mark-checked-requires
 mark-checked-requires c κs = search needs
 
--- src/lib.rt:93:5
+-- src/lib.rt:92:5
 clear-requires : tie.Need-clear-requires
 clear-requires c κs = search needs
 
--- src/lib.rt:79:1
+-- src/lib.rt:78:1
 same-length : tie.Need-same-length
 same-length c = search needs
 
--- src/lib.rt:79:1
+-- src/lib.rt:78:1
 same-length-2 : tie.Need-same-length-2
 same-length-2 c = search needs
 
--- src/lib.rt:79:1
+-- src/lib.rt:78:1
 same-length-3 : tie.Need-same-length-3
 same-length-3 c = search needs
 
--- src/lib.rt:79:1
+-- src/lib.rt:78:1
 returns : tie.Need-returns
 returns c = (search mark-told, search list-clears)
 

@@ -6,23 +6,23 @@ use Rattle.marking.proofs.mark_checked.Reads as reads
 use Rattle.marking.proofs.mark_checked.Lts as lts
 use Rattle.marking.proofs.mark_loaded.Reads as mark-loaded-reads
 
--- src/lib.rt:72:9
+-- src/lib.rt:71:9
 returns : tie.Need-returns
 returns c = search checked-laws
 
--- src/lib.rt:75:5
+-- src/lib.rt:74:5
 mark-loaded-requires : tie.Need-mark-loaded-requires
 mark-loaded-requires c κs = search needs
 
--- src/lib.rt:59:1
+-- src/lib.rt:58:1
 same-length : tie.Need-same-length
 same-length c = search needs
 
--- src/lib.rt:59:1
+-- src/lib.rt:58:1
 same-length-2 : tie.Need-same-length-2
 same-length-2 c = search needs
 
--- src/lib.rt:59:1
+-- src/lib.rt:58:1
 returns-2 : tie.Need-returns-2
 returns-2 c = search checked-laws
 

@@ -1,15 +1,16 @@
 use lib.ListN.{length}
 use Prim.Native.Nat.{ℕ, _<_, _≤_, _+_, _-_}
 use Rattle.loosely.proofs.Driving.{Going}
+use Rattle.texts.proofs.Driving.{next-less}
 use borrow.Author.Needs.{needs}
-use Rattle.loosely.proofs.Driving.{drive-laws, going-room, going-start, next-less}
-use Rattle.loosely.proofs.texts.check_lines.Statement.{statement}
-use Rattle.loosely.proofs.texts.check_lines.Tie as tie
-use Rattle.loosely.proofs.texts.check_lines.Reads as reads
-use Rattle.loosely.proofs.texts.check_lines.Lts as lts
+use Rattle.loosely.proofs.Driving.{drive-laws, going-room, going-start}
+use Rattle.loosely.proofs.checking.check_lines.Statement.{statement}
+use Rattle.loosely.proofs.checking.check_lines.Tie as tie
+use Rattle.loosely.proofs.checking.check_lines.Reads as reads
+use Rattle.loosely.proofs.checking.check_lines.Lts as lts
 use Rattle.loosely.proofs.lined.loose_line.Reads as loose-line-reads
-use Rattle.loosely.proofs.texts.at_end.Reads as at-end-reads
 use Rattle.reader.proofs.lines.next_line.Reads as next-line-reads
+use Rattle.texts.proofs.at_end.Reads as at-end-reads
 
 abbrev Inv-loop : tie.InvT-loop
 Inv-loop text work₀ types₀ bodies₀ p₀ n₀ known₀ work types bodies p n known = Going text work₀ types₀ bodies₀ known₀ n p known work types bodies
@@ -17,63 +18,63 @@ Inv-loop text work₀ types₀ bodies₀ p₀ n₀ known₀ work types bodies p 
 abbrev μ-loop : tie.MeasureT-loop
 μ-loop text work₀ types₀ bodies₀ p₀ n₀ known₀ work types bodies p n known = length text - p
 
--- src/texts.rt:85:5
+-- src/checking.rt:28:5
 loop-holds : tie.Need-loop-holds Inv-loop μ-loop
 loop-holds c = going-start _ _ _ _ _
 
--- src/texts.rt:86:13
+-- src/checking.rt:29:13
 loose-line-requires : tie.Need-loose-line-requires Inv-loop μ-loop
 loose-line-requires c κs = search needs
 
--- src/texts.rt:89:13
+-- src/checking.rt:32:13
 same-length : tie.Need-same-length Inv-loop μ-loop
 same-length c = search needs
 
--- src/texts.rt:89:13
+-- src/checking.rt:32:13
 same-length-2 : tie.Need-same-length-2 Inv-loop μ-loop
 same-length-2 c = search needs
 
--- src/texts.rt:89:13
+-- src/checking.rt:32:13
 same-length-3 : tie.Need-same-length-3 Inv-loop μ-loop
 same-length-3 c = search needs
 
--- src/texts.rt:89:13
+-- src/checking.rt:32:13
 returns : tie.Need-returns Inv-loop μ-loop
 returns c = search drive-laws
 
--- src/texts.rt:95:9
+-- src/checking.rt:38:9
 next-line-requires : tie.Need-next-line-requires Inv-loop μ-loop
 next-line-requires c κs = search needs
 
--- src/texts.rt:96:9
+-- src/checking.rt:39:9
 add-n : tie.Need-add-n Inv-loop μ-loop
 add-n c = search (going-room, needs)
 
--- src/texts.rt:85:5
+-- src/checking.rt:28:5
 loop-less : tie.Need-loop-less Inv-loop μ-loop
 loop-less c = search next-less
 
--- src/texts.rt:85:5
+-- src/checking.rt:28:5
 loop-again : tie.Need-loop-again Inv-loop μ-loop
 loop-again c = search drive-laws
 
--- src/texts.rt:98:5
+-- src/checking.rt:41:5
 at-end-requires : tie.Need-at-end-requires Inv-loop μ-loop
 at-end-requires c κs = search needs
 
--- src/texts.rt:72:1
+-- src/checking.rt:15:1
 same-length-4 : tie.Need-same-length-4 Inv-loop μ-loop
 same-length-4 c = search needs
 
--- src/texts.rt:72:1
+-- src/checking.rt:15:1
 same-length-5 : tie.Need-same-length-5 Inv-loop μ-loop
 same-length-5 c = search needs
 
--- src/texts.rt:72:1
+-- src/checking.rt:15:1
 same-length-6 : tie.Need-same-length-6 Inv-loop μ-loop
 same-length-6 c = search needs
 
--- src/texts.rt:72:1
+-- src/checking.rt:15:1
 returns-2 : tie.Need-returns-2 Inv-loop μ-loop
 returns-2 c = search drive-laws
 

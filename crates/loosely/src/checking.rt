@@ -1,72 +1,15 @@
 // A whole text: rows 1 to 9 in their order, the kinds of bodies left out.
 use crate::lined::loose_line;
-use declarations::State;
 use judgements::Known;
 use reader::lines::next_line;
 use reader::lines::refused_line;
-ghost use mathlib.Core.Path.{_≡_};
+use texts::Checked;
+use texts::at_end;
+use texts::nothing_known;
+use texts::refusal;
 ghost use Prim.Native.Nat.{_≤_};
 ghost use lib.ListN.{length};
-ghost use Rattle.loosely.specs.Texts.{startKnown, refusedBy, endsBy, AdmitsLines, Admits};
-
-// The answer for a text: the number of its refusal and the line, or 0 and what is known of the text.
-pub struct Admitted {
-    pub refusal: u32,
-    pub line: usize,
-    pub known: Known,
-}
-
-// What is known before any line.
-fn nothing_known() -> Known
-    ensures { λ r. ⌜ r ≡ startKnown ⌝ }
-{
-    let state = State {
-        count: 0,
-        newest: 0,
-        top: 1,
-        types: 2,
-        lines: 0,
-        vars: 0,
-        cells: 0,
-        procs: 0,
-    };
-    Known {
-        state: state,
-        stmts: 0,
-        nodes: 0,
-        ended: false,
-        main: 0,
-    }
-}
-
-// A refusal of the text before its lines are judged.
-fn refusal(number: u32, line: usize) -> Admitted
-    ensures { λ r. ⌜ r ≡ refusedBy number line startKnown ⌝ }
-{
-    Admitted {
-        refusal: number,
-        line: line,
-        known: nothing_known(),
-    }
-}
-
-// The answer after all lines, where n is one past the last: `main` must have come.
-fn at_end(n: usize, known: Known) -> Admitted
-    ensures { λ r. ⌜ r ≡ endsBy (known .ended) n known ⌝ }
-{
-    if known.ended {
-        return Admitted {
-            refusal: 0,
-            line: 0,
-            known: known,
-        };
-    }
-    Admitted {
-        refusal: 6,
-        line: n,
-        known: known,
-    }
-}
+ghost use Rattle.loosely.specs.Texts.{AdmitsLines, Admits};
 
 // The lines in their order, up to the first refusal.
 fn check_lines(
@@ -75,7 +18,7 @@ fn check_lines(
     types: &mut [u32],
     bodies: &mut [u32],
     kn: Known,
-) -> Admitted
+) -> Checked
     requires { ⌜ length (now text) ≤ 32768 ⌝ }
     ensures { λ r. ⌜ AdmitsLines (now (text .entry)) (now (work .entry)) (now (types .entry)) (now (bodies .entry)) kn r (now (work .exit)) (now (types .exit)) (now (bodies .exit)) ⌝ }
 {
@@ -86,7 +29,7 @@ fn check_lines(
         let j = loose_line(text, work, types, bodies, known, p);
         known = j.known;
         if j.refusal != 0 {
-            return Admitted {
+            return Checked {
                 refusal: j.refusal,
                 line: n,
                 known: known,
@@ -105,7 +48,7 @@ pub fn check_loosely(
     work: &mut [u32],
     types: &mut [u32],
     bodies: &mut [u32],
-) -> Admitted
+) -> Checked
     ensures { λ r. ⌜ Admits (now (text .entry)) (now (work .entry)) (now (types .entry)) (now (bodies .entry)) r (now (work .exit)) (now (types .exit)) (now (bodies .exit)) ⌝ }
 {
     if work.len() < 16384 {
