@@ -1,26 +1,30 @@
--- Labels by kind and value, and the walk over them.
+-- The keys of labels by the tables, the walk over them block by block, and what it tells of the arms that are read.
 use mathlib.Core.Path.{_≡_, refl, sym, ap, _∙_}
-use mathlib.Core.Bool.{Bool, true, false, not, _&&_, _||_}
-use mathlib.Core.List.{List, [], _∷_, map}
+use mathlib.Core.Bool.{Bool, true, false, not, _&&_, _||_, true≢false}
+use mathlib.Core.List.{List, [], _∷_, _++_, map}
 use mathlib.Core.Option.{Option, some}
-use Prim.Native.Nat.{ℕ, _<_}
-use borrow.Author.Tests.{eq-eqb, ne-eqb}
+use Prim.Native.Nat.{ℕ, suc, _+_, _<_, _≤_}
+use native.Mathlib.Omega.{arith}
 use lib.IntN.{ℤ}
+use lib.ListN.{length, set, take, length-set}
+use lib.Seq.{take-suc-set, append-snoc, length-take-le}
 use mir.Val.{SFits}
 use mir.Facts.{toZ-ofZ}
 use mir.Syntax.{w64}
 use Rattle.arith.proofs.Machine.{wire}
 use Rattle.lexis.specs.Bytes.{small}
 use Rattle.semantics.specs.Base.{each}
-use Rattle.semantics.specs.Calculate.{equalZ}
+use Rattle.semantics.specs.Calculate.{truth}
 use Rattle.semantics.specs.Environment.{Environment, NameSort, aValue}
-use Rattle.semantics.specs.Names.{asValue, constantOf}
-use Rattle.semantics.specs.Rules.{plain, allPlain, sameConst, labelled, differ, labelsOf}
+use Rattle.semantics.specs.Names.{asValue, constantOf, armsOf}
+use Rattle.semantics.specs.Rules.{plain, allPlain, differ, labelsOf}
+use Rattle.semantics.specs.Script as Script
 use Rattle.semantics.specs.Script.{Const}
-use Rattle.semantics.specs.Syntax.{Constant}
+use Rattle.semantics.specs.Syntax.{Constant, Arms}
 use Rattle.semantics.specs.Trees.{first, wordAt, stackAt}
 use Rattle.semantics.proofs.Inversion.{none-some, some-inj, bind-some, and-true}
 use Rattle.reader.specs.Passes.{nodesAll}
+use Rattle.shapes.specs.Parts.{armsIn}
 use Rattle.symbols.specs.Chain.{entries, placeIn}
 use Rattle.tables.specs.declared.Meaning.{Meaning}
 use Rattle.tables.specs.Scene.{meaningAt, Means, a-type, a-var, a-proc, a-value, Told, unknown, known}
@@ -32,26 +36,36 @@ use Rattle.labels.specs.declared.Next.{Next}
 use Rattle.labels.specs.declared.Next.the-variants as next
 use Rattle.labels.specs.declared.Hop.{Hop}
 use Rattle.labels.specs.declared.Hop.the-variants as hop
+use Rattle.labels.specs.Marks.{marksOf}
 use Rattle.labels.specs.Hops.{MarkIs, a-number, a-truth, a-name, leftAt, EntersArm, Nexts}
-use Rattle.labels.specs.Blocks.{valueAt, Held}
+use Rattle.labels.specs.Blocks.{ordinalIn, valueAt, among, apart, meets, Held}
 use Rattle.labels.proofs.Marking.{marks-arms, labels-known}
 use Rattle.labels.proofs.Telling.{value-told}
-use Rattle.differing.specs.Differ.{kindIn, kindAt, sameAt, Labels, ComesLater, DiffersFrom, Differs}
+use Rattle.labels.proofs.Differing.{apart-append}
+use Rattle.differing.specs.declared.NextKey.{NextKey}
+use Rattle.differing.specs.declared.NextKey.the-variants as next-key
+use Rattle.differing.specs.declared.Filled.{Filled}
+use Rattle.differing.specs.Keys.{kindIn, kindAt, keyBy, keyAt, keysOf, Keys, NextKeys, Fills, ComesAgain, Recurs, DiffersFrom}
+use Rattle.differing.specs.Differ.{Differs}
+use Rattle.differing.proofs.Keying.{differ-apart}
 
--- ---- kinds
+-- ---- the key of a label
 
-module _ (s l : List ℕ) (count newest : ℕ) (m : Mark) where
-  pub kind-number : (z : ℤ) → m ≡ mark.Number z → 0 ≡ kindAt s l count newest m
-  kind-number z e = rw e refl
+pub name-key : (x : Meaning) (j : ℕ) (n r : ℤ) → j ≡ kindIn x → n ≡ ordinalIn x → SFits w64 n → r ≡ keyBy j (wire n) → SFits w64 r → wire r ≡ keyBy (kindIn x) (ordinalIn x)
+name-key x j n r e f p g q = toZ-ofZ q ∙ g ∙ ap (keyBy j) (toZ-ofZ p ∙ f) ∙ ap (λ (k : ℕ). keyBy k (ordinalIn x)) e
 
-  pub kind-truth : (b : Bool) → m ≡ mark.Truth b → 1 ≡ kindAt s l count newest m
-  kind-truth b e = rw e refl
+module _ (s l : List ℕ) (count newest : ℕ) (m : Mark) (r : ℤ) (q : SFits w64 r) where
+  pub mark-number : (z : ℤ) → m ≡ mark.Number z → SFits w64 z → r ≡ keyBy 0 (wire z) → wire r ≡ keyAt s l count newest m
+  mark-number z e p g = let i = toZ-ofZ q ∙ g ∙ ap (keyBy 0) (toZ-ofZ p) in rw e i
 
-  pub kind-name : (p : ℕ) (x : Meaning) (r : ℕ) → m ≡ mark.Named p → x ≡ meaningAt l (placeIn s l (entries count l newest) (map small (wordAt s p))) → r ≡ kindIn x → r ≡ kindAt s l count newest m
+  pub mark-truth : (b : Bool) (n : ℤ) → m ≡ mark.Truth b → n ≡ truth b → SFits w64 n → r ≡ keyBy 1 (wire n) → wire r ≡ keyAt s l count newest m
+  mark-truth b n e f p g = let i = toZ-ofZ q ∙ g ∙ ap (keyBy 1) (toZ-ofZ p ∙ f) in rw e i
+
+  pub mark-name : (p : ℕ) (x : Meaning) → m ≡ mark.Named p → x ≡ meaningAt l (placeIn s l (entries count l newest) (map small (wordAt s p))) → r ≡ keyBy (kindIn x) (ordinalIn x) → wire r ≡ keyAt s l count newest m
   unfolding meaningHere
-  kind-name p x r e f g = rw e (g ∙ ap kindIn f)
+  mark-name p x e f g = let i = toZ-ofZ q ∙ g ∙ ap (λ (y : Meaning). keyBy (kindIn y) (ordinalIn y)) f in rw e i
 
-pub ruleset kind-laws = (kind-number, kind-truth, kind-name)
+pub ruleset mark-laws = (mark-number, mark-truth, mark-name)
 
 kind-means : {σ : Environment} {bs : List ℕ} {y : Meaning} {n : NameSort} (x : Const) → Means σ bs y n → n ≡ aValue x → kindIn y ≡ x .kind
 kind-means x a-type e = none-some (ap asValue e)
@@ -69,143 +83,232 @@ kind-told H (a-number z) = refl
 kind-told H (a-truth b) = refl
 kind-told {s} H (a-name p x h) = kind-of-told x (meant (H .scene) (map small (wordAt s p))) h
 
--- ---- two labels
-
-module _ (s l : List ℕ) (count newest : ℕ) (m n : Mark) (j k : ℕ) (f : j ≡ kindAt s l count newest m) (g : k ≡ kindAt s l count newest n) where
-  pub label-other : ((j ≡ k) → ⊥) → false ≡ sameAt s l count newest m n
-  unfolding sameAt
-  label-other h = sym (rw (← f, ← g, ne-eqb j k h) refl)
-
-  pub label-same : (x y : ℤ) (t : Bool) → j ≡ k → x ≡ valueAt s l count newest m → y ≡ valueAt s l count newest n → SFits w64 x → SFits w64 y → t ≡ equalZ (wire x) (wire y) → t ≡ sameAt s l count newest m n
-  unfolding sameAt
-  label-same x y t h a b p q e =
-      let i = toZ-ofZ p in
-      let u = toZ-ofZ q in
-      e ∙ ap (λ (z : ℤ). equalZ z (wire y)) i ∙ ap (λ (z : ℤ). equalZ x z) u ∙ sym (rw (← f, ← g, eq-eqb j k h, ← a, ← b) refl)
-
-pub ruleset label-laws = (label-other, label-same)
-
-same-told : {s l : List ℕ} {count newest : ℕ} {σ : Environment} {m n : Mark} {x y : Const} → Held s l count newest σ → MarkIs s σ m x → MarkIs s σ n y → sameAt s l count newest m n ≡ sameConst x y
-unfolding sameAt
-same-told H M N = rw (kind-told H M, kind-told H N, value-told H M, value-told H N) refl
+-- the key by the tables is that of the label
+key-told : {s l : List ℕ} {count newest : ℕ} {σ : Environment} {m : Mark} {x : Const} → Held s l count newest σ → MarkIs s σ m x → keyAt s l count newest m ≡ keyBy (x .kind) (x .value)
+key-told {s} {l} {count} {newest} {σ} {m} {x} H M = ap (λ (k : ℕ). keyBy k (valueAt s l count newest m)) (kind-told H M) ∙ ap (keyBy (x .kind)) (value-told H M)
 
 -- ---- labels that are known
 
-labels-none : (σ : Environment) (xs : List Const) → Labels σ [] xs → xs ≡ []
-unfolding each
-labels-none σ xs Y = sym (some-inj (Y .known))
+module _ (σ : Environment) where
+  keys-none : (zs : List ℤ) → Keys σ [] zs → zs ≡ []
+  unfolding each keysOf
+  keys-none zs Y = sym (ap keysOf (some-inj (Y .known)) ∙ Y .keys)
 
--- the first of them, and the rest
-pub record Split (σ : Environment) (c : Constant) (cs : List Constant) (xs : List Const) : Type 0 where
-  pub x : Const
-  pub ys : List Const
-  pub all : xs ≡ (x ∷ ys)
-  pub first-known : constantOf σ c ≡ some x
-  pub first-inside : plain x ≡ true
-  pub others : Labels σ cs ys
+  -- the first of them, and the rest
+  pub record Split (c : Constant) (cs : List Constant) (zs : List ℤ) : Type 0 where
+    pub x : Const
+    pub ys : List ℤ
+    pub all : zs ≡ (keyBy (x .kind) (x .value) ∷ ys)
+    pub first-known : constantOf σ c ≡ some x
+    pub first-inside : plain x ≡ true
+    pub others : Keys σ cs ys
 
-labels-split : (σ : Environment) (c : Constant) (cs : List Constant) (xs : List Const) → Labels σ (c ∷ cs) xs → Split σ c cs xs
-unfolding each allPlain
-labels-split σ c cs xs Y =
-    bind-some (Y .known) λ x hx h. bind-some h λ ys hy e.
-    let i : (plain x && allPlain ys) ≡ true = ap allPlain (some-inj e) ∙ Y .inside in
-    let g = and-true (plain x) (allPlain ys) i in
-    record { x = x; ys = ys; all = sym (some-inj e); first-known = hx; first-inside = g .0; others = record { known = hy; inside = g .1 } }
+  keys-split : (c : Constant) (cs : List Constant) (zs : List ℤ) → Keys σ (c ∷ cs) zs → Split c cs zs
+  unfolding each allPlain keysOf
+  keys-split c cs zs Y =
+      bind-some (Y .known) λ x hx h. bind-some h λ xs hy e.
+      let a : (x ∷ xs) ≡ Y .consts = some-inj e in
+      let i : (plain x && allPlain xs) ≡ true = ap allPlain a ∙ Y .inside in
+      let g = and-true (plain x) (allPlain xs) i in
+      record {
+        x = x;
+        ys = keysOf xs;
+        all = sym (ap keysOf a ∙ Y .keys);
+        first-known = hx;
+        first-inside = g .0;
+        others = record { consts = xs; known = hy; inside = g .1; keys = refl };
+      }
 
-module _ (s : List ℕ) (p : ℕ) (x : Next) (N : Nexts s p x) where
-  pub next-falls : (m : Mark) (q : ℕ) → x ≡ next.Label m q → nodesAll (stackAt s q) < nodesAll (stackAt s p)
-  next-falls m q e = let g = rw e at (N .says) in g .1 .nearer
+-- ---- from key to key
 
-  none-left : x ≡ next.Done → (σ : Environment) (xs : List Const) → Labels σ (leftAt s p) xs → xs ≡ []
-  none-left e σ xs Y = let g : leftAt s p ≡ [] = rw e at (N .says) in let v : Labels σ [] xs = rw g at Y in labels-none σ xs v
+module _ (s l : List ℕ) (count newest at : ℕ) (x : Next) (N : Nexts s at x) where
+  pub key-done : x ≡ next.Done → NextKeys s l count newest at next-key.Done
+  key-done e = record { says = rw e at (N .says) }
 
-  one-left : (m : Mark) (q : ℕ) → x ≡ next.Label m q → (σ : Environment) (xs : List Const) → Labels σ (leftAt s p) xs
-      → (y : Const) × ((ys : List Const) × ((xs ≡ (y ∷ ys)) × (MarkIs s σ m y × Labels σ (leftAt s q) ys)))
-  one-left m q e σ xs Y =
+  pub key-next : (m : Mark) (q : ℕ) (z : ℤ) → x ≡ next.Label m q → z ≡ keyAt s l count newest m → SFits w64 z → NextKeys s l count newest at (next-key.Key (wire z) q)
+  key-next m q z e f p =
       let g = rw e at (N .says) in
-      let v : Labels σ (g .0 .0 ∷ leftAt s q) xs = rw (g .0 .1 .0) at Y in
-      let d = labels-split σ (g .0 .0) (leftAt s q) xs v in
-      (d .x, (d .ys, (d .all, (g .0 .1 .1 .tells σ (d .x) (d .first-known) (d .first-inside), d .others))))
+      rw (toZ-ofZ p) (record {
+        says = ((g .0 .0, (g .0 .1 .0, record { key-is = λ σ H y h i. f ∙ key-told H (g .0 .1 .1 .tells σ y h i) })), g .1);
+      })
 
--- ---- one label among others
+pub ruleset next-laws = (key-done, key-next)
 
--- it is none of those from `at` to p
-pub record Seeking (s l : List ℕ) (count newest : ℕ) (m : Mark) (at p : ℕ) : Type 0 where
-  pub sought : (σ : Environment) → Held s l count newest σ → (x : Const) → MarkIs s σ m x → (xs : List Const) → Labels σ (leftAt s at) xs → (ys : List Const) × (Labels σ (leftAt s p) ys × (labelled x xs ≡ labelled x ys))
+pub key-falls : (s l : List ℕ) (count newest p q : ℕ) (x : NextKey) (z : ℤ) → NextKeys s l count newest p x → x ≡ next-key.Key z q → nodesAll (stackAt s q) < nodesAll (stackAt s p)
+key-falls s l count newest p q x z N e = let g = rw e at (N .says) in g .1 .nearer
 
-pub seek-start : (s l : List ℕ) (count newest : ℕ) (m : Mark) (at : ℕ) → Seeking s l count newest m at at
-seek-start s l count newest m at = record { sought = λ σ H x M xs Y. (xs, (Y, refl)) }
+-- the key of the next label before the others
+module _ (s l : List ℕ) (count newest p : ℕ) (x : NextKey) (N : NextKeys s l count newest p x) (σ : Environment) (H : Held s l count newest σ) (zs : List ℤ) (Y : Keys σ (leftAt s p) zs) where
+  none-left : x ≡ next-key.Done → zs ≡ []
+  none-left e = let g : leftAt s p ≡ [] = rw e at (N .says) in let v : Keys σ [] zs = rw g at Y in keys-none σ zs v
 
-module _ (s l : List ℕ) (count newest : ℕ) (m : Mark) (at p : ℕ) (I : Seeking s l count newest m at p) (x : Next) (N : Nexts s p x) where
-  pub seek-end : x ≡ next.Done → ComesLater s l count newest m at false
-  unfolding labelled
-  seek-end e = record { says = λ σ H y M xs Y. let c = I .sought σ H y M xs Y in sym (c .1 .1 ∙ ap (labelled y) (none-left s p x N e σ (c .0) (c .1 .0))) }
+  one-left : (z : ℤ) (q : ℕ) → x ≡ next-key.Key z q → (ys : List ℤ) × (Keys σ (leftAt s q) ys × (zs ≡ (z ∷ ys)))
+  one-left z q e =
+      let g = rw e at (N .says) in
+      let v : Keys σ (g .0 .0 ∷ leftAt s q) zs = rw (g .0 .1 .0) at Y in
+      let d = keys-split σ (g .0 .0) (leftAt s q) zs v in
+      (d .ys, (d .others, d .all ∙ ap (λ (y : ℤ). y ∷ d .ys) (sym (g .0 .1 .1 .key-is σ H (d .x) (d .first-known) (d .first-inside)))))
 
-  module _ (n : Mark) (q : ℕ) (e : x ≡ next.Label n q) (t : Bool) (f : t ≡ sameAt s l count newest m n) where
-    seen : (σ : Environment) → Held s l count newest σ → (y : Const) → MarkIs s σ m y → (xs : List Const) → Labels σ (leftAt s at) xs → (ys : List Const) × (Labels σ (leftAt s q) ys × (labelled y xs ≡ (t || labelled y ys)))
-    unfolding labelled
-    seen σ H y M xs Y =
-        let c = I .sought σ H y M xs Y in
-        let d = one-left s p x N n q e σ (c .0) (c .1 .0) in
-        (d .1 .0, (d .1 .1 .1 .1, c .1 .1 ∙ ap (labelled y) (d .1 .1 .0) ∙ ap (λ (b : Bool). b || labelled y (d .1 .0)) (sym (f ∙ same-told H M (d .1 .1 .1 .0)))))
+-- ---- a block is filled
 
-    pub seek-found : t ≡ true → ComesLater s l count newest m at true
-    seek-found h = record { says = λ σ H y M xs Y. let g = seen σ H y M xs Y in sym (g .1 .1 ∙ ap (λ (b : Bool). b || labelled y (g .0)) h) }
+-- n keys of the labels from `at` to p stand in the block
+pub record Filling (s l : List ℕ) (count newest : ℕ) (b₀ : List ℤ) (at : ℕ) (b : List ℤ) (n p : ℕ) : Type 0 where
+  pub long : length b ≡ length b₀
+  pub within : n ≤ length b
+  pub moved : nodesAll (stackAt s p) + n ≤ nodesAll (stackAt s at)
+  pub filled : (σ : Environment) → Held s l count newest σ → (zs : List ℤ) → Keys σ (leftAt s at) zs → (ys : List ℤ) × (Keys σ (leftAt s p) ys × (zs ≡ (take n b ++ ys)))
 
-    pub seek-on : t ≡ false → Seeking s l count newest m at q
-    seek-on h = record { sought = λ σ H y M xs Y. let g = seen σ H y M xs Y in (g .0, (g .1 .0, g .1 .1 ∙ ap (λ (b : Bool). b || labelled y (g .0)) h)) }
+pub fill-start : (s l : List ℕ) (count newest : ℕ) (b : List ℤ) (at : ℕ) → Filling s l count newest b at b 0 at
+fill-start s l count newest b at = record { long = refl; within = omega arith; moved = omega arith; filled = λ σ H zs Y. (zs, (Y, refl)) }
+
+module _ (s l : List ℕ) (count newest : ℕ) (b₀ : List ℤ) (at : ℕ) (b : List ℤ) (n p : ℕ) (I : Filling s l count newest b₀ at b n p) where
+  pub fill-full : length b ≤ n → Fills s l count newest at (record { size = n; next = p }) b
+  fill-full h = record { within = I .within; ended = λ i. absurd (omega arith); moved = I .moved; says = I .filled }
+
+  module _ (x : NextKey) (N : NextKeys s l count newest p x) where
+    pub fill-end : x ≡ next-key.Done → Fills s l count newest at (record { size = n; next = p }) b
+    fill-end e = record { within = I .within; ended = λ i. rw e at (N .says); moved = I .moved; says = I .filled }
+
+    pub fill-on : (z : ℤ) (q : ℕ) → x ≡ next-key.Key z q → SFits w64 z → n < length b → Filling s l count newest b₀ at (set b n (wire z)) (n + 1) q
+    fill-on z q e f h = rw (toZ-ofZ f) (record {
+      long = length-set b n z ∙ I .long;
+      within = let k = length-set b n z in omega arith;
+      moved = let k = key-falls s l count newest p q x z N e in let m = I .moved in omega arith;
+      filled = λ σ H zs Y.
+          let c = I .filled σ H zs Y in
+          let d = one-left s l count newest p x N σ H (c .0) (c .1 .0) z q e in
+          (d .0, (d .1 .0, c .1 .1 ∙ ap (λ (ys : List ℤ). take n b ++ ys) (d .1 .1) ∙ sym (append-snoc (take n b) z (d .0)) ∙ laid (d .0)));
+    })
+      where
+        place : suc n ≡ n + 1
+        place = omega arith
+
+        laid : (ys : List ℤ) → ((take n b ++ (z ∷ [])) ++ ys) ≡ (take (n + 1) (set b n z) ++ ys)
+        laid ys = ap (λ (zs : List ℤ). zs ++ ys) (sym (take-suc-set b n z h) ∙ ap (λ (j : ℕ). take j (set b n z)) place)
+
+pub ruleset fill-laws = (fill-full, fill-end, fill-on)
+
+-- ---- a block is compared with the labels after it
+
+-- no label from `at` to p has a key of the block
+pub record Seeking (s l : List ℕ) (count newest : ℕ) (b : List ℤ) (at p : ℕ) : Type 0 where
+  pub sought : (σ : Environment) → Held s l count newest σ → (zs : List ℤ) → Keys σ (leftAt s at) zs → (ys : List ℤ) × (Keys σ (leftAt s p) ys × (meets zs b ≡ meets ys b))
+
+pub seek-start : (s l : List ℕ) (count newest : ℕ) (b : List ℤ) (at : ℕ) → Seeking s l count newest b at at
+seek-start s l count newest b at = record { sought = λ σ H zs Y. (zs, (Y, refl)) }
+
+module _ (s l : List ℕ) (count newest : ℕ) (b : List ℤ) (at p : ℕ) (x : NextKey) (I : Seeking s l count newest b at p) (N : NextKeys s l count newest p x) where
+  pub seek-end : x ≡ next-key.Done → ComesAgain s l count newest b at false
+  unfolding meets
+  seek-end e = record {
+    says = λ σ H zs Y.
+        let c = I .sought σ H zs Y in
+        sym (c .1 .1 ∙ ap (λ (ys : List ℤ). meets ys b) (none-left s l count newest p x N σ H (c .0) (c .1 .0) e));
+  }
+
+  module _ (z : ℤ) (q : ℕ) (e : x ≡ next-key.Key z q) (t : Bool) (k : SFits w64 z) (f : t ≡ among (wire z) b) where
+    seen : (σ : Environment) → Held s l count newest σ → (zs : List ℤ) → Keys σ (leftAt s at) zs → (ys : List ℤ) × (Keys σ (leftAt s q) ys × (meets zs b ≡ (t || meets ys b)))
+    unfolding meets
+    seen σ H zs Y =
+        let i = toZ-ofZ k in
+        let c = I .sought σ H zs Y in
+        let d = one-left s l count newest p x N σ H (c .0) (c .1 .0) z q e in
+        (d .0, (d .1 .0, c .1 .1 ∙ ap (λ (ys : List ℤ). meets ys b) (d .1 .1) ∙ ap (λ (u : Bool). u || meets (d .0) b) (sym (f ∙ ap (λ (y : ℤ). among y b) i))))
+
+    pub seek-found : t ≡ true → ComesAgain s l count newest b at true
+    seek-found h = record { says = λ σ H zs Y. let g = seen σ H zs Y in sym (g .1 .1 ∙ ap (λ (u : Bool). u || meets (g .0) b) h) }
+
+    pub seek-on : t ≡ false → Seeking s l count newest b at q
+    seek-on h = record { sought = λ σ H zs Y. let g = seen σ H zs Y in (g .0, (g .1 .0, g .1 .1 ∙ ap (λ (u : Bool). u || meets (g .0) b) h)) }
 
 pub ruleset seek-laws = (seek-end, seek-found, seek-on)
 
--- ---- all labels
+module _ (s l : List ℕ) (count newest : ℕ) (b : List ℤ) (at : ℕ) (t : Bool) (e : t ≡ not (apart b)) where
+  block-bits : (a : Bool) → t ≡ not a → t ≡ true → a ≡ false
+  block-bits true f h = absurd (true≢false (sym h ∙ f))
+  block-bits false f h = refl
 
--- none of those from `at` to p comes again
-pub record Clearing (s l : List ℕ) (count newest at p : ℕ) : Type 0 where
-  pub cleared : (σ : Environment) → Held s l count newest σ → (xs : List Const) → Labels σ (leftAt s at) xs → (ys : List Const) × (Labels σ (leftAt s p) ys × (differ xs ≡ differ ys))
+  clear-bits : (a : Bool) → t ≡ not a → t ≡ false → a ≡ true
+  clear-bits true f h = refl
+  clear-bits false f h = absurd (true≢false (sym f ∙ h))
 
-pub clear-start : (s l : List ℕ) (count newest at : ℕ) → Clearing s l count newest at at
-clear-start s l count newest at = record { cleared = λ σ H xs Y. (xs, (Y, refl)) }
+  pub block-twice : t ≡ true → Recurs s l count newest b at true
+  block-twice h = record { says = λ σ H zs Y. apart-append b zs ∙ ap (λ (u : Bool). (u && not (meets zs b)) && apart zs) (block-bits (apart b) e h) }
 
-module _ (s l : List ℕ) (count newest at p : ℕ) (I : Clearing s l count newest at p) (x : Next) (N : Nexts s p x) where
-  pub clear-end : x ≡ next.Done → DiffersFrom s l count newest at true
-  unfolding differ
-  clear-end e = record { says = λ σ H xs Y. let c = I .cleared σ H xs Y in sym (c .1 .1 ∙ ap differ (none-left s p x N e σ (c .0) (c .1 .0))) }
+  pub block-once : (r : Bool) → t ≡ false → ComesAgain s l count newest b at r → Recurs s l count newest b at r
+  block-once r h C = record {
+    says = λ σ H zs Y. apart-append b zs ∙ ap (λ (u : Bool). (u && not (meets zs b)) && apart zs) (clear-bits (apart b) e h) ∙ ap (λ (u : Bool). not u && apart zs) (sym (C .says σ H zs Y));
+  }
 
-  module _ (m : Mark) (q : ℕ) (e : x ≡ next.Label m q) (t : Bool) (C : ComesLater s l count newest m q t) where
-    after : (σ : Environment) → Held s l count newest σ → (xs : List Const) → Labels σ (leftAt s at) xs → (ys : List Const) × (Labels σ (leftAt s q) ys × (differ xs ≡ (not t && differ ys)))
-    unfolding differ
-    after σ H xs Y =
-        let c = I .cleared σ H xs Y in
-        let d = one-left s p x N m q e σ (c .0) (c .1 .0) in
-        (d .1 .0, (d .1 .1 .1 .1, c .1 .1 ∙ ap differ (d .1 .1 .0) ∙ ap (λ (b : Bool). not b && differ (d .1 .0)) (sym (C .says σ H (d .0) (d .1 .1 .1 .0) (d .1 .0) (d .1 .1 .1 .1)))))
+pub ruleset block-laws = (block-twice, block-once)
+
+-- ---- block by block
+
+-- none of the labels from `at` to p comes again after it
+pub record Clearing (s l : List ℕ) (count newest : ℕ) (b₀ : List ℤ) (at : ℕ) (b : List ℤ) (p : ℕ) : Type 0 where
+  pub long : length b ≡ length b₀
+  pub cleared : (σ : Environment) → Held s l count newest σ → (zs : List ℤ) → Keys σ (leftAt s at) zs → (ys : List ℤ) × (Keys σ (leftAt s p) ys × (apart zs ≡ apart ys))
+
+pub clear-start : (s l : List ℕ) (count newest : ℕ) (b : List ℤ) (at : ℕ) → Clearing s l count newest b at b at
+clear-start s l count newest b at = record { long = refl; cleared = λ σ H zs Y. (zs, (Y, refl)) }
+
+pub block-part : (s l : List ℕ) (count newest p : ℕ) (r : Filled) (b : List ℤ) → Fills s l count newest p r b → r .size ≡ length (take (r .size) b)
+block-part s l count newest p r b F = sym (length-take-le (r .size) b (F .within))
+
+pub block-falls : (s l : List ℕ) (count newest p : ℕ) (r : Filled) (b : List ℤ) → Fills s l count newest p r b → (r .size ≡ 0 → ⊥) → nodesAll (stackAt s (r .next)) < nodesAll (stackAt s p)
+block-falls s l count newest p r b F h = let m = F .moved in omega arith
+
+module _ (s l : List ℕ) (count newest : ℕ) (b₀ : List ℤ) (at : ℕ) (b : List ℤ) (p : ℕ) (I : Clearing s l count newest b₀ at b p) (r : Filled) (b′ : List ℤ) (F : Fills s l count newest p r b′) (e : length b′ ≡ length b) where
+  -- a block that is empty, though it has room, holds all labels that are left
+  pub clear-end : 0 < length b₀ → r .size ≡ 0 → DiffersFrom s l count newest at true
+  unfolding apart
+  clear-end h k = record {
+    says = λ σ H zs Y.
+        let c = I .cleared σ H zs Y in
+        let d = F .says σ H (c .0) (c .1 .0) in
+        let i : leftAt s (r .next) ≡ [] = F .ended (let u = I .long in omega arith) in
+        let v : Keys σ [] (d .0) = rw i at (d .1 .0) in
+        let y : c .0 ≡ [] = d .1 .1 ∙ ap (λ (j : ℕ). take j b′ ++ d .0) k ∙ keys-none σ (d .0) v in
+        sym (c .1 .1 ∙ ap apart y);
+  }
+
+  module _ (t : Bool) (R : Recurs s l count newest (take (r .size) b′) (r .next) t) where
+    after : (σ : Environment) → Held s l count newest σ → (zs : List ℤ) → Keys σ (leftAt s at) zs → (ys : List ℤ) × (Keys σ (leftAt s (r .next)) ys × (apart zs ≡ (not t && apart ys)))
+    after σ H zs Y =
+        let c = I .cleared σ H zs Y in
+        let d = F .says σ H (c .0) (c .1 .0) in
+        (d .0, (d .1 .0, c .1 .1 ∙ ap apart (d .1 .1) ∙ R .says σ H (d .0) (d .1 .0)))
 
     pub clear-found : t ≡ true → DiffersFrom s l count newest at false
-    clear-found h = record { says = λ σ H xs Y. let g = after σ H xs Y in sym (g .1 .1 ∙ ap (λ (b : Bool). not b && differ (g .0)) h) }
+    clear-found h = record { says = λ σ H zs Y. let g = after σ H zs Y in sym (g .1 .1 ∙ ap (λ (u : Bool). not u && apart (g .0)) h) }
 
-    pub clear-on : t ≡ false → Clearing s l count newest at q
-    clear-on h = record { cleared = λ σ H xs Y. let g = after σ H xs Y in (g .0, (g .1 .0, g .1 .1 ∙ ap (λ (b : Bool). not b && differ (g .0)) h)) }
+    pub clear-on : t ≡ false → Clearing s l count newest b₀ at b′ (r .next)
+    clear-on h = record { long = e ∙ I .long; cleared = λ σ H zs Y. let g = after σ H zs Y in (g .0, (g .1 .0, g .1 .1 ∙ ap (λ (u : Bool). not u && apart (g .0)) h)) }
 
 pub ruleset clear-laws = (clear-end, clear-found, clear-on)
 
--- ---- arms
+-- ---- the arms that are read
+
+-- the keys of their labels tell whether these differ
+told-arms : (s : List ℕ) (at : ℕ) (r : Bool) (σ : Environment) (d n : ℕ) (a : Arms × ℕ) (b : Script.Arms) → armsIn d n (first (stackAt s at)) ≡ some a → armsOf σ (a .0) ≡ some b → allPlain (labelsOf b) ≡ true
+    → (cs : List Constant) → marksOf (first (stackAt s at)) ≡ cs → ((zs : List ℤ) → Keys σ cs zs → r ≡ apart zs) → r ≡ differ (labelsOf b)
+told-arms s at r σ d n a b i k p cs g f =
+    f (keysOf (labelsOf b)) (rw (← g, marks-arms d n (first (stackAt s at)) a i) (record { consts = labelsOf b; known = labels-known σ (a .0) b k; inside = p; keys = refl }))
+    ∙ sym (differ-apart (labelsOf b) p)
 
 module _ (s l : List ℕ) (count newest at : ℕ) (h : Hop) (A : EntersArm s at h) where
   pub arms-label : (m : Mark) (q : ℕ) → h ≡ hop.Label m q → Differs s l count newest at true
   arms-label m q e = absurd (rw e at (A .says))
 
   pub arms-end : h ≡ hop.End → Differs s l count newest at true
-  unfolding differ
+  unfolding apart
   arms-end e = let g = rw e at (A .says) in record {
-    says = λ ts top σ bs S d n a b i k p.
-        let y : Labels σ [] (labelsOf b) = rw (← g, marks-arms d n (first (stackAt s at)) a i) (record { known = labels-known σ (a .0) b k; inside = p }) in
-        sym (ap differ (labels-none σ (labelsOf b) y));
+    says = λ ts top σ bs S d n a b i k p. told-arms s at true σ d n a b i k p [] g (λ zs Y. sym (ap apart (keys-none σ zs Y)));
   }
 
   pub arms-over : (q : ℕ) (r : Bool) → h ≡ hop.Over q → DiffersFrom s l count newest q r → Differs s l count newest at r
   arms-over q r e D = let g = rw e at (A .says) in record {
-    says = λ ts top σ bs S d n a b i k p.
-        let y : Labels σ (leftAt s q) (labelsOf b) = rw (← g .0, marks-arms d n (first (stackAt s at)) a i) (record { known = labels-known σ (a .0) b k; inside = p }) in
-        D .says σ (record { ts = ts; top = top; bs = bs; scene = S }) (labelsOf b) y;
+    says = λ ts top σ bs S d n a b i k p. told-arms s at r σ d n a b i k p (leftAt s q) (g .0) (λ zs Y. D .says σ (record { ts = ts; top = top; bs = bs; scene = S }) zs Y);
   }
 
 pub ruleset arms-laws = (arms-label, arms-end, arms-over)

@@ -1,15 +1,34 @@
-// Whether the labels of a `case` differ, be they of one kind or of several: each is compared with all that come after it.
+// Whether the labels of a `case` differ, be they of one kind or of several: kind and value make one number, and these are compared block by block.
+use arith::in_range;
 use labels::Hop;
 use labels::Mark;
 use labels::Next;
 use labels::arm_hop;
+use labels::holds;
 use labels::next_label;
-use labels::same_number;
-use labels::value_of;
+use labels::ordinal_in;
+use labels::repeated;
+use labels::truth_value;
 use tables::Meaning;
 use tables::meaning_of;
 ghost use mathlib.Core.Path.{_≡_};
-ghost use Rattle.differing.specs.Differ.{kindIn, kindAt, sameAt, ComesLater, DiffersFrom, Differs};
+ghost use Prim.Native.Nat.{_<_};
+ghost use lib.ListN.{length};
+ghost use Rattle.labels.specs.Blocks.{ordinalIn};
+ghost use Rattle.differing.specs.Keys.{kindIn, keyBy, keyAt, NextKeys, Fills, ComesAgain, Recurs, DiffersFrom};
+ghost use Rattle.differing.specs.Differ.{Differs};
+
+// The key of the next label and the offset after it, or none is left.
+pub enum NextKey {
+    Key(i64, usize),
+    Done,
+}
+
+// How many keys stand in a block, and the offset after the last label of them.
+pub struct Filled {
+    size: usize,
+    next: usize,
+}
 
 // The kind of an enum name, 0 for what is none.
 fn kind_in(m: Meaning) -> u32
@@ -24,70 +43,128 @@ fn kind_in(m: Meaning) -> u32
     }
 }
 
-// The kind of a label.
-fn kind_of(text: &[u8], work: &[u32], count: u32, newest: u32, m: Mark) -> u32
-    ensures { λ r. ⌜ r ≡ kindAt (now (text .entry)) (now (work .entry)) count newest m ⌝ }
+// The key of a kind and a value, 0 for a value past the integers.
+fn key(k: u32, z: i64) -> i64
+    ensures { λ r. ⌜ r ≡ keyBy k z ⌝ }
+{
+    if in_range(z, -2147483648, 2147483647) {
+        return (k as i64 - 2147483648) * 4294967296 + (z + 2147483648);
+    }
+    0
+}
+
+// The key of an enum name.
+fn name_key(m: Meaning) -> i64
+    ensures { λ r. ⌜ r ≡ keyBy (kindIn m) (ordinalIn m) ⌝ }
+{
+    key(kind_in(m), ordinal_in(m))
+}
+
+// The key of a label.
+fn key_of(text: &[u8], work: &[u32], count: u32, newest: u32, m: Mark) -> i64
+    ensures { λ r. ⌜ r ≡ keyAt (now (text .entry)) (now (work .entry)) count newest m ⌝ }
 {
     match m {
-        Mark::Number(_) => 0,
-        Mark::Truth(_) => 1,
-        Mark::Named(p) => kind_in(meaning_of(text, work, count, newest, p)),
+        Mark::Number(z) => key(0, z),
+        Mark::Truth(b) => key(1, truth_value(b)),
+        Mark::Named(p) => name_key(meaning_of(text, work, count, newest, p)),
     }
 }
 
-// Whether two labels are the same.
-fn same_label(text: &[u8], work: &[u32], count: u32, newest: u32, m: Mark, n: Mark) -> bool
-    ensures { λ r. ⌜ r ≡ sameAt (now (text .entry)) (now (work .entry)) count newest m n ⌝ }
+// The key of the next label from an offset inside an arm.
+fn next_key(text: &[u8], work: &[u32], count: u32, newest: u32, at: usize) -> NextKey
+    ensures { λ r. ⌜ NextKeys (now (text .entry)) (now (work .entry)) count newest at r ⌝ }
 {
-    let j = kind_of(text, work, count, newest, m);
-    let k = kind_of(text, work, count, newest, n);
-    if j == k {
-        let x = value_of(text, work, count, newest, m);
-        let y = value_of(text, work, count, newest, n);
-        return same_number(x, y);
+    let x = next_label(text, at);
+    match x {
+        Next::Label(m, q) => NextKey::Key(key_of(text, work, count, newest, m), q),
+        Next::Done => NextKey::Done,
     }
-    false
 }
 
-// Whether a label is among those from an offset inside an arm on.
-fn comes_later(text: &[u8], work: &[u32], count: u32, newest: u32, m: Mark, at: usize) -> bool
-    ensures { λ r. ⌜ ComesLater (now (text .entry)) (now (work .entry)) count newest m at r ⌝ }
+// The keys of the labels from an offset on, as many as a block holds.
+fn fill_keys(
+    text: &[u8],
+    work: &[u32],
+    count: u32,
+    newest: u32,
+    block: &mut [i64],
+    at: usize,
+) -> Filled
+    ensures { λ r. ⌜ Fills (now (text .entry)) (now (work .entry)) count newest at r (now (block .exit)) ⌝ }
+{
+    let mut n = 0;
+    let mut p = at;
+    while n < block.len() {
+        let x = next_key(text, work, count, newest, p);
+        match x {
+            NextKey::Key(z, q) => {
+                block[n] = z;
+                n += 1;
+                p = q;
+            }
+            NextKey::Done => {
+                return Filled { size: n, next: p };
+            }
+        }
+    }
+    Filled { size: n, next: p }
+}
+
+// Whether a key of a block is that of a label from an offset on.
+fn comes_again(text: &[u8], work: &[u32], count: u32, newest: u32, block: &[i64], at: usize) -> bool
+    ensures { λ r. ⌜ ComesAgain (now (text .entry)) (now (work .entry)) count newest (now (block .entry)) at r ⌝ }
 {
     let mut p = at;
     loop {
-        let x = next_label(text, p);
+        let x = next_key(text, work, count, newest, p);
         match x {
-            Next::Label(n, q) => {
-                if same_label(text, work, count, newest, m, n) {
+            NextKey::Key(z, q) => {
+                if holds(block, z) {
                     return true;
                 }
                 p = q;
             }
-            Next::Done => {
+            NextKey::Done => {
                 return false;
             }
         }
     }
 }
 
-// Whether the labels from an offset inside an arm on differ.
-fn differ_from(text: &[u8], work: &[u32], count: u32, newest: u32, at: usize) -> bool
+// Whether a key of a block comes again in it or among the labels from an offset on.
+fn recurs(text: &[u8], work: &[u32], count: u32, newest: u32, block: &[i64], at: usize) -> bool
+    ensures { λ r. ⌜ Recurs (now (text .entry)) (now (work .entry)) count newest (now (block .entry)) at r ⌝ }
+{
+    if repeated(block) {
+        return true;
+    }
+    comes_again(text, work, count, newest, block, at)
+}
+
+// Whether the labels from an offset inside an arm on differ; they are compared block by block.
+fn differ_from(
+    text: &[u8],
+    work: &[u32],
+    count: u32,
+    newest: u32,
+    block: &mut [i64],
+    at: usize,
+) -> bool
+    requires { ⌜ 0 < length (now block) ⌝ }
     ensures { λ r. ⌜ DiffersFrom (now (text .entry)) (now (work .entry)) count newest at r ⌝ }
 {
     let mut p = at;
     loop {
-        let x = next_label(text, p);
-        match x {
-            Next::Label(m, q) => {
-                if comes_later(text, work, count, newest, m, q) {
-                    return false;
-                }
-                p = q;
-            }
-            Next::Done => {
-                return true;
-            }
+        let r = fill_keys(text, work, count, newest, block, p);
+        let n = r.size;
+        if n == 0 {
+            return true;
         }
+        if recurs(text, work, count, newest, &block[..n], r.next) {
+            return false;
+        }
+        p = r.next;
     }
 }
 
@@ -98,7 +175,10 @@ pub fn labels_differ(text: &[u8], work: &[u32], count: u32, newest: u32, at: usi
     let h = arm_hop(text, at);
     match h {
         Hop::Label(_, _) => true,
-        Hop::Over(q) => differ_from(text, work, count, newest, q),
+        Hop::Over(q) => {
+            let mut block = [0i64; 256];
+            differ_from(text, work, count, newest, &mut block, q)
+        }
         Hop::End => true,
     }
 }

@@ -209,7 +209,7 @@ fn wide(n: u32) -> i64
 }
 
 // The value of `true` or `false`.
-fn truth_value(b: bool) -> i64
+pub fn truth_value(b: bool) -> i64
     ensures { λ r. ⌜ r ≡ truth b ⌝ }
 {
     if b {
@@ -219,7 +219,7 @@ fn truth_value(b: bool) -> i64
 }
 
 // The ordinal of an enum name, 0 for what is none.
-fn ordinal_in(m: Meaning) -> i64
+pub fn ordinal_in(m: Meaning) -> i64
     ensures { λ r. ⌜ r ≡ ordinalIn m ⌝ }
 {
     match m {
@@ -264,7 +264,7 @@ pub fn same_number(x: i64, y: i64) -> bool
 }
 
 // Whether an integer is among those of a block.
-fn holds(block: &[i64], z: i64) -> bool
+pub fn holds(block: &[i64], z: i64) -> bool
     ensures { λ r. ⌜ r ≡ among z (now (block .entry)) ⌝ }
 {
     let mut i = 0;
@@ -278,7 +278,7 @@ fn holds(block: &[i64], z: i64) -> bool
 }
 
 // Whether an integer of a block comes again in it.
-fn repeated(block: &[i64]) -> bool
+pub fn repeated(block: &[i64]) -> bool
     ensures { λ r. ⌜ r ≡ not (apart (now (block .entry))) ⌝ }
 {
     let mut i = 0;

@@ -2,55 +2,63 @@ use Rattle.semantics.specs.Trees.{stackAt}
 use Rattle.reader.specs.Passes.{nodesAll}
 use Rattle.differing.proofs.Comparing.{Clearing}
 use borrow.Author.Needs.{needs}
-use Rattle.differing.proofs.Comparing.{clear-laws, clear-start, next-falls}
+use Rattle.differing.proofs.Comparing.{block-falls, block-part, clear-laws, clear-start}
 use Rattle.differing.proofs.differ_from.Statement.{statement}
 use Rattle.differing.proofs.differ_from.Tie as tie
 use Rattle.differing.proofs.differ_from.Reads as reads
 use Rattle.differing.proofs.differ_from.Lts as lts
-use Rattle.differing.proofs.comes_later.Reads as comes-later-reads
-use Rattle.labels.proofs.next_label.Reads as next-label-reads
+use Rattle.differing.proofs.fill_keys.Reads as fill-keys-reads
+use Rattle.differing.proofs.recurs.Reads as recurs-reads
 
 abbrev Inv-loop : tie.InvT-loop
-Inv-loop text work count newest at p₀ p = Clearing text work count newest at p
+Inv-loop text work count newest block₀ at p₀ block p = Clearing text work count newest block₀ at block p
 
 abbrev μ-loop : tie.MeasureT-loop
-μ-loop text work count newest at p₀ p = nodesAll (stackAt text p)
+μ-loop text work count newest block₀ at p₀ block p = nodesAll (stackAt text p)
 
--- src/lib.rt:78:5
+-- src/lib.rt:158:5
 loop-holds : tie.Need-loop-holds Inv-loop μ-loop
-loop-holds c = clear-start _ _ _ _ _
+loop-holds c = clear-start _ _ _ _ _ _
 
--- src/lib.rt:79:13
-next-label-requires : tie.Need-next-label-requires Inv-loop μ-loop
-next-label-requires c κs = search needs
+-- src/lib.rt:159:13
+fill-keys-requires : tie.Need-fill-keys-requires Inv-loop μ-loop
+fill-keys-requires c κs = search needs
 
--- src/lib.rt:81:25
-enum-known-x : tie.Need-enum-known-x Inv-loop μ-loop
-enum-known-x c = search needs
+-- src/lib.rt:162:13
+same-length : tie.Need-same-length Inv-loop μ-loop
+same-length c = search needs
 
--- src/lib.rt:82:20
-comes-later-requires : tie.Need-comes-later-requires Inv-loop μ-loop
-comes-later-requires c κs = search needs
-
--- src/lib.rt:83:21
+-- src/lib.rt:162:13
 returns : tie.Need-returns Inv-loop μ-loop
 returns c = search clear-laws
 
--- src/lib.rt:78:5
-loop-less : tie.Need-loop-less Inv-loop μ-loop
-loop-less c = search next-falls
+-- src/lib.rt:164:46
+slice-reshare-prefix-recurs : tie.Need-slice-reshare-prefix-recurs Inv-loop μ-loop
+slice-reshare-prefix-recurs c = search needs
 
--- src/lib.rt:78:5
-loop-again : tie.Need-loop-again Inv-loop μ-loop
-loop-again c = search clear-laws
+-- src/lib.rt:164:46
+slice-aggregate-recurs : tie.Need-slice-aggregate-recurs Inv-loop μ-loop
+slice-aggregate-recurs c = search block-part
 
--- src/lib.rt:88:17
-enum-told : tie.Need-enum-told Inv-loop μ-loop
-enum-told c = search needs
+-- src/lib.rt:164:12
+recurs-requires : tie.Need-recurs-requires Inv-loop μ-loop
+recurs-requires c κs = search needs
 
--- src/lib.rt:88:17
+-- src/lib.rt:165:13
+same-length-2 : tie.Need-same-length-2 Inv-loop μ-loop
+same-length-2 c = search needs
+
+-- src/lib.rt:165:13
 returns-2 : tie.Need-returns-2 Inv-loop μ-loop
 returns-2 c = search clear-laws
+
+-- src/lib.rt:158:5
+loop-less : tie.Need-loop-less Inv-loop μ-loop
+loop-less c = search block-falls
+
+-- src/lib.rt:158:5
+loop-again : tie.Need-loop-again Inv-loop μ-loop
+loop-again c = search clear-laws
 
 pub differ-from-spec : {M : Type 1} → statement M
 differ-from-spec =
@@ -59,11 +67,13 @@ differ-from-spec =
     Inv-loop
     μ-loop
     loop-holds
-    next-label-requires
-    enum-known-x
-    comes-later-requires
+    fill-keys-requires
+    same-length
     returns
+    slice-reshare-prefix-recurs
+    slice-aggregate-recurs
+    recurs-requires
+    same-length-2
+    returns-2
     loop-less
-    loop-again
-    enum-told
-    returns-2)
+    loop-again)

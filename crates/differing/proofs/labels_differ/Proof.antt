@@ -7,35 +7,39 @@ use Rattle.differing.proofs.labels_differ.Lts as lts
 use Rattle.differing.proofs.differ_from.Reads as differ-from-reads
 use Rattle.labels.proofs.arm_hop.Reads as arm-hop-reads
 
--- src/lib.rt:98:9
+-- src/lib.rt:175:9
 arm-hop-requires : tie.Need-arm-hop-requires
 arm-hop-requires c κs = search needs
 
--- src/lib.rt:100:29
+-- src/lib.rt:177:29
 enum-told : tie.Need-enum-told
 enum-told c = search needs
 
--- src/lib.rt:101:19
+-- src/lib.rt:178:19
 enum-known-h : tie.Need-enum-known-h
 enum-known-h c = search needs
 
--- src/lib.rt:101:25
+-- src/lib.rt:180:52
+slice-aggregate-differ-from : tie.Need-slice-aggregate-differ-from
+slice-aggregate-differ-from c = search needs
+
+-- src/lib.rt:180:13
 differ-from-requires : tie.Need-differ-from-requires
 differ-from-requires c κs = search needs
 
--- src/lib.rt:102:21
+-- src/lib.rt:182:21
 enum-told-2 : tie.Need-enum-told-2
 enum-told-2 c = search needs
 
--- src/lib.rt:95:1
+-- src/lib.rt:172:1
 returns : tie.Need-returns
 returns c = search arms-laws
 
--- src/lib.rt:95:1
+-- src/lib.rt:172:1
 returns-2 : tie.Need-returns-2
 returns-2 c = search arms-laws
 
--- src/lib.rt:95:1
+-- src/lib.rt:172:1
 returns-3 : tie.Need-returns-3
 returns-3 c = search arms-laws
 
@@ -46,6 +50,7 @@ labels-differ-spec =
     arm-hop-requires
     enum-told
     enum-known-h
+    slice-aggregate-differ-from
     differ-from-requires
     enum-told-2
     returns
