@@ -16,7 +16,7 @@ use Rattle.shapes.specs.Heads.{verbOf}
 use Rattle.shapes.specs.declared.Verb.{Verb}
 use Rattle.shapes.specs.declared.Verb.the-variants as verb
 use Rattle.labels.proofs.Skipping.{before-nodes, form-fewer, shut-nodes}
-use Rattle.judge.proofs.Counts.{nodes-short}
+use Rattle.skips.proofs.Counts.{nodes-short}
 use Rattle.counts.specs.declared.Move.{Move}
 use Rattle.counts.specs.declared.Move.the-variants as move
 use Rattle.counts.specs.Statements.{oneFor, headVerbs, verbs, verbsIn, verbsOut, Room, shutFrom, Moves, CountsStatements}

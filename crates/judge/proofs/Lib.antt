@@ -5,5 +5,4 @@ pub mod Bodies
 pub mod BodyStands
 pub mod BodyEnters
 pub mod Dispatch
-pub mod Counts
 pub mod Opening

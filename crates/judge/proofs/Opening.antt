@@ -23,7 +23,7 @@ use Rattle.judgements.specs.declared.Judgement.{Judgement}
 use Rattle.judgements.specs.Answers.{refusedJudgement}
 use Rattle.judge.specs.Forms.{LineIs, JudgesForm, KnownLine, JudgesKnown}
 use Rattle.judge.specs.Judging.{Standing, JudgedBy, JudgesLine}
-use Rattle.judge.proofs.Counts.{nodes-short}
+use Rattle.skips.proofs.Counts.{nodes-short}
 
 -- ---- a line's refusals 4 and 5, however kinds are judged
 

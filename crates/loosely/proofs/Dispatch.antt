@@ -49,7 +49,7 @@ use Rattle.judge.specs.Forms.{LineIs}
 use Rattle.judge.specs.Whole.{lineIn, headIn}
 use Rattle.judge.proofs.Bodies.{procOf, proc-shape}
 use Rattle.judge.proofs.BodyEnters.{name-first}
-use Rattle.judge.proofs.Counts.{nodes-short}
+use Rattle.skips.proofs.Counts.{nodes-short}
 use Rattle.judge.proofs.Declaring.{some-first, type-fixed, var-fixed}
 use Rattle.judge.proofs.Dispatch.{less-nodes, line-nodes}
 use Rattle.judge.proofs.Lines.{line-headed, line-empty, line-headless}

@@ -1,8 +1,8 @@
 // A whole report of the marking machine, as `markscript` prints it.
-use drive::MarkReport;
-use drive::mark;
 use marker::Ending;
 use marker::Marked;
+use marking::MarkReport;
+use marking::mark;
 use writing::rows::cell_rows;
 use writing::rows::exception;
 use writing::rows::normal;

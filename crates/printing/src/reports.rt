@@ -1,8 +1,8 @@
 // A whole report, as `runscript` prints it.
 use chair::Answer;
 use chair::Outcome;
-use drive::Report;
-use drive::run;
+use running::Report;
+use running::run;
 use writing::rows::cell_rows;
 use writing::rows::exception;
 use writing::rows::normal;
