@@ -1,5 +1,5 @@
 //! The calls: a working list, and texts checked and run with it.
-use crate::library::{drive_cells, drive_mark, drive_mark_owners, drive_owners, drive_run, drive_verdict, Reply};
+use crate::library::{drive_cells, drive_mark, drive_mark_owners, drive_owners, drive_run, drive_verdict, Machine, Owners, Reply};
 use crate::{Answer, Exception, Outcome, Refusal, Row, Store};
 
 /// Numbers in a working list.
@@ -47,50 +47,38 @@ impl Bench {
 
     /// The name of each cell's variable, in small letters.
     pub fn owners(&mut self, text: &[u8]) -> Result<Vec<String>, Refusal> {
-        let mut names = vec![0; CELLS_MOST];
-        // SAFETY: as in `verdict`; `names` is a slice of its own.
-        let reply =
-            unsafe { drive_owners(text.as_ptr(), text.len(), self.work.as_mut_ptr(), self.work.len(), names.as_mut_ptr(), names.len()) };
-        named(text, reply, &names)
+        self.names_by(drive_owners, text)
     }
 
     /// The same of a text that the marking machine takes.
     pub fn mark_owners(&mut self, text: &[u8]) -> Result<Vec<String>, Refusal> {
-        let mut names = vec![0; CELLS_MOST];
-        // SAFETY: as in `owners`.
-        let reply = unsafe {
-            drive_mark_owners(text.as_ptr(), text.len(), self.work.as_mut_ptr(), self.work.len(), names.as_mut_ptr(), names.len())
-        };
-        named(text, reply, &names)
+        self.names_by(drive_mark_owners, text)
     }
 
     /// Runs a text on a store within a budget of steps; a refusal leaves the store as it was. For its stack see `docs/EMBEDDING.md`.
     pub fn run(&mut self, text: &[u8], store: &mut Store, budget: u32) -> Result<Answer, Refusal> {
-        let Store { values, marks } = store;
-        // SAFETY: as in `verdict`; `values` and `marks` are slices of their own.
-        let reply = unsafe {
-            drive_run(
-                text.as_ptr(),
-                text.len(),
-                self.work.as_mut_ptr(),
-                self.work.len(),
-                values.as_mut_ptr(),
-                values.len(),
-                marks.as_mut_ptr(),
-                marks.len(),
-                budget,
-            )
-        };
-        accepted(reply).map(answer)
+        self.run_by(drive_run, text, store, budget)
     }
 
     /// The same by the marking machine, which runs a text also where kinds do not fit in a body, until it meets such a place. It takes
     /// far more stack and time.
     pub fn mark(&mut self, text: &[u8], store: &mut Store, budget: u32) -> Result<Answer, Refusal> {
+        self.run_by(drive_mark, text, store, budget)
+    }
+
+    fn names_by(&mut self, owners: Owners, text: &[u8]) -> Result<Vec<String>, Refusal> {
+        let mut names = vec![0; CELLS_MOST];
+        // SAFETY: as in `verdict`; `names` is a slice of its own.
+        let reply = unsafe { owners(text.as_ptr(), text.len(), self.work.as_mut_ptr(), self.work.len(), names.as_mut_ptr(), names.len()) };
+        let cells = accepted(reply)?.cells;
+        Ok(names[..cells].iter().map(|&offset| name_at(text, offset)).collect())
+    }
+
+    fn run_by(&mut self, machine: Machine, text: &[u8], store: &mut Store, budget: u32) -> Result<Answer, Refusal> {
         let Store { values, marks } = store;
-        // SAFETY: as in `run`.
+        // SAFETY: as in `verdict`; `values` and `marks` are slices of their own.
         let reply = unsafe {
-            drive_mark(
+            machine(
                 text.as_ptr(),
                 text.len(),
                 self.work.as_mut_ptr(),
@@ -122,12 +110,6 @@ fn answer(reply: Reply) -> Answer {
         other => unreachable!("outcome {other} of a run"),
     };
     Answer { outcome, steps: reply.steps }
-}
-
-/// The names that a reply found, by their offsets.
-fn named(text: &[u8], reply: Reply, offsets: &[usize]) -> Result<Vec<String>, Refusal> {
-    let cells = accepted(reply)?.cells;
-    Ok(offsets[..cells].iter().map(|&offset| name_at(text, offset)).collect())
 }
 
 /// The word that starts at an offset of a text.

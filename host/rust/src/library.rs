@@ -48,3 +48,9 @@ extern "C" {
         budget: u32,
     ) -> Reply;
 }
+
+/// `drive_owners` or `drive_mark_owners`.
+pub type Owners = unsafe extern "C" fn(*const u8, usize, *mut u32, usize, *mut usize, usize) -> Reply;
+
+/// `drive_run` or `drive_mark`.
+pub type Machine = unsafe extern "C" fn(*const u8, usize, *mut u32, usize, *mut i64, usize, *mut u8, usize, u32) -> Reply;
