@@ -1,24 +1,22 @@
 // The functions that a host in C or Rust calls (include/drive.h): each is one of `drive` or `marking`, its answer told in numbers.
-pub mod replies;
-
-use crate::replies::Reply;
-use crate::replies::counted;
-use crate::replies::mark_reported;
-use crate::replies::reported;
-use crate::replies::told;
 use drive::cells;
 use drive::mark;
 use drive::mark_owners;
 use drive::owners;
 use drive::run;
 use drive::verdict_of;
+use replies::Reply;
+use replies::counted;
+use replies::mark_reported;
+use replies::reported;
+use replies::told;
 ghost use mathlib.Core.Path.{_≡_};
 ghost use lib.ListN.{length};
 ghost use Rattle.semantics.specs.Verdict.{judge, loosely};
 ghost use Rattle.semantics.specs.Whole.{verdictOf, runOf, markOf, workAfter};
 ghost use Rattle.texts.specs.Answers.{toldVerdict};
 ghost use Rattle.counting.specs.Cells.{cellsTold, Owners};
-ghost use Rattle.hostlink.specs.Replies.{verdictReply, countReply, Replies};
+ghost use Rattle.replies.specs.Replies.{verdictReply, countReply, Replies};
 
 // The verdict on a text.
 #[no_mangle]

@@ -1,11 +1,11 @@
-use Rattle.printing.proofs.MarkTelling.{script-marked}
+use Rattle.telling.proofs.MarkTelling.{script-marked}
 use borrow.Author.Needs.{needs}
 use Rattle.printing.proofs.markings.mark_scripted.Statement.{statement}
 use Rattle.printing.proofs.markings.mark_scripted.Tie as tie
 use Rattle.printing.proofs.markings.mark_scripted.Reads as reads
 use Rattle.printing.proofs.markings.mark_scripted.Lts as lts
 use Rattle.marking.proofs.mark.Reads as mark-reads
-use Rattle.printing.proofs.markings.mark_shown.Reads as mark-shown-reads
+use Rattle.telling.proofs.markings.mark_shown.Reads as mark-shown-reads
 
 -- src/markings.rt:64:9
 mark-requires : tie.Need-mark-requires

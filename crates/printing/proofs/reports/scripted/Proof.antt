@@ -1,11 +1,11 @@
-use Rattle.printing.proofs.Telling.{script-shown}
+use Rattle.telling.proofs.Telling.{script-shown}
 use borrow.Author.Needs.{needs}
 use Rattle.printing.proofs.reports.scripted.Statement.{statement}
 use Rattle.printing.proofs.reports.scripted.Tie as tie
 use Rattle.printing.proofs.reports.scripted.Reads as reads
 use Rattle.printing.proofs.reports.scripted.Lts as lts
 use Rattle.running.proofs.run.Reads as run-reads
-use Rattle.printing.proofs.reports.shown.Reads as shown-reads
+use Rattle.telling.proofs.reports.shown.Reads as shown-reads
 
 -- src/reports.rt:116:9
 run-requires : tie.Need-run-requires

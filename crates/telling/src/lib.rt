@@ -1,0 +1,3 @@
+// The reports of runs as rows, written into lent bytes.
+pub mod markings;
+pub mod reports;
