@@ -44,10 +44,10 @@ use Rattle.judge.proofs.BodyStands.{main-holds, proc-holds}
 use Rattle.judge.proofs.BodyEnters.{new-name, known-or, below-32}
 use Rattle.loosely.specs.declared.easing.Eased.{Eased}
 use Rattle.loosely.specs.Standing.{BodyKept, AllKept, LooseStanding}
-use Rattle.loosely.specs.Noting.{noted}
+use Rattle.noting.specs.Noting.{noted}
 use Rattle.loosely.specs.Easing.{looseBody, BodyEased, GivesEased}
 use Rattle.loosely.specs.Entering.{looseMain, looseProc, LooseStands, LooseTold}
-use Rattle.loosely.proofs.Notes.{offset-stack, noted-offset, noted-count, noted-newest, noted-stmts, noted-types, noted-before}
+use Rattle.noting.proofs.Notes.{offset-stack, noted-offset, noted-count, noted-newest, noted-stmts, noted-types, noted-before}
 use Rattle.loosely.proofs.Keeping.{Telling, scene-tells, extends-self, clipped-scene, all-on, all-more}
 use Rattle.loosely.proofs.Staging.{BodyRead, main-fault, main-fits, proc-fault, proc-fits}
 

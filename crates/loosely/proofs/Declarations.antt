@@ -31,7 +31,7 @@ use Rattle.judge.specs.Whole.{headIn}
 use Rattle.judge.proofs.Declaring.{Plain, a-type, a-var, Fixed, some-first, not-last, entry-there, head-first, head-last, head-plain}
 use Rattle.loosely.specs.Standing.{AllKept, LooseStanding}
 use Rattle.loosely.specs.Entering.{LooseTold, LooseEnters}
-use Rattle.loosely.proofs.Notes.{same-line}
+use Rattle.noting.proofs.Notes.{same-line}
 use Rattle.loosely.proofs.Keeping.{extends-self, scene-tells, all-on}
 
 -- ---- such a line has no body

@@ -55,11 +55,11 @@ use Rattle.judge.proofs.Dispatch.{less-nodes, line-nodes}
 use Rattle.judge.proofs.Lines.{line-headed, line-empty, line-headless}
 use Rattle.judge.proofs.Opening.{fourth, fifth, sixth, no-leaf, no-shut}
 use Rattle.loosely.specs.declared.easing.Eased.{Eased}
-use Rattle.loosely.specs.Noting.{noted}
+use Rattle.noting.specs.Noting.{noted}
 use Rattle.loosely.specs.Easing.{GivesEased}
 use Rattle.loosely.specs.Entering.{looseMain, looseProc, ProcDeclared, LooseTold, LooseEnters, ProcLoosely}
 use Rattle.loosely.specs.Judging.{JudgesLoosely, LooseKnown, LooseForm, LooseHeaded}
-use Rattle.loosely.proofs.Notes.{noted-long}
+use Rattle.noting.proofs.Notes.{noted-long}
 use Rattle.loosely.proofs.BodyLines.{main-told, proc-told}
 use Rattle.loosely.proofs.Declarations.{declared-enters}
 use Rattle.loosely.proofs.Rows.{line-judged, line-answer}

@@ -19,7 +19,7 @@ use Rattle.bodies.specs.Table.{clip, typesOf, AllStand}
 use Rattle.bodies.proofs.Calling.{length-snoc, at-before, at-last}
 use Rattle.bodies.proofs.Clipping.{clip-low, clip-high}
 use Rattle.loosely.specs.Standing.{BodyKept, AllKept}
-use Rattle.loosely.proofs.Notes.{SameLine}
+use Rattle.noting.proofs.Notes.{SameLine}
 
 -- ---- types
 

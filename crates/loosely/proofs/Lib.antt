@@ -1,5 +1,4 @@
 pub mod Easings
-pub mod Notes
 pub mod Keeping
 pub mod Staging
 pub mod BodyLines

@@ -1,5 +1,4 @@
 pub mod Standing
-pub mod Noting
 pub mod Easing
 pub mod Entering
 pub mod Judging

@@ -1,7 +1,6 @@
 // The lines with a body, `proc` and `main`.
 use crate::easing::Eased;
 use crate::easing::loose_body;
-use crate::noting::note_body;
 use declarations::Naming;
 use declarations::State;
 use declarations::name_at;
@@ -9,6 +8,7 @@ use declarations::named_fault;
 use declarations::narrow;
 use judgements::Entered;
 use judgements::Known;
+use noting::note_body;
 use parts::lowest;
 use symbols::declare;
 use tables::Fault;

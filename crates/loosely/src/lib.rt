@@ -3,4 +3,3 @@ pub mod bodied;
 pub mod checking;
 pub mod easing;
 pub mod lined;
-pub mod noting;

@@ -6,7 +6,7 @@ use Rattle.loosely.proofs.bodied.main_line.Reads as reads
 use Rattle.loosely.proofs.bodied.main_line.Lts as lts
 use Rattle.loosely.proofs.bodied.main_entry.Reads as main-entry-reads
 use Rattle.loosely.proofs.easing.loose_body.Reads as loose-body-reads
-use Rattle.loosely.proofs.noting.note_body.Reads as note-body-reads
+use Rattle.noting.proofs.note_body.Reads as note-body-reads
 
 -- src/bodied.rt:72:9
 loose-body-requires : tie.Need-loose-body-requires

@@ -7,7 +7,7 @@ use Rattle.loosely.proofs.bodied.proc_named.Lts as lts
 use Rattle.declarations.proofs.named_fault.Reads as named-fault-reads
 use Rattle.loosely.proofs.bodied.proc_end.Reads as proc-end-reads
 use Rattle.loosely.proofs.easing.loose_body.Reads as loose-body-reads
-use Rattle.loosely.proofs.noting.note_body.Reads as note-body-reads
+use Rattle.noting.proofs.note_body.Reads as note-body-reads
 use Rattle.parts.proofs.lowest.Reads as lowest-reads
 
 -- src/bodied.rt:131:9

@@ -1,49 +1,49 @@
-use Rattle.loosely.proofs.Notes.{first-noted}
+use Rattle.noting.proofs.Notes.{first-noted}
 use borrow.Author.Needs.{needs}
-use Rattle.loosely.proofs.noting.note_first.Statement.{statement}
-use Rattle.loosely.proofs.noting.note_first.Tie as tie
-use Rattle.loosely.proofs.noting.note_first.Reads as reads
-use Rattle.loosely.proofs.noting.note_first.Lts as lts
-use Rattle.loosely.proofs.noting.offset_in.Reads as offset-in-reads
+use Rattle.noting.proofs.note_first.Statement.{statement}
+use Rattle.noting.proofs.note_first.Tie as tie
+use Rattle.noting.proofs.note_first.Reads as reads
+use Rattle.noting.proofs.note_first.Lts as lts
+use Rattle.noting.proofs.offset_in.Reads as offset-in-reads
 use Rattle.worklist.proofs.put.Reads as put-reads
 
--- src/noting.rt:22:17
+-- src/lib.rt:22:17
 cast-p : tie.Need-cast-p
 cast-p c = search needs
 
--- src/noting.rt:22:13
+-- src/lib.rt:22:13
 mul-p : tie.Need-mul-p
 mul-p c = search needs
 
--- src/noting.rt:23:20
+-- src/lib.rt:23:20
 offset-in-requires : tie.Need-offset-in-requires
 offset-in-requires c κs = search needs
 
--- src/noting.rt:23:5
+-- src/lib.rt:23:5
 put-requires : tie.Need-put-requires
 put-requires c κs = search needs
 
--- src/noting.rt:24:17
+-- src/lib.rt:24:17
 add-put : tie.Need-add-put
 add-put c = search needs
 
--- src/noting.rt:24:5
+-- src/lib.rt:24:5
 put-requires-2 : tie.Need-put-requires-2
 put-requires-2 c κs = search needs
 
--- src/noting.rt:25:17
+-- src/lib.rt:25:17
 add-put-2 : tie.Need-add-put-2
 add-put-2 c = search needs
 
--- src/noting.rt:25:5
+-- src/lib.rt:25:5
 put-requires-3 : tie.Need-put-requires-3
 put-requires-3 c κs = search needs
 
--- src/noting.rt:18:1
+-- src/lib.rt:18:1
 same-length : tie.Need-same-length
 same-length c = search needs
 
--- src/noting.rt:18:1
+-- src/lib.rt:18:1
 returns : tie.Need-returns
 returns c = search first-noted
 

@@ -11,7 +11,7 @@ use Rattle.arith.proofs.Order.{le-or-lt}
 use Rattle.semantics.specs.Trees.{ended, readBytes, stackAt, wordAt, restAt}
 use Rattle.bodies.specs.Table.{offsetOf, countOf, newestOf, stmtsBefore, typesOf}
 use Rattle.judgements.specs.declared.Known.{Known}
-use Rattle.loosely.specs.Noting.{offsetIn, notedFirst, notedLast, noted}
+use Rattle.noting.specs.Noting.{offsetIn, notedFirst, notedLast, noted}
 
 -- ---- the offset
 

@@ -1,23 +1,23 @@
-use Rattle.loosely.proofs.Notes.{offset-laws}
+use Rattle.noting.proofs.Notes.{offset-laws}
 use borrow.Author.Needs.{needs}
-use Rattle.loosely.proofs.noting.offset_in.Statement.{statement}
-use Rattle.loosely.proofs.noting.offset_in.Tie as tie
-use Rattle.loosely.proofs.noting.offset_in.Reads as reads
-use Rattle.loosely.proofs.noting.offset_in.Lts as lts
+use Rattle.noting.proofs.offset_in.Statement.{statement}
+use Rattle.noting.proofs.offset_in.Tie as tie
+use Rattle.noting.proofs.offset_in.Reads as reads
+use Rattle.noting.proofs.offset_in.Lts as lts
 
--- src/noting.rt:12:16
+-- src/lib.rt:12:16
 cast-result : tie.Need-cast-result
 cast-result c = search needs
 
--- src/noting.rt:12:9
+-- src/lib.rt:12:9
 returns : tie.Need-returns
 returns c = search offset-laws
 
--- src/noting.rt:14:5
+-- src/lib.rt:14:5
 cast-result-2 : tie.Need-cast-result-2
 cast-result-2 c = search needs
 
--- src/noting.rt:8:1
+-- src/lib.rt:8:1
 returns-2 : tie.Need-returns-2
 returns-2 c = search offset-laws
 

@@ -1,8 +1,8 @@
-// A body's line in the bodies' table.
+// A body's line in the bodies' table (`bodies`), as the judge of the marking machine writes it.
 use judgements::Known;
 use worklist::put;
 ghost use mathlib.Core.Path.{_≡_};
-ghost use Rattle.loosely.specs.Noting.{offsetIn, notedFirst, notedLast, noted};
+ghost use Rattle.noting.specs.Noting.{offsetIn, notedFirst, notedLast, noted};
 
 // An offset as a number of the table.
 fn offset_in(text: &[u8], at: usize) -> u32

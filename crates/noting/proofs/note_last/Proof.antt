@@ -1,40 +1,40 @@
-use Rattle.loosely.proofs.Notes.{last-noted}
+use Rattle.noting.proofs.Notes.{last-noted}
 use borrow.Author.Needs.{needs}
-use Rattle.loosely.proofs.noting.note_last.Statement.{statement}
-use Rattle.loosely.proofs.noting.note_last.Tie as tie
-use Rattle.loosely.proofs.noting.note_last.Reads as reads
-use Rattle.loosely.proofs.noting.note_last.Lts as lts
+use Rattle.noting.proofs.note_last.Statement.{statement}
+use Rattle.noting.proofs.note_last.Tie as tie
+use Rattle.noting.proofs.note_last.Reads as reads
+use Rattle.noting.proofs.note_last.Lts as lts
 use Rattle.worklist.proofs.put.Reads as put-reads
 
--- src/noting.rt:33:17
+-- src/lib.rt:33:17
 cast-p : tie.Need-cast-p
 cast-p c = search needs
 
--- src/noting.rt:33:13
+-- src/lib.rt:33:13
 mul-p : tie.Need-mul-p
 mul-p c = search needs
 
--- src/noting.rt:34:17
+-- src/lib.rt:34:17
 add-put : tie.Need-add-put
 add-put c = search needs
 
--- src/noting.rt:34:5
+-- src/lib.rt:34:5
 put-requires : tie.Need-put-requires
 put-requires c κs = search needs
 
--- src/noting.rt:35:17
+-- src/lib.rt:35:17
 add-put-2 : tie.Need-add-put-2
 add-put-2 c = search needs
 
--- src/noting.rt:35:5
+-- src/lib.rt:35:5
 put-requires-2 : tie.Need-put-requires-2
 put-requires-2 c κs = search needs
 
--- src/noting.rt:29:1
+-- src/lib.rt:29:1
 same-length : tie.Need-same-length
 same-length c = search needs
 
--- src/noting.rt:29:1
+-- src/lib.rt:29:1
 returns : tie.Need-returns
 returns c = search last-noted
 
