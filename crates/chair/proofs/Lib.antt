@@ -1,3 +1,5 @@
 pub mod Keeping
 pub mod Lists
+pub mod Moving
 pub mod Whole
+pub mod Steering
