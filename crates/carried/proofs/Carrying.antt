@@ -16,8 +16,8 @@ use Rattle.semantics.specs.Calculate.{Result, is, fails, stuck, _>>=_}
 use Rattle.semantics.specs.Machine.{Store, readCells, sole, oneCell}
 use Rattle.semantics.specs.Marking.{TypedValue, TypedPlace, typedValue, typedAs, wanted}
 use Rattle.semantics.specs.Types.{Types, sizeOf}
-use Rattle.evaluate.specs.Words.{wordOf, InRange, Ranged, Means}
-use Rattle.evaluate.proofs.Ranging.{range-value, above-fault}
+use Rattle.calc.specs.Words.{wordOf, InRange, Ranged, Means}
+use Rattle.calc.proofs.Ranging.{range-value, above-fault}
 use Rattle.carried.specs.declared.values.Carried.{Carried}
 use Rattle.carried.specs.Values.{carriedOf, reachedOf, MarkRanged, MarkMeans, simple?, Carries, Reaches}
 use Rattle.carried.specs.Steps.{Wants}

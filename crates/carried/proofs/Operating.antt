@@ -31,9 +31,9 @@ use Rattle.kinds.proofs.OneSided.{one-sided-rule}
 use Rattle.kinds.specs.declared.Side.{Side}
 use Rattle.kinds.specs.declared.Ruling.{Ruling}
 use Rattle.kinds.specs.declared.Ruling.the-variants.{Misfit, Fits}
-use Rattle.evaluate.specs.Words.{wordOf, applied1, InRange}
-use Rattle.evaluate.proofs.Combining.{value-again}
-use Rattle.evaluate.proofs.Ranging.{range-value, low-range, Bounded, plain, compute-ranged, compute1-ranged}
+use Rattle.calc.specs.Words.{wordOf, applied1, InRange}
+use Rattle.calc.proofs.Combining.{value-again}
+use Rattle.calc.proofs.Ranging.{range-value, low-range, Bounded, plain, compute-ranged, compute1-ranged}
 use Rattle.tables.specs.declared.Info.{Info}
 use Rattle.tables.specs.Descriptions.{infoOf}
 use Rattle.tables.specs.Sides.{sideIn}

@@ -26,10 +26,10 @@ use Rattle.semantics.specs.Marking.{TypedValue, TypedPlace, typedValue, typedPl
 use Rattle.semantics.specs.Trees.{wordAt}
 use Rattle.semantics.specs.Types.{Types, Shape, ordinalShape, setShape, arrayShape, recordShape, Field, infoAt, isOrdinal, isSet, hostBy, cellsBy, hostOf, sizeOf, ordinal?, set?, array?, fieldOf}
 use Rattle.semantics.proofs.TypeTables.{Table}
-use Rattle.evaluate.specs.Words.{wordOf, resultOf, placeWord, cellOf, storeWord, cellsWord, cellsAt, distanceWord, elementWord, shiftedWord, InRange, Ranged, Means, Holds, first}
-use Rattle.evaluate.proofs.Combining.{value-again}
-use Rattle.evaluate.proofs.Leaves.{natural-small}
-use Rattle.evaluate.proofs.Ranging.{range-value, low-range}
+use Rattle.calc.specs.Words.{wordOf, resultOf, placeWord, cellOf, storeWord, cellsWord, cellsAt, distanceWord, elementWord, shiftedWord, InRange, Ranged, Means, Holds, first}
+use Rattle.calc.proofs.Combining.{value-again}
+use Rattle.calc.proofs.Leaves.{natural-small}
+use Rattle.calc.proofs.Ranging.{range-value, low-range}
 use Rattle.evaluate.proofs.Walking.{capped-cells, one-or-more, le-ltb-cap, cap-add, test-cases}
 use Rattle.tables.specs.declared.Info.{Info}
 use Rattle.tables.specs.Descriptions.{infoOf, fieldPlace}

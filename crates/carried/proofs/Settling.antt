@@ -29,9 +29,9 @@ use Rattle.semantics.specs.Marking.{typedValue, wanted}
 use Rattle.semantics.specs.Types.{Types, Shape, ordinalShape, setShape, arrayShape, recordShape, infoAt, isOrdinal, hostBy, hostOf, ordinal?}
 use Rattle.semantics.proofs.LayoutCode.{signed-bits}
 use Rattle.semantics.proofs.TypeTables.{Table}
-use Rattle.evaluate.specs.Words.{wordOf, testedWord, latestIn, InRange}
-use Rattle.evaluate.proofs.Combining.{value-again, fault-again}
-use Rattle.evaluate.proofs.Ranging.{wide}
+use Rattle.calc.specs.Words.{wordOf, testedWord, latestIn, InRange}
+use Rattle.calc.proofs.Combining.{value-again, fault-again}
+use Rattle.calc.proofs.Ranging.{wide}
 use Rattle.tables.specs.declared.Info.{Info}
 use Rattle.tables.specs.Descriptions.{infoOf}
 use Rattle.tables.specs.Sides.{hostIn}

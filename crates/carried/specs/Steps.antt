@@ -23,7 +23,7 @@ use Rattle.kinds.specs.Kinds.{opNumber}
 use Rattle.kinds.specs.Functions.{funNumber}
 use Rattle.kinds.specs.declared.Ruling.{Ruling}
 use Rattle.kinds.specs.declared.Ruling.the-variants.{Misfit, Fits}
-use Rattle.evaluate.specs.Words.{wordOf, applied1, distanceWord, elementWord, Holds}
+use Rattle.calc.specs.Words.{wordOf, applied1, distanceWord, elementWord, Holds}
 use Rattle.tables.specs.declared.Info.{Info}
 use Rattle.tables.specs.Descriptions.{infoOf}
 use Rattle.carried.specs.declared.values.Carried.{Carried}

@@ -13,7 +13,7 @@ use Rattle.semantics.specs.Machine.{Store, readCells, sole}
 use Rattle.semantics.specs.Marking.{TypedValue, TypedPlace}
 use Rattle.semantics.specs.Types.{Types, ordinal?, set?, sizeOf}
 use Rattle.semantics.proofs.TypeSizes.{SmallTypes}
-use Rattle.evaluate.specs.Words.{wordOf, InRange}
+use Rattle.calc.specs.Words.{wordOf, InRange}
 use Rattle.tables.specs.Scene.{Scene}
 use Rattle.carried.specs.declared.values.Carried.{Carried}
 use Rattle.carried.specs.declared.places.Reached.{Reached}

@@ -1,8 +1,8 @@
 // The members of a set.
 use crate::values::Carried;
 use crate::values::wanted;
-use evaluate::operators::test;
-use evaluate::words::signed_of;
+use calc::operators::test;
+use calc::words::signed_of;
 use tables::describe;
 use tables::host_of;
 ghost use mathlib.Core.Path.{_≡_};

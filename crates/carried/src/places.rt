@@ -1,12 +1,12 @@
 // Places with their types: elements, fields, and the cells that stand there.
 use crate::values::Carried;
 use crate::values::STUCK;
-use evaluate::cells::cells_at;
-use evaluate::operators::distance;
-use evaluate::operators::element;
-use evaluate::operators::shifted;
-use evaluate::words::GREATEST;
-use evaluate::words::natural;
+use calc::cells::cells_at;
+use calc::operators::distance;
+use calc::operators::element;
+use calc::operators::shifted;
+use calc::words::GREATEST;
+use calc::words::natural;
 use tables::Info;
 use tables::describe;
 use tables::find_field;

@@ -1,5 +1,5 @@
 // A value with its kind.
-use evaluate::words::GREATEST;
+use calc::words::GREATEST;
 ghost use mathlib.Core.Path.{_≡_};
 ghost use Rattle.carried.specs.Values.{carriedOf};
 ghost use Rattle.carried.specs.Steps.{Wants};

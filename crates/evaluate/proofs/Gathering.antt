@@ -27,10 +27,10 @@ use Rattle.semantics.specs.Chair.{evalCode, gatherCodes}
 use Rattle.semantics.specs.Code.{Code, Codes, noCodes, _with_}
 use Rattle.semantics.specs.Machine.{Store, sole}
 use Rattle.semantics.specs.Readback.{integerAt, codesFrom, readCode, readCodes}
-use Rattle.evaluate.specs.Words.{wordOf, resultOf, InRange, Ranged, Means, Holds, first, testedWord, Integral}
+use Rattle.calc.specs.Words.{wordOf, resultOf, InRange, Ranged, Means, Holds, first, testedWord, Integral}
 use Rattle.evaluate.specs.Walks.{Evaluates, Gathers}
-use Rattle.evaluate.proofs.Combining.{value-again}
-use Rattle.evaluate.proofs.Ranging.{decoded, low-range, range-value}
+use Rattle.calc.proofs.Combining.{value-again}
+use Rattle.calc.proofs.Ranging.{decoded, low-range, range-value}
 
 -- ---- one member more
 has-joined : (f : ℕ → Bool) (j : ℕ) → j < 32 → has j (membersOf (setValue (those f 0 32))) ≡ f j

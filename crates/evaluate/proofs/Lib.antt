@@ -1,6 +1,2 @@
-pub mod Leaves
-pub mod Combining
-pub mod Placing
-pub mod Ranging
 pub mod Walking
 pub mod Gathering

@@ -10,7 +10,7 @@ use borrow.Author.Tests.{eq-eqb, ne-eqb, lt-ltb, le-ltb, leb-true, leb-false, eq
 use borrow.Author.Needs.{sfits-of}
 use lib.Dec.{eqb, ltb, leb}
 use Rattle.arith.proofs.Order.{le-not, not-le}
-use Rattle.evaluate.proofs.Combining.{fault-again, value-again}
+use Rattle.calc.proofs.Combining.{fault-again, value-again}
 use lib.IntN.{ℤ, pos, negsuc, _+ℤ_, _-ℤ_}
 use lib.Signed.{leZ, ltZ, mag, nonNeg}
 use lib.ListN.{length, getD}
@@ -34,11 +34,11 @@ use Rattle.semantics.specs.Code.{Code, literal, load, lastNumber, makeSet, calc
 use Rattle.semantics.specs.Machine.{Store, readCell, readCells, sole, oneCell, shortCircuited, defined, undefined}
 use Rattle.semantics.specs.Operators.{predIn, succIn}
 use Rattle.semantics.specs.Readback.{codeOps, codeOp, placeOp, operationAt, operation1At, integerAt, codeFrom, placeFrom, readCode, readPlace, readCodes}
-use Rattle.evaluate.specs.Words.{wordOf, resultOf, applied, applied1, InRange, Ranged, Means, Holds, first, undefinedWord, storeWord, latestIn, allValues, cellsWord, cellsAt, Integral, placeWord, cellOf, distanceWord, elementWord, shiftedWord}
+use Rattle.calc.specs.Words.{wordOf, resultOf, applied, applied1, InRange, Ranged, Means, Holds, first, undefinedWord, storeWord, latestIn, allValues, cellsWord, cellsAt, Integral, placeWord, cellOf, distanceWord, elementWord, shiftedWord}
 use Rattle.evaluate.specs.Walks.{Evaluates, Places, Gathers, capped}
-use Rattle.evaluate.proofs.Leaves.{small-signed}
-use Rattle.evaluate.proofs.Placing.{index-span, index-up}
-use Rattle.evaluate.proofs.Ranging.{Bounded, plain, wide, low-range, range-value, above-fault, decoded, binary-means, unary-means, fault-means, value-means}
+use Rattle.calc.proofs.Leaves.{small-signed}
+use Rattle.calc.proofs.Placing.{index-span, index-up}
+use Rattle.calc.proofs.Ranging.{Bounded, plain, wide, low-range, range-value, above-fault, decoded, binary-means, unary-means, fault-means, value-means}
 
 -- ---- what a node is
 binary-op : (n : ℕ) → 8 < n → n < 29 → codeOp n ≡ Binary (n - 9)

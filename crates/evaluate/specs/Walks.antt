@@ -6,7 +6,7 @@ use Rattle.semantics.specs.Calculate.{Result, is, _>>=_}
 use Rattle.semantics.specs.Chair.{evalCode, placeCode, gatherCodes}
 use Rattle.semantics.specs.Machine.{Store}
 use Rattle.semantics.specs.Readback.{readCode, readPlace, readCodes}
-use Rattle.evaluate.specs.Words.{Means, Holds, first}
+use Rattle.calc.specs.Words.{Means, Holds, first}
 
 -- r is the word of the value of the expression at pc
 pub record Evaluates (l : List ℕ) (ws : List ℤ) (pc depth : ℕ) (r : ℤ) : Type 0 where

@@ -1,22 +1,22 @@
 // The walk over expressions, places and members.
-use crate::cells::cell;
-use crate::cells::cells;
-use crate::cells::cells_at;
-use crate::cells::latest;
-use crate::operators::binary;
-use crate::operators::element_of;
-use crate::operators::pred;
-use crate::operators::shifted;
-use crate::operators::succ;
-use crate::operators::test;
-use crate::operators::unary;
-use crate::words::GREATEST;
-use crate::words::integral;
-use crate::words::number;
+use calc::cells::cell;
+use calc::cells::cells;
+use calc::cells::cells_at;
+use calc::cells::latest;
+use calc::operators::binary;
+use calc::operators::element_of;
+use calc::operators::pred;
+use calc::operators::shifted;
+use calc::operators::succ;
+use calc::operators::test;
+use calc::operators::unary;
+use calc::words::GREATEST;
+use calc::words::integral;
+use calc::words::number;
 ghost use Prim.Native.Nat.{_+_, _<_};
 ghost use lib.ListN.{getD};
 ghost use Rattle.semantics.specs.Readback.{integerAt};
-ghost use Rattle.evaluate.specs.Words.{codeIn};
+ghost use Rattle.calc.specs.Words.{codeIn};
 ghost use Rattle.evaluate.specs.Walks.{Evaluates, Places, Gathers};
 
 // The value of the expression at pc: the most common ones here, in ways that need no stack. Past 16,376 a node may reach over

@@ -23,7 +23,7 @@ use Rattle.semantics.specs.Chair.{evalCode, placeCode, runAct}
 use Rattle.semantics.specs.Machine.{Store, State, state, Answer, answer, normal, raised, branch, passOn, raiseNumber, raising, oneCell, readCell, readCells, undefined, sole, stored, storeOrdinal, storeWhole, withResult, Procs}
 use Rattle.semantics.specs.Readback.{actOpAt, integerAt, readAct, readCode, readPlace}
 use Rattle.evaluate.specs.Walks.{Evaluates, Places, capped}
-use Rattle.evaluate.specs.Words.{InRange, Means, Holds, first, cellsWord, latestIn}
+use Rattle.calc.specs.Words.{InRange, Means, Holds, first, cellsWord, latestIn}
 use Rattle.steps.specs.Ends.{cellsIn, leftIn, raisedWord, faultIn, notedIn, numberIn, Raises, RaisesNumber}
 use Rattle.steps.specs.Stands.{Stands, Ends, Runs, after}
 use Rattle.leaves.specs.Cells.{Addresses, Puts, Copies, Copying}

@@ -19,7 +19,7 @@ use Rattle.semantics.specs.Base.{pick}
 use Rattle.semantics.specs.Calculate.{Result, is, fails, stuck, _>>=_, natOf, numericError, rangeError, undefinedError}
 use Rattle.semantics.specs.Machine.{Store, State, state, Answer, answer, Outcome, normal, spent, raised, raising, noting, sole, readCell, withResult}
 use Rattle.evaluate.specs.Walks.{capped}
-use Rattle.evaluate.specs.Words.{InRange, Ranged, wordOf, Means, Holds, first, latestIn, storeWord, undefinedWord}
+use Rattle.calc.specs.Words.{InRange, Ranged, wordOf, Means, Holds, first, latestIn, storeWord, undefinedWord}
 use Rattle.steps.specs.Ends.{cellsIn, placeIn, leftIn, toldBy, stepWord, raisedWord, faultIn, notedIn, Raises}
 use Rattle.steps.specs.Stands.{Tidy, Stands, Ends, Runs}
 

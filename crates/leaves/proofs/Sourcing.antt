@@ -27,7 +27,7 @@ use Rattle.semantics.specs.Machine.{Store, oneCell, readCell, readCells, shortC
 use Rattle.semantics.specs.Operators.{predIn, succIn}
 use Rattle.semantics.specs.Readback.{codeFrom, integerAt, operationAt, operation1At, codeOp, codeOps, readCode, readPlace, readCodes}
 use Rattle.evaluate.specs.Walks.{Evaluates, Places, capped}
-use Rattle.evaluate.specs.Words.{InRange, Ranged, Means, Holds, first, wordOf}
+use Rattle.calc.specs.Words.{InRange, Ranged, Means, Holds, first, wordOf}
 use Rattle.leaves.specs.declared.simple.Source.{Source}
 use Rattle.leaves.specs.declared.simple.Source.the-variants.{Value, Cells}
 use Rattle.leaves.specs.Sources.{Single, Placed, SourceIs, Sources}

@@ -15,7 +15,7 @@ use Rattle.arith.proofs.Order.{le-or-lt, le-not, not-le}
 use Rattle.semantics.specs.Base.{pick}
 use Rattle.semantics.specs.Calculate.{Result, is, fails, natOf, undefinedError}
 use Rattle.semantics.specs.Machine.{Store, stored, readCell, readCells, defined, undefined}
-use Rattle.evaluate.specs.Words.{storeWord, latestIn, InRange, Ranged, wordOf, Means, Holds, allValues, cellsWord, undefinedWord}
+use Rattle.calc.specs.Words.{storeWord, latestIn, InRange, Ranged, wordOf, Means, Holds, allValues, cellsWord, undefinedWord}
 use Rattle.steps.specs.Ends.{cellsIn, faultIn}
 use Rattle.steps.specs.Stands.{Tidy, Stands}
 use Rattle.arith.specs.Integers.{inside}

@@ -19,7 +19,7 @@ use Rattle.arith.proofs.Order.{le-or-lt}
 use Rattle.arith.proofs.Machine.{wire}
 use Rattle.semantics.specs.Base.{pick}
 use Rattle.semantics.specs.Calculate.{natOf}
-use Rattle.evaluate.specs.Words.{storeWord}
+use Rattle.calc.specs.Words.{storeWord}
 use Rattle.steps.specs.Ends.{cellsIn}
 use Rattle.leaves.specs.Cells.{Addresses, Puts, Copies, Copying, CopyingUp, CopyingFrom, CopyingDown}
 

@@ -4,7 +4,7 @@ use mathlib.Core.List.{List}
 use Prim.Native.Nat.{ℕ, _+_, _<_, _≤_}
 use lib.IntN.{ℤ, pos}
 use lib.ListN.{getD, length}
-use Rattle.evaluate.specs.Words.{storeWord}
+use Rattle.calc.specs.Words.{storeWord}
 
 -- the number that a place's word is
 pub record Addresses (w : ℤ) (r : ℕ) : Type 0 where

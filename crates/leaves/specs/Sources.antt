@@ -9,7 +9,7 @@ use Rattle.semantics.specs.Chair.{evalCode, placeCode}
 use Rattle.semantics.specs.Machine.{Store, State, state, Answer, oneCell, readCells, storeOrdinal, storeWhole, withResult}
 use Rattle.semantics.specs.Readback.{integerAt, readCode, readPlace}
 use Rattle.evaluate.specs.Walks.{capped}
-use Rattle.evaluate.specs.Words.{InRange, Means, Holds, first}
+use Rattle.calc.specs.Words.{InRange, Means, Holds, first}
 use Rattle.leaves.specs.declared.simple.Source.{Source}
 use Rattle.leaves.specs.declared.simple.Source.the-variants.{Value, Cells}
 use Rattle.steps.specs.Ends.{leftIn}

@@ -1,9 +1,9 @@
 // The arms of a `case`.
-use evaluate::words::integer;
-use evaluate::words::number;
+use calc::words::integer;
+use calc::words::number;
 use steps::links::next_at;
 ghost use mathlib.Core.Path.{_≡_};
-ghost use Rattle.evaluate.specs.Words.{codeIn};
+ghost use Rattle.calc.specs.Words.{codeIn};
 ghost use Rattle.semantics.specs.Chair.{matches};
 ghost use Rattle.semantics.specs.Readback.{integerAt, readLabels};
 ghost use Rattle.leaves.specs.Arms.{Chooses};

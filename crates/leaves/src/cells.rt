@@ -1,9 +1,9 @@
 // Storing into cells. The store has as many as its word 2050 says; a cell outside changes nothing.
-use evaluate::cells::cell;
+use calc::cells::cell;
 ghost use Prim.Native.Nat.{_+_};
 ghost use Rattle.steps.specs.Ends.{cellsIn};
 ghost use Rattle.leaves.specs.Cells.{Puts, Copying, CopyingUp, CopyingDown, Addresses};
-ghost use Rattle.evaluate.specs.Words.{storeWord};
+ghost use Rattle.calc.specs.Words.{storeWord};
 
 // A place's word as a number: what is no place is past every cell.
 pub fn address(w: i64) -> u32

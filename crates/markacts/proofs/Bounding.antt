@@ -29,7 +29,7 @@ use Rattle.semantics.specs.Syntax as Syntax
 use Rattle.semantics.specs.Trees.{word, form, Trees, end, _then_, Run, first, stackAt}
 use Rattle.semantics.specs.Types.{Types, Var, Vars, variable, infoAt, hostOf, ordinal?}
 use Rattle.semantics.proofs.Inversion.{none-some, some-inj, bind-some}
-use Rattle.evaluate.specs.Words.{Holds}
+use Rattle.calc.specs.Words.{Holds}
 use Rattle.shapes.specs.declared.Atom.{Atom}
 use Rattle.shapes.specs.declared.Atom.the-variants as AT
 use Rattle.shapes.specs.Heads as heads

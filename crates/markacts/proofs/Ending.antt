@@ -17,7 +17,7 @@ use Rattle.arith.specs.Integers.{inside}
 use Rattle.semantics.specs.Base.{pick}
 use Rattle.semantics.specs.Calculate.{Result, is, fails, natOf}
 use Rattle.semantics.specs.Machine.{Store, State, state, Answer, answer, normal, sticks, raising, withResult}
-use Rattle.evaluate.specs.Words.{InRange}
+use Rattle.calc.specs.Words.{InRange}
 use Rattle.steps.specs.Ends.{leftIn, toldBy, raisedWord, faultIn, Raises}
 use Rattle.steps.specs.Stands.{Stands, Ends}
 use Rattle.leaves.proofs.Ending.{left-most, left-of, raised-fewer, normal-ends, raising-ends}

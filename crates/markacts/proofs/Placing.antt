@@ -19,7 +19,7 @@ use Rattle.semantics.specs.Environment.{Environment}
 use Rattle.semantics.specs.Machine.{Store, State, state, answer, normal, branch, raising, readCells, sole, stored, storeOrdinal, storeWhole, withResult}
 use Rattle.semantics.specs.Marking.{TypedValue, TypedPlace, require, markStore}
 use Rattle.semantics.specs.Types.{Shape, ordinalShape, setShape, arrayShape, recordShape, infoAt, isOrdinal, isSet, hostOf, ordinal?, sizeOf}
-use Rattle.evaluate.specs.Words.{InRange, Holds, allValues, wordOf}
+use Rattle.calc.specs.Words.{InRange, Holds, allValues, wordOf}
 use Rattle.steps.specs.Ends.{cellsIn, Raises}
 use Rattle.leaves.specs.Cells.{Addresses, Puts, Copies, Copying}
 use Rattle.leaves.proofs.Ending.{left-most, raised-fewer}

@@ -14,7 +14,7 @@ use Rattle.semantics.specs.Script.{Expr, assign, raise}
 use Rattle.semantics.specs.Syntax as Syntax
 use Rattle.semantics.specs.Trees.{first, stackAt}
 use Rattle.semantics.specs.Types.{ordinal?}
-use Rattle.evaluate.specs.Words.{Holds}
+use Rattle.calc.specs.Words.{Holds}
 use Rattle.shapes.specs.Parts.{rest, exprIn, targetIn}
 use Rattle.steps.specs.Ends.{leftIn}
 use Rattle.steps.specs.Stands.{after}

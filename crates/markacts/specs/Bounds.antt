@@ -14,7 +14,7 @@ use Rattle.semantics.specs.Script.{Expr}
 use Rattle.semantics.specs.Syntax as Syntax
 use Rattle.semantics.specs.Trees.{first, stackAt}
 use Rattle.semantics.specs.Types.{Types, Var, Vars, variable, infoAt}
-use Rattle.evaluate.specs.Words.{InRange, Holds}
+use Rattle.calc.specs.Words.{InRange, Holds}
 use Rattle.shapes.specs.Parts.{rest, exprIn, nameIn}
 use Rattle.carried.specs.declared.values.Carried.{Carried}
 use Rattle.carried.specs.declared.places.Reached.{Reached}

@@ -9,7 +9,7 @@ use Rattle.semantics.specs.Environment.{Environment}
 use Rattle.semantics.specs.Machine.{Store, state, storeOrdinal, storeWhole, withResult}
 use Rattle.semantics.specs.Marking.{TypedValue, TypedPlace, wanted, markStore}
 use Rattle.semantics.specs.Types.{hostOf}
-use Rattle.evaluate.specs.Words.{InRange}
+use Rattle.calc.specs.Words.{InRange}
 use Rattle.steps.specs.Ends.{leftIn}
 use Rattle.steps.specs.Stands.{Stands}
 use Rattle.carried.specs.declared.values.Carried.{Carried}

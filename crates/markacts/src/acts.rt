@@ -1,11 +1,11 @@
 // Assignments and `raise`, whose parts begin at an offset; conditions and the selectors of cases.
 use crate::ends::halting;
 use crate::storing::store_value;
+use calc::words::GREATEST;
 use carried::values::Carried;
 use carried::values::STUCK;
 use carried::values::value;
 use carried::values::wanted;
-use evaluate::words::GREATEST;
 use markexprs::walk::mark_expr;
 use markexprs::walk::mark_target;
 use skips::skip;

@@ -1,9 +1,9 @@
 // The control variable and the bounds of a `for`: they are met after both bounds are worked out.
+use calc::words::GREATEST;
+use calc::words::signed_of;
 use carried::places::Reached;
 use carried::values::Carried;
 use carried::values::STUCK;
-use evaluate::words::GREATEST;
-use evaluate::words::signed_of;
 use leaves::cells::address;
 use markexprs::walk::mark_expr;
 use markexprs::walk::mark_target;

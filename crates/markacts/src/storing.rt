@@ -1,9 +1,9 @@
 // A value stored at a place, both with their types: the kinds are met, then the range is tested.
 use crate::ends::sticking;
 use arith::in_range;
+use calc::words::signed_of;
 use carried::places::Reached;
 use carried::values::Carried;
-use evaluate::words::signed_of;
 use leaves::cells::address;
 use leaves::cells::copy;
 use leaves::cells::put;

@@ -16,7 +16,7 @@ use Rattle.semantics.specs.Calculate.{natOf}
 use Rattle.semantics.specs.Environment.{PlacedBody}
 use Rattle.semantics.specs.Machine.{raised, sticks, state}
 use Rattle.semantics.specs.Whole.{fresh, markBody}
-use Rattle.evaluate.specs.Words.{latestIn}
+use Rattle.calc.specs.Words.{latestIn}
 use Rattle.steps.specs.Ends.{leftIn, placeIn, toldBy}
 use Rattle.leaves.specs.Cells.{Addresses}
 use Rattle.leaves.proofs.Ending.{left-small, told-normal, told-spent, told-raised}

@@ -26,7 +26,7 @@ use Rattle.semantics.specs.Trees.{Tree, Trees, end, _then_, Run, first, stackAt
 use Rattle.semantics.proofs.Inversion.{none-some, some-inj, bind-some}
 use Rattle.kinds.specs.Kinds.{opNumber}
 use Rattle.kinds.specs.Functions.{funNumber}
-use Rattle.evaluate.specs.Words.{Holds}
+use Rattle.calc.specs.Words.{Holds}
 use Rattle.shapes.specs.declared.ExprHead.the-variants as EH
 use Rattle.shapes.specs.Parts.{rest, exprIn, nameIn}
 use Rattle.tables.specs.Descriptions.{infoOf}

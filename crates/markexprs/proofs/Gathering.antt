@@ -24,9 +24,9 @@ use Rattle.semantics.specs.Syntax as Syntax
 use Rattle.semantics.specs.Trees.{Trees, end, _then_, Run, first, stackAt}
 use Rattle.semantics.specs.Types.{baseOf}
 use Rattle.semantics.proofs.Inversion.{some-inj, bind-some}
-use Rattle.evaluate.specs.Words.{Holds}
+use Rattle.calc.specs.Words.{Holds}
 use Rattle.evaluate.proofs.Gathering.{joined-turn, joined-set, bind-id, bind-twice}
-use Rattle.evaluate.proofs.Ranging.{low-range}
+use Rattle.calc.proofs.Ranging.{low-range}
 use Rattle.shapes.specs.Parts.{partOf, rest, exprIn, exprsIn}
 use Rattle.parts.specs.declared.End.{End}
 use Rattle.parts.specs.declared.End.the-variants as ending

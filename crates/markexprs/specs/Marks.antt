@@ -17,7 +17,7 @@ use Rattle.semantics.specs.Names.{asExpr, asVar, exprOf, targetOf, exprsOf}
 use Rattle.semantics.specs.Script.{Expr, Exprs, var}
 use Rattle.semantics.specs.Syntax as Syntax
 use Rattle.semantics.specs.Trees.{form, end, _then_, first, wordAt, stackAt}
-use Rattle.evaluate.specs.Words.{Holds}
+use Rattle.calc.specs.Words.{Holds}
 use Rattle.shapes.specs.declared.ExprHead.{ExprHead}
 use Rattle.shapes.specs.declared.ExprHead.the-variants.{Minus}
 use Rattle.shapes.specs.Heads.{atomExpr, atomTarget, atomOf}

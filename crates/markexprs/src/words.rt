@@ -1,5 +1,6 @@
 // Words as expressions and targets, and `first` and `last` of a type.
 use atoms::type_name;
+use calc::words::truth_of;
 use carried::constants::constant;
 use carried::constants::end_of;
 use carried::constants::error_number;
@@ -9,7 +10,6 @@ use carried::places::place;
 use carried::values::Carried;
 use carried::values::STUCK;
 use carried::values::value;
-use evaluate::words::truth_of;
 use lexis::words::Word;
 use shapes::Atom;
 use shapes::atom_of;

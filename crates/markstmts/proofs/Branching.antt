@@ -52,7 +52,7 @@ use Rattle.statements.specs.Walks.{verbIn}
 use Rattle.statements.proofs.Shapes.{form-shape, none-shape}
 use Rattle.steps.specs.Ends.{leftIn, stepWord, Raises}
 use Rattle.steps.specs.Stands.{Stands, after}
-use Rattle.evaluate.specs.Words.{InRange}
+use Rattle.calc.specs.Words.{InRange}
 use Rattle.leaves.proofs.Ending.{left-most, raised-fewer, step-taken, step-fewer}
 use Rattle.carried.specs.declared.values.Carried.{Carried}
 use Rattle.carried.specs.Values.{Known}

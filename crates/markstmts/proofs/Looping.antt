@@ -25,7 +25,7 @@ use Rattle.shapes.specs.declared.Verb.the-variants as VB
 use Rattle.shapes.specs.Parts.{partOf, rest, exprIn, nameIn, stmtIn}
 use Rattle.shapes.proofs.Expressions.{expr-end}
 use Rattle.skips.specs.Skips.{Skips}
-use Rattle.evaluate.specs.Words.{InRange}
+use Rattle.calc.specs.Words.{InRange}
 use Rattle.steps.specs.Ends.{cellsIn, leftIn, stepWord, Raises}
 use Rattle.steps.specs.Stands.{Stands, after}
 use Rattle.steps.specs.Turns.{Increments}

@@ -11,7 +11,7 @@ use lib.IntN.{ℤ}
 use Rattle.arith.proofs.Order.{le-or-lt}
 use Rattle.semantics.specs.Base.{pick}
 use Rattle.semantics.specs.Machine.{Store, State, state, Answer, answer, Outcome, normal, spent, raised, sticks, andThen, caught, continued, handled}
-use Rattle.evaluate.specs.Words.{latestIn}
+use Rattle.calc.specs.Words.{latestIn}
 use Rattle.steps.specs.Ends.{placeIn, leftIn, toldBy, stepWord}
 use Rattle.steps.specs.Stands.{Stands, after}
 use Rattle.leaves.proofs.Ending.{left-of, told-normal, told-spent, told-raised, step-spent, step-taken, step-stands, spent-ends}

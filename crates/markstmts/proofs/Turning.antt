@@ -14,7 +14,7 @@ use Rattle.arith.proofs.Order.{leZ-diff, leZ-trans, up-le, add-high}
 use Rattle.arith.proofs.Ranges.{inside-is, inside-both}
 use Rattle.semantics.specs.Calculate.{natOf, rangeError}
 use Rattle.semantics.specs.Machine.{Store, State, state, Answer, answer, normal, spent, andThen, branch, countUp, forRounds, raising, step, stored, whileRounds}
-use Rattle.evaluate.specs.Words.{InRange}
+use Rattle.calc.specs.Words.{InRange}
 
 -- ---- `while`
 module _ (test : State → (Bool → Answer) → Answer) (body : State → Answer) where

@@ -19,7 +19,7 @@ use Rattle.semantics.specs.Syntax.{Expr, Stmt, Stmts, Body}
 use Rattle.semantics.specs.Trees.{form, Trees, end, _then_, Run, first, stackAt}
 use Rattle.semantics.specs.Whole.{markBody}
 use Rattle.semantics.proofs.TypeSizes.{SmallTypes}
-use Rattle.evaluate.specs.Words.{InRange}
+use Rattle.calc.specs.Words.{InRange}
 use Rattle.shapes.specs.declared.Verb.{Verb}
 use Rattle.shapes.specs.Parts.{exprIn, stmtIn, stmtsIn, elseIn, bodyIn}
 use Rattle.steps.specs.Ends.{leftIn}

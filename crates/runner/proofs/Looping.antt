@@ -26,7 +26,7 @@ use Rattle.semantics.specs.ListMachine.{callable}
 use Rattle.semantics.specs.Machine.{Store, State, state, Answer, answer, normal, spent, Procs, andThen, branch, countUp, forRounds, raising, setControl, sole, step, stepIf, stored, whileRounds, withResult}
 use Rattle.semantics.specs.Readback.{actOpAt, integerAt, readAct, readCode}
 use Rattle.evaluate.specs.Walks.{Evaluates}
-use Rattle.evaluate.specs.Words.{InRange, Holds}
+use Rattle.calc.specs.Words.{InRange, Holds}
 use Rattle.steps.specs.Ends.{cellsIn, leftIn, stepWord, faultIn, Raises}
 use Rattle.steps.specs.Stands.{Stands, Ends, Runs, after}
 use Rattle.steps.specs.Turns.{Increments}

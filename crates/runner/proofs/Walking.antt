@@ -30,7 +30,7 @@ use Rattle.semantics.specs.Readback.{actFrom, actOp, actOpAt, actOpUnless, acts
 use Rattle.semantics.specs.Whole.{runBody}
 use Rattle.semantics.proofs.ListMachineRuns.{called-none, called-body, callable-at, callable-past}
 use Rattle.evaluate.specs.Walks.{Evaluates}
-use Rattle.evaluate.specs.Words.{InRange, Holds}
+use Rattle.calc.specs.Words.{InRange, Holds}
 use Rattle.steps.specs.Ends.{leftIn, stepWord, faultIn, toldBy, Raises}
 use Rattle.steps.specs.Stands.{Stands, Ends, Runs, after}
 use Rattle.leaves.specs.declared.arms.Arm.{Arm}

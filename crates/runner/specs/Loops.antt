@@ -14,7 +14,7 @@ use Rattle.semantics.specs.Code.{Acts, stop}
 use Rattle.semantics.specs.ListMachine.{callable}
 use Rattle.semantics.specs.Machine.{Answer, State, Store, forRounds, state, whileRounds}
 use Rattle.semantics.specs.Readback.{actOpAt, actsFrom, readAct, readActs, readCode}
-use Rattle.evaluate.specs.Words.{InRange}
+use Rattle.calc.specs.Words.{InRange}
 use Rattle.steps.specs.Stands.{Stands, after}
 
 -- a chain by the place of its first link

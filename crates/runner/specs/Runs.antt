@@ -13,7 +13,7 @@ use Rattle.semantics.specs.ListMachine.{callable}
 use Rattle.semantics.specs.Machine.{countUp, forRounds, procedureAt}
 use Rattle.semantics.specs.Readback.{readAct, readActs, readBody, actOp, actOpAt, integerAt}
 use Rattle.semantics.specs.Whole.{runBody}
-use Rattle.evaluate.specs.Words.{InRange}
+use Rattle.calc.specs.Words.{InRange}
 use Rattle.steps.specs.Ends.{leftIn}
 use Rattle.steps.specs.Stands.{Runs, after}
 

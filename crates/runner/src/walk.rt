@@ -1,8 +1,8 @@
 // The walk over statements and bodies.
+use calc::words::GREATEST;
+use calc::words::integer;
+use calc::words::number;
 use evaluate::walk::eval;
-use evaluate::words::GREATEST;
-use evaluate::words::integer;
-use evaluate::words::number;
 use leaves::arms::Arm;
 use leaves::arms::arm_for;
 use leaves::cells::put;
@@ -19,7 +19,7 @@ use steps::links::next_at;
 use steps::links::rest_at;
 use steps::turns::at_last;
 use steps::turns::next_of;
-ghost use Rattle.evaluate.specs.Words.{codeIn};
+ghost use Rattle.calc.specs.Words.{codeIn};
 ghost use Rattle.semantics.specs.declared.ActOp.the-variants.{Branch, While, For, Case};
 ghost use Rattle.runner.specs.Runs.{Executes, Performing, Performs, Follows, Counts, CountsUp, Calls, Serves};
 

@@ -24,8 +24,8 @@ use Rattle.semantics.proofs.Inversion.{and-true}
 use Rattle.semantics.proofs.LinesKeep.{tests, tests-length, tests-get}
 use Rattle.semantics.proofs.TypeTables.{Table}
 use Rattle.semantics.proofs.ValuesInRange.{any, Sound}
-use Rattle.evaluate.specs.Words.{InRange}
-use Rattle.evaluate.proofs.Ranging.{wide, low-range}
+use Rattle.calc.specs.Words.{InRange}
+use Rattle.calc.proofs.Ranging.{wide, low-range}
 use Rattle.chair.specs.Answers.{Lent}
 
 -- a value of a cell's type is an ordinal or a set

@@ -18,7 +18,7 @@ use Rattle.arith.proofs.Machine.{wire, low, high, zero-bits, fits-between}
 use Rattle.arith.proofs.Order.{lt-le, lt-moved, moved-lt}
 use Rattle.semantics.specs.Base.{pick}
 use Rattle.semantics.specs.Calculate.{systemError}
-use Rattle.evaluate.specs.Words.{latestIn}
+use Rattle.calc.specs.Words.{latestIn}
 use Rattle.steps.specs.Ends.{leftIn, stepWord, raisedWord, faultIn, notedIn, numberIn, Raises, RaisesNumber}
 
 -- ---- `left_in`, `stepped`

@@ -10,7 +10,7 @@ use Rattle.arith.specs.Integers.{isZero}
 use Rattle.semantics.specs.Base.{pick}
 use Rattle.semantics.specs.Calculate.{natOf, systemError}
 use Rattle.semantics.specs.Machine.{Outcome, normal, spent, raised}
-use Rattle.evaluate.specs.Words.{latestIn}
+use Rattle.calc.specs.Words.{latestIn}
 
 -- the statement of the last exception
 unfoldable pub placeIn : List ℤ → ℕ

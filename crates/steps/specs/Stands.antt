@@ -6,7 +6,7 @@ use Prim.Native.Nat.{ℕ, suc, _≤_}
 use lib.IntN.{ℤ, pos}
 use lib.ListN.{length, getD}
 use Rattle.semantics.specs.Machine.{Store, State, state, Answer}
-use Rattle.evaluate.specs.Words.{Holds}
+use Rattle.calc.specs.Words.{Holds}
 use Rattle.steps.specs.Ends.{cellsIn, leftIn, toldBy}
 
 -- a cell is defined, or it is undefined with value 0

@@ -1,9 +1,9 @@
 // The links of chains in the laid code.
-use evaluate::words::number;
+use calc::words::number;
 ghost use mathlib.Core.Path.{_≡_};
 ghost use Prim.Native.Nat.{_+_};
 ghost use lib.ListN.{getD};
-ghost use Rattle.evaluate.specs.Words.{codeIn};
+ghost use Rattle.calc.specs.Words.{codeIn};
 
 // The number k places after q.
 pub fn next_at(code: &[u32; 16384], q: u32, k: u32) -> u32

@@ -6,7 +6,7 @@ use Rattle.carried.proofs.constants.constant.Reads as reads
 use Rattle.carried.proofs.constants.constant.Lts as lts
 use Rattle.arith.proofs.in_range.Reads as in-range-reads
 use Rattle.carried.proofs.values.value.Reads as value-reads
-use Rattle.evaluate.proofs.words.signed_of.Reads as signed-of-reads
+use Rattle.calc.proofs.words.signed_of.Reads as signed-of-reads
 use Rattle.tables.proofs.describe.Reads as describe-reads
 
 -- src/constants.rt:23:9

@@ -4,7 +4,7 @@ use Rattle.carried.proofs.constants.end_word.Statement.{statement}
 use Rattle.carried.proofs.constants.end_word.Tie as tie
 use Rattle.carried.proofs.constants.end_word.Reads as reads
 use Rattle.carried.proofs.constants.end_word.Lts as lts
-use Rattle.evaluate.proofs.words.signed_of.Reads as signed-of-reads
+use Rattle.calc.proofs.words.signed_of.Reads as signed-of-reads
 
 -- src/constants.rt:49:9
 signed-of-requires : tie.Need-signed-of-requires

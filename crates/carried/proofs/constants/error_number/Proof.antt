@@ -5,7 +5,7 @@ use Rattle.carried.proofs.constants.error_number.Tie as tie
 use Rattle.carried.proofs.constants.error_number.Reads as reads
 use Rattle.carried.proofs.constants.error_number.Lts as lts
 use Rattle.carried.proofs.values.value.Reads as value-reads
-use Rattle.evaluate.proofs.cells.latest.Reads as latest-reads
+use Rattle.calc.proofs.cells.latest.Reads as latest-reads
 
 -- src/constants.rt:69:14
 latest-requires : tie.Need-latest-requires

@@ -5,8 +5,8 @@ use Rattle.carried.proofs.members.member.Tie as tie
 use Rattle.carried.proofs.members.member.Reads as reads
 use Rattle.carried.proofs.members.member.Lts as lts
 use Rattle.carried.proofs.values.wanted.Reads as wanted-reads
-use Rattle.evaluate.proofs.operators.test.Reads as test-reads
-use Rattle.evaluate.proofs.words.signed_of.Reads as signed-of-reads
+use Rattle.calc.proofs.operators.test.Reads as test-reads
+use Rattle.calc.proofs.words.signed_of.Reads as signed-of-reads
 use Rattle.tables.proofs.describe.Reads as describe-reads
 use Rattle.tables.proofs.host_of.Reads as host-of-reads
 

@@ -4,10 +4,10 @@ use Rattle.carried.proofs.operators.at_node.Statement.{statement}
 use Rattle.carried.proofs.operators.at_node.Tie as tie
 use Rattle.carried.proofs.operators.at_node.Reads as reads
 use Rattle.carried.proofs.operators.at_node.Lts as lts
-use Rattle.evaluate.proofs.operators.pred.Reads as pred-reads
-use Rattle.evaluate.proofs.operators.succ.Reads as succ-reads
-use Rattle.evaluate.proofs.operators.unary.Reads as unary-reads
-use Rattle.evaluate.proofs.words.signed_of.Reads as signed-of-reads
+use Rattle.calc.proofs.operators.pred.Reads as pred-reads
+use Rattle.calc.proofs.operators.succ.Reads as succ-reads
+use Rattle.calc.proofs.operators.unary.Reads as unary-reads
+use Rattle.calc.proofs.words.signed_of.Reads as signed-of-reads
 
 -- src/operators.rt:52:24
 signed-of-requires : tie.Need-signed-of-requires

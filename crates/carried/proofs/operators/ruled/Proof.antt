@@ -5,7 +5,7 @@ use Rattle.carried.proofs.operators.ruled.Tie as tie
 use Rattle.carried.proofs.operators.ruled.Reads as reads
 use Rattle.carried.proofs.operators.ruled.Lts as lts
 use Rattle.carried.proofs.values.value.Reads as value-reads
-use Rattle.evaluate.proofs.operators.combine.Reads as combine-reads
+use Rattle.calc.proofs.operators.combine.Reads as combine-reads
 
 -- src/operators.rt:26:27
 enum-told : tie.Need-enum-told

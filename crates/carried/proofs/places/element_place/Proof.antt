@@ -5,8 +5,8 @@ use Rattle.carried.proofs.places.element_place.Tie as tie
 use Rattle.carried.proofs.places.element_place.Reads as reads
 use Rattle.carried.proofs.places.element_place.Lts as lts
 use Rattle.carried.proofs.places.place.Reads as place-reads
-use Rattle.evaluate.proofs.operators.distance.Reads as distance-reads
-use Rattle.evaluate.proofs.operators.element.Reads as element-reads
+use Rattle.calc.proofs.operators.distance.Reads as distance-reads
+use Rattle.calc.proofs.operators.element.Reads as element-reads
 use Rattle.tables.proofs.describe.Reads as describe-reads
 
 -- src/places.rt:64:9

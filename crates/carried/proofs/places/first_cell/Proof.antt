@@ -4,7 +4,7 @@ use Rattle.carried.proofs.places.first_cell.Statement.{statement}
 use Rattle.carried.proofs.places.first_cell.Tie as tie
 use Rattle.carried.proofs.places.first_cell.Reads as reads
 use Rattle.carried.proofs.places.first_cell.Lts as lts
-use Rattle.evaluate.proofs.words.natural.Reads as natural-reads
+use Rattle.calc.proofs.words.natural.Reads as natural-reads
 
 -- src/places.rt:39:9
 returns : tie.Need-returns

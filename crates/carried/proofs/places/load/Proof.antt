@@ -5,7 +5,7 @@ use Rattle.carried.proofs.places.load.Tie as tie
 use Rattle.carried.proofs.places.load.Reads as reads
 use Rattle.carried.proofs.places.load.Lts as lts
 use Rattle.carried.proofs.places.first_cell.Reads as first-cell-reads
-use Rattle.evaluate.proofs.cells.cells_at.Reads as cells-at-reads
+use Rattle.calc.proofs.cells.cells_at.Reads as cells-at-reads
 use Rattle.tables.proofs.describe.Reads as describe-reads
 use Rattle.tables.proofs.host_of.Reads as host-of-reads
 

@@ -5,7 +5,7 @@ use Rattle.carried.proofs.places.select.Tie as tie
 use Rattle.carried.proofs.places.select.Reads as reads
 use Rattle.carried.proofs.places.select.Lts as lts
 use Rattle.carried.proofs.places.place.Reads as place-reads
-use Rattle.evaluate.proofs.operators.shifted.Reads as shifted-reads
+use Rattle.calc.proofs.operators.shifted.Reads as shifted-reads
 use Rattle.tables.proofs.describe.Reads as describe-reads
 use Rattle.tables.proofs.find_field.Reads as find-field-reads
 use Rattle.worklist.proofs.at.Reads as at-reads

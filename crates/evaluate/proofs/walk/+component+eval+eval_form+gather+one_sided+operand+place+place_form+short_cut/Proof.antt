@@ -2,7 +2,7 @@ use native.Mathlib.Omega.{arith}
 use borrow.Author.Needs.{needs, sfits-of}
 use mir.Val.{toZ}
 use mir.Syntax.{w64}
-use Rattle.evaluate.specs.Words.{codeIn}
+use Rattle.calc.specs.Words.{codeIn}
 use Rattle.evaluate.proofs.Gathering.{Gathering}
 use borrow.Author.Needs.{needs}
 use Rattle.evaluate.proofs.Gathering.{gather-done, gather-end, gather-fault, gather-start, gather-step, link-laws}
@@ -37,19 +37,19 @@ use Rattle.evaluate.proofs.walk.+component+eval+eval_form+gather+one_si
 use Rattle.evaluate.proofs.walk.short_cut.Reads as short-cut
 use Rattle.evaluate.proofs.walk.short_cut.Kinds as short-cut-kinds
 use Rattle.evaluate.proofs.walk.+component+eval+eval_form+gather+one_sided+operand+place+place_form+short_cut.Lts-short_cut as short-cut-lts
-use Rattle.evaluate.proofs.cells.cell.Reads as cell-reads
-use Rattle.evaluate.proofs.cells.cells.Reads as cells-reads
-use Rattle.evaluate.proofs.cells.cells_at.Reads as cells-at-reads
-use Rattle.evaluate.proofs.cells.latest.Reads as latest-reads
-use Rattle.evaluate.proofs.operators.binary.Reads as binary-reads
-use Rattle.evaluate.proofs.operators.element_of.Reads as element-of-reads
-use Rattle.evaluate.proofs.operators.pred.Reads as pred-reads
-use Rattle.evaluate.proofs.operators.shifted.Reads as shifted-reads
-use Rattle.evaluate.proofs.operators.succ.Reads as succ-reads
-use Rattle.evaluate.proofs.operators.test.Reads as test-reads
-use Rattle.evaluate.proofs.operators.unary.Reads as unary-reads
-use Rattle.evaluate.proofs.words.integral.Reads as integral-reads
-use Rattle.evaluate.proofs.words.number.Reads as number-reads
+use Rattle.calc.proofs.cells.cell.Reads as cell-reads
+use Rattle.calc.proofs.cells.cells.Reads as cells-reads
+use Rattle.calc.proofs.cells.cells_at.Reads as cells-at-reads
+use Rattle.calc.proofs.cells.latest.Reads as latest-reads
+use Rattle.calc.proofs.operators.binary.Reads as binary-reads
+use Rattle.calc.proofs.operators.element_of.Reads as element-of-reads
+use Rattle.calc.proofs.operators.pred.Reads as pred-reads
+use Rattle.calc.proofs.operators.shifted.Reads as shifted-reads
+use Rattle.calc.proofs.operators.succ.Reads as succ-reads
+use Rattle.calc.proofs.operators.test.Reads as test-reads
+use Rattle.calc.proofs.operators.unary.Reads as unary-reads
+use Rattle.calc.proofs.words.integral.Reads as integral-reads
+use Rattle.calc.proofs.words.number.Reads as number-reads
 use Rattle.sets.proofs.insert.Reads as insert-reads
 use Rattle.sets.proofs.value.Reads as value-reads
 use Rattle.evaluate.proofs.walk.+component+eval+eval_form+gather+one_sided+operand+place+place_form+short_cut.{

@@ -4,7 +4,7 @@ use Rattle.leaves.proofs.cells.copy_one.Statement.{statement}
 use Rattle.leaves.proofs.cells.copy_one.Tie as tie
 use Rattle.leaves.proofs.cells.copy_one.Reads as reads
 use Rattle.leaves.proofs.cells.copy_one.Lts as lts
-use Rattle.evaluate.proofs.cells.cell.Reads as cell-reads
+use Rattle.calc.proofs.cells.cell.Reads as cell-reads
 
 -- src/cells.rt:37:25
 add-cell : tie.Need-add-cell

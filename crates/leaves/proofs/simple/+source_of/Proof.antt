@@ -8,7 +8,7 @@ use Rattle.leaves.proofs.simple.source_of.Kinds as source-of-kinds
 use Rattle.leaves.proofs.simple.+source_of.Lts-source_of as source-of-lts
 use Rattle.evaluate.proofs.walk.eval.Reads as eval-reads
 use Rattle.evaluate.proofs.walk.place.Reads as place-reads
-use Rattle.evaluate.proofs.words.number.Reads as number-reads
+use Rattle.calc.proofs.words.number.Reads as number-reads
 use Rattle.leaves.proofs.simple.+source_of.{statement}
 use Rattle.leaves.proofs.simple.+source_of.Tie.{close}
 

@@ -4,9 +4,9 @@ use Rattle.leaves.proofs.simple.assign_cells.Statement.{statement}
 use Rattle.leaves.proofs.simple.assign_cells.Tie as tie
 use Rattle.leaves.proofs.simple.assign_cells.Reads as reads
 use Rattle.leaves.proofs.simple.assign_cells.Lts as lts
-use Rattle.evaluate.proofs.cells.cells.Reads as cells-reads
+use Rattle.calc.proofs.cells.cells.Reads as cells-reads
 use Rattle.evaluate.proofs.walk.place.Reads as place-reads
-use Rattle.evaluate.proofs.words.number.Reads as number-reads
+use Rattle.calc.proofs.words.number.Reads as number-reads
 use Rattle.leaves.proofs.cells.address.Reads as address-reads
 use Rattle.leaves.proofs.cells.copy.Reads as copy-reads
 use Rattle.steps.proofs.ends.failing.Reads as failing-reads

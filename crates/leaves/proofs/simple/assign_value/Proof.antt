@@ -5,7 +5,7 @@ use Rattle.leaves.proofs.simple.assign_value.Tie as tie
 use Rattle.leaves.proofs.simple.assign_value.Reads as reads
 use Rattle.leaves.proofs.simple.assign_value.Lts as lts
 use Rattle.evaluate.proofs.walk.place.Reads as place-reads
-use Rattle.evaluate.proofs.words.number.Reads as number-reads
+use Rattle.calc.proofs.words.number.Reads as number-reads
 use Rattle.leaves.proofs.cells.address.Reads as address-reads
 use Rattle.leaves.proofs.cells.put.Reads as put-reads
 use Rattle.steps.proofs.ends.failing.Reads as failing-reads

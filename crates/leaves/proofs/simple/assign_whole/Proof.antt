@@ -4,7 +4,7 @@ use Rattle.leaves.proofs.simple.assign_whole.Statement.{statement}
 use Rattle.leaves.proofs.simple.assign_whole.Tie as tie
 use Rattle.leaves.proofs.simple.assign_whole.Reads as reads
 use Rattle.leaves.proofs.simple.assign_whole.Lts as lts
-use Rattle.evaluate.proofs.words.number.Reads as number-reads
+use Rattle.calc.proofs.words.number.Reads as number-reads
 use Rattle.leaves.proofs.simple.assign_cells.Reads as assign-cells-reads
 use Rattle.leaves.proofs.simple.assign_value.Reads as assign-value-reads
 use Rattle.leaves.proofs.simple.source_of.Reads as source-of-reads

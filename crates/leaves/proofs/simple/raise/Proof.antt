@@ -5,7 +5,7 @@ use Rattle.leaves.proofs.simple.raise.Tie as tie
 use Rattle.leaves.proofs.simple.raise.Reads as reads
 use Rattle.leaves.proofs.simple.raise.Lts as lts
 use Rattle.evaluate.proofs.walk.eval.Reads as eval-reads
-use Rattle.evaluate.proofs.words.number.Reads as number-reads
+use Rattle.calc.proofs.words.number.Reads as number-reads
 use Rattle.steps.proofs.ends.failing.Reads as failing-reads
 use Rattle.steps.proofs.ends.raise_number.Reads as raise-number-reads
 

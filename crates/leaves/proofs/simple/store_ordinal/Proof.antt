@@ -5,8 +5,8 @@ use Rattle.leaves.proofs.simple.store_ordinal.Tie as tie
 use Rattle.leaves.proofs.simple.store_ordinal.Reads as reads
 use Rattle.leaves.proofs.simple.store_ordinal.Lts as lts
 use Rattle.arith.proofs.in_range.Reads as in-range-reads
-use Rattle.evaluate.proofs.words.integer.Reads as integer-reads
-use Rattle.evaluate.proofs.words.number.Reads as number-reads
+use Rattle.calc.proofs.words.integer.Reads as integer-reads
+use Rattle.calc.proofs.words.number.Reads as number-reads
 use Rattle.leaves.proofs.cells.address.Reads as address-reads
 use Rattle.leaves.proofs.cells.put.Reads as put-reads
 use Rattle.steps.proofs.ends.raising.Reads as raising-reads

@@ -4,7 +4,7 @@ use Rattle.markacts.proofs.bounds.join.Statement.{statement}
 use Rattle.markacts.proofs.bounds.join.Tie as tie
 use Rattle.markacts.proofs.bounds.join.Reads as reads
 use Rattle.markacts.proofs.bounds.join.Lts as lts
-use Rattle.evaluate.proofs.words.signed_of.Reads as signed-of-reads
+use Rattle.calc.proofs.words.signed_of.Reads as signed-of-reads
 use Rattle.leaves.proofs.cells.address.Reads as address-reads
 use Rattle.tables.proofs.describe.Reads as describe-reads
 use Rattle.tables.proofs.host_of.Reads as host-of-reads

@@ -5,7 +5,7 @@ use Rattle.markacts.proofs.storing.store_ordinal.Tie as tie
 use Rattle.markacts.proofs.storing.store_ordinal.Reads as reads
 use Rattle.markacts.proofs.storing.store_ordinal.Lts as lts
 use Rattle.arith.proofs.in_range.Reads as in-range-reads
-use Rattle.evaluate.proofs.words.signed_of.Reads as signed-of-reads
+use Rattle.calc.proofs.words.signed_of.Reads as signed-of-reads
 use Rattle.leaves.proofs.cells.address.Reads as address-reads
 use Rattle.leaves.proofs.cells.put.Reads as put-reads
 use Rattle.steps.proofs.ends.raising.Reads as raising-reads

@@ -7,7 +7,7 @@ use Rattle.markexprs.proofs.words.word.Lts as lts
 use Rattle.carried.proofs.constants.constant.Reads as constant-reads
 use Rattle.carried.proofs.constants.error_number.Reads as error-number-reads
 use Rattle.carried.proofs.values.value.Reads as value-reads
-use Rattle.evaluate.proofs.words.truth_of.Reads as truth-of-reads
+use Rattle.calc.proofs.words.truth_of.Reads as truth-of-reads
 use Rattle.markexprs.proofs.words.named.Reads as named-reads
 use Rattle.shapes.proofs.atom_of.Reads as atom-of-reads
 use Rattle.tables.proofs.meaning_of.Reads as meaning-of-reads

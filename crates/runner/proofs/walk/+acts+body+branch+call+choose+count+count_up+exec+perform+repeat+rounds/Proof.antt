@@ -1,7 +1,7 @@
 use mir.Syntax.{w64}
 use mir.Val.{toZ}
 use borrow.Author.Needs.{sfits-of}
-use Rattle.evaluate.specs.Words.{codeIn}
+use Rattle.calc.specs.Words.{codeIn}
 use Rattle.runner.specs.Loops.{Following, Repeating, Counting}
 use borrow.Author.Needs.{needs}
 use Rattle.runner.proofs.Looping.{count-laws, count-up-laws, rounds-laws, rounds-next, turn-falls, turn-start, while-falls, while-laws, while-next, while-start, while-stops}
@@ -44,8 +44,8 @@ use Rattle.runner.proofs.walk.rounds.Kinds as rounds-kinds
 use Rattle.runner.proofs.walk.+acts+body+branch+call+choose+count+count_up+exec+perform+repeat+rounds.Lts-rounds as rounds-lts
 use Rattle.arith.proofs.in_range.Reads as in-range-reads
 use Rattle.evaluate.proofs.walk.eval.Reads as eval-reads
-use Rattle.evaluate.proofs.words.integer.Reads as integer-reads
-use Rattle.evaluate.proofs.words.number.Reads as number-reads
+use Rattle.calc.proofs.words.integer.Reads as integer-reads
+use Rattle.calc.proofs.words.number.Reads as number-reads
 use Rattle.leaves.proofs.arms.arm_for.Reads as arm-for-reads
 use Rattle.leaves.proofs.cells.put.Reads as put-reads
 use Rattle.leaves.proofs.simple.assign.Reads as assign-reads

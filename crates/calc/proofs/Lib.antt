@@ -1,0 +1,4 @@
+pub mod Leaves
+pub mod Combining
+pub mod Placing
+pub mod Ranging

@@ -1,0 +1,53 @@
+use Rattle.calc.proofs.Placing.{element-laws}
+use borrow.Author.Needs.{needs}
+use Rattle.calc.proofs.operators.element.Statement.{statement}
+use Rattle.calc.proofs.operators.element.Tie as tie
+use Rattle.calc.proofs.operators.element.Reads as reads
+use Rattle.calc.proofs.operators.element.Lts as lts
+use Rattle.calc.proofs.words.capped.Reads as capped-reads
+use Rattle.calc.proofs.words.natural.Reads as natural-reads
+
+-- src/operators.rt:276:9
+returns : tie.Need-returns
+returns c = search (element-laws, needs)
+
+-- src/operators.rt:279:9
+returns-2 : tie.Need-returns-2
+returns-2 c = search (element-laws, needs)
+
+-- src/operators.rt:281:13
+natural-requires : tie.Need-natural-requires
+natural-requires c κs = search needs
+
+-- src/operators.rt:281:13
+mul-t : tie.Need-mul-t
+mul-t c = search (element-laws, needs)
+
+-- src/operators.rt:282:12
+natural-requires-2 : tie.Need-natural-requires-2
+natural-requires-2 c κs = search needs
+
+-- src/operators.rt:282:12
+add-capped : tie.Need-add-capped
+add-capped c = search (element-laws, needs)
+
+-- src/operators.rt:282:5
+capped-requires : tie.Need-capped-requires
+capped-requires c κs = search needs
+
+-- src/operators.rt:272:1
+returns-3 : tie.Need-returns-3
+returns-3 c = search (element-laws, needs)
+
+pub element-spec : {M : Type 1} → statement M
+element-spec =
+    tie.close
+    (tie.spec
+    returns
+    returns-2
+    natural-requires
+    mul-t
+    natural-requires-2
+    add-capped
+    capped-requires
+    returns-3)

@@ -1,0 +1,82 @@
+// Words, which are values or faults, and the numbers of the laid code.
+ghost use mathlib.Core.Path.{_≡_};
+ghost use lib.ListN.{getD};
+ghost use Rattle.lexis.specs.Numbers.{signed};
+ghost use Rattle.semantics.specs.Calculate.{truth};
+ghost use Rattle.semantics.specs.Readback.{integerAt};
+ghost use Rattle.calc.specs.Words.{codeIn, Integral};
+ghost use Rattle.semantics.specs.Calculate.{natOf};
+ghost use Prim.Native.Nat.{min};
+ghost use lib.IntN.{pos};
+
+// The greatest value; a greater word is a fault.
+pub const GREATEST: i64 = 4294967295;
+
+// The faults: 8589934592 and the exception's number.
+pub const NUMERIC: i64 = 8589934491;
+
+pub const RANGE: i64 = 8589934489;
+
+pub const UNDEFINED: i64 = 8589934488;
+
+// The number at a place, 0 outside the list.
+pub fn number(code: &[u32; 16384], p: usize) -> u32
+    ensures { λ r. ⌜ r ≡ getD (codeIn (now (code .entry))) p 0 ⌝ }
+{
+    if p < 16384 {
+        return code[p];
+    }
+    0
+}
+
+// A number as an integer of 32 bits: with its top bit turned, less what that bit counts, for which the compiler has one instruction.
+pub fn signed_of(n: u32) -> i64
+    ensures { λ r. ⌜ r ≡ signed n ⌝ }
+{
+    let turned = std::num::wrapping_add_u32(n, 2147483648);
+    turned as i64 - 2147483648
+}
+
+// The number at a place as an integer, which has 32 bits.
+pub fn integral(code: &[u32; 16384], p: usize) -> i64
+    ensures { λ r. ⌜ Integral (codeIn (now (code .entry))) p r ⌝ }
+{
+    signed_of(number(code, p))
+}
+
+// The number at a place as an integer.
+pub fn integer(code: &[u32; 16384], p: usize) -> i64
+    ensures { λ r. ⌜ r ≡ integerAt (codeIn (now (code .entry))) p ⌝ }
+{
+    integral(code, p)
+}
+
+// A truth value's word.
+pub fn truth_of(b: bool) -> i64
+    ensures { λ r. ⌜ r ≡ truth b ⌝ }
+{
+    if b {
+        return 1;
+    }
+    0
+}
+
+// The natural number that z is, 0 of a negative one.
+pub fn natural(z: i64) -> u64
+    ensures { λ r. ⌜ r ≡ natOf z ⌝ }
+{
+    if z < 0 {
+        return 0;
+    }
+    z as u64
+}
+
+// A place's word: no store has a cell past the greatest.
+pub fn capped(a: u64) -> i64
+    ensures { λ r. ⌜ r ≡ pos (min a 4294967295) ⌝ }
+{
+    if a > 4294967295 {
+        return 4294967295;
+    }
+    a as i64
+}
