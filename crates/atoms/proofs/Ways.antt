@@ -14,7 +14,7 @@ use Rattle.arith.specs.declared.Fault as ArithFault
 use Rattle.arith.specs.declared.Num.{Num}
 use Rattle.arith.specs.declared.Num.the-variants.{Value, Failed}
 use Rattle.arith.proofs.Machine.{wire}
-use Rattle.lexis.specs.Bytes.{small}
+use Rattle.spelling.specs.Bytes.{small}
 use Rattle.lexis.specs.Words.{wordOf}
 use Rattle.lexis.specs.declared.words.Word.{Word}
 use Rattle.semantics.specs.Base.{_>>=_, either}

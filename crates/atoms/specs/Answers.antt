@@ -6,7 +6,7 @@ use lib.IntN.{ℤ, pos}
 use Rattle.arith.specs.Integers.{exact}
 use Rattle.arith.specs.declared.Num.{Num}
 use Rattle.arith.specs.declared.Num.the-variants.{Value, Failed}
-use Rattle.lexis.specs.Bytes.{small}
+use Rattle.spelling.specs.Bytes.{small}
 use Rattle.semantics.specs.Trees.{wordAt}
 use Rattle.semantics.specs.Calculate.{truth}
 use Rattle.symbols.specs.Chain.{entries, placeIn}

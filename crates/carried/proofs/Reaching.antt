@@ -16,7 +16,7 @@ use mir.Val.{SFits, Fits}
 use mir.Facts.{toZ-ofZ}
 use Rattle.arith.specs.Integers.{inside, least, most}
 use Rattle.arith.proofs.Machine.{wire}
-use Rattle.lexis.specs.Bytes.{small}
+use Rattle.spelling.specs.Bytes.{small}
 use Rattle.lexis.specs.Numbers.{signed}
 use Rattle.semantics.specs.Base.{pick}
 use Rattle.semantics.specs.Calculate.{Result, is, fails, stuck, _>>=_, natOf, tested, rangeError}

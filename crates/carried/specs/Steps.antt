@@ -6,7 +6,7 @@ use mathlib.Core.Path.{_≡_}
 use Prim.Native.Nat.{ℕ, _+_, _*_, _-_}
 use lib.Dec.{eqb}
 use lib.IntN.{ℤ, pos, _-ℤ_}
-use Rattle.lexis.specs.Bytes.{small}
+use Rattle.spelling.specs.Bytes.{small}
 use Rattle.lexis.specs.Numbers.{signed}
 use Rattle.semantics.specs.Base.{Name, pick}
 use Rattle.semantics.specs.Calculate.{Result, is, _>>=_, natOf, isTrue, tested, rangeError, compute, compute1}

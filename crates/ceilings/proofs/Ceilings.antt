@@ -4,7 +4,7 @@ use mathlib.Core.Bool.{Bool, true, false}
 use mathlib.Core.List.{List, [], _++_}
 use Prim.Native.Nat.{ℕ, zero, suc}
 use lib.ListN.{replicate}
-use Rattle.lexis.specs.Bytes.{bytes}
+use Rattle.spelling.specs.Bytes.{bytes}
 use Rattle.semantics.specs.Verdict.{Verdict, Read, accepted, refused}
 use Rattle.semantics.specs.Whole.{verdictOf}
 use Rattle.semantics.specs.Print.{decimalOf}

@@ -12,7 +12,7 @@ use tables::host_of;
 use worklist::at;
 ghost use mathlib.Core.Path.{_≡_};
 ghost use mathlib.Core.List.{map};
-ghost use Rattle.lexis.specs.Bytes.{small};
+ghost use Rattle.spelling.specs.Bytes.{small};
 ghost use Rattle.semantics.specs.Trees.{wordAt};
 ghost use Rattle.tables.specs.Descriptions.{infoOf};
 ghost use Rattle.exprnodes.specs.Nodes.{Makes};

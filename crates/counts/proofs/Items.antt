@@ -7,8 +7,8 @@ use Prim.Native.Nat.{ℕ, zero, suc, _+_}
 use Prim.Native.String.{String}
 use native.Mathlib.Omega.{arith}
 use lib.IntN.{ℤ}
-use Rattle.lexis.proofs.Same.{same-equal}
-use Rattle.lexis.specs.Bytes.{bytes, same}
+use Rattle.spelling.proofs.Same.{same-equal}
+use Rattle.spelling.specs.Bytes.{bytes, same}
 use Rattle.semantics.specs.Base.{Name, _>>=_, each, either}
 use Rattle.semantics.specs.Forms.{ArmHead, Head, Item, Reader, Verb, among, armHeads, arms, atForm, caseForm, constant, dotForm, elseOf, ending, expr, exprForm, first?, forForm, free, hAt, hBound, hDot, hFun, hLazy, hMembers, hMinus, hOp, headed, heads, ifForm, isArm, isElse, isNumber, keyOf, minusNumber, one, oneArm, oneSided, stmt, stmtForm, stmts, target, targetForm, two, twoSided, typeName, vAssign, vBegin, vCall, vCase, vFor, vIf, vRaise, vWhile}
 use Rattle.semantics.specs.Forms as Forms

@@ -7,9 +7,9 @@ use Prim.Native.Nat.{ℕ, _<_}
 use native.Mathlib.Decide.{decLt}
 use native.Mathlib.Omega.{arith}
 use lib.ListN.{length}
-use Rattle.lexis.specs.Bytes.{bytes, small, same}
-use Rattle.lexis.specs.Table.{placeOf, position, fixed, reserved, operators}
-use Rattle.lexis.specs.Names.{isName}
+use Rattle.spelling.specs.Bytes.{bytes, small, same}
+use Rattle.vocabulary.specs.Table.{placeOf, position, fixed, reserved, operators}
+use Rattle.spelling.specs.Names.{isName}
 use Rattle.lexis.specs.Numbers.{numberOf}
 use Rattle.lexis.specs.Words.{wordOf, placed, named}
 use Rattle.lexis.specs.declared.words.Word.{Word}

@@ -9,7 +9,7 @@ use native.Mathlib.Omega.{arith}
 use borrow.Author.Tests.{le-leb, lt-leb, leb-true, leb-false}
 use lib.Dec.{leb}
 use lib.ListN.{length, length-append}
-use Rattle.lexis.specs.Bytes.{small, same}
+use Rattle.spelling.specs.Bytes.{small, same}
 use Rattle.semantics.specs.Base.{Name, _>>=_, find, given}
 use Rattle.semantics.specs.Ceilings.{lineBounded}
 use Rattle.semantics.specs.Environment.{Declared, Environment, NameSort, aVar, aValue, declareLine}

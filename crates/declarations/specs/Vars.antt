@@ -7,7 +7,7 @@ use mathlib.Core.Path.{_≡_}
 use Prim.Native.Nat.{ℕ, _+_, _*_, _%_, _<_}
 use lib.Dec.{leb}
 use lib.ListN.{length}
-use Rattle.lexis.specs.Bytes.{small}
+use Rattle.spelling.specs.Bytes.{small}
 use Rattle.semantics.specs.Base.{Name, _>>=_}
 use Rattle.semantics.specs.Layout.{lay}
 use Rattle.semantics.specs.Syntax.{LineForm, varLine}

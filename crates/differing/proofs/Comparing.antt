@@ -12,7 +12,7 @@ use mir.Val.{SFits}
 use mir.Facts.{toZ-ofZ}
 use mir.Syntax.{w64}
 use Rattle.arith.proofs.Machine.{wire}
-use Rattle.lexis.specs.Bytes.{small}
+use Rattle.spelling.specs.Bytes.{small}
 use Rattle.semantics.specs.Base.{each}
 use Rattle.semantics.specs.Calculate.{truth}
 use Rattle.semantics.specs.Environment.{Environment, NameSort, aValue}

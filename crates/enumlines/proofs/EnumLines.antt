@@ -10,7 +10,7 @@ use native.Mathlib.Omega.{arith}
 use borrow.Author.Tests.{leb-true, lt-leb, ne-eqb}
 use lib.Dec.{leb, eqb}
 use lib.ListN.{length, getD, set, length-append, length-set}
-use Rattle.lexis.specs.Bytes.{small}
+use Rattle.spelling.specs.Bytes.{small}
 use Rattle.semantics.specs.Base.{Name, _>>=_}
 use Rattle.semantics.specs.Ceilings.{lineBounded, typeBounded}
 use Rattle.semantics.specs.Environment.{Declared, aType, declareLine, extendTypes, declNames, enumNames, typeInfoOf}

@@ -6,7 +6,7 @@ use mathlib.Core.Option.{Option, none, some}
 use Prim.Native.Nat.{ℕ, suc, _+_, _<_, _≤_}
 use borrow.Author.Tests.{lt-ltb, le-ltb}
 use native.Mathlib.Omega.{arith}
-use Rattle.lexis.specs.Bytes.{small, same}
+use Rattle.spelling.specs.Bytes.{small, same}
 use Rattle.semantics.specs.Base.{Name, _>>=_, each, find}
 use Rattle.semantics.specs.Environment.{Environment, NameSort}
 use Rattle.semantics.specs.Forms.{Item, free, some?, madeType}

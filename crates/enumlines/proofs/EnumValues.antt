@@ -11,8 +11,8 @@ use mir.Syntax.{w32}
 use mir.Val.{Fits}
 use lib.IntN.{pos}
 use lib.ListN.{length, getD, set}
-use Rattle.lexis.specs.Bytes.{small, same}
-use Rattle.lexis.proofs.Same.{same-equal}
+use Rattle.spelling.specs.Bytes.{small, same}
+use Rattle.spelling.proofs.Same.{same-equal}
 use Rattle.semantics.specs.Base.{Name, find}
 use Rattle.semantics.specs.Environment.{Environment, NameSort, aValue, enumNames}
 use Rattle.semantics.specs.Layout.{lay}

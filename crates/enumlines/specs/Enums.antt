@@ -6,7 +6,7 @@ use mathlib.Core.Path.{_≡_}
 use Prim.Native.Nat.{ℕ, suc, _+_, _<_, _≤_}
 use lib.Dec.{ltb}
 use lib.ListN.{length}
-use Rattle.lexis.specs.Bytes.{small}
+use Rattle.spelling.specs.Bytes.{small}
 use Rattle.semantics.specs.Base.{Name, _>>=_}
 use Rattle.semantics.specs.Environment.{Environment}
 use Rattle.semantics.specs.Forms.{free, madeType, mEnum}

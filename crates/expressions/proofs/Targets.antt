@@ -9,7 +9,7 @@ use borrow.Author.Tests.{eq-eqb, ne-eqb, eqb-true}
 use lib.Dec.{eqb}
 use lib.IntN.{ℤ}
 use lib.ListN.{getD}
-use Rattle.lexis.specs.Bytes.{small}
+use Rattle.spelling.specs.Bytes.{small}
 use Rattle.semantics.specs.Base as Base
 use Rattle.semantics.specs.Base.{_>>=_, both, given}
 use Rattle.semantics.specs.Code.{Code, Place, cell, index, shift, load}

@@ -15,7 +15,7 @@ use Rattle.arith.specs.Integers.{inside, least, most}
 use Rattle.arith.proofs.Machine.{wire}
 use Rattle.arith.proofs.Order.{leZ-trans}
 use Rattle.arith.proofs.Ranges.{inside-both, inside-is}
-use Rattle.lexis.specs.Bytes.{small}
+use Rattle.spelling.specs.Bytes.{small}
 use Rattle.lexis.specs.declared.words.Word.{Word}
 use Rattle.semantics.specs.Base.{_>>=_, given, pick, find}
 use Rattle.semantics.specs.Base as Base

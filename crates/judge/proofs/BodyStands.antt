@@ -8,7 +8,7 @@ use native.Mathlib.Nat.{mod-eq-of-lt}
 use native.Mathlib.Omega.{arith}
 use lib.ListN.{length, getD, length-append, List·getD-append}
 use lib.Seq.{getD-append-seam}
-use Rattle.lexis.specs.Bytes.{small}
+use Rattle.spelling.specs.Bytes.{small}
 use Rattle.semantics.specs.Base.{Name}
 use Rattle.semantics.specs.Environment.{Declared, Environment, NameSort, aType, aVar, aProc, aValue, declareLine}
 use Rattle.semantics.specs.Layout.{lay}

@@ -5,7 +5,7 @@ use mathlib.Core.List.{List, _∷_, _++_, map}
 use mathlib.Core.Option.{Option, none}
 use Prim.Native.Nat.{ℕ, _<_, _≤_}
 use native.Mathlib.Omega.{arith}
-use Rattle.lexis.specs.Bytes.{small}
+use Rattle.spelling.specs.Bytes.{small}
 use Rattle.lexis.specs.Words.{wordOf}
 use Rattle.lexis.specs.declared.words.Word.{Word}
 use Rattle.semantics.specs.Base.{_>>=_}

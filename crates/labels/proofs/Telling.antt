@@ -13,7 +13,7 @@ use mir.Syntax.{w64}
 use Rattle.arith.specs.Integers.{isZero}
 use Rattle.arith.proofs.Machine.{wire, same-bits}
 use Rattle.arith.proofs.Ranges.{is-zero, not-zero}
-use Rattle.lexis.specs.Bytes.{small}
+use Rattle.spelling.specs.Bytes.{small}
 use Rattle.lexis.specs.Words.{wordOf}
 use Rattle.lexis.specs.declared.words.Word.{Word}
 use Rattle.semantics.specs.Base.{_>>=_}

@@ -6,7 +6,7 @@ use mathlib.Core.Option.{Option, none, some}
 use mathlib.Core.Path.{_≡_}
 use Prim.Native.Nat.{ℕ, _<_}
 use lib.IntN.{ℤ}
-use Rattle.lexis.specs.Bytes.{small}
+use Rattle.spelling.specs.Bytes.{small}
 use Rattle.semantics.specs.Base.{find}
 use Rattle.semantics.specs.Calculate.{truth}
 use Rattle.semantics.specs.Environment.{Environment, aValue}

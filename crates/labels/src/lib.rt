@@ -18,7 +18,7 @@ ghost use mathlib.Core.List.{map};
 ghost use Prim.Native.Nat.{_<_};
 ghost use lib.IntN.{pos};
 ghost use lib.ListN.{length};
-ghost use Rattle.lexis.specs.Bytes.{small};
+ghost use Rattle.spelling.specs.Bytes.{small};
 ghost use Rattle.semantics.specs.Calculate.{equalZ, truth};
 ghost use Rattle.semantics.specs.Trees.{first, wordAt, stackAt};
 ghost use Rattle.shapes.specs.Heads.{atomOf, atomConstant};

@@ -15,7 +15,7 @@ use mir.Syntax.{w64}
 use mir.Val.{Fits}
 use Rattle.lexis.specs.declared.numbers.Numeral.{Numeral}
 use Rattle.lexis.specs.declared.numbers.Numeral.the-variants.{Of, Neither}
-use Rattle.lexis.specs.Bytes.{digitOf}
+use Rattle.spelling.specs.Bytes.{digitOf}
 use Rattle.lexis.specs.Numbers.{digits, atMost, numeral}
 
 -- one more digit makes the sum no smaller

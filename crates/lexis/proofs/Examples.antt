@@ -5,10 +5,10 @@ use Prim.Native.String.{String}
 use lib.IntN.{pos, negsuc}
 use Rattle.lexis.specs.declared.words.Word.{Word}
 use Rattle.lexis.specs.declared.words.Word.the-variants.{Number, Name, Reserved, Operator, Unknown}
-use Rattle.lexis.specs.Bytes.{bytes, same, small, isLetter, isDigit, isAlnum, digitOf}
-use Rattle.lexis.specs.Names.{alnumFirst, partOk, goesOn, isName}
+use Rattle.spelling.specs.Bytes.{bytes, same, small, isLetter, isDigit, isAlnum, digitOf}
+use Rattle.spelling.specs.Names.{alnumFirst, partOk, goesOn, isName}
 use Rattle.lexis.specs.Numbers.{digits, atMost, numeral, decimal, decimalOf, signed, hexadecimal, hexOf, numberOf}
-use Rattle.lexis.specs.Table.{reserved, operators, fixed, position, placeOf}
+use Rattle.vocabulary.specs.Table.{reserved, operators, fixed, position, placeOf}
 use Rattle.lexis.specs.Words.{named, placed, wordOf}
 
 pub record Example : Type 0 where

@@ -1,8 +1,3 @@
-pub mod Letters
-pub mod Same
-pub mod Rows
-pub mod Places
-pub mod Naming
 pub mod Digits
 pub mod DecimalHex
 pub mod WordKinds

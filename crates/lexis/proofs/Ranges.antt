@@ -12,9 +12,9 @@ use Rattle.lexis.specs.declared.numbers.Numeral.{Numeral}
 use Rattle.lexis.specs.declared.numbers.Numeral.the-variants.{Of, Neither}
 use Rattle.lexis.specs.declared.words.Word.{Word}
 use Rattle.lexis.specs.declared.words.Word.the-variants.{Number, Name, Reserved, Operator, Unknown}
-use Rattle.lexis.specs.Names.{isName}
+use Rattle.spelling.specs.Names.{isName}
 use Rattle.lexis.specs.Numbers.{numeral, decimal, decimalOf, signed, hexadecimal, hexOf, numberOf}
-use Rattle.lexis.specs.Table.{placeOf}
+use Rattle.vocabulary.specs.Table.{placeOf}
 use Rattle.lexis.specs.Words.{named, placed, wordOf}
 use Rattle.lexis.proofs.Digits.{numeral-small}
 use Rattle.lexis.proofs.DecimalHex.{below}

@@ -7,10 +7,10 @@ use lib.ListN.{getD, replicate, getD-replicate, List·getD-map, List·getD-appen
 use lib.Seq.{getD-append-add}
 use Rattle.lexis.specs.declared.words.Word.{Word}
 use Rattle.lexis.specs.declared.words.Word.the-variants.{Unknown}
-use Rattle.lexis.specs.Bytes.{bytes, small, isLetter, isDigit, isAlnum, digitOf}
-use Rattle.lexis.specs.Names.{alnumFirst, partOk, goesOn, isName}
+use Rattle.spelling.specs.Bytes.{bytes, small, isLetter, isDigit, isAlnum, digitOf}
+use Rattle.spelling.specs.Names.{alnumFirst, partOk, goesOn, isName}
 use Rattle.lexis.specs.Numbers.{digits, atMost, numeral, decimal, decimalOf, numberOf}
-use Rattle.lexis.specs.Table.{reserved, operators, fixed}
+use Rattle.vocabulary.specs.Table.{reserved, operators, fixed}
 
 shapes : map isName fixed ≡ replicate 46 true ++ replicate 11 false
 unfolding isName goesOn partOk alnumFirst isAlnum isDigit isLetter small fixed reserved operators bytes

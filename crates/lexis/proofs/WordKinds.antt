@@ -6,9 +6,9 @@ use Prim.Native.Nat.{ℕ, _-_, _<_, _≤_}
 use borrow.Author.Tests.{lt-ltb, le-ltb}
 use Rattle.lexis.specs.declared.words.Word.{Word}
 use Rattle.lexis.specs.declared.words.Word.the-variants.{Name, Reserved, Operator}
-use Rattle.lexis.specs.Names.{isName}
+use Rattle.spelling.specs.Names.{isName}
 use Rattle.lexis.specs.Numbers.{numberOf}
-use Rattle.lexis.specs.Table.{placeOf}
+use Rattle.vocabulary.specs.Table.{placeOf}
 use Rattle.lexis.specs.Words.{named, placed, wordOf}
 
 module _ (w : List ℕ) (t : Bool) (e : t ≡ isName w) where

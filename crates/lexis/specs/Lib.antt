@@ -1,5 +1,2 @@
-pub mod Bytes
-pub mod Names
 pub mod Numbers
-pub mod Table
 pub mod Words

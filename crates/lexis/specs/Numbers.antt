@@ -10,7 +10,7 @@ use Rattle.lexis.specs.declared.numbers.Numeral.{Numeral}
 use Rattle.lexis.specs.declared.numbers.Numeral.the-variants.{Of, Neither}
 use Rattle.lexis.specs.declared.words.Word.{Word}
 use Rattle.lexis.specs.declared.words.Word.the-variants.{Number, Unknown}
-use Rattle.lexis.specs.Bytes.{digitOf}
+use Rattle.spelling.specs.Bytes.{digitOf}
 
 -- the value of digits in a base, after those that came before; nothing where a byte is no digit
 unfoldable pub digits : ℕ → ℕ → List ℕ → Option ℕ

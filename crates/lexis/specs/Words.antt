@@ -5,9 +5,9 @@ use Prim.Native.Nat.{ℕ, _-_}
 use lib.Dec.{ltb}
 use Rattle.lexis.specs.declared.words.Word.{Word}
 use Rattle.lexis.specs.declared.words.Word.the-variants.{Name, Reserved, Operator}
-use Rattle.lexis.specs.Names.{isName}
+use Rattle.spelling.specs.Names.{isName}
 use Rattle.lexis.specs.Numbers.{numberOf}
-use Rattle.lexis.specs.Table.{placeOf}
+use Rattle.vocabulary.specs.Table.{placeOf}
 
 -- a word that is not in the table
 unfoldable pub named : Bool → List ℕ → Word

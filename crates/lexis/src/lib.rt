@@ -1,6 +1,3 @@
-// Bytes and words of document 01, "The text": a byte's class, a word's kind, names compared.
-pub mod bytes;
-pub mod names;
+// Words of document 01, "The text": a word's kind, and what a number spells.
 pub mod numbers;
-pub mod table;
 pub mod words;

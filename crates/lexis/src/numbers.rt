@@ -1,6 +1,6 @@
 // What a number spells, in decimal and in hexadecimal.
-use crate::bytes::digit_of;
 use crate::words::Word;
+use spelling::bytes::digit_of;
 ghost use mathlib.Core.Path.{_≡_};
 ghost use Prim.Native.Nat.{_≤_};
 ghost use Rattle.lexis.specs.Numbers.{numeral, signed, decimalOf, hexOf, numberOf};

@@ -1,11 +1,11 @@
 // The kinds of word.
-use crate::names::is_name;
 use crate::numbers::number_of;
-use crate::table::FIXED;
-use crate::table::RESERVED;
-use crate::table::place_of;
+use spelling::names::is_name;
+use vocabulary::table::FIXED;
+use vocabulary::table::RESERVED;
+use vocabulary::table::place_of;
 ghost use mathlib.Core.Path.{_≡_};
-ghost use Rattle.lexis.specs.Names.{isName};
+ghost use Rattle.spelling.specs.Names.{isName};
 ghost use Rattle.lexis.specs.Words.{named, wordOf};
 
 // What a word is. A reserved word and an operator have their places in their list of document 01.

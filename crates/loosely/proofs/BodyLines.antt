@@ -7,7 +7,7 @@ use Prim.Native.Nat.{ℕ, suc, _+_, _*_, _%_, _<_, _≤_}
 use native.Mathlib.Nat.{mod-eq-of-lt}
 use native.Mathlib.Omega.{arith}
 use lib.ListN.{length, length-append}
-use Rattle.lexis.specs.Bytes.{small}
+use Rattle.spelling.specs.Bytes.{small}
 use Rattle.semantics.specs.Base.{Name, _>>=_}
 use Rattle.semantics.specs.Ceilings.{lineBounded}
 use Rattle.semantics.specs.Environment.{Declared, declareLine, withBody}

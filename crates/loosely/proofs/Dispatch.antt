@@ -7,7 +7,7 @@ use Prim.Native.Nat.{ℕ, _+_, _*_, _%_}
 use native.Mathlib.Omega.{arith}
 use lib.ListN.{drop}
 use Rattle.lexis.specs.declared.words.Word as Kind
-use Rattle.lexis.specs.Bytes.{small}
+use Rattle.spelling.specs.Bytes.{small}
 use Rattle.lexis.specs.Words.{wordOf}
 use Rattle.semantics.specs.Base.{_>>=_}
 use Rattle.semantics.specs.Environment.{Declared}

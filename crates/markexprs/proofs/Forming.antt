@@ -12,7 +12,7 @@ use mir.Syntax.{w64}
 use mir.Val.{SFits}
 use mir.Facts.{toZ-ofZ}
 use Rattle.arith.proofs.Machine.{wire}
-use Rattle.lexis.specs.Bytes.{small}
+use Rattle.spelling.specs.Bytes.{small}
 use Rattle.semantics.specs.Base.{Name}
 use Rattle.semantics.specs.Environment.{Environment}
 use Rattle.semantics.specs.Machine.{Store}

@@ -12,7 +12,7 @@ use mir.Val.{SFits, Fits}
 use mir.Facts.{toZ-ofZ}
 use Rattle.arith.proofs.Machine.{wire}
 use Rattle.lexis.specs.declared.words.Word.{Word}
-use Rattle.lexis.specs.Bytes.{small}
+use Rattle.spelling.specs.Bytes.{small}
 use Rattle.semantics.specs.Base.{_>>=_, find}
 use Rattle.semantics.specs.Calculate as Calculate
 use Rattle.semantics.specs.Calculate.{is}

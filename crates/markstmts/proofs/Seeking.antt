@@ -15,7 +15,7 @@ use mir.Facts.{toZ-ofZ}
 use Rattle.arith.specs.Integers.{inside}
 use Rattle.arith.proofs.Machine.{wire}
 use Rattle.arith.proofs.Order.{lt-not, not-lt}
-use Rattle.lexis.specs.Bytes.{small}
+use Rattle.spelling.specs.Bytes.{small}
 use Rattle.lexis.specs.Words.{wordOf}
 use Rattle.semantics.specs.Base.{Name, _>>=_, find, given, pick}
 use Rattle.semantics.specs.Environment.{Environment, NameSort}

@@ -15,7 +15,7 @@ use Rattle.arith.proofs.Order.{leZ-trans}
 use Rattle.arith.proofs.Ranges.{inside-both, inside-is, inside-mag}
 use Rattle.lexis.specs.declared.words.Word as Kind
 use Rattle.lexis.specs.declared.words.Word.the-variants as W
-use Rattle.lexis.specs.Bytes.{small}
+use Rattle.spelling.specs.Bytes.{small}
 use Rattle.lexis.specs.Words.{wordOf}
 use Rattle.lexis.proofs.Ranges.{Ranged, word-ranged}
 use Rattle.semantics.specs.Base.{Name, _>>=_, find}

@@ -9,9 +9,9 @@ use native.Mathlib.Omega.{arith}
 use borrow.Author.Tests.{eq-eqb, ne-eqb}
 use lib.ListN.{length, getD, drop, drop-of-length-le}
 use lib.Seq.{drop-cons}
-use Rattle.lexis.specs.declared.bytes.Class.{Class}
-use Rattle.lexis.specs.declared.bytes.Class.the-variants.{Feed, Space, Open, Close, Visible, Refused}
-use Rattle.lexis.specs.Bytes.{classOf}
+use Rattle.spelling.specs.declared.bytes.Class.{Class}
+use Rattle.spelling.specs.declared.bytes.Class.the-variants.{Feed, Space, Open, Close, Visible, Refused}
+use Rattle.spelling.specs.Bytes.{classOf}
 use Rattle.semantics.specs.Lines.{refusedAt}
 use Rattle.semantics.specs.Trees.{before, past}
 use Rattle.reader.specs.declared.lines.Standing.{Standing}

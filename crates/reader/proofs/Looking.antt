@@ -6,14 +6,14 @@ use native.Mathlib.Decide.{decLt}
 use native.Mathlib.Omega.{arith}
 use lib.ListN.{length, getD, take, drop, length-drop}
 use lib.Seq.{take-suc, getD-drop, append-snoc}
-use Rattle.lexis.specs.declared.bytes.Class.{Class}
-use Rattle.lexis.specs.declared.bytes.Class.the-variants.{Feed, Space, Open, Close, Visible, Refused}
+use Rattle.spelling.specs.declared.bytes.Class.{Class}
+use Rattle.spelling.specs.declared.bytes.Class.the-variants.{Feed, Space, Open, Close, Visible, Refused}
 use Rattle.lexis.specs.declared.words.Word.{Word}
 use Rattle.lexis.specs.declared.words.Word.the-variants.{Unknown}
-use Rattle.lexis.specs.Bytes.{classOf, bytes, same}
-use Rattle.lexis.specs.Names.{isName}
+use Rattle.spelling.specs.Bytes.{classOf, bytes, same}
+use Rattle.spelling.specs.Names.{isName}
 use Rattle.lexis.specs.Numbers.{numberOf}
-use Rattle.lexis.specs.Table.{placeOf, position, fixed, reserved, operators}
+use Rattle.vocabulary.specs.Table.{placeOf, position, fixed, reserved, operators}
 use Rattle.lexis.specs.Words.{wordOf, named, placed}
 use Rattle.semantics.specs.Trees.{Trees, Run, wordAt, restAt, stackAt}
 use Rattle.semantics.proofs.Reading.{none-stack, none-word, wordless, space-stack, open-stack, close-stack, feed-stack, refused-stack, word-stack, word-rest, word-word, space-word, open-word, close-word, feed-word, refused-word}

@@ -12,7 +12,7 @@ use lib.ListN.{length, getD, drop}
 use lib.Seq.{drop-cons}
 use Rattle.lexis.specs.declared.words.Word as Kind
 use Rattle.lexis.specs.declared.words.Word.the-variants.{Number, Name, Reserved, Operator, Unknown}
-use Rattle.lexis.specs.Bytes.{classOf}
+use Rattle.spelling.specs.Bytes.{classOf}
 use Rattle.lexis.specs.Words.{wordOf}
 use Rattle.semantics.specs.Base.{_>>=_, given}
 use Rattle.semantics.specs.Lines.{Line, line, inFront, linesOf}

@@ -6,11 +6,11 @@ use mathlib.Core.Path.{_≡_}
 use Prim.Native.Nat.{ℕ, _+_, _<_}
 use lib.Dec.{eqb}
 use lib.ListN.{length}
-use Rattle.lexis.specs.declared.bytes.Class.{Class}
-use Rattle.lexis.specs.declared.bytes.Class.the-variants.{Feed, Space, Open, Close, Visible, Refused}
+use Rattle.spelling.specs.declared.bytes.Class.{Class}
+use Rattle.spelling.specs.declared.bytes.Class.the-variants.{Feed, Space, Open, Close, Visible, Refused}
 use Rattle.lexis.specs.declared.words.Word.{Word}
 use Rattle.lexis.specs.declared.words.Word.the-variants.{Number, Name, Reserved, Operator, Unknown}
-use Rattle.lexis.specs.Bytes.{classOf}
+use Rattle.spelling.specs.Bytes.{classOf}
 use Rattle.lexis.specs.Words.{wordOf}
 use Rattle.semantics.specs.Lines.{Line, line}
 use Rattle.semantics.specs.Trees.{Tree, word, form, Trees, end, _then_, nodesIn, Run, wordAt, restAt, stackAt, Place, before, after, faulty, inside, past, isAfter}

@@ -1,13 +1,13 @@
 // Lines of the text, and the flat passes over them: refused bytes (row 3), brackets (row 4), words (row 5), the count of row 9.
 use crate::sight::Seen;
 use crate::sight::word_at;
-use lexis::bytes::Class;
-use lexis::bytes::class_of;
 use lexis::words::Word;
+use spelling::bytes::Class;
+use spelling::bytes::class_of;
 ghost use mathlib.Core.Path.{_≡_};
 ghost use Prim.Native.Nat.{_+_, _<_, _≤_};
 ghost use lib.ListN.{drop, length};
-ghost use Rattle.lexis.specs.Bytes.{classOf};
+ghost use Rattle.spelling.specs.Bytes.{classOf};
 ghost use Rattle.semantics.specs.Lines.{refusedAt};
 ghost use Rattle.semantics.specs.Trees.{before, inside, past, opened, closed, spelled, stackAt};
 ghost use Rattle.reader.specs.Passes.{lineOr, isRefused, feeds, placeOf, isAfterNow, balancedFrom, afterLine, isKnown, LeafAt, Hops, isStop, weightOf, fineOf, nextOf, knownAll, nodesAll};

@@ -1,8 +1,8 @@
 // What stands at an offset of a line, and words.
-use lexis::bytes::Class;
-use lexis::bytes::class_of;
 use lexis::words::Word;
 use lexis::words::word_of;
+use spelling::bytes::Class;
+use spelling::bytes::class_of;
 ghost use mathlib.Core.Path.{_≡_};
 ghost use Prim.Native.Nat.{_-_, _≤_};
 ghost use lib.ListN.{take, drop, length};

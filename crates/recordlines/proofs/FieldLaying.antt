@@ -11,7 +11,7 @@ use mir.Syntax.{w32}
 use mir.Val.{Fits}
 use lib.Dec.{leb}
 use lib.ListN.{length, getD, set}
-use Rattle.lexis.specs.Bytes.{small}
+use Rattle.spelling.specs.Bytes.{small}
 use Rattle.semantics.specs.Base.{Name, _>>=_, each}
 use Rattle.semantics.specs.Ceilings.{fieldSizes}
 use Rattle.semantics.specs.Environment.{Environment, layFields}

@@ -9,7 +9,7 @@ use native.Mathlib.Omega.{arith}
 use borrow.Author.Tests.{leb-true, lt-leb}
 use lib.Dec.{leb}
 use lib.ListN.{length, set, length-append, length-set}
-use Rattle.lexis.specs.Bytes.{small}
+use Rattle.spelling.specs.Bytes.{small}
 use Rattle.semantics.specs.Base.{Name, _>>=_, each, given, find}
 use Rattle.semantics.specs.Ceilings.{lineBounded, typeBounded, fieldSizes}
 use Rattle.semantics.specs.Environment.{Declared, Environment, aType, declareLine, extendTypes, declNames, typeInfoOf, layFields, fieldCells}

@@ -3,7 +3,7 @@ use mathlib.Core.Path.{_≡_, refl}
 use mathlib.Core.List.{List, [], _∷_}
 use Rattle.semantics.specs.Open.{everything}
 use Rattle.semantics.proofs.FittingSheet.{Case, case, Print, all, _&_}
-use Rattle.lexis.specs.Bytes.{bytes}
+use Rattle.spelling.specs.Bytes.{bytes}
 use Rattle.semantics.specs.Print.{runscript}
 
 -- Row 3: a refused byte, looked for in the whole text before any line is judged

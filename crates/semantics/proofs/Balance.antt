@@ -7,9 +7,9 @@ use Prim.Native.Nat.{ℕ, zero, suc}
 use native.Mathlib.Omega.{arith}
 use lib.Dec.{ltb}
 use lib.ListN.{length}
-use Rattle.lexis.specs.declared.bytes.Class.{Class}
-use Rattle.lexis.specs.declared.bytes.Class.the-variants.{Feed, Space, Open, Close, Visible, Refused}
-use Rattle.lexis.specs.Bytes.{classOf}
+use Rattle.spelling.specs.declared.bytes.Class.{Class}
+use Rattle.spelling.specs.declared.bytes.Class.the-variants.{Feed, Space, Open, Close, Visible, Refused}
+use Rattle.spelling.specs.Bytes.{classOf}
 use Rattle.semantics.specs.Trees.{Tree, word, form, Trees, end, _then_, Place, before, after, faulty, inside, deeper, opened, closed, spelled, past, isAfter, balanced, Run, Reading, reading, first, push, ended, wrapped, withByte, readBytes, treesOf, single}
 
 -- what is read from a place on, if the line ends after the form: before it one form, inside it a list for each open bracket, after it nothing

@@ -5,8 +5,8 @@ use mathlib.Core.List.{List, [], _∷_}
 use Prim.Native.Nat.{ℕ}
 use Prim.Native.String.{String}
 use lib.Dec.{ltb}
-use Rattle.lexis.specs.Bytes.{bytes}
-use Rattle.lexis.specs.Table.{placeOf}
+use Rattle.spelling.specs.Bytes.{bytes}
+use Rattle.vocabulary.specs.Table.{placeOf}
 use Rattle.semantics.specs.Forms.{armHeads, heads, lineHeads, makers, truths, verbs}
 use Rattle.semantics.specs.Print.{runscript}
 use Rattle.semantics.specs.Open.{everything}

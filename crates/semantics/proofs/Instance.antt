@@ -5,7 +5,7 @@ use mathlib.Core.Option.{none}
 use Prim.Native.Nat.{ℕ, _+_, _≤_}
 use lib.IntN.{ℤ, pos}
 use lib.ListN.{length, replicate}
-use Rattle.lexis.specs.Bytes.{bytes}
+use Rattle.spelling.specs.Bytes.{bytes}
 use Rattle.semantics.specs.Environment.{nothingDeclared}
 use Rattle.semantics.specs.Machine.{Outcome, normal, spent, sticks, undefined}
 use Rattle.semantics.specs.Open.{everything}

@@ -13,7 +13,7 @@ use lib.ListN.{getD, length, length-append, List·getD-append}
 use lib.Seq.{getD-append-add}
 use lib.Signed.{leZ}
 use Rattle.arith.specs.Integers.{inside, least, most}
-use Rattle.lexis.specs.Bytes.{same}
+use Rattle.spelling.specs.Bytes.{same}
 use Rattle.semantics.specs.Calculate as Calculate
 use Rattle.semantics.specs.Syntax as Syntax
 use Rattle.semantics.specs.Base.{Name, _>>=_, each, find}

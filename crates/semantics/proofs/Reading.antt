@@ -5,9 +5,9 @@ use Prim.Native.Nat.{ℕ, suc, _+_, _<_, _≤_}
 use native.Mathlib.Omega.{arith}
 use lib.ListN.{length, getD, drop, drop-of-length-le}
 use lib.Seq.{drop-cons}
-use Rattle.lexis.specs.declared.bytes.Class.{Class}
-use Rattle.lexis.specs.declared.bytes.Class.the-variants.{Feed, Space, Open, Close, Visible, Refused}
-use Rattle.lexis.specs.Bytes.{classOf}
+use Rattle.spelling.specs.declared.bytes.Class.{Class}
+use Rattle.spelling.specs.declared.bytes.Class.the-variants.{Feed, Space, Open, Close, Visible, Refused}
+use Rattle.spelling.specs.Bytes.{classOf}
 use Rattle.semantics.specs.Trees.{word, form, end, Reading, reading, first, later, push, ended, withByte, readBytes, wordAt, restAt, stackAt}
 
 module _ (s : List ℕ) (p : ℕ) where

@@ -5,7 +5,7 @@ use mathlib.Core.List.{List, [], _∷_}
 use Prim.Native.String as S
 use Prim.Native.String.{String}
 use lib.IntN.{pos, negsuc}
-use Rattle.lexis.specs.Bytes.{bytes}
+use Rattle.spelling.specs.Bytes.{bytes}
 use Rattle.semantics.specs.Machine.{normal}
 use Rattle.semantics.specs.Open.{everything}
 use Rattle.semantics.specs.Print.{markscript}

@@ -12,7 +12,7 @@ use lib.ListN.{getD, length, length-append, List·getD-append, List·getD-eq-def
 use lib.Seq.{getD-append-add}
 use lib.Signed.{leZ}
 use Rattle.arith.specs.Integers.{inside, least, most}
-use Rattle.lexis.specs.Bytes.{same}
+use Rattle.spelling.specs.Bytes.{same}
 use Rattle.semantics.specs.Base.{Name}
 use Rattle.semantics.specs.Calculate.{natOf}
 use Rattle.semantics.specs.Environment.{builtIn, copies, extendTypes, fieldCells, layFields, ordinalInfo, typeInfoOf}

@@ -8,7 +8,7 @@ use Prim.Native.String.{String}
 use native.Mathlib.Nat.{mul-zero, mul-suc}
 use native.Mathlib.Omega.{arith}
 use lib.ListN.{length}
-use Rattle.lexis.specs.Bytes.{bytes, same}
+use Rattle.spelling.specs.Bytes.{bytes, same}
 use Rattle.semantics.specs.Base.{Name, _>>=_, either, each}
 use Rattle.semantics.specs.Operators.{Fun, minus, negate}
 use Rattle.semantics.specs.Syntax.{Arms, Body, Constant, Expr, Exprs, LineForm, Stmt, Stmts, Target, TypeForm, TypeName, _and_, _next_, alias, arm, arrayOf, assign, at, begin, binary, call, case, const, done, dot, elseArm, endOf, enum, errorNumber, for, ifElse, mainLine, members, nil, noElse, procLine, raise, range, read, recordOf, setOf, shortCircuit, skip, typeLine, unary, var, varLine, while}

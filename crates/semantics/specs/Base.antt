@@ -3,7 +3,7 @@ use mathlib.Core.Bool.{Bool, true, false}
 use mathlib.Core.List.{List, [], _∷_}
 use mathlib.Core.Option.{Option, none, some}
 use Prim.Native.Nat.{ℕ}
-use Rattle.lexis.specs.Bytes.{same}
+use Rattle.spelling.specs.Bytes.{same}
 
 -- a name: its bytes, in small letters
 abbrev pub Name : Type 0

@@ -6,7 +6,7 @@ use mathlib.Core.Option.{Option, none, some}
 use Prim.Native.Nat.{ℕ, zero, suc}
 use Prim.Native.String.{String}
 use lib.IntN.{ℤ}
-use Rattle.lexis.specs.Bytes.{bytes, same}
+use Rattle.spelling.specs.Bytes.{bytes, same}
 use Rattle.semantics.specs.Syntax as Syntax
 use Rattle.semantics.specs.Base.{Name, _>>=_, given, either, each}
 use Rattle.semantics.specs.Operators.{Fun, Op, abs, andBoth, atLeast, atMost, card, divide, equal, greater, less, member, minus, modulo, negate, notOf, odd, orBoth, ord, plus, power, pred, setmax, setmin, sqr, succ, times, unequal}

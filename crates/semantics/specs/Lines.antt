@@ -4,8 +4,8 @@ use mathlib.Core.List.{List, [], _∷_}
 use mathlib.Core.Option.{Option, none, some}
 use Prim.Native.Nat.{ℕ, suc}
 use lib.Dec.{eqb}
-use Rattle.lexis.specs.declared.bytes.Class.the-variants.{Feed, Space, Open, Close, Visible, Refused}
-use Rattle.lexis.specs.Bytes.{classOf}
+use Rattle.spelling.specs.declared.bytes.Class.the-variants.{Feed, Space, Open, Close, Visible, Refused}
+use Rattle.spelling.specs.Bytes.{classOf}
 
 -- the line of the first refused byte, where n is the line that has been reached
 unfoldable pub refusedAt : ℕ → List ℕ → Option ℕ

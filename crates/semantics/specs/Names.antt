@@ -4,7 +4,7 @@ use mathlib.Core.List.{List, [], _∷_}
 use mathlib.Core.Option.{Option, none, some}
 use Prim.Native.Nat.{ℕ}
 use lib.IntN.{ℤ, negℤ}
-use Rattle.lexis.specs.Bytes.{same}
+use Rattle.spelling.specs.Bytes.{same}
 use Rattle.semantics.specs.Calculate as Calculate
 use Rattle.semantics.specs.Syntax as Syntax
 use Rattle.semantics.specs.Base.{Name, _>>=_, each, find, given}

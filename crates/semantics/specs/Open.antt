@@ -2,10 +2,10 @@
 use Rattle.arith.specs.Integers as ArithIntegers
 use Rattle.arith.specs.Powers as ArithPowers
 use Rattle.sets.specs.Sets as SetsSets
-use Rattle.lexis.specs.Bytes as LexisBytes
-use Rattle.lexis.specs.Names as LexisNames
+use Rattle.spelling.specs.Bytes as SpellingBytes
+use Rattle.spelling.specs.Names as SpellingNames
 use Rattle.lexis.specs.Numbers as LexisNumbers
-use Rattle.lexis.specs.Table as LexisTable
+use Rattle.vocabulary.specs.Table as VocabularyTable
 use Rattle.lexis.specs.Words as LexisWords
 use Rattle.semantics.specs.Base as Base
 use Rattle.semantics.specs.Lines as Lines
@@ -39,11 +39,11 @@ unfolding
     ArithIntegers.modℕ ArithIntegers.modulus ArithIntegers.isOdd ArithIntegers.next ArithIntegers.previous ArithPowers.signed
     ArithPowers.powZ ArithPowers.small ArithPowers.power SetsSets.those SetsSets.bit SetsSets.members SetsSets.valueOf SetsSets.patternOf
     SetsSets.membersOf SetsSets.has SetsSets.holds SetsSets.least SetsSets.greatest SetsSets.with SetsSets.unionOf SetsSets.differenceOf
-    SetsSets.intersectionOf SetsSets.all SetsSets.within SetsSets.equals SetsSets.allIn SetsSets.liesIn LexisBytes.bytes LexisBytes.same
-    LexisBytes.classOf LexisBytes.small LexisBytes.isLetter LexisBytes.isDigit LexisBytes.isAlnum LexisBytes.digitOf LexisNames.alnumFirst
-    LexisNames.partOk LexisNames.goesOn LexisNames.isName LexisNumbers.digits LexisNumbers.atMost LexisNumbers.numeral LexisNumbers.decimal
-    LexisNumbers.decimalOf LexisNumbers.signed LexisNumbers.hexadecimal LexisNumbers.hexOf LexisNumbers.numberOf LexisTable.reserved
-    LexisTable.operators LexisTable.fixed LexisTable.letter LexisTable.letters LexisTable.position LexisTable.isFixed LexisTable.placeOf
+    SetsSets.intersectionOf SetsSets.all SetsSets.within SetsSets.equals SetsSets.allIn SetsSets.liesIn SpellingBytes.bytes SpellingBytes.same
+    SpellingBytes.classOf SpellingBytes.small SpellingBytes.isLetter SpellingBytes.isDigit SpellingBytes.isAlnum SpellingBytes.digitOf SpellingNames.alnumFirst
+    SpellingNames.partOk SpellingNames.goesOn SpellingNames.isName LexisNumbers.digits LexisNumbers.atMost LexisNumbers.numeral LexisNumbers.decimal
+    LexisNumbers.decimalOf LexisNumbers.signed LexisNumbers.hexadecimal LexisNumbers.hexOf LexisNumbers.numberOf VocabularyTable.reserved
+    VocabularyTable.operators VocabularyTable.fixed VocabularyTable.letter VocabularyTable.letters VocabularyTable.position VocabularyTable.isFixed VocabularyTable.placeOf
     LexisWords.named LexisWords.placed LexisWords.wordOf Base.find Base._>>=_ Base.both Base.given Base.either Base.each Base.pick
     Lines.refusedAt Lines.inFront Lines.linesOf Trees.list Trees.nodes Trees.nodesIn Trees.deeper Trees.opened Trees.closed Trees.spelled
     Trees.past Trees.isAfter Trees.balanced Trees.withByte Trees.readBytes Trees.treesOf Trees.single Trees.formOf Trees.wordAt

@@ -5,7 +5,7 @@ use Prim.Native.Nat.{ℕ, zero, suc, _+_, _/_, _%_}
 use lib.IntN.{ℤ, pos, negsuc}
 use lib.Dec.{eqb}
 use lib.ListN.{length, replicate}
-use Rattle.lexis.specs.Bytes.{bytes}
+use Rattle.spelling.specs.Bytes.{bytes}
 use Rattle.semantics.specs.Base.{Name}
 use Rattle.semantics.specs.Machine.{Outcome, defined, normal, raised, spent, sticks, undefined}
 use Rattle.semantics.specs.Verdict.{Fitting, accepted, judge, loosely, refused, strictly}

@@ -4,7 +4,7 @@ use mathlib.Core.Option.{Option, none, some}
 use lib.IntN.{ℤ}
 use Rattle.lexis.specs.declared.words.Word as Kind
 use Rattle.lexis.specs.declared.words.Word.the-variants.{Number, Name, Reserved, Operator, Unknown}
-use Rattle.lexis.specs.Bytes.{small}
+use Rattle.spelling.specs.Bytes.{small}
 use Rattle.lexis.specs.Words.{wordOf}
 use Rattle.semantics.specs.Base as Base
 use Rattle.semantics.specs.Base.{_>>=_}

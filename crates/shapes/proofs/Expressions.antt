@@ -13,7 +13,7 @@ use Rattle.semantics.specs.Syntax.{Expr, Exprs, Target, TypeName, at, binary, c
 use Rattle.semantics.specs.Trees.{Tree, word, form, Trees, end, _then_, Run, list}
 use Rattle.semantics.specs.Words.{Word, worded, wordedAll}
 use Rattle.shapes.specs.Parts.{partOf, rest, closed, keyIn, exprIn, targetIn, nameIn, numberIn, typeNameIn, constantIn, exprsIn, targetBy, constantBy}
-use Rattle.lexis.specs.Bytes.{bytes, same}
+use Rattle.spelling.specs.Bytes.{bytes, same}
 use Rattle.lexis.specs.Words.{wordOf}
 use Rattle.shapes.specs.Heads.{exprHeadOf}
 use Rattle.shapes.proofs.Heads.{target-head-is, minus-head-is}

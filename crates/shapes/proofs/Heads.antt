@@ -9,12 +9,12 @@ use borrow.Author.Tests.{lt-ltb, le-ltb, ltb-true, ltb-false}
 use lib.Dec.{eqb, leb, ltb}
 use lib.IntN.{ℤ}
 use lib.ListN.{length, getD, List·getD-map}
-use Rattle.lexis.proofs.Places.{fixed-count}
-use Rattle.lexis.proofs.Same.{same-equal}
-use Rattle.lexis.specs.Bytes.{bytes, small, same}
-use Rattle.lexis.specs.Names.{isName}
+use Rattle.vocabulary.proofs.Places.{fixed-count}
+use Rattle.spelling.proofs.Same.{same-equal}
+use Rattle.spelling.specs.Bytes.{bytes, small, same}
+use Rattle.spelling.specs.Names.{isName}
 use Rattle.lexis.specs.Numbers.{numberOf, hexOf, hexadecimal, decimalOf, decimal, numeral}
-use Rattle.lexis.specs.Table.{reserved, operators, fixed, position, placeOf}
+use Rattle.vocabulary.specs.Table.{reserved, operators, fixed, position, placeOf}
 use Rattle.lexis.specs.Words.{wordOf, named, placed}
 use Rattle.lexis.specs.declared.numbers.Numeral.{Numeral}
 use Rattle.lexis.specs.declared.numbers.Numeral.the-variants.{Of, Neither}

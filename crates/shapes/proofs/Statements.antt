@@ -4,7 +4,7 @@ use mathlib.Core.Bool.{Bool, true, false}
 use mathlib.Core.List.{List, [], _∷_}
 use mathlib.Core.Option.{Option, none, some}
 use Prim.Native.Nat.{ℕ, zero, suc}
-use Rattle.lexis.specs.Bytes.{bytes, same}
+use Rattle.spelling.specs.Bytes.{bytes, same}
 use Rattle.lexis.specs.Words.{wordOf}
 use Rattle.semantics.specs.Base.{Name, _>>=_, each, given}
 use Rattle.semantics.specs.Forms.{Item, ArmHead, isArm, isElse, Verb, vAssign, vBegin, vIf, vWhile, vFor, vCase, vCall, vRaise, verbs, among, armHeads, arms, armsFirst, body, caseForm, constant, elseOf, ending, expr, first?, forForm, free, handlerOf, headed, ifForm, keyOf, one, oneArm, some?, stmt, stmtForm, stmts, target, two}

@@ -4,9 +4,9 @@ use mathlib.Core.List.{List, [], _∷_}
 use Prim.Native.Nat.{ℕ, suc, _+_, _≤_}
 use native.Mathlib.Omega.{arith}
 use lib.ListN.{length, drop, length-drop}
-use Rattle.lexis.specs.declared.bytes.Class.{Class}
-use Rattle.lexis.specs.declared.bytes.Class.the-variants.{Feed, Space, Open, Close, Visible, Refused}
-use Rattle.lexis.specs.Bytes.{classOf}
+use Rattle.spelling.specs.declared.bytes.Class.{Class}
+use Rattle.spelling.specs.declared.bytes.Class.the-variants.{Feed, Space, Open, Close, Visible, Refused}
+use Rattle.spelling.specs.Bytes.{classOf}
 use Rattle.semantics.specs.Trees.{Tree, word, form, Trees, nodes, nodesIn, Run, Reading, first, later, push, ended, withByte, readBytes, wordAt, restAt, stackAt}
 use Rattle.reader.specs.Passes.{nodesAll}
 

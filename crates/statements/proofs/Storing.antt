@@ -8,7 +8,7 @@ use native.Mathlib.Omega.{arith}
 use lib.Dec.{eqb}
 use lib.ListN.{length, getElem?}
 use Rattle.lexis.specs.declared.words.Word.{Word}
-use Rattle.lexis.specs.Bytes.{small}
+use Rattle.spelling.specs.Bytes.{small}
 use Rattle.lexis.specs.Words.{wordOf}
 use Rattle.semantics.specs.Base.{Name, _>>=_, find}
 use Rattle.semantics.specs.Elaborate.{Located}

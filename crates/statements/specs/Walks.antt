@@ -19,7 +19,7 @@ use Rattle.semantics.specs.Syntax.{Expr, Target, Stmt, Stmts, Body, ifElse, for
 use Rattle.semantics.specs.Trees.{form, Trees, end, _then_, Run, first, later, wordAt, stackAt, nodesIn, list}
 use Rattle.semantics.specs.Words.{wordedAll}
 use Rattle.semantics.proofs.LayoutRegions.{Same}
-use Rattle.lexis.specs.Bytes.{small}
+use Rattle.spelling.specs.Bytes.{small}
 use Rattle.shapes.specs.declared.Verb.{Verb}
 use Rattle.shapes.specs.declared.Verb.the-variants.{Assign, Raise, Call}
 use Rattle.shapes.specs.Heads.{verbMeant}

@@ -17,7 +17,7 @@ use Rattle.arith.specs.Integers.{isZero, least, most}
 use Rattle.arith.proofs.Machine.{wire}
 use Rattle.arith.proofs.Order.{leZ-trans}
 use Rattle.arith.proofs.Ranges.{inside-both}
-use Rattle.lexis.specs.Bytes.{small}
+use Rattle.spelling.specs.Bytes.{small}
 use Rattle.semantics.specs.Environment.{Declared}
 use Rattle.semantics.specs.LayoutSize.{IsInteger}
 use Rattle.semantics.specs.Store.{cellFits, cellOk, cellsOk, faultOf, storeFault}

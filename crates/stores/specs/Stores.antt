@@ -9,7 +9,7 @@ use lib.IntN.{ℤ}
 use lib.ListN.{length, getD}
 use Rattle.arith.specs.Integers.{inside, isZero}
 use Rattle.sets.specs.Sets.{liesIn}
-use Rattle.lexis.specs.Bytes.{small}
+use Rattle.spelling.specs.Bytes.{small}
 use Rattle.lexis.specs.Numbers.{signed}
 use Rattle.semantics.specs.Environment.{Declared}
 use Rattle.semantics.specs.Store.{storeFault}

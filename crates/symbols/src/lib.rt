@@ -1,13 +1,13 @@
 // The names that a script has declared, as entries in the working list that point into the text.
-use lexis::names::same_name;
 use reader::sight::word_end;
+use spelling::names::same_name;
 use worklist::at;
 use worklist::lay;
 ghost use mathlib.Core.Path.{_≡_};
 ghost use mathlib.Core.List.{[], _∷_, map};
 ghost use Prim.Native.Nat.{_≤_};
 ghost use lib.ListN.{length};
-ghost use Rattle.lexis.specs.Bytes.{small, same};
+ghost use Rattle.spelling.specs.Bytes.{small, same};
 ghost use Rattle.semantics.specs.Trees.{wordAt};
 ghost use Rattle.semantics.specs.Layout.{lay as laid};
 ghost use Rattle.worklist.specs.Laid.{Laid};

@@ -8,7 +8,7 @@ use native.Mathlib.Omega.{arith}
 use borrow.Author.Tests.{ne-eqb}
 use lib.Dec.{eqb, lit≤}
 use lib.ListN.{getD}
-use Rattle.lexis.specs.Bytes.{small, same}
+use Rattle.spelling.specs.Bytes.{small, same}
 use Rattle.semantics.specs.Base.{Name, find}
 use Rattle.semantics.specs.Environment.{Environment}
 use Rattle.semantics.specs.Layout.{bits}

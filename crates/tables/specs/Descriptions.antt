@@ -7,7 +7,7 @@ use mathlib.Core.Path.{_≡_}
 use Prim.Native.Nat.{ℕ, zero, suc, _+_, _*_, _≤_}
 use lib.Dec.{eqb}
 use lib.ListN.{length, getD}
-use Rattle.lexis.specs.Bytes.{small, same}
+use Rattle.spelling.specs.Bytes.{small, same}
 use Rattle.semantics.specs.Base.{Name}
 use Rattle.semantics.specs.Layout.{bits}
 use Rattle.semantics.specs.Trees.{wordAt}

@@ -7,7 +7,7 @@ use Prim.Native.Nat.{ℕ, _+_, _/_, _%_, _≤_}
 use lib.Dec.{eqb}
 use lib.IntN.{pos}
 use lib.ListN.{length, getD}
-use Rattle.lexis.specs.Bytes.{same}
+use Rattle.spelling.specs.Bytes.{same}
 use Rattle.semantics.specs.Base.{Name, find}
 use Rattle.semantics.specs.Environment.{Environment, NameSort, aType, aVar, aProc, aValue}
 use Rattle.semantics.specs.Script.{Const}

@@ -10,7 +10,7 @@ ghost use mathlib.Core.Path.{_≡_};
 ghost use mathlib.Core.List.{map};
 ghost use Prim.Native.Nat.{_+_, _*_, _%_, _<_, _≤_};
 ghost use lib.IntN.{pos};
-ghost use Rattle.lexis.specs.Bytes.{small};
+ghost use Rattle.spelling.specs.Bytes.{small};
 ghost use Rattle.semantics.specs.Trees.{wordAt};
 ghost use Rattle.symbols.specs.Chain.{entries, placeIn};
 ghost use Rattle.tables.specs.Descriptions.{integerInfo, booleanInfo, noInfo, readInfo, infoOf, fieldPlace};

@@ -7,7 +7,7 @@ use mir.Syntax.{w64}
 use mir.Val.{SFits}
 use mir.Facts.{toZ-ofZ}
 use Rattle.arith.proofs.Machine.{wire}
-use Rattle.lexis.specs.Bytes.{bytes}
+use Rattle.spelling.specs.Bytes.{bytes}
 use Rattle.semantics.specs.Print.{decimalOf, signedOf, row, outcome, cells, show}
 use Rattle.semantics.specs.Whole as Whole
 use Rattle.marker.specs.declared.Ending.{Ending}

@@ -3,7 +3,7 @@ use mathlib.Core.List.{List, map}
 use mathlib.Core.Option.{Option, none}
 use Prim.Native.Nat.{ℕ, _<_}
 use lib.ListN.{length}
-use Rattle.lexis.specs.Bytes.{small}
+use Rattle.spelling.specs.Bytes.{small}
 use Rattle.semantics.specs.Syntax.{TypeForm}
 use Rattle.semantics.specs.Trees.{Trees, Run, first, wordAt, stackAt}
 use Rattle.parts.specs.Parts.{FormAt}

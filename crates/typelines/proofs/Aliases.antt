@@ -8,7 +8,7 @@ use native.Mathlib.Nat.{mod-eq-of-lt}
 use native.Mathlib.Omega.{arith}
 use borrow.Author.Tests.{le-leb, lt-leb}
 use lib.ListN.{length}
-use Rattle.lexis.specs.Bytes.{small}
+use Rattle.spelling.specs.Bytes.{small}
 use Rattle.semantics.specs.Base.{Name, _>>=_, find, given}
 use Rattle.semantics.specs.Ceilings.{lineBounded, typeBounded}
 use Rattle.semantics.specs.Environment.{Declared, Environment, NameSort, aType, declareLine, extendTypes, declNames}

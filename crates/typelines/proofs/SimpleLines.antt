@@ -9,7 +9,7 @@ use native.Mathlib.Omega.{arith}
 use borrow.Author.Tests.{leb-true}
 use lib.Dec.{leb}
 use lib.ListN.{length, getD, set, length-append, length-set}
-use Rattle.lexis.specs.Bytes.{small}
+use Rattle.spelling.specs.Bytes.{small}
 use Rattle.semantics.specs.Base.{Name, _>>=_, find}
 use Rattle.semantics.specs.Ceilings.{lineBounded, typeBounded}
 use Rattle.semantics.specs.Environment.{Declared, Environment, NameSort, aType, declareLine, extendTypes, declNames, typeInfoOf, copies, valueCount}

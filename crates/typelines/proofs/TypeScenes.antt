@@ -11,7 +11,7 @@ use borrow.Author.Tests.{ne-eqb, leb-true}
 use lib.Dec.{leb}
 use lib.ListN.{length, getD, set, length-append, List·getD-eq-default}
 use lib.Seq.{getD-set-same, getD-set-other}
-use Rattle.lexis.specs.Bytes.{small, same}
+use Rattle.spelling.specs.Bytes.{small, same}
 use Rattle.semantics.specs.Base.{Name}
 use Rattle.semantics.specs.Ceilings.{lineBounded, typeBounded}
 use Rattle.semantics.specs.Environment.{Declared, Environment, NameSort, aType, aValue, declareLine, extendTypes}

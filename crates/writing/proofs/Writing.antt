@@ -15,7 +15,7 @@ use mir.Syntax.{w64}
 use mir.Val.{SFits}
 use mir.Facts.{toZ-ofZ}
 use Rattle.arith.proofs.Machine.{wire}
-use Rattle.lexis.specs.Bytes.{bytes, small}
+use Rattle.spelling.specs.Bytes.{bytes, small}
 use Rattle.semantics.specs.Base.{Name}
 use Rattle.semantics.proofs.Reading.{none-word}
 use Rattle.reader.specs.Sights.{Ends}

@@ -1,9 +1,9 @@
 // Bytes and numbers written into a list from a place on, as far as the list reaches; each answers the place after.
-use lexis::bytes::small_of;
+use spelling::bytes::small_of;
 ghost use mathlib.Core.Path.{_≡_};
 ghost use mathlib.Core.List.{[], _∷_, map};
 ghost use Prim.Native.Nat.{_+_, _%_};
-ghost use Rattle.lexis.specs.Bytes.{small};
+ghost use Rattle.spelling.specs.Bytes.{small};
 ghost use Rattle.semantics.specs.Print.{decimalOf, signedOf};
 ghost use Rattle.semantics.specs.Print.{decimal as decimalBy};
 ghost use Rattle.writing.specs.Written.{Puts, naturalOf, turnOf};

@@ -10,7 +10,7 @@ ghost use mathlib.Core.List.{[], _∷_, _++_};
 ghost use Prim.Native.Nat.{_+_, _<_};
 ghost use lib.IntN.{pos};
 ghost use lib.ListN.{length, getD};
-ghost use Rattle.lexis.specs.Bytes.{bytes};
+ghost use Rattle.spelling.specs.Bytes.{bytes};
 ghost use Rattle.semantics.specs.Print.{decimalOf, signedOf, row, cellValue, cells};
 ghost use Rattle.writing.specs.Written.{Puts, nameAt, namesAt};
 

@@ -5,7 +5,7 @@ use Rattle.symbols.proofs.same_word.Statement.{statement}
 use Rattle.symbols.proofs.same_word.Tie as tie
 use Rattle.symbols.proofs.same_word.Reads as reads
 use Rattle.symbols.proofs.same_word.Lts as lts
-use Rattle.lexis.proofs.names.same_name.Reads as same-name-reads
+use Rattle.spelling.proofs.names.same_name.Reads as same-name-reads
 use Rattle.reader.proofs.sight.word_end.Reads as word-end-reads
 use Rattle.symbols.proofs.inside.Reads as inside-reads
 

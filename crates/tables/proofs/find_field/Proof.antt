@@ -1,6 +1,6 @@
 use mathlib.Core.List.{map}
 use native.Mathlib.Omega.{arith}
-use Rattle.lexis.specs.Bytes.{small}
+use Rattle.spelling.specs.Bytes.{small}
 use Rattle.semantics.specs.Trees.{wordAt}
 use Rattle.tables.proofs.Fields.{Asking}
 use borrow.Author.Needs.{needs}

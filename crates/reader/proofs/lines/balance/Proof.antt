@@ -8,7 +8,7 @@ use Rattle.reader.proofs.lines.balance.Statement.{statement}
 use Rattle.reader.proofs.lines.balance.Tie as tie
 use Rattle.reader.proofs.lines.balance.Reads as reads
 use Rattle.reader.proofs.lines.balance.Lts as lts
-use Rattle.lexis.proofs.bytes.class_of.Reads as class-of-reads
+use Rattle.spelling.proofs.bytes.class_of.Reads as class-of-reads
 use Rattle.reader.proofs.lines.is_after.Reads as is-after-reads
 use Rattle.reader.proofs.lines.past_byte.Reads as past-byte-reads
 

@@ -4,7 +4,7 @@ use Rattle.reader.proofs.lines.hop_at.Statement.{statement}
 use Rattle.reader.proofs.lines.hop_at.Tie as tie
 use Rattle.reader.proofs.lines.hop_at.Reads as reads
 use Rattle.reader.proofs.lines.hop_at.Lts as lts
-use Rattle.lexis.proofs.bytes.class_of.Reads as class-of-reads
+use Rattle.spelling.proofs.bytes.class_of.Reads as class-of-reads
 use Rattle.reader.proofs.lines.leaf_at.Reads as leaf-at-reads
 
 -- src/lines.rt:215:9

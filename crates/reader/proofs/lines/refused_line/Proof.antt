@@ -8,7 +8,7 @@ use Rattle.reader.proofs.lines.refused_line.Statement.{statement}
 use Rattle.reader.proofs.lines.refused_line.Tie as tie
 use Rattle.reader.proofs.lines.refused_line.Reads as reads
 use Rattle.reader.proofs.lines.refused_line.Lts as lts
-use Rattle.lexis.proofs.bytes.class_of.Reads as class-of-reads
+use Rattle.spelling.proofs.bytes.class_of.Reads as class-of-reads
 use Rattle.reader.proofs.lines.feeds_after.Reads as feeds-after-reads
 use Rattle.reader.proofs.lines.is_refused.Reads as is-refused-reads
 

@@ -9,7 +9,7 @@ use Rattle.reader.proofs.sight.look.Statement.{statement}
 use Rattle.reader.proofs.sight.look.Tie as tie
 use Rattle.reader.proofs.sight.look.Reads as reads
 use Rattle.reader.proofs.sight.look.Lts as lts
-use Rattle.lexis.proofs.bytes.class_of.Reads as class-of-reads
+use Rattle.spelling.proofs.bytes.class_of.Reads as class-of-reads
 
 abbrev Inv-loop : tie.InvT-loop
 Inv-loop text at p₀ p = stackAt text at ≡ stackAt text p

@@ -8,7 +8,7 @@ use Rattle.reader.proofs.sight.word_end.Statement.{statement}
 use Rattle.reader.proofs.sight.word_end.Tie as tie
 use Rattle.reader.proofs.sight.word_end.Reads as reads
 use Rattle.reader.proofs.sight.word_end.Lts as lts
-use Rattle.lexis.proofs.bytes.class_of.Reads as class-of-reads
+use Rattle.spelling.proofs.bytes.class_of.Reads as class-of-reads
 
 abbrev Inv-loop : tie.InvT-loop
 Inv-loop text at p₀ p = Going text at p

@@ -5,14 +5,14 @@ use mathlib.Core.Path.{_≡_}
 use lib.ListN.{drop}
 use Rattle.writing.proofs.Writing.{Still}
 use mathlib.Core.List.{map}
-use Rattle.lexis.specs.Bytes.{small}
+use Rattle.spelling.specs.Bytes.{small}
 use borrow.Author.Needs.{needs}
 use Rattle.writing.proofs.Writing.{small-laws, still-long, still-start}
 use Rattle.writing.proofs.putting.put_small.Statement.{statement}
 use Rattle.writing.proofs.putting.put_small.Tie as tie
 use Rattle.writing.proofs.putting.put_small.Reads as reads
 use Rattle.writing.proofs.putting.put_small.Lts as lts
-use Rattle.lexis.proofs.bytes.small_of.Reads as small-of-reads
+use Rattle.spelling.proofs.bytes.small_of.Reads as small-of-reads
 use Rattle.writing.proofs.putting.put.Reads as put-reads
 
 abbrev Inv-loop : tie.InvT-loop

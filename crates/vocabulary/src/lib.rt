@@ -1,0 +1,2 @@
+// The reserved words and operators of document 01, "The text".
+pub mod table;
