@@ -13,8 +13,10 @@ use Rattle.semantics.specs.Trees.{Tree, word, form, Trees, end, _then_, Run, no
 use Rattle.semantics.specs.Verdict.{Read, Fitting, Judged, bad, _>>=_, orBad, must, strictly, judgeLine}
 use Rattle.semantics.specs.Words.{Word, worded}
 use Rattle.semantics.proofs.TextsAgree.{stage-on}
-use Rattle.reader.specs.Passes.{lineAt, balancedFrom, knownTree, knownAll, nodesAll}
-use Rattle.reader.proofs.Ties.{formed, unformed, worded-some, worded-none, line-known, line-nodes}
+use Rattle.framing.specs.Passes.{lineAt, balancedFrom}
+use Rattle.reader.specs.Passes.{knownTree, knownAll, nodesAll}
+use Rattle.framing.proofs.Ties.{formed, unformed}
+use Rattle.reader.proofs.Ties.{worded-some, worded-none, line-known, line-nodes}
 use Rattle.parts.specs.declared.Part.{Part}
 use Rattle.parts.specs.declared.Part.the-variants as part
 use Rattle.parts.specs.Parts.{FormAt, Stands}

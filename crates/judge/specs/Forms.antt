@@ -10,7 +10,8 @@ use Rattle.semantics.specs.Lines.{Line}
 use Rattle.semantics.specs.Trees.{Tree, form, nodes, formOf, first, stackAt, before}
 use Rattle.semantics.specs.Verdict.{Read, strictly, judgeLine}
 use Rattle.semantics.specs.Words.{Word, worded}
-use Rattle.reader.specs.Passes.{lineAt, balancedFrom, knownAll}
+use Rattle.framing.specs.Passes.{lineAt, balancedFrom}
+use Rattle.reader.specs.Passes.{knownAll}
 use Rattle.judgements.specs.declared.Known.{Known}
 use Rattle.judgements.specs.declared.Judgement.{Judgement}
 use Rattle.judge.specs.Judging.{Standing, JudgedBy}

@@ -11,7 +11,7 @@ use Rattle.semantics.specs.Verdict.{Judged, good, bad, Read, has, strictly, jud
 use Rattle.semantics.proofs.LayoutBodies.{Bodies}
 use Rattle.semantics.proofs.LinesMeasured.{Measured}
 use Rattle.semantics.proofs.TextRoom.{Room}
-use Rattle.reader.specs.Passes.{lineAt}
+use Rattle.framing.specs.Passes.{lineAt}
 use Rattle.declarations.specs.State.{Holds}
 use Rattle.judgements.specs.declared.Known.{Known}
 use Rattle.judgements.specs.declared.Judgement.{Judgement}

@@ -1,12 +1,12 @@
 // A line at an offset: rows 4 to 9.
 use crate::entering::enter;
+use framing::lines::balance;
 use judgements::Judgement;
 use judgements::Known;
 use judgements::judging::judge;
 use judgements::judging::refused;
 use parts::Part;
 use parts::part_at;
-use reader::lines::balance;
 use reader::lines::count_nodes;
 use reader::lines::words_known;
 use shapes::line_head;

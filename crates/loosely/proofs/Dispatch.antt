@@ -20,8 +20,10 @@ use Rattle.semantics.specs.Trees.{word, form, Trees, end, _then_, Run, nodes, f
 use Rattle.semantics.specs.Verdict.{bad, loosely, judgeLine}
 use Rattle.semantics.specs.Words.{worded}
 use Rattle.semantics.proofs.OnePassLines.{judgedBy}
-use Rattle.reader.specs.Passes.{lineAt, balancedFrom, knownAll, nodesAll}
-use Rattle.reader.proofs.Ties.{formed, unformed, worded-some, worded-none, line-known, line-nodes as tie-nodes}
+use Rattle.framing.specs.Passes.{lineAt, balancedFrom}
+use Rattle.reader.specs.Passes.{knownAll, nodesAll}
+use Rattle.framing.proofs.Ties.{formed, unformed}
+use Rattle.reader.proofs.Ties.{worded-some, worded-none, line-known, line-nodes as tie-nodes}
 use Rattle.tables.specs.declared.Fault.{Fault}
 use Rattle.tables.specs.declared.Fault.the-variants.{Clear, Form}
 use Rattle.parts.specs.declared.Part.{Part}

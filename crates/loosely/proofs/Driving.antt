@@ -13,8 +13,8 @@ use Rattle.semantics.specs.LayoutSize.{sizeSymbols, sizeTypes}
 use Rattle.semantics.specs.Lines.{Line, linesOf, refusedAt}
 use Rattle.semantics.specs.Verdict.{Verdict, Judged, good, bad, Read, has, accepted, must, onward, opening, loosely, judge, judgeLine, judgeLines}
 use Rattle.semantics.proofs.TypeSizes.{small-start}
-use Rattle.reader.specs.Passes.{lineAt, afterLine, lineOr}
-use Rattle.reader.proofs.Ties.{lines-at}
+use Rattle.framing.specs.Passes.{lineAt, afterLine, lineOr}
+use Rattle.framing.proofs.Ties.{lines-at}
 use Rattle.declarations.specs.State.{startState}
 use Rattle.declarations.proofs.Starting.{holds-start}
 use Rattle.bodies.specs.Table.{upTo}

@@ -8,7 +8,7 @@ use Rattle.semantics.specs.Code.{BodyCode}
 use Rattle.semantics.specs.Environment.{Declared}
 use Rattle.semantics.specs.Lines.{Line}
 use Rattle.semantics.specs.Verdict.{Judged, good, bad, loosely, judgeLine}
-use Rattle.reader.specs.Passes.{lineAt}
+use Rattle.framing.specs.Passes.{lineAt}
 use Rattle.shapes.specs.Heads.{lineHeadOf}
 use Rattle.judgements.specs.declared.Known.{Known}
 use Rattle.judgements.specs.declared.Judgement.{Judgement}

@@ -1,8 +1,8 @@
 // A whole text: rows 1 to 9 in their order, the kinds of bodies left out.
 use crate::lined::loose_line;
+use framing::lines::next_line;
+use framing::lines::refused_line;
 use judgements::Known;
-use reader::lines::next_line;
-use reader::lines::refused_line;
 use texts::Checked;
 use texts::at_end;
 use texts::nothing_known;

@@ -1,3 +1,3 @@
-// The text by offset: what stands there, words, lines; the flat passes of rows 3, 4 and 5 and the count of row 9.
+// The text by offset: what stands there, and words; the flat pass of row 5 and the count of row 9.
 pub mod lines;
 pub mod sight;

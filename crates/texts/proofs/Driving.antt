@@ -13,8 +13,8 @@ use Rattle.semantics.specs.Environment.{Declared}
 use Rattle.semantics.specs.Lines.{Line, linesOf}
 use Rattle.semantics.specs.Verdict as Meaning
 use Rattle.semantics.specs.Verdict.{Judged, good, bad, Read, has, accepted, refused, must, onward, strictly, judgeLine, judgeLines}
-use Rattle.reader.specs.Passes.{lineAt, afterLine}
-use Rattle.reader.proofs.Ties.{lines-cons, lines-at}
+use Rattle.framing.specs.Passes.{lineAt, afterLine}
+use Rattle.framing.proofs.Ties.{lines-cons, lines-at}
 use Rattle.judgements.specs.declared.Known.{Known}
 use Rattle.judgements.specs.declared.Judgement.{Judgement}
 use Rattle.judge.specs.Judging.{Standing, JudgedBy, JudgesLine}

@@ -22,7 +22,7 @@ use Rattle.semantics.specs.Whole.{verdictOf, workAfter}
 use Rattle.semantics.proofs.LayoutBodies.{no-bodies}
 use Rattle.semantics.proofs.LinesMeasured.{measured-start}
 use Rattle.semantics.proofs.TextRoom.{room-start}
-use Rattle.reader.specs.Passes.{lineOr}
+use Rattle.framing.specs.Passes.{lineOr}
 use Rattle.declarations.specs.State.{startState}
 use Rattle.declarations.proofs.Starting.{holds-start}
 use Rattle.judgements.specs.declared.Known.{Known}

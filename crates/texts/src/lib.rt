@@ -1,9 +1,9 @@
 // A whole text: rows 1 to 9 in their order, and the verdict.
 use declarations::State;
+use framing::lines::next_line;
+use framing::lines::refused_line;
 use judge::whole::line;
 use judgements::Known;
-use reader::lines::next_line;
-use reader::lines::refused_line;
 use worklist::clear;
 ghost use mathlib.Core.Path.{_≡_};
 ghost use Prim.Native.Nat.{_≤_, min};

@@ -2,10 +2,10 @@
 // the line's text if there is such a line.
 use drive::Verdict;
 use drive::verdict_of;
+use framing::lines::next_line;
 use input::Input;
 use input::read_text;
 use libc::STDOUT_FILENO;
-use reader::lines::next_line;
 ghost use Prim.Native.Nat.{_≤_};
 ghost use lib.ListN.{length};
 

@@ -7,7 +7,7 @@ use Rattle.texts.proofs.check.Lts as lts
 use Rattle.texts.proofs.check_lines.Reads as check-lines-reads
 use Rattle.texts.proofs.nothing_known.Reads as nothing-known-reads
 use Rattle.texts.proofs.refusal.Reads as refusal-reads
-use Rattle.reader.proofs.lines.refused_line.Reads as refused-line-reads
+use Rattle.framing.proofs.lines.refused_line.Reads as refused-line-reads
 
 -- src/lib.rt:108:9
 refusal-requires : tie.Need-refusal-requires

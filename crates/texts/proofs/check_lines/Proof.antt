@@ -9,7 +9,7 @@ use Rattle.texts.proofs.check_lines.Reads as reads
 use Rattle.texts.proofs.check_lines.Lts as lts
 use Rattle.texts.proofs.at_end.Reads as at-end-reads
 use Rattle.judge.proofs.whole.line.Reads as line-reads
-use Rattle.reader.proofs.lines.next_line.Reads as next-line-reads
+use Rattle.framing.proofs.lines.next_line.Reads as next-line-reads
 
 abbrev Inv-loop : tie.InvT-loop
 Inv-loop text work₀ types₀ p₀ n₀ known₀ work types p n known = Going text work₀ types₀ known₀ n p known work types

@@ -6,7 +6,7 @@ use Rattle.judge.proofs.whole.line.Reads as reads
 use Rattle.judge.proofs.whole.line.Lts as lts
 use Rattle.judgements.proofs.judging.refused.Reads as refused-reads
 use Rattle.judge.proofs.whole.known_line.Reads as known-line-reads
-use Rattle.reader.proofs.lines.balance.Reads as balance-reads
+use Rattle.framing.proofs.lines.balance.Reads as balance-reads
 use Rattle.reader.proofs.lines.words_known.Reads as words-known-reads
 
 -- src/whole.rt:51:8

@@ -9,7 +9,7 @@ use Rattle.loosely.proofs.checking.check_lines.Tie as tie
 use Rattle.loosely.proofs.checking.check_lines.Reads as reads
 use Rattle.loosely.proofs.checking.check_lines.Lts as lts
 use Rattle.loosely.proofs.lined.loose_line.Reads as loose-line-reads
-use Rattle.reader.proofs.lines.next_line.Reads as next-line-reads
+use Rattle.framing.proofs.lines.next_line.Reads as next-line-reads
 use Rattle.texts.proofs.at_end.Reads as at-end-reads
 
 abbrev Inv-loop : tie.InvT-loop

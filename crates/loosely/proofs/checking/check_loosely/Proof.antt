@@ -5,7 +5,7 @@ use Rattle.loosely.proofs.checking.check_loosely.Tie as tie
 use Rattle.loosely.proofs.checking.check_loosely.Reads as reads
 use Rattle.loosely.proofs.checking.check_loosely.Lts as lts
 use Rattle.loosely.proofs.checking.check_lines.Reads as check-lines-reads
-use Rattle.reader.proofs.lines.refused_line.Reads as refused-line-reads
+use Rattle.framing.proofs.lines.refused_line.Reads as refused-line-reads
 use Rattle.texts.proofs.nothing_known.Reads as nothing-known-reads
 use Rattle.texts.proofs.refusal.Reads as refusal-reads
 

@@ -6,7 +6,7 @@ use Rattle.loosely.proofs.lined.loose_line.Reads as reads
 use Rattle.loosely.proofs.lined.loose_line.Lts as lts
 use Rattle.judgements.proofs.judging.refused.Reads as refused-reads
 use Rattle.loosely.proofs.lined.loose_known.Reads as loose-known-reads
-use Rattle.reader.proofs.lines.balance.Reads as balance-reads
+use Rattle.framing.proofs.lines.balance.Reads as balance-reads
 use Rattle.reader.proofs.lines.words_known.Reads as words-known-reads
 
 -- src/lined.rt:118:8

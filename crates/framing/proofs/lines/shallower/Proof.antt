@@ -1,9 +1,9 @@
-use Rattle.reader.proofs.Standings.{shallower-laws}
+use Rattle.framing.proofs.Standings.{shallower-laws}
 use borrow.Author.Needs.{needs}
-use Rattle.reader.proofs.lines.shallower.Statement.{statement}
-use Rattle.reader.proofs.lines.shallower.Tie as tie
-use Rattle.reader.proofs.lines.shallower.Reads as reads
-use Rattle.reader.proofs.lines.shallower.Lts as lts
+use Rattle.framing.proofs.lines.shallower.Statement.{statement}
+use Rattle.framing.proofs.lines.shallower.Tie as tie
+use Rattle.framing.proofs.lines.shallower.Reads as reads
+use Rattle.framing.proofs.lines.shallower.Lts as lts
 
 -- src/lines.rt:81:9
 returns : tie.Need-returns

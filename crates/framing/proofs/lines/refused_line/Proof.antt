@@ -1,16 +1,16 @@
 use native.Mathlib.Omega.{arith}
 use lib.ListN.{length, drop}
-use Rattle.reader.proofs.LinePasses.{Seeking}
+use Rattle.framing.proofs.LinePasses.{Seeking}
 use borrow.Author.Needs.{needs}
-use Rattle.reader.proofs.LinePasses.{seek-few, seek-laws, seek-start}
+use Rattle.framing.proofs.LinePasses.{seek-few, seek-laws, seek-start}
 use Prim.Native.Nat.{ℕ, _<_, _≤_, _+_, _*_, _-_}
-use Rattle.reader.proofs.lines.refused_line.Statement.{statement}
-use Rattle.reader.proofs.lines.refused_line.Tie as tie
-use Rattle.reader.proofs.lines.refused_line.Reads as reads
-use Rattle.reader.proofs.lines.refused_line.Lts as lts
+use Rattle.framing.proofs.lines.refused_line.Statement.{statement}
+use Rattle.framing.proofs.lines.refused_line.Tie as tie
+use Rattle.framing.proofs.lines.refused_line.Reads as reads
+use Rattle.framing.proofs.lines.refused_line.Lts as lts
 use Rattle.spelling.proofs.bytes.class_of.Reads as class-of-reads
-use Rattle.reader.proofs.lines.feeds_after.Reads as feeds-after-reads
-use Rattle.reader.proofs.lines.is_refused.Reads as is-refused-reads
+use Rattle.framing.proofs.lines.feeds_after.Reads as feeds-after-reads
+use Rattle.framing.proofs.lines.is_refused.Reads as is-refused-reads
 
 abbrev Inv-loop : tie.InvT-loop
 Inv-loop text p₀ n₀ p n = Seeking text n p

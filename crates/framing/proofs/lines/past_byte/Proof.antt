@@ -1,12 +1,12 @@
-use Rattle.reader.proofs.Standings.{byte-laws}
+use Rattle.framing.proofs.Standings.{byte-laws}
 use borrow.Author.Needs.{needs}
-use Rattle.reader.proofs.lines.past_byte.Statement.{statement}
-use Rattle.reader.proofs.lines.past_byte.Tie as tie
-use Rattle.reader.proofs.lines.past_byte.Reads as reads
-use Rattle.reader.proofs.lines.past_byte.Lts as lts
-use Rattle.reader.proofs.lines.past_close.Reads as past-close-reads
-use Rattle.reader.proofs.lines.past_open.Reads as past-open-reads
-use Rattle.reader.proofs.lines.past_word.Reads as past-word-reads
+use Rattle.framing.proofs.lines.past_byte.Statement.{statement}
+use Rattle.framing.proofs.lines.past_byte.Tie as tie
+use Rattle.framing.proofs.lines.past_byte.Reads as reads
+use Rattle.framing.proofs.lines.past_byte.Lts as lts
+use Rattle.framing.proofs.lines.past_close.Reads as past-close-reads
+use Rattle.framing.proofs.lines.past_open.Reads as past-open-reads
+use Rattle.framing.proofs.lines.past_word.Reads as past-word-reads
 
 -- src/lines.rt:127:24
 enum-told : tie.Need-enum-told

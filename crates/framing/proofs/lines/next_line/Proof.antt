@@ -2,13 +2,13 @@ use mathlib.Core.Path.{_≡_, refl}
 use native.Mathlib.Omega.{arith}
 use lib.ListN.{length, drop}
 use Prim.Native.Nat.{ℕ, _≤_, _-_}
-use Rattle.reader.specs.Passes.{afterLine}
+use Rattle.framing.specs.Passes.{afterLine}
 use borrow.Author.Needs.{needs}
-use Rattle.reader.proofs.LinePasses.{next-laws}
-use Rattle.reader.proofs.lines.next_line.Statement.{statement}
-use Rattle.reader.proofs.lines.next_line.Tie as tie
-use Rattle.reader.proofs.lines.next_line.Reads as reads
-use Rattle.reader.proofs.lines.next_line.Lts as lts
+use Rattle.framing.proofs.LinePasses.{next-laws}
+use Rattle.framing.proofs.lines.next_line.Statement.{statement}
+use Rattle.framing.proofs.lines.next_line.Tie as tie
+use Rattle.framing.proofs.lines.next_line.Reads as reads
+use Rattle.framing.proofs.lines.next_line.Lts as lts
 
 abbrev Inv-loop : tie.InvT-loop
 Inv-loop text at p₀ p = (afterLine (drop at text) ≡ afterLine (drop p text)) × (at ≤ p)

@@ -1,9 +1,9 @@
-use Rattle.reader.proofs.LinePasses.{feeds-laws}
+use Rattle.framing.proofs.LinePasses.{feeds-laws}
 use borrow.Author.Needs.{needs}
-use Rattle.reader.proofs.lines.feeds_after.Statement.{statement}
-use Rattle.reader.proofs.lines.feeds_after.Tie as tie
-use Rattle.reader.proofs.lines.feeds_after.Reads as reads
-use Rattle.reader.proofs.lines.feeds_after.Lts as lts
+use Rattle.framing.proofs.lines.feeds_after.Statement.{statement}
+use Rattle.framing.proofs.lines.feeds_after.Tie as tie
+use Rattle.framing.proofs.lines.feeds_after.Reads as reads
+use Rattle.framing.proofs.lines.feeds_after.Lts as lts
 
 -- src/lines.rt:40:24
 enum-told : tie.Need-enum-told

@@ -1,9 +1,9 @@
-use Rattle.reader.proofs.Standings.{spell-laws}
+use Rattle.framing.proofs.Standings.{spell-laws}
 use borrow.Author.Needs.{needs}
-use Rattle.reader.proofs.lines.past_word.Statement.{statement}
-use Rattle.reader.proofs.lines.past_word.Tie as tie
-use Rattle.reader.proofs.lines.past_word.Reads as reads
-use Rattle.reader.proofs.lines.past_word.Lts as lts
+use Rattle.framing.proofs.lines.past_word.Statement.{statement}
+use Rattle.framing.proofs.lines.past_word.Tie as tie
+use Rattle.framing.proofs.lines.past_word.Reads as reads
+use Rattle.framing.proofs.lines.past_word.Lts as lts
 
 -- src/lines.rt:115:29
 enum-told : tie.Need-enum-told

@@ -1,9 +1,9 @@
-use Rattle.reader.proofs.Standings.{deeper-laws}
+use Rattle.framing.proofs.Standings.{deeper-laws}
 use borrow.Author.Needs.{needs}
-use Rattle.reader.proofs.lines.deeper.Statement.{statement}
-use Rattle.reader.proofs.lines.deeper.Tie as tie
-use Rattle.reader.proofs.lines.deeper.Reads as reads
-use Rattle.reader.proofs.lines.deeper.Lts as lts
+use Rattle.framing.proofs.lines.deeper.Statement.{statement}
+use Rattle.framing.proofs.lines.deeper.Tie as tie
+use Rattle.framing.proofs.lines.deeper.Reads as reads
+use Rattle.framing.proofs.lines.deeper.Lts as lts
 
 -- src/lines.rt:71:33
 add-t3 : tie.Need-add-t3

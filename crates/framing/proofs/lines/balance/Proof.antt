@@ -1,16 +1,16 @@
 use native.Mathlib.Omega.{arith}
 use lib.ListN.{length}
-use Rattle.reader.proofs.LinePasses.{Walks}
+use Rattle.framing.proofs.LinePasses.{Walks}
 use borrow.Author.Needs.{needs}
-use Rattle.reader.proofs.LinePasses.{balance-laws, balance-on, walk-start}
+use Rattle.framing.proofs.LinePasses.{balance-laws, balance-on, walk-start}
 use Prim.Native.Nat.{ℕ, _<_, _≤_, _+_, _*_, _-_}
-use Rattle.reader.proofs.lines.balance.Statement.{statement}
-use Rattle.reader.proofs.lines.balance.Tie as tie
-use Rattle.reader.proofs.lines.balance.Reads as reads
-use Rattle.reader.proofs.lines.balance.Lts as lts
+use Rattle.framing.proofs.lines.balance.Statement.{statement}
+use Rattle.framing.proofs.lines.balance.Tie as tie
+use Rattle.framing.proofs.lines.balance.Reads as reads
+use Rattle.framing.proofs.lines.balance.Lts as lts
 use Rattle.spelling.proofs.bytes.class_of.Reads as class-of-reads
-use Rattle.reader.proofs.lines.is_after.Reads as is-after-reads
-use Rattle.reader.proofs.lines.past_byte.Reads as past-byte-reads
+use Rattle.framing.proofs.lines.is_after.Reads as is-after-reads
+use Rattle.framing.proofs.lines.past_byte.Reads as past-byte-reads
 
 abbrev Inv-loop : tie.InvT-loop
 Inv-loop text at p₀ q₀ p q = Walks text at p q

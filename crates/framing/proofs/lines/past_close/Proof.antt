@@ -1,10 +1,10 @@
-use Rattle.reader.proofs.Standings.{close-laws}
+use Rattle.framing.proofs.Standings.{close-laws}
 use borrow.Author.Needs.{needs}
-use Rattle.reader.proofs.lines.past_close.Statement.{statement}
-use Rattle.reader.proofs.lines.past_close.Tie as tie
-use Rattle.reader.proofs.lines.past_close.Reads as reads
-use Rattle.reader.proofs.lines.past_close.Lts as lts
-use Rattle.reader.proofs.lines.shallower.Reads as shallower-reads
+use Rattle.framing.proofs.lines.past_close.Statement.{statement}
+use Rattle.framing.proofs.lines.past_close.Tie as tie
+use Rattle.framing.proofs.lines.past_close.Reads as reads
+use Rattle.framing.proofs.lines.past_close.Lts as lts
+use Rattle.framing.proofs.lines.shallower.Reads as shallower-reads
 
 -- src/lines.rt:103:29
 enum-told : tie.Need-enum-told

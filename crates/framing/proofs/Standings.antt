@@ -6,9 +6,9 @@ use borrow.Author.Tests.{lt-ltb, le-ltb}
 use Rattle.spelling.specs.declared.bytes.Class.{Class}
 use Rattle.spelling.specs.declared.bytes.Class.the-variants.{Feed, Space, Open, Close, Visible, Refused}
 use Rattle.semantics.specs.Trees.{after, faulty, inside, deeper, opened, closed, spelled, past, isAfter}
-use Rattle.reader.specs.declared.lines.Standing.{Standing}
-use Rattle.reader.specs.declared.lines.Standing.the-variants as standing
-use Rattle.reader.specs.Passes.{placeOf, isAfterNow}
+use Rattle.framing.specs.declared.lines.Standing.{Standing}
+use Rattle.framing.specs.declared.lines.Standing.the-variants as standing
+use Rattle.framing.specs.Passes.{placeOf, isAfterNow}
 
 module _ (n : ℕ) where
   pub deeper-in : n < 31 → inside (n + 1) ≡ opened (inside n)

@@ -14,10 +14,10 @@ use Rattle.spelling.specs.declared.bytes.Class.the-variants.{Feed, Space, Open,
 use Rattle.spelling.specs.Bytes.{classOf}
 use Rattle.semantics.specs.Lines.{refusedAt}
 use Rattle.semantics.specs.Trees.{before, past}
-use Rattle.reader.specs.declared.lines.Standing.{Standing}
-use Rattle.reader.specs.declared.lines.Standing.the-variants as standing
-use Rattle.reader.specs.Passes.{lineOr, isRefused, feeds, placeOf, isAfterNow, balancedFrom, afterLine}
-use Rattle.reader.proofs.Standings.{after-is}
+use Rattle.framing.specs.declared.lines.Standing.{Standing}
+use Rattle.framing.specs.declared.lines.Standing.the-variants as standing
+use Rattle.framing.specs.Passes.{lineOr, isRefused, feeds, placeOf, isAfterNow, balancedFrom, afterLine}
+use Rattle.framing.proofs.Standings.{after-is}
 
 -- the byte at p, and those after it
 split : (s : List ℕ) (p : ℕ) → p < length s → drop p s ≡ getD s p 0 ∷ drop (p + 1) s

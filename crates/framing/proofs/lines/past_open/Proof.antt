@@ -1,10 +1,10 @@
-use Rattle.reader.proofs.Standings.{open-laws}
+use Rattle.framing.proofs.Standings.{open-laws}
 use borrow.Author.Needs.{needs}
-use Rattle.reader.proofs.lines.past_open.Statement.{statement}
-use Rattle.reader.proofs.lines.past_open.Tie as tie
-use Rattle.reader.proofs.lines.past_open.Reads as reads
-use Rattle.reader.proofs.lines.past_open.Lts as lts
-use Rattle.reader.proofs.lines.deeper.Reads as deeper-reads
+use Rattle.framing.proofs.lines.past_open.Statement.{statement}
+use Rattle.framing.proofs.lines.past_open.Tie as tie
+use Rattle.framing.proofs.lines.past_open.Reads as reads
+use Rattle.framing.proofs.lines.past_open.Lts as lts
+use Rattle.framing.proofs.lines.deeper.Reads as deeper-reads
 
 -- src/lines.rt:91:29
 enum-told : tie.Need-enum-told

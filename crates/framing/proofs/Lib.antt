@@ -1,0 +1,3 @@
+pub mod Standings
+pub mod LinePasses
+pub mod Ties
