@@ -5,5 +5,3 @@ pub mod RangeTests
 pub mod Sums
 pub mod Products
 pub mod Division
-pub mod Powers
-pub mod Starred

@@ -4,7 +4,6 @@ ghost use lib.IntN.{ℤ, pos, negℤ, natAbs, _+ℤ_, _-ℤ_, _*ℤ_};
 ghost use Rattle.arith.specs.Integers.{pick, isZero, inside, exact, quotient, modulus, isOdd, next, previous};
 ghost use Rattle.arith.specs.declared.Fault.the-variants.{Overflow};
 ghost use Rattle.arith.specs.declared.Num.the-variants.{Value, Failed};
-ghost use Rattle.arith.specs.Powers.{powZ, power};
 
 // Why an operation on integers gives no value. Which exception this becomes is for `semantics` to say.
 pub enum Fault {
@@ -177,41 +176,4 @@ pub fn pred(x: i64, lo: i64, hi: i64) -> Num
         return Num::Failed(Fault::Bound);
     }
     Num::Value(x - 1)
-}
-
-// x to the power n, by half the exponent: the square of that power, and once more x where n is odd.
-// A half or a square that is past the integers means that the whole power is.
-pub fn halved(x: i64, n: u64) -> Num
-    ensures { λ r. ⌜ r ≡ exact (powZ x n) ⌝ }
-{
-    if n == 0 {
-        return Num::Value(1);
-    }
-    let half = halved(x, n / 2);
-    match half {
-        Num::Failed(_) => Num::Failed(Fault::Overflow),
-        Num::Value(v) => {
-            let square = mul(v, v);
-            match square {
-                Num::Failed(_) => Num::Failed(Fault::Overflow),
-                Num::Value(s) => { if n % 2 == 0 { Num::Value(s) } else { mul(s, x) } }
-            }
-        }
-    }
-}
-
-// `**`.
-pub fn raise(x: i64, n: i64) -> Num
-    ensures { λ r. ⌜ r ≡ power x n ⌝ }
-{
-    if n < 0 {
-        return Num::Failed(Fault::Exponent);
-    }
-    if n == 0 {
-        if x == 0 {
-            return Num::Failed(Fault::Exponent);
-        }
-        return Num::Value(1);
-    }
-    halved(x, n as u64)
 }

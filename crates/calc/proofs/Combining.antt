@@ -16,7 +16,7 @@ use mir.Facts.{toZ-pos, toZ-ofZ}
 use Rattle.arith.proofs.Machine.{wire, same-bits}
 use Rattle.arith.proofs.Ranges.{is-zero, not-zero}
 use Rattle.arith.specs.Integers.{inside, exact, isZero, quotient, modulus, isOdd, next, previous}
-use Rattle.arith.specs.Powers.{power}
+use Rattle.powers.specs.Powers.{power}
 use Rattle.arith.specs.declared.Fault.{Fault}
 use Rattle.arith.specs.declared.Fault.the-variants.{Overflow, Divisor, Exponent, Bound}
 use Rattle.arith.specs.declared.Num.{Num}

@@ -10,14 +10,14 @@ use lib.IntN.{ℤ, pos, negsuc, natAbs, negℤ, _+ℤ_, _-ℤ_, _*ℤ_}
 use lib.Signed.{leZ, ltZ}
 use lib.ListN.{length, getD}
 use Rattle.arith.specs.Integers.{inside, least, most, exact, quotient, modulus, next, previous, isOdd}
-use Rattle.arith.specs.Powers.{power}
+use Rattle.powers.specs.Powers.{power}
 use Rattle.arith.specs.declared.Fault.the-variants.{Overflow, Divisor, Exponent, Bound}
 use Rattle.arith.specs.declared.Num.{Num}
 use Rattle.arith.specs.declared.Num.the-variants.{Value, Failed}
 use Rattle.arith.proofs.Order.{leZ-trans, add-low, le-not}
 use Rattle.arith.proofs.Ranges.{inside-is, inside-both, exact-value}
 use Rattle.arith.proofs.Division.{quotient-value, modulus-value}
-use Rattle.arith.proofs.Powers.{power-value}
+use Rattle.powers.proofs.Powers.{power-value}
 use Rattle.arith.proofs.RangeTests.{next-value, previous-value}
 use Rattle.sets.specs.Sets.{members, membersOf, patternOf, those, valueOf, holds, least as leastOf, greatest, unionOf, differenceOf, intersectionOf, within}
 use Rattle.sets.specs.declared.Member.{Member}

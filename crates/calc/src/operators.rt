@@ -150,7 +150,7 @@ pub fn combine(op: u32, x: i64, y: i64) -> i64
     match op {
         10 => word(arith::sub(x, y)),
         11 => word(arith::mul(x, y)),
-        12 => word(arith::raise(x, y)),
+        12 => word(powers::raise(x, y)),
         13 => word(arith::div(x, y)),
         14 => word(arith::modulo(x, y)),
         15 => union(x, y),

@@ -14,7 +14,7 @@ use borrow.Author.Tests.{eqb-true}
 use lib.Dec.{eqb}
 use lib.ListN.{getD, set, length, length-set}
 use lib.Seq.{getD-set-same, getD-set-other, set-out}
-use Rattle.arith.specs.Powers as Powers
+use Rattle.powers.specs.Powers as Powers
 use Rattle.arith.specs.declared.Fault.{Fault}
 use Rattle.arith.specs.declared.Fault.the-variants.{Overflow, Divisor, Exponent, Bound}
 use Rattle.arith.specs.declared.Num.{Num}
@@ -22,7 +22,7 @@ use Rattle.arith.specs.declared.Num.the-variants.{Value, Failed}
 use Rattle.arith.specs.Integers.{inside, least, most, isZero, exact, quotient, modulus, next, previous}
 use Rattle.arith.proofs.Ranges.{exact-value, ranged-value}
 use Rattle.arith.proofs.Division.{quotient-value, modulus-range}
-use Rattle.arith.proofs.Powers.{power-value}
+use Rattle.powers.proofs.Powers.{power-value}
 use Rattle.sets.specs.Sets as Sets
 use Rattle.sets.specs.declared.Member.{Member}
 use Rattle.sets.specs.declared.Member.the-variants.{Ordinal, Empty}

@@ -10,7 +10,7 @@ use Rattle.arith.specs.declared.Fault.the-variants.{Overflow, Divisor, Exponent
 use Rattle.arith.specs.declared.Num.{Num}
 use Rattle.arith.specs.declared.Num.the-variants.{Value, Failed}
 use Rattle.arith.specs.Integers.{inside, exact, isZero, quotient, modulus, isOdd, next, previous}
-use Rattle.arith.specs.Powers.{power}
+use Rattle.powers.specs.Powers.{power}
 use Rattle.sets.specs.declared.Member.{Member}
 use Rattle.sets.specs.declared.Member.the-variants.{Ordinal, Empty}
 use Rattle.sets.specs.Sets.{membersOf, valueOf, holds, with, least, greatest, unionOf, differenceOf, intersectionOf, within}

@@ -1,6 +1,6 @@
 -- Written by tools/open-names: to unfold `everything` is to unfold every definition of the meaning.
 use Rattle.arith.specs.Integers as ArithIntegers
-use Rattle.arith.specs.Powers as ArithPowers
+use Rattle.powers.specs.Powers as PowersPowers
 use Rattle.sets.specs.Sets as SetsSets
 use Rattle.spelling.specs.Bytes as SpellingBytes
 use Rattle.spelling.specs.Names as SpellingNames
@@ -36,8 +36,8 @@ use Rattle.semantics.specs.Print as Print
 unfoldable pub everything : Unit {0}
 unfolding
     ArithIntegers.inside ArithIntegers.pick ArithIntegers.ranged ArithIntegers.exact ArithIntegers.isZero ArithIntegers.quotient
-    ArithIntegers.modℕ ArithIntegers.modulus ArithIntegers.isOdd ArithIntegers.next ArithIntegers.previous ArithPowers.signed
-    ArithPowers.powZ ArithPowers.small ArithPowers.power SetsSets.those SetsSets.bit SetsSets.members SetsSets.valueOf SetsSets.patternOf
+    ArithIntegers.modℕ ArithIntegers.modulus ArithIntegers.isOdd ArithIntegers.next ArithIntegers.previous PowersPowers.signed
+    PowersPowers.powZ PowersPowers.small PowersPowers.power SetsSets.those SetsSets.bit SetsSets.members SetsSets.valueOf SetsSets.patternOf
     SetsSets.membersOf SetsSets.has SetsSets.holds SetsSets.least SetsSets.greatest SetsSets.with SetsSets.unionOf SetsSets.differenceOf
     SetsSets.intersectionOf SetsSets.all SetsSets.within SetsSets.equals SetsSets.allIn SetsSets.liesIn SpellingBytes.bytes SpellingBytes.same
     SpellingBytes.classOf SpellingBytes.small SpellingBytes.isLetter SpellingBytes.isDigit SpellingBytes.isAlnum SpellingBytes.digitOf SpellingNames.alnumFirst

@@ -8,7 +8,7 @@ use Rattle.arith.proofs.add.Reads as add-reads
 use Rattle.arith.proofs.div.Reads as div-reads
 use Rattle.arith.proofs.modulo.Reads as modulo-reads
 use Rattle.arith.proofs.mul.Reads as mul-reads
-use Rattle.arith.proofs.raise.Reads as raise-reads
+use Rattle.powers.proofs.raise.Reads as raise-reads
 use Rattle.arith.proofs.sub.Reads as sub-reads
 use Rattle.calc.proofs.operators.at_most.Reads as at-most-reads
 use Rattle.calc.proofs.operators.both.Reads as both-reads

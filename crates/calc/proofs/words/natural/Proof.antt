@@ -1,4 +1,4 @@
-use Rattle.arith.proofs.Powers.{raise-cast}
+use Rattle.powers.proofs.Powers.{raise-cast}
 use borrow.Author.Needs.{needs}
 use Rattle.calc.proofs.Leaves.{natural-is, natural-none}
 use Rattle.calc.proofs.words.natural.Statement.{statement}

@@ -1,4 +1,4 @@
-use Rattle.arith.proofs.Powers.{raise-cast}
+use Rattle.powers.proofs.Powers.{raise-cast}
 use borrow.Author.Needs.{needs}
 use Rattle.writing.proofs.Integers.{natural-is, natural-none}
 use Rattle.writing.proofs.putting.natural.Statement.{statement}

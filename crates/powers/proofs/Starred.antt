@@ -2,11 +2,11 @@
 use mathlib.Core.Path.{_≡_, refl}
 use mathlib.Core.List.{List, [], _∷_}
 use lib.IntN.{pos, negsuc}
 use Rattle.arith.specs.Integers.{inside, pick, ranged, exact, isZero, quotient, modℕ, modulus}
-use Rattle.arith.specs.Powers.{signed, powZ, small, power}
+use Rattle.powers.specs.Powers.{signed, powZ, small, power}
 use Rattle.arith.specs.declared.Fault.the-variants.{Overflow, Divisor, Exponent}
 use Rattle.arith.specs.declared.Num.{Num}
 use Rattle.arith.specs.declared.Num.the-variants.{Value, Failed}
 
 record Case : Type 0 where
   given : Num

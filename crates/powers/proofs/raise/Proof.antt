@@ -1,8 +1,8 @@
--- `arith::raise` meets its contract. Assumes nothing.
+-- `powers::raise` meets its contract. Assumes nothing.
 use borrow.Author.Needs.{needs}
-use Rattle.arith.proofs.Powers.{raise-laws, raise-cast}
-use Rattle.arith.proofs.raise.Statement.{statement}
-use Rattle.arith.proofs.raise.Tie as tie
+use Rattle.powers.proofs.Powers.{raise-laws, raise-cast}
+use Rattle.powers.proofs.raise.Statement.{statement}
+use Rattle.powers.proofs.raise.Tie as tie
 
 returns : tie.Need-returns
 returns c = search raise-laws

@@ -1,16 +1,16 @@
--- `arith::halved` meets its contract. The measure is the exponent, which a half is below. Each answer is one of the laws of
+-- `powers::halved` meets its contract. The measure is the exponent, which a half is below. Each answer is one of the laws of
 -- `Powers`, or one of the borrow checker's own facts. Assumes nothing.
 use Prim.Native.Nat.{ℕ, _<_}
 use borrow.Author.Needs.{needs}
 use borrow.Fn.Kinds.{In}
 use borrow.Fn.PlainCycle.{Measures, is, falls, and}
-use Rattle.arith.proofs.Powers.{halved-laws}
-use Rattle.arith.proofs.halved.Reads as halved
-use Rattle.arith.proofs.halved.Kinds as halved-kinds
-use Rattle.arith.proofs.+halved.Lts-halved as halved-lts
+use Rattle.powers.proofs.Powers.{halved-laws}
+use Rattle.powers.proofs.halved.Reads as halved
+use Rattle.powers.proofs.halved.Kinds as halved-kinds
+use Rattle.powers.proofs.+halved.Lts-halved as halved-lts
 use Rattle.arith.proofs.mul.Reads as mul-reads
-use Rattle.arith.proofs.+halved.{statement}
-use Rattle.arith.proofs.+halved.Tie.{close}
+use Rattle.powers.proofs.+halved.{statement}
+use Rattle.powers.proofs.+halved.Tie.{close}
 
 abbrev μ-halved : Measures 0 halved-kinds.ps ℕ
 μ-halved κs a = a .1 .0

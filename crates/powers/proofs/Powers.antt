@@ -15,16 +15,16 @@ use lib.Signed.{mag, ltZ, nonNeg}
 use mir.Syntax.{w64}
 use mir.Val.{SFits, Fits, ofZ}
 use mir.Facts.{toZ-ofZ, fits-natAbs}
 use Rattle.arith.specs.Integers.{least, most, inside, exact, isZero}
-use Rattle.arith.specs.Powers.{signed, powZ, small, power}
+use Rattle.powers.specs.Powers.{signed, powZ, small, power}
 use Rattle.arith.specs.declared.Fault.{Fault}
 use Rattle.arith.specs.declared.Fault.the-variants.{Overflow, Exponent}
 use Rattle.arith.specs.declared.Num.{Num}
 use Rattle.arith.specs.declared.Num.the-variants.{Value, Failed}
 use Rattle.arith.proofs.Order.{le-or-lt}
 use Rattle.arith.proofs.Ranges.{Narrow, pick-yes, pick-no, pick-value, value-fault, is-zero, not-zero, exact-in, exact-out, exact-value, exact-narrow, exact-fault}
 use Rattle.arith.proofs.Machine.{wire, fits-mag, zero-bits}
 use Rattle.arith.proofs.Products.{abs-neg, abs-below, large-out, size-other}
 
 -- ---- `powZ` is the repeated product
 
