@@ -12,13 +12,14 @@ use Rattle.semantics.specs.Verdict as Meaning
 use Rattle.semantics.specs.Verdict.{Read, accepted, refused}
 use Rattle.semantics.specs.Whole.{verdictOf}
 use Rattle.semantics.proofs.LinesCover.{text-covered}
+use Rattle.answers.specs.declared.Counted.{Counted}
+use Rattle.answers.specs.declared.Counted.the-variants as told
+use Rattle.answers.specs.Verdicts.{cellsTold}
 use Rattle.declarations.specs.declared.State.{State}
 use Rattle.stores.specs.Stores.{Owner}
 use Rattle.texts.specs.declared.Checked.{Checked}
-use Rattle.counting.specs.declared.Counted.{Counted}
-use Rattle.counting.specs.declared.Counted.the-variants as told
 use Rattle.texts.specs.Answers.{CheckedBy, Checks}
-use Rattle.counting.specs.Cells.{cellsTold, countedBy, Named, Names, Owners, OwnedBy}
+use Rattle.counting.specs.Cells.{countedBy, Named, Names, Owners, OwnedBy}
 use Rattle.texts.proofs.Texts.{verdict-same, part-long, zeros}
 
 pub counted-no : (c : Checked) (r : Counted) → c .refusal ≡ 0 → r ≡ told.Cells (c .known .state .cells) → r ≡ countedBy c

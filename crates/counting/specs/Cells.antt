@@ -9,17 +9,13 @@ use Rattle.spelling.specs.Bytes.{small}
 use Rattle.semantics.specs.Trees.{wordAt}
 use Rattle.semantics.specs.Verdict as Meaning
 use Rattle.semantics.specs.Verdict.{Read, accepted, refused}
+use Rattle.answers.specs.declared.Counted.{Counted}
+use Rattle.answers.specs.declared.Counted.the-variants.{Refused, Cells}
 use Rattle.declarations.specs.declared.State.{State}
 use Rattle.stores.specs.Stores.{Owner}
 use Rattle.texts.specs.declared.Checked.{Checked}
-use Rattle.counting.specs.declared.Counted.{Counted}
-use Rattle.counting.specs.declared.Counted.the-variants.{Refused, Cells}
 
--- the answer for a text: its refusal, or how many cells it has
-unfoldable pub cellsTold : Meaning.Verdict Read → Counted
-cellsTold (refused m n) = Refused m n
-cellsTold (accepted q) = Cells (length (q .known .cells))
-
+-- the answer that a check of the text gives
 unfoldable pub countedBy : Checked → Counted
 countedBy c = cond (eqb (c .refusal) 0) (Cells (c .known .state .cells)) (Refused (c .refusal) (c .line))
 

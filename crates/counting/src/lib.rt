@@ -1,4 +1,5 @@
 // The cells of a script: how many there are, and the name of each one's variable.
+use answers::Counted;
 use declarations::State;
 use stores::owner;
 use texts::Checked;
@@ -8,13 +9,8 @@ use worklist::clear;
 ghost use mathlib.Core.Path.{_≡_};
 ghost use lib.ListN.{length};
 ghost use Rattle.semantics.specs.Whole.{verdictOf, workAfter};
-ghost use Rattle.counting.specs.Cells.{cellsTold, countedBy, Names, Owners};
-
-// The answer for a text: its refusal, or how many cells it has.
-pub enum Counted {
-    Refused(u32, usize),
-    Cells(usize),
-}
+ghost use Rattle.answers.specs.Verdicts.{cellsTold};
+ghost use Rattle.counting.specs.Cells.{countedBy, Names, Owners};
 
 // How many cells by the answer for a text.
 pub fn count_of(c: Checked) -> Counted

@@ -4,12 +4,12 @@ use mathlib.Core.List.{List}
 use Prim.Native.Nat.{ℕ}
 use lib.IntN.{ℤ}
 use Rattle.semantics.specs.Whole as Whole
-use Rattle.texts.specs.declared.Verdict.{Verdict}
-use Rattle.counting.specs.declared.Counted.{Counted}
-use Rattle.running.specs.Running.{endingOf, Reports}
-use Rattle.running.specs.declared.Report.{Report}
-use Rattle.marking.specs.Reports.{markEnding, MarkReports}
-use Rattle.marking.specs.declared.MarkReport.{MarkReport}
+use Rattle.answers.specs.declared.Verdict.{Verdict}
+use Rattle.answers.specs.declared.Counted.{Counted}
+use Rattle.answers.specs.declared.Report.{Report}
+use Rattle.answers.specs.declared.MarkReport.{MarkReport}
+use Rattle.answers.specs.RunReports.{endingOf, Reports}
+use Rattle.answers.specs.MarkingReports.{markEnding, MarkReports}
 use Rattle.replies.specs.declared.Reply.{Reply}
 use Rattle.replies.specs.Replies.{verdictReply, countReply, endingReply, Replies}
 

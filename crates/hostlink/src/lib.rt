@@ -1,21 +1,21 @@
-// The functions that a host in C or Rust calls (include/drive.h): each is one of `drive` or `marking`, its answer told in numbers.
-use drive::cells;
-use drive::mark;
-use drive::mark_owners;
-use drive::owners;
-use drive::run;
-use drive::verdict_of;
+// The functions that a host in C or Rust calls (include/drive.h): each is one that `drive` passes on, its answer told in numbers.
+use counting::cells;
+use counting::owners;
+use marking::mark;
+use marking::owning::mark_owners;
 use replies::Reply;
 use replies::counted;
 use replies::mark_reported;
 use replies::reported;
 use replies::told;
+use running::run;
+use texts::verdict_of;
 ghost use mathlib.Core.Path.{_≡_};
 ghost use lib.ListN.{length};
 ghost use Rattle.semantics.specs.Verdict.{judge, loosely};
 ghost use Rattle.semantics.specs.Whole.{verdictOf, runOf, markOf, workAfter};
-ghost use Rattle.texts.specs.Answers.{toldVerdict};
-ghost use Rattle.counting.specs.Cells.{cellsTold, Owners};
+ghost use Rattle.answers.specs.Verdicts.{toldVerdict, cellsTold};
+ghost use Rattle.counting.specs.Cells.{Owners};
 ghost use Rattle.replies.specs.Replies.{verdictReply, countReply, Replies};
 
 // The verdict on a text.

@@ -16,6 +16,10 @@ use Rattle.semantics.specs.Calculate.{natOf}
 use Rattle.semantics.specs.Environment.{PlacedBody}
 use Rattle.semantics.specs.Machine.{raised, sticks, state}
 use Rattle.semantics.specs.Whole.{fresh, markBody}
+use Rattle.answers.specs.declared.Marked.{Marked}
+use Rattle.answers.specs.declared.Ending.{Ending}
+use Rattle.answers.specs.declared.Ending.the-variants.{Normal, Raised, Spent, Stuck}
+use Rattle.answers.specs.MarkingReports.{markOutcome}
 use Rattle.calc.specs.Words.{latestIn}
 use Rattle.steps.specs.Ends.{leftIn, placeIn, toldBy}
 use Rattle.leaves.specs.Cells.{Addresses}
@@ -26,11 +30,8 @@ use Rattle.chair.proofs.Whole.{fresh-stands, values-saved, marks-saved}
 use Rattle.bodies.specs.Procedures.{procsOf}
 use Rattle.markacts.specs.Ends.{markTold, MarkEnds}
 use Rattle.markstmts.specs.Marks.{MarksBody}
-use Rattle.marker.specs.Answers.{markOutcome, MarkAnswers, MarksLent}
+use Rattle.marker.specs.Answers.{MarkAnswers, MarksLent}
 use Rattle.marker.specs.Lending.{MarkTells, MarksIn}
-use Rattle.marker.specs.declared.Marked.{Marked}
-use Rattle.marker.specs.declared.Ending.{Ending}
-use Rattle.marker.specs.declared.Ending.the-variants.{Normal, Raised, Spent, Stuck}
 use Rattle.marker.proofs.Keeping.{body-keeps}
 
 -- ---- `told`

@@ -6,21 +6,13 @@ use lib.IntN.{ℤ}
 use lib.ListN.{length, getD}
 use Rattle.semantics.specs.Environment.{PlacedBody}
 use Rattle.semantics.specs.Machine as Machine
-use Rattle.semantics.specs.Machine.{state, normal, spent, sticks, raised}
+use Rattle.semantics.specs.Machine.{state}
 use Rattle.semantics.specs.Whole.{fresh, markBody}
+use Rattle.answers.specs.declared.Marked.{Marked}
+use Rattle.answers.specs.MarkingReports.{markOutcome}
 use Rattle.bodies.specs.Procedures.{procsOf}
 use Rattle.bodies.specs.Table.{AllStand}
 use Rattle.chair.specs.Answers.{Lent}
-use Rattle.marker.specs.declared.Marked.{Marked}
-use Rattle.marker.specs.declared.Ending.{Ending}
-use Rattle.marker.specs.declared.Ending.the-variants.{Normal, Raised, Spent, Stuck}
-
--- document 01's outcomes by the cases of ours: an exception has its number and its statement
-unfoldable pub markOutcome : Ending → Machine.Outcome
-markOutcome Normal = normal
-markOutcome (Raised z p) = raised z p
-markOutcome Spent = spent
-markOutcome Stuck = sticks
 
 -- the answer z of a machine that was given so many steps
 pub record MarkAnswers (z : Machine.Answer) (budget : ℕ) (r : Marked) (vs′ : List ℤ) (ms′ : List ℕ) : Type 0 where

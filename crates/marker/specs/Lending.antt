@@ -4,10 +4,11 @@ use mathlib.Core.Path.{_≡_}
 use Prim.Native.Nat.{ℕ, _≤_}
 use lib.IntN.{ℤ, pos}
 use lib.ListN.{length, getD}
+use Rattle.answers.specs.declared.Marked.{Marked}
+use Rattle.answers.specs.declared.Ending.{Ending}
+use Rattle.answers.specs.MarkingReports.{markOutcome}
 use Rattle.markacts.specs.Ends.{markTold}
-use Rattle.marker.specs.declared.Marked.{Marked}
-use Rattle.marker.specs.declared.Ending.{Ending}
-use Rattle.marker.specs.Answers.{markOutcome, MarksLent}
+use Rattle.marker.specs.Answers.{MarksLent}
 
 -- r is how the word w, with the array ws, says that a run ended
 pub record MarkTells (w : ℕ) (ws : List ℤ) (r : Ending) : Type 0 where

@@ -1,4 +1,6 @@
 // The marking machine on a lent store: the store as words, the run of a body, and the store as lists again.
+use answers::Ending;
+use answers::Marked;
 use chair::begin;
 use chair::load_words;
 use chair::save_cells;
@@ -7,20 +9,6 @@ use markstmts::walk::mark_body;
 use steps::ends::left_in;
 ghost use Rattle.marker.specs.Answers.{MarksLent};
 ghost use Rattle.marker.specs.Lending.{MarkTells, MarksIn};
-
-// How a run ended; an exception has its number and its statement.
-pub enum Ending {
-    Normal,
-    Raised(i64, u32),
-    Spent,
-    Stuck,
-}
-
-// The answer of a run: the steps taken and how it ended.
-pub struct Marked {
-    pub steps: u32,
-    pub ending: Ending,
-}
 
 // How a word, with the store's array, says that a run ended.
 fn told(w: u64, store: &[i64; 2056]) -> Ending

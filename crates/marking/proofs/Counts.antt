@@ -8,11 +8,12 @@ use lib.ListN.{length, take, drop, replicate}
 use lib.Seq.{take-at}
 use Rattle.semantics.specs.Verdict.{Verdict, Read, accepted, refused, judge, loosely}
 use Rattle.semantics.proofs.LinesCover.{judged-covered}
+use Rattle.answers.specs.declared.Counted.{Counted}
+use Rattle.answers.specs.Verdicts.{cellsTold}
 use Rattle.bodies.specs.Table.{upTo}
 use Rattle.texts.specs.declared.Checked.{Checked}
 use Rattle.loosely.specs.Texts.{AdmittedBy, Admits}
-use Rattle.counting.specs.declared.Counted.{Counted}
-use Rattle.counting.specs.Cells.{cellsTold, countedBy, Names, Owners, OwnedBy}
+use Rattle.counting.specs.Cells.{countedBy, Names, Owners, OwnedBy}
 use Rattle.texts.proofs.Texts.{part-long}
 use Rattle.marking.proofs.MarkWays.{judged-here}
 

@@ -16,6 +16,10 @@ use Rattle.semantics.specs.Verdict.{Verdict, Read, accepted, refused, judge, lo
 use Rattle.semantics.specs.Whole as Whole
 use Rattle.semantics.specs.Whole.{report, fresh, lent, onStore, unless, markAll, markOf, workAfter}
 use Rattle.semantics.proofs.LinesCover.{judged-covered}
+use Rattle.answers.specs.declared.Marked.{Marked}
+use Rattle.answers.specs.declared.MarkReport.{MarkReport}
+use Rattle.answers.specs.declared.MarkReport.the-variants.{Refused, Ran}
+use Rattle.answers.specs.MarkingReports.{markEnding, MarkReports}
 use Rattle.stores.specs.Stores.{StoreFault, rowNumber}
 use Rattle.judgements.specs.declared.Known.{Known}
 use Rattle.bodies.specs.Table.{upTo}
@@ -24,14 +28,11 @@ use Rattle.texts.specs.declared.Checked.{Checked}
 use Rattle.loosely.specs.Standing.{LooseStanding}
 use Rattle.loosely.specs.Texts.{AdmittedBy, Admits}
 use Rattle.loosely.proofs.Keeping.{all-stand}
-use Rattle.marker.specs.declared.Marked.{Marked}
 use Rattle.marker.specs.Answers.{MarkAnswers, MarksLent}
 use Rattle.running.proofs.Lending.{lent-store}
 use Rattle.running.proofs.RunWays.{no-row}
 use Rattle.texts.proofs.Texts.{after-same, judged-same, part-long, zeros}
-use Rattle.marking.specs.declared.MarkReport.{MarkReport}
-use Rattle.marking.specs.declared.MarkReport.the-variants.{Refused, Ran}
-use Rattle.marking.specs.Reports.{markEnding, MarkReports, MarksLoaded, MarksChecked}
+use Rattle.marking.specs.Reports.{MarksLoaded, MarksChecked}
 
 -- ---- `last_of`
 pub last-none : (n : ℕ) → n ≡ 0 → 0 ≡ n - 1

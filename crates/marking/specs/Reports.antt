@@ -1,30 +1,17 @@
--- What the answer of a run says of `markOf` (semantics, Whole): the ending, and both lists of the store.
+-- A run's way to `markOf` (semantics, Whole): of a text that the tables hold, and of a text by the answer for it.
 use mathlib.Core.Bool.{true}
 use mathlib.Core.List.{List, []}
 use mathlib.Core.Path.{_≡_}
 use Prim.Native.Nat.{ℕ}
 use lib.IntN.{ℤ}
 use Rattle.semantics.specs.Verdict.{Read, accepted, judge, loosely}
-use Rattle.semantics.specs.Whole as Whole
-use Rattle.semantics.specs.Whole.{Ending, refusal, ran, markAll, onStore, unless}
+use Rattle.semantics.specs.Whole.{markAll, onStore, unless}
+use Rattle.answers.specs.declared.MarkReport.{MarkReport}
+use Rattle.answers.specs.MarkingReports.{MarkReports}
 use Rattle.judgements.specs.declared.Known.{Known}
 use Rattle.texts.specs.declared.Checked.{Checked}
 use Rattle.loosely.specs.Standing.{LooseStanding}
 use Rattle.loosely.specs.Texts.{AdmittedBy}
-use Rattle.marker.specs.Answers.{markOutcome}
-use Rattle.marking.specs.declared.MarkReport.{MarkReport}
-use Rattle.marking.specs.declared.MarkReport.the-variants.{Refused, Ran}
-
--- document 01's endings by the cases of ours: a refusal's number and line, or the outcome and the steps
-unfoldable pub markEnding : MarkReport → Ending
-markEnding (Refused n l) = refusal n l
-markEnding (Ran a) = ran (markOutcome (a .ending)) (a .steps)
-
--- the answer and both lists are what q reports
-pub record MarkReports (q : Whole.Report) (r : MarkReport) (vs′ : List ℤ) (ms′ : List ℕ) : Type 0 where
-  pub ending : markEnding r ≡ q .ending
-  pub values : vs′ ≡ q .values
-  pub marks : ms′ ≡ q .marks
 
 -- rows 10 and 11, and then the run, where the tables hold a text that the marking machine takes
 pub record MarksLoaded (s l ts tb : List ℕ) (kn : Known) (vs : List ℤ) (ms : List ℕ) (budget : ℕ) (r : MarkReport) (vs′ : List ℤ) (ms′ : List ℕ) : Type 0 where

@@ -1,9 +1,9 @@
 // The marking machine on a whole text: rows 1 to 9 with the kinds of bodies left out, the lent store tested, and the run; and the text's cells.
 pub mod owning;
 
+use answers::MarkReport;
 use judgements::Known;
 use loosely::checking::check_loosely;
-use marker::Marked;
 use marker::mark_lent;
 use stores::store_fault;
 use texts::Checked;
@@ -13,13 +13,8 @@ ghost use mathlib.Core.Path.{_≡_};
 ghost use Prim.Native.Nat.{_-_};
 ghost use lib.ListN.{length};
 ghost use Rattle.semantics.specs.Whole.{markOf, workAfter};
-ghost use Rattle.marking.specs.Reports.{MarkReports, MarksLoaded, MarksChecked};
-
-// The answer of a run: a refusal with its number and line, or the steps and how it ended.
-pub enum MarkReport {
-    Refused(u32, usize),
-    Ran(Marked),
-}
+ghost use Rattle.answers.specs.MarkingReports.{MarkReports};
+ghost use Rattle.marking.specs.Reports.{MarksLoaded, MarksChecked};
 
 // The number of the last of n bodies, which is that of `main`.
 fn last_of(n: u32) -> u32

@@ -1,5 +1,5 @@
 // The cells of a text that the marking machine takes, and the name of each one's variable.
-use counting::Counted;
+use answers::Counted;
 use counting::count_of;
 use counting::name_cells;
 use loosely::checking::check_loosely;
@@ -9,7 +9,8 @@ ghost use mathlib.Core.Path.{_≡_};
 ghost use lib.ListN.{length};
 ghost use Rattle.semantics.specs.Verdict.{judge, loosely};
 ghost use Rattle.semantics.specs.Whole.{workAfter};
-ghost use Rattle.counting.specs.Cells.{cellsTold, Owners};
+ghost use Rattle.answers.specs.Verdicts.{cellsTold};
+ghost use Rattle.counting.specs.Cells.{Owners};
 
 // How many cells a text has; names[i] becomes the offset of the name of cell i's variable, for each cell that there is room for.
 pub fn mark_owners(text: &[u8], work: &mut [u32], names: &mut [usize]) -> Counted

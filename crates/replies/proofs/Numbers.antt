@@ -6,24 +6,22 @@ use mir.Syntax.{w64}
 use mir.Val.{SFits}
 use mir.Facts.{toZ-ofZ}
 use Rattle.arith.proofs.Machine.{wire}
-use Rattle.chair.specs.Answers.{outcomeOf}
-use Rattle.chair.specs.declared.Answer.{Answer}
-use Rattle.chair.specs.declared.Outcome.{Outcome}
-use Rattle.chair.specs.declared.Outcome.the-variants.{Normal, Raised, Spent}
-use Rattle.running.specs.Running.{endingOf}
-use Rattle.texts.specs.declared.Verdict.{Verdict}
-use Rattle.texts.specs.declared.Verdict.the-variants as verdict
-use Rattle.counting.specs.declared.Counted.{Counted}
-use Rattle.counting.specs.declared.Counted.the-variants as counting
-use Rattle.running.specs.declared.Report.{Report}
-use Rattle.running.specs.declared.Report.the-variants as report
-use Rattle.marker.specs.Answers.{markOutcome}
-use Rattle.marker.specs.declared.Ending.{Ending}
-use Rattle.marker.specs.declared.Ending.the-variants as ending
-use Rattle.marker.specs.declared.Marked.{Marked}
-use Rattle.marking.specs.Reports.{markEnding}
-use Rattle.marking.specs.declared.MarkReport.{MarkReport}
-use Rattle.marking.specs.declared.MarkReport.the-variants as mark-report
+use Rattle.answers.specs.declared.Answer.{Answer}
+use Rattle.answers.specs.declared.Outcome.{Outcome}
+use Rattle.answers.specs.declared.Outcome.the-variants.{Normal, Raised, Spent}
+use Rattle.answers.specs.declared.Verdict.{Verdict}
+use Rattle.answers.specs.declared.Verdict.the-variants as verdict
+use Rattle.answers.specs.declared.Counted.{Counted}
+use Rattle.answers.specs.declared.Counted.the-variants as counting
+use Rattle.answers.specs.declared.Report.{Report}
+use Rattle.answers.specs.declared.Report.the-variants as report
+use Rattle.answers.specs.declared.Ending.{Ending}
+use Rattle.answers.specs.declared.Ending.the-variants as ending
+use Rattle.answers.specs.declared.Marked.{Marked}
+use Rattle.answers.specs.declared.MarkReport.{MarkReport}
+use Rattle.answers.specs.declared.MarkReport.the-variants as mark-report
+use Rattle.answers.specs.RunReports.{outcomeOf, endingOf}
+use Rattle.answers.specs.MarkingReports.{markOutcome, markEnding}
 use Rattle.replies.specs.declared.Reply.{Reply}
 use Rattle.replies.specs.Replies.{refusedReply, cellsReply, endedReply, outcomeReply, verdictReply, countReply, endingReply}
 

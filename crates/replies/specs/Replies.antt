@@ -6,10 +6,10 @@ use lib.IntN.{ℤ, pos}
 use Rattle.semantics.specs.Machine as Machine
 use Rattle.semantics.specs.Machine.{normal, spent, sticks, raised}
 use Rattle.semantics.specs.Whole.{Ending, Report, refusal, ran}
-use Rattle.texts.specs.declared.Verdict.{Verdict}
-use Rattle.texts.specs.declared.Verdict.the-variants as verdict
-use Rattle.counting.specs.declared.Counted.{Counted}
-use Rattle.counting.specs.declared.Counted.the-variants as counted
+use Rattle.answers.specs.declared.Verdict.{Verdict}
+use Rattle.answers.specs.declared.Verdict.the-variants as verdict
+use Rattle.answers.specs.declared.Counted.{Counted}
+use Rattle.answers.specs.declared.Counted.the-variants as counted
 use Rattle.replies.specs.declared.Reply.{Reply}
 
 -- a refusal's number and line

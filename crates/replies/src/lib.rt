@@ -1,17 +1,15 @@
 // The answers of the public functions in numbers, as a host is told them, by the definitions of `Replies`.
-use chair::Answer;
-use chair::Outcome;
-use counting::Counted;
-use marker::Ending;
-use marker::Marked;
-use marking::MarkReport;
-use running::Report;
-use texts::Verdict;
+use answers::Answer;
+use answers::Counted;
+use answers::Ending;
+use answers::MarkReport;
+use answers::Marked;
+use answers::Outcome;
+use answers::Report;
+use answers::Verdict;
 ghost use mathlib.Core.Path.{_≡_};
-ghost use Rattle.chair.specs.Answers.{outcomeOf};
-ghost use Rattle.running.specs.Running.{endingOf};
-ghost use Rattle.marker.specs.Answers.{markOutcome};
-ghost use Rattle.marking.specs.Reports.{markEnding};
+ghost use Rattle.answers.specs.RunReports.{outcomeOf, endingOf};
+ghost use Rattle.answers.specs.MarkingReports.{markOutcome, markEnding};
 ghost use Rattle.replies.specs.Replies.{refusedReply, cellsReply, endedReply, outcomeReply, verdictReply, countReply, endingReply};
 
 // `drive_reply` of the header: a refusal's number, or 0 and the rest; what a call has nothing to say of is 0.

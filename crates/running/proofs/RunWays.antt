@@ -18,16 +18,17 @@ use Rattle.semantics.specs.Whole.{refusal, ran, reported, report, fresh, lent, 
 use Rattle.semantics.proofs.Demand3 as Demand3
 use Rattle.semantics.proofs.LinesCover.{text-covered}
 use Rattle.semantics.proofs.LinesMeasured.{text-measured}
+use Rattle.answers.specs.declared.Answer.{Answer as Told}
+use Rattle.answers.specs.declared.Report.{Report}
+use Rattle.answers.specs.declared.Report.the-variants.{Refused, Ran}
+use Rattle.answers.specs.RunReports.{outcomeOf, endingOf, Reports}
 use Rattle.stores.specs.Stores.{StoreFault, rowNumber}
 use Rattle.judgements.specs.declared.Known.{Known}
 use Rattle.judge.specs.Judging.{Standing}
-use Rattle.chair.specs.declared.Answer.{Answer as Told}
-use Rattle.chair.specs.Answers.{outcomeOf, Answers, Running}
+use Rattle.chair.specs.Answers.{Answers, Running}
 use Rattle.texts.specs.declared.Checked.{Checked}
-use Rattle.running.specs.declared.Report.{Report}
-use Rattle.running.specs.declared.Report.the-variants.{Refused, Ran}
 use Rattle.texts.specs.Answers.{CheckedBy, Checks}
-use Rattle.running.specs.Running.{endingOf, Reports, RunsLoaded, RunsChecked}
+use Rattle.running.specs.Running.{RunsLoaded, RunsChecked}
 use Rattle.running.proofs.Lending.{lent-store}
 use Rattle.texts.proofs.Texts.{verdict-same, part-long, zeros}
 

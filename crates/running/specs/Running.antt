@@ -1,30 +1,17 @@
--- What the answer of a run says of `runOf` (semantics, Whole): the ending, and both lists of the store.
+-- A run's way to `runOf` (semantics, Whole): of a text that the lists hold, and of a text by the answer for it.
 use mathlib.Core.List.{List, []}
 use mathlib.Core.Path.{_≡_}
 use Prim.Native.Nat.{ℕ, _≤_}
 use lib.IntN.{ℤ}
 use lib.ListN.{length}
 use Rattle.semantics.specs.Verdict.{Read, accepted}
-use Rattle.semantics.specs.Whole as Whole
-use Rattle.semantics.specs.Whole.{Ending, refusal, ran, verdictOf, runAll, onStore, unless}
+use Rattle.semantics.specs.Whole.{verdictOf, runAll, onStore, unless}
+use Rattle.answers.specs.declared.Report.{Report}
+use Rattle.answers.specs.RunReports.{Reports}
 use Rattle.judgements.specs.declared.Known.{Known}
 use Rattle.judge.specs.Judging.{Standing}
-use Rattle.chair.specs.Answers.{outcomeOf}
 use Rattle.texts.specs.declared.Checked.{Checked}
-use Rattle.running.specs.declared.Report.{Report}
-use Rattle.running.specs.declared.Report.the-variants.{Refused, Ran}
 use Rattle.texts.specs.Answers.{CheckedBy}
-
--- document 01's endings by the cases of ours: a refusal's number and line, or the outcome and the steps
-unfoldable pub endingOf : Report → Ending
-endingOf (Refused n l) = refusal n l
-endingOf (Ran a) = ran (outcomeOf (a .outcome)) (a .steps)
-
--- the answer and both lists are what q reports
-pub record Reports (q : Whole.Report) (r : Report) (vs′ : List ℤ) (ms′ : List ℕ) : Type 0 where
-  pub ending : endingOf r ≡ q .ending
-  pub values : vs′ ≡ q .values
-  pub marks : ms′ ≡ q .marks
 
 -- rows 10 and 11, and then the run, where the lists hold an accepted text
 pub record RunsLoaded (l ts : List ℕ) (kn : Known) (vs : List ℤ) (ms : List ℕ) (budget : ℕ) (r : Report) (vs′ : List ℤ) (ms′ : List ℕ) : Type 0 where

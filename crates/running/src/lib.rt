@@ -1,5 +1,5 @@
 // A run: the text is checked, the lent store tested, and the code run over it.
-use chair::Answer;
+use answers::Report;
 use chair::run as run_code;
 use judgements::Known;
 use stores::store_fault;
@@ -10,13 +10,8 @@ use worklist::clear;
 ghost use mathlib.Core.Path.{_≡_};
 ghost use lib.ListN.{length};
 ghost use Rattle.semantics.specs.Whole.{runOf, workAfter};
-ghost use Rattle.running.specs.Running.{Reports, RunsLoaded, RunsChecked};
-
-// The answer of a run: a refusal with its number and line, or the steps and the outcome.
-pub enum Report {
-    Refused(u32, usize),
-    Ran(Answer),
-}
+ghost use Rattle.answers.specs.RunReports.{Reports};
+ghost use Rattle.running.specs.Running.{RunsLoaded, RunsChecked};
 
 // Rows 10 and 11, and then the run of an accepted text that the lists hold.
 fn run_loaded(

@@ -10,13 +10,12 @@ use Rattle.arith.proofs.Machine.{wire}
 use Rattle.spelling.specs.Bytes.{bytes}
 use Rattle.semantics.specs.Print.{decimalOf, signedOf, row, outcome, cells, show}
 use Rattle.semantics.specs.Whole as Whole
-use Rattle.marker.specs.declared.Ending.{Ending}
-use Rattle.marker.specs.declared.Ending.the-variants.{Normal, Raised, Spent, Stuck}
-use Rattle.marker.specs.declared.Marked.{Marked}
-use Rattle.marker.specs.Answers.{markOutcome}
-use Rattle.marking.specs.declared.MarkReport.{MarkReport}
-use Rattle.marking.specs.declared.MarkReport.the-variants.{Refused, Ran}
-use Rattle.marking.specs.Reports.{markEnding, MarkReports}
+use Rattle.answers.specs.declared.Ending.{Ending}
+use Rattle.answers.specs.declared.Ending.the-variants.{Normal, Raised, Spent, Stuck}
+use Rattle.answers.specs.declared.Marked.{Marked}
+use Rattle.answers.specs.declared.MarkReport.{MarkReport}
+use Rattle.answers.specs.declared.MarkReport.the-variants.{Refused, Ran}
+use Rattle.answers.specs.MarkingReports.{markOutcome, markEnding, MarkReports}
 use Rattle.writing.specs.Written.{Puts, namesAt}
 use Rattle.writing.proofs.Writing.{puts-then}
 use Rattle.telling.specs.MarkTold.{markedRow, markRows}

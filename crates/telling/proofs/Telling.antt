@@ -9,15 +9,14 @@ use mir.Facts.{toZ-ofZ}
 use Rattle.arith.proofs.Machine.{wire}
 use Rattle.spelling.specs.Bytes.{bytes}
 use Rattle.semantics.specs.Print.{decimalOf, signedOf, row, outcome, cells, show}
-use Rattle.chair.specs.declared.Outcome.{Outcome}
-use Rattle.chair.specs.declared.Outcome.the-variants.{Normal, Raised, Spent}
-use Rattle.chair.specs.declared.Answer.{Answer}
-use Rattle.running.specs.declared.Report.{Report}
-use Rattle.running.specs.declared.Report.the-variants.{Refused, Ran}
 use Rattle.writing.specs.Written.{Puts, namesAt}
-use Rattle.chair.specs.Answers.{outcomeOf}
-use Rattle.running.specs.Running.{endingOf, Reports}
 use Rattle.semantics.specs.Whole as Whole
+use Rattle.answers.specs.declared.Outcome.{Outcome}
+use Rattle.answers.specs.declared.Outcome.the-variants.{Normal, Raised, Spent}
+use Rattle.answers.specs.declared.Answer.{Answer}
+use Rattle.answers.specs.declared.Report.{Report}
+use Rattle.answers.specs.declared.Report.the-variants.{Refused, Ran}
+use Rattle.answers.specs.RunReports.{outcomeOf, endingOf, Reports}
 use Rattle.telling.specs.Told.{answerRow, reportRows}
 use Rattle.writing.proofs.Writing.{puts-then}
 

@@ -4,10 +4,10 @@ use Prim.Native.Nat.{ℕ}
 use lib.IntN.{ℤ}
 use Rattle.spelling.specs.Bytes.{bytes}
 use Rattle.semantics.specs.Print.{decimalOf, row, outcome, cells}
-use Rattle.marker.specs.Answers.{markOutcome}
-use Rattle.marker.specs.declared.Marked.{Marked}
-use Rattle.marking.specs.declared.MarkReport.{MarkReport}
-use Rattle.marking.specs.declared.MarkReport.the-variants.{Refused, Ran}
+use Rattle.answers.specs.declared.Marked.{Marked}
+use Rattle.answers.specs.declared.MarkReport.{MarkReport}
+use Rattle.answers.specs.declared.MarkReport.the-variants.{Refused, Ran}
+use Rattle.answers.specs.MarkingReports.{markOutcome}
 use Rattle.writing.specs.Written.{namesAt}
 
 -- the row of an answer

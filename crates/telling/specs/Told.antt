@@ -4,10 +4,10 @@ use Prim.Native.Nat.{ℕ}
 use lib.IntN.{ℤ}
 use Rattle.spelling.specs.Bytes.{bytes}
 use Rattle.semantics.specs.Print.{decimalOf, row, outcome, cells}
-use Rattle.chair.specs.Answers.{outcomeOf}
-use Rattle.chair.specs.declared.Answer.{Answer}
-use Rattle.running.specs.declared.Report.{Report}
-use Rattle.running.specs.declared.Report.the-variants.{Refused, Ran}
+use Rattle.answers.specs.declared.Answer.{Answer}
+use Rattle.answers.specs.declared.Report.{Report}
+use Rattle.answers.specs.declared.Report.the-variants.{Refused, Ran}
+use Rattle.answers.specs.RunReports.{outcomeOf}
 use Rattle.writing.specs.Written.{namesAt}
 
 -- the row of an answer

@@ -1,7 +1,7 @@
 // A report of the marking machine, as rows.
-use marker::Ending;
-use marker::Marked;
-use marking::MarkReport;
+use answers::Ending;
+use answers::MarkReport;
+use answers::Marked;
 use writing::rows::cell_rows;
 use writing::rows::exception;
 use writing::rows::normal;

@@ -1,7 +1,7 @@
 // A report of a run, as rows.
-use chair::Answer;
-use chair::Outcome;
-use running::Report;
+use answers::Answer;
+use answers::Outcome;
+use answers::Report;
 use writing::rows::cell_rows;
 use writing::rows::exception;
 use writing::rows::normal;

@@ -3,10 +3,10 @@ use mathlib.Core.Path.{_≡_, refl, _∙_}
 use mathlib.Core.Bool.{Bool, true, false}
 use Prim.Native.Nat.{ℕ}
 use borrow.Author.Tests.{eq-eqb, ne-eqb}
+use Rattle.answers.specs.declared.Verdict.the-variants.{Accepted, Refused}
 use Rattle.declarations.specs.State.{startState}
 use Rattle.judgements.specs.declared.Known.{Known}
 use Rattle.texts.specs.declared.Checked.{Checked}
-use Rattle.texts.specs.declared.Verdict.the-variants.{Accepted, Refused}
 use Rattle.texts.specs.Answers.{endsBy, refusedBy, startKnown, toldBy}
 
 pub start-is : record { state = record { count = 0; newest = 0; top = 1; types = 2; lines = 0; vars = 0; cells = 0; procs = 0 }; stmts = 0; nodes = 0; ended = false; main = 0 } ≡ startKnown

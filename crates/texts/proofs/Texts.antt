@@ -22,15 +22,16 @@ use Rattle.semantics.specs.Whole.{verdictOf, workAfter}
 use Rattle.semantics.proofs.LayoutBodies.{no-bodies}
 use Rattle.semantics.proofs.LinesMeasured.{measured-start}
 use Rattle.semantics.proofs.TextRoom.{room-start}
+use Rattle.answers.specs.declared.Verdict.{Verdict}
+use Rattle.answers.specs.declared.Verdict.the-variants as verdict
+use Rattle.answers.specs.Verdicts.{toldVerdict}
 use Rattle.framing.specs.Passes.{lineOr}
 use Rattle.declarations.specs.State.{startState}
 use Rattle.declarations.proofs.Starting.{holds-start}
 use Rattle.judgements.specs.declared.Known.{Known}
 use Rattle.judge.specs.Judging.{Standing}
 use Rattle.texts.specs.declared.Checked.{Checked}
-use Rattle.texts.specs.declared.Verdict.{Verdict}
-use Rattle.texts.specs.declared.Verdict.the-variants as verdict
-use Rattle.texts.specs.Answers.{CheckedBy, ChecksLines, Checks, refusedBy, startKnown, toldBy, toldVerdict}
+use Rattle.texts.specs.Answers.{CheckedBy, ChecksLines, Checks, refusedBy, startKnown, toldBy}
 
 -- before any line
 pub standing-start : (s l ts : List ℕ) → length s ≤ 32768 → 16384 ≤ length l → 66 ≤ length ts → ((i : ℕ) → getD ts i 0 ≡ 0)

@@ -9,12 +9,12 @@ use Rattle.semantics.specs.Lines.{linesOf}
 use Rattle.semantics.specs.Verdict as Meaning
 use Rattle.semantics.specs.Verdict.{Read, accepted, refused, strictly, judgeLines}
 use Rattle.semantics.specs.Whole.{verdictOf}
+use Rattle.answers.specs.declared.Verdict.{Verdict}
+use Rattle.answers.specs.declared.Verdict.the-variants.{Accepted, Refused}
 use Rattle.declarations.specs.State.{startState}
 use Rattle.judgements.specs.declared.Known.{Known}
 use Rattle.judge.specs.Judging.{Standing}
 use Rattle.texts.specs.declared.Checked.{Checked}
-use Rattle.texts.specs.declared.Verdict.{Verdict}
-use Rattle.texts.specs.declared.Verdict.the-variants.{Accepted, Refused}
 
 -- before any line
 unfoldable pub startKnown : Known
@@ -45,7 +45,3 @@ pub record Checks (s l ts : List ℕ) (c : Checked) (l′ ts′ : List ℕ) : Ty
 
 abbrev pub toldBy : Checked → Verdict
 toldBy c = cond (eqb (c .refusal) 0) Accepted (Refused (c .refusal) (c .line))
-
-unfoldable pub toldVerdict : Meaning.Verdict Read → Verdict
-toldVerdict (accepted q) = Accepted
-toldVerdict (refused m n) = Refused m n

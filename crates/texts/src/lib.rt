@@ -1,4 +1,5 @@
 // A whole text: rows 1 to 9 in their order, and the verdict.
+use answers::Verdict;
 use declarations::State;
 use framing::lines::next_line;
 use framing::lines::refused_line;
@@ -9,19 +10,14 @@ ghost use mathlib.Core.Path.{_≡_};
 ghost use Prim.Native.Nat.{_≤_, min};
 ghost use lib.ListN.{length};
 ghost use Rattle.semantics.specs.Whole.{verdictOf, workAfter};
-ghost use Rattle.texts.specs.Answers.{ChecksLines, Checks, endsBy, refusedBy, startKnown, toldBy, toldVerdict};
+ghost use Rattle.answers.specs.Verdicts.{toldVerdict};
+ghost use Rattle.texts.specs.Answers.{ChecksLines, Checks, endsBy, refusedBy, startKnown, toldBy};
 
 // The answer for a text: the number of its refusal and the line, or 0 and what is known of the text.
 pub struct Checked {
     pub refusal: u32,
     pub line: usize,
     pub known: Known,
-}
-
-// The verdict on a text; a refusal has its number and line.
-pub enum Verdict {
-    Accepted,
-    Refused(u32, usize),
 }
 
 // What is known before any line.

@@ -1,11 +1,11 @@
 // Reads a script from standard input and prints the verdict: `accepted`, or `refused`, the number, the line and the refusal's word, and then
 // the line's text if there is such a line.
-use drive::Verdict;
-use drive::verdict_of;
+use answers::Verdict;
 use framing::lines::next_line;
 use input::Input;
 use input::read_text;
 use libc::STDOUT_FILENO;
+use texts::verdict_of;
 ghost use Prim.Native.Nat.{_≤_};
 ghost use lib.ListN.{length};
 
