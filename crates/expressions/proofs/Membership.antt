@@ -45,7 +45,8 @@ use Rattle.parts.specs.Parts.{Before, Shuts}
 use Rattle.exprnodes.specs.Nodes.{Made, Makes, failedMade, nodeMade, ifClear}
 use Rattle.expressions.specs.Walks.{Moves, ExprTold, GivesExpr, formIn, GivesForm}
 use Rattle.expressions.specs.Members.{many, MembersTold, GivesMembers}
-use Rattle.exprnodes.specs.Members.{memberFault, linked, setNode, setMade}
+use Rattle.exprnodes.specs.Members.{memberFault}
+use Rattle.exprleaves.specs.Links.{linked, setNode, setMade}
 use Rattle.expressions.proofs.Joining.{wrong-fits, unnamed-fits, unfit-fits, fits-inj, told-wrong, told-unnamed, told-or, told-one}
 use Rattle.expressions.proofs.Closing.{form-true, same-refl, same-trans, right-lowest, clear-form, rest-is, Stays, stays-clear, stays-cond, stays-node, stays-failed}
 use Rattle.expressions.proofs.Operators.{expr-missing, expr-failed}

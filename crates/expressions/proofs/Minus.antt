@@ -25,14 +25,14 @@ use Rattle.parts.specs.declared.End.{End}
 use Rattle.parts.specs.declared.End.the-variants as ending
 use Rattle.parts.specs.Got.{isForm, failedGot}
 use Rattle.parts.specs.Parts.{Closes, Shuts}
-use Rattle.exprnodes.specs.declared.words.Alone.{Alone}
-use Rattle.exprnodes.specs.declared.words.Alone.the-variants as alone
+use Rattle.exprleaves.specs.declared.words.Alone.{Alone}
+use Rattle.exprleaves.specs.declared.words.Alone.the-variants as alone
 use Rattle.exprnodes.specs.Nodes.{Makes, literalMade}
 use Rattle.compounds.specs.Operators.{paired, applied}
 use Rattle.expressions.specs.Sides.{GivesSecond}
 use Rattle.expressions.specs.Walks.{GivesExpr, formIn, GivesForm}
 use Rattle.expressions.specs.MinusForm.{GivesMinus}
-use Rattle.exprnodes.specs.Words.{StandsAlone}
+use Rattle.exprleaves.specs.Words.{StandsAlone}
 use Rattle.expressions.proofs.Closing.{form-true, left-wrong, rest-is}
 use Rattle.expressions.proofs.Operators.{expr-missing, expr-failed, two-second, one-side}
 use Rattle.expressions.proofs.WordsTelling.{negative-gives}

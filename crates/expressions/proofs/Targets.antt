@@ -43,9 +43,9 @@ use Rattle.parts.specs.Got.{lowest, isForm, faultOf, failedGot, Told}
 use Rattle.parts.specs.Parts.{Before, Closes}
 use Rattle.exprnodes.specs.Nodes.{Made, Makes, failedMade, nodeMade, ifClear}
 use Rattle.compounds.specs.Targets.{loaded, elementKind, element, indexed, fieldMade, selectedMade, Selects}
-use Rattle.exprnodes.specs.declared.fields.Sole.{Sole}
-use Rattle.exprnodes.specs.declared.fields.Sole.the-variants as sole
-use Rattle.exprnodes.specs.Fields.{SoleName}
+use Rattle.exprleaves.specs.declared.fields.Sole.{Sole}
+use Rattle.exprleaves.specs.declared.fields.Sole.the-variants as sole
+use Rattle.exprleaves.specs.Fields.{SoleName}
 use Rattle.expressions.specs.Walks.{Moves, Leaves, ExprTold, TypeIs, a-type, no-type, TargetTold, GivesExpr, GivesTarget, formIn, GivesForm, GivesPlace}
 use Rattle.expressions.proofs.Joining.{wrong-fits, unnamed-fits, unfit-fits, fits-inj, told-wrong, told-unnamed, told-unfit, told-fits, told-join, told-one, told-or}
 use Rattle.expressions.proofs.Closing.{staged-none, wrong-none, form-true, wrong-true, right-lowest, clear-form, closed-two, Stays, stays-failed, stays-node, stays-clear, stays-cond, same-trans, rest-is, left-wrong, leaves-two}

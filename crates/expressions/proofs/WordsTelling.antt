@@ -56,15 +56,16 @@ use Rattle.atoms.specs.Contracts.{TypeTold, GivesType}
 use Rattle.parts.specs.declared.Got.{Got}
 use Rattle.parts.specs.Got.{isForm, failedGot, Told}
 use Rattle.parts.specs.Parts.{Closes}
-use Rattle.exprnodes.specs.declared.words.Alone.the-variants as alone
+use Rattle.exprleaves.specs.declared.words.Alone.the-variants as alone
 use Rattle.exprnodes.specs.Nodes.{Made, Makes, failedMade, nodeMade, ifClear, literalMade}
 use Rattle.expressions.specs.Walks.{ExprTold, TypeIs, TargetTold, GivesForm, GivesWord, GivesVar, formIn}
 use Rattle.expressions.specs.Walks as Walks
-use Rattle.exprnodes.specs.Words.{valueMade, spanOf, cellsMade, wholeMade, namedMade, wordMade, placeMade, variableMade, endBits, endMade, boundMade, StandsAlone}
+use Rattle.exprnodes.specs.Cells.{spanOf, cellsMade, endBits}
+use Rattle.exprleaves.specs.Words.{valueMade, wholeMade, namedMade, wordMade, placeMade, variableMade, endMade, boundMade, StandsAlone}
 use Rattle.expressions.proofs.Joining.{told-wrong, told-unnamed, told-unfit, told-fits}
 use Rattle.expressions.proofs.Closing.{clear-form, closes-top, closes-next, Stays, stays-failed, stays-node, stays-clear, stays-cond, rest-is}
 use Rattle.expressions.proofs.Operators.{expr-closed}
-use Rattle.exprnodes.proofs.WordsMaking.{span-both}
+use Rattle.exprnodes.proofs.CellsMaking.{span-both}
 
 -- ---- where the walk goes on
 

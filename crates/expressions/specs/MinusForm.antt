@@ -3,9 +3,9 @@ use mathlib.Core.List.{List}
 use Prim.Native.Nat.{ℕ}
 use Rattle.shapes.specs.declared.ExprHead.the-variants.{Minus}
 use Rattle.parts.specs.declared.Got.{Got}
-use Rattle.exprnodes.specs.declared.words.Alone.the-variants.{No}
+use Rattle.exprleaves.specs.declared.words.Alone.the-variants.{No}
 use Rattle.expressions.specs.Walks.{GivesForm}
-use Rattle.exprnodes.specs.Words.{StandsAlone}
+use Rattle.exprleaves.specs.Words.{StandsAlone}
 
 pub record GivesMinus (s l ts : List ℕ) (count newest d at top : ℕ) (g : Got) (l′ : List ℕ) : Type 0 where
   pub gives : StandsAlone s at No → GivesForm s l ts count newest Minus d at top g l′

@@ -1,11 +1,11 @@
 // Words as expressions and targets, and `first` and `last` of a type.
 use atoms::type_name;
+use exprleaves::words::bound_of;
+use exprleaves::words::flag;
+use exprleaves::words::named;
+use exprleaves::words::place;
 use exprnodes::nodes::literal;
 use exprnodes::nodes::node;
-use exprnodes::words::bound_of;
-use exprnodes::words::flag;
-use exprnodes::words::named;
-use exprnodes::words::place;
 use lexis::words::Word;
 use parts::Got;
 use parts::closing;

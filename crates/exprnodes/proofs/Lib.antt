@@ -1,4 +1,3 @@
 pub mod Making
-pub mod Naming
+pub mod CellsMaking
 pub mod MembersMaking
-pub mod WordsMaking

@@ -1,4 +1,3 @@
 pub mod Nodes
-pub mod Fields
+pub mod Cells
 pub mod Members
-pub mod Words

@@ -1,16 +1,9 @@
--- The members of a set: a member's fault, its link, and the node of the set.
+-- A member's own fault.
 use mathlib.Core.Bool.{cond}
-use mathlib.Core.List.{List, [], _∷_}
 use Prim.Native.Nat.{ℕ}
 use lib.Dec.{eqb}
-use Rattle.semantics.specs.Layout.{Out, lay, link}
 use Rattle.tables.specs.declared.Fault.{Fault}
 use Rattle.tables.specs.declared.Fault.the-variants.{Clear, Kind, Name, Form}
-use Rattle.tables.specs.declared.Info.{Info}
-use Rattle.tables.specs.Descriptions.{infoOf}
-use Rattle.parts.specs.declared.Got.{Got}
-use Rattle.parts.specs.Got.{lowest}
-use Rattle.exprnodes.specs.Nodes.{Made, failedMade, nodeMade, ifClear}
 
 -- a member's own fault, where the members are of kind k
 unfoldable pub memberFault : Fault → ℕ → ℕ → Fault
@@ -18,14 +11,3 @@ memberFault Clear kind k = cond (eqb kind k) Clear Kind
 memberFault Kind kind k = Kind
 memberFault Name kind k = Name
 memberFault Form kind k = Form
-
--- a link to p at the free place, and the slot s before it
-unfoldable pub linked : ℕ → ℕ → ℕ → List ℕ → Out
-linked s p t l = link s (lay (p ∷ 0 ∷ []) t l)
-
--- the set itself, of type t with a fault of its name's; i describes the type
-unfoldable pub setNode : Info → ℕ → ℕ → Got → List ℕ → Made
-setNode i t chain m l = cond (eqb (i .shape) 1) (nodeMade t (m .next) (lay (6 ∷ i .low ∷ i .high ∷ chain ∷ []) (m .top) l)) (failedMade Kind 0 (m .next) (m .top) l)
-
-unfoldable pub setMade : List ℕ → List ℕ → Fault → ℕ → ℕ → Got → Made
-setMade l ts f t chain m = ifClear (lowest f (m .fault)) 0 (m .next) (m .top) l (setNode (infoOf l ts t) t chain m l)

@@ -1,5 +1,4 @@
-// The leaves of the walk over expressions: the code of a node from the answers for its parts.
-pub mod fields;
+// What the leaves of the walk over expressions are made of: a node's code, constants, cells, and a member's fault.
+pub mod cells;
 pub mod members;
 pub mod nodes;
-pub mod words;

@@ -36,12 +36,12 @@ use Rattle.parts.specs.declared.End.the-variants as ending
 use Rattle.parts.specs.Parts.{Shuts}
 use Rattle.atoms.specs.declared.Typed.{Typed}
 use Rattle.atoms.specs.Contracts.{GivesType}
-use Rattle.exprnodes.specs.declared.fields.Sole.{Sole}
-use Rattle.exprnodes.specs.declared.fields.Sole.the-variants as sole
-use Rattle.exprnodes.specs.declared.words.Alone.{Alone}
-use Rattle.exprnodes.specs.declared.words.Alone.the-variants as alone
-use Rattle.exprnodes.specs.Fields.{SoleName}
-use Rattle.exprnodes.specs.Words.{StandsAlone}
+use Rattle.exprleaves.specs.declared.fields.Sole.{Sole}
+use Rattle.exprleaves.specs.declared.fields.Sole.the-variants as sole
+use Rattle.exprleaves.specs.declared.words.Alone.{Alone}
+use Rattle.exprleaves.specs.declared.words.Alone.the-variants as alone
+use Rattle.exprleaves.specs.Fields.{SoleName}
+use Rattle.exprleaves.specs.Words.{StandsAlone}
 use Rattle.skips.specs.Skips.{Skips}
 use Rattle.expressions.specs.Walks.{formIn}
 use Rattle.carried.specs.declared.values.Carried.{Carried}

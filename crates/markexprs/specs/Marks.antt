@@ -24,8 +24,8 @@ use Rattle.shapes.specs.Heads.{atomExpr, atomTarget, atomOf}
 use Rattle.shapes.specs.Parts.{exprIn, targetIn, targetBy, exprsIn}
 use Rattle.tables.specs.declared.Meaning.{Meaning}
 use Rattle.tables.specs.Scene.{Told}
-use Rattle.exprnodes.specs.declared.words.Alone.the-variants.{No}
-use Rattle.exprnodes.specs.Words.{StandsAlone}
+use Rattle.exprleaves.specs.declared.words.Alone.the-variants.{No}
+use Rattle.exprleaves.specs.Words.{StandsAlone}
 use Rattle.expressions.specs.Walks.{formIn}
 use Rattle.carried.specs.declared.values.Carried.{Carried}
 use Rattle.carried.specs.declared.places.Reached.{Reached}

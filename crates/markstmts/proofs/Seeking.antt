@@ -31,9 +31,9 @@ use Rattle.tables.specs.declared.Meaning.{Meaning}
 use Rattle.tables.specs.declared.Meaning.the-variants as meaning
 use Rattle.tables.specs.Scene.{Scene, Told, unknown, known, a-type, a-var, a-proc, a-value, meaningAt}
 use Rattle.tables.proofs.Telling.{meant}
-use Rattle.exprnodes.specs.declared.fields.Sole.{Sole}
-use Rattle.exprnodes.specs.declared.fields.Sole.the-variants as sole
-use Rattle.exprnodes.specs.Fields.{SoleName}
+use Rattle.exprleaves.specs.declared.fields.Sole.{Sole}
+use Rattle.exprleaves.specs.declared.fields.Sole.the-variants as sole
+use Rattle.exprleaves.specs.Fields.{SoleName}
 use Rattle.stmtnodes.specs.declared.last.Next.{Next}
 use Rattle.stmtnodes.specs.declared.last.Next.the-variants as following
 use Rattle.stmtnodes.specs.Handlers.{Comes, HandlerAt, PlainAt}

@@ -1,8 +1,8 @@
 // What a walk over statements looks up: a body's line in the table, the procedure that a call names, a body's handler, the rounds of a `for`.
 use arith::in_range;
 use counts::count_statements;
-use exprnodes::fields::Sole;
-use exprnodes::fields::sole_name;
+use exprleaves::fields::Sole;
+use exprleaves::fields::sole_name;
 use markacts::bounds::Span;
 use markarms::later;
 use skips::skip;

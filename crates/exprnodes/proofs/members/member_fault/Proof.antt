@@ -6,39 +6,39 @@ use Rattle.exprnodes.proofs.members.member_fault.Reads as reads
 use Rattle.exprnodes.proofs.members.member_fault.Lts as lts
 use Rattle.exprnodes.proofs.members.same_kind.Reads as same-kind-reads
 
--- src/members.rt:27:25
+-- src/members.rt:12:25
 enum-told : tie.Need-enum-told
 enum-told c = search needs
 
--- src/members.rt:27:25
+-- src/members.rt:12:25
 same-kind-requires : tie.Need-same-kind-requires
 same-kind-requires c κs = search needs
 
--- src/members.rt:28:24
+-- src/members.rt:13:24
 enum-told-2 : tie.Need-enum-told-2
 enum-told-2 c = search needs
 
--- src/members.rt:29:24
+-- src/members.rt:14:24
 enum-told-3 : tie.Need-enum-told-3
 enum-told-3 c = search needs
 
--- src/members.rt:30:24
+-- src/members.rt:15:24
 enum-told-4 : tie.Need-enum-told-4
 enum-told-4 c = search needs
 
--- src/members.rt:23:1
+-- src/members.rt:8:1
 returns : tie.Need-returns
 returns c = search member-fault-laws
 
--- src/members.rt:23:1
+-- src/members.rt:8:1
 returns-2 : tie.Need-returns-2
 returns-2 c = search member-fault-laws
 
--- src/members.rt:23:1
+-- src/members.rt:8:1
 returns-3 : tie.Need-returns-3
 returns-3 c = search member-fault-laws
 
--- src/members.rt:23:1
+-- src/members.rt:8:1
 returns-4 : tie.Need-returns-4
 returns-4 c = search member-fault-laws
 

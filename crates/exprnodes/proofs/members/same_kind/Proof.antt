@@ -4,11 +4,11 @@ use Rattle.exprnodes.proofs.members.same_kind.Tie as tie
 use Rattle.exprnodes.proofs.members.same_kind.Reads as reads
 use Rattle.exprnodes.proofs.members.same_kind.Lts as lts
 
--- src/members.rt:39:9
+-- src/members.rt:24:9
 returns : tie.Need-returns
 returns c = search same-kind-laws
 
--- src/members.rt:35:1
+-- src/members.rt:20:1
 returns-2 : tie.Need-returns-2
 returns-2 c = search same-kind-laws
 

@@ -72,8 +72,8 @@ use Rattle.carried.proofs.places.load.Reads as load-reads
 use Rattle.carried.proofs.places.place.Reads as place-reads
 use Rattle.carried.proofs.places.select.Reads as select-reads
 use Rattle.carried.proofs.values.value.Reads as values-value-reads
-use Rattle.exprnodes.proofs.fields.sole_name.Reads as sole-name-reads
-use Rattle.exprnodes.proofs.words.number_alone.Reads as number-alone-reads
+use Rattle.exprleaves.proofs.fields.sole_name.Reads as sole-name-reads
+use Rattle.exprleaves.proofs.words.number_alone.Reads as number-alone-reads
 use Rattle.markexprs.proofs.words.bound.Reads as bound-reads
 use Rattle.markexprs.proofs.words.variable.Reads as variable-reads
 use Rattle.markexprs.proofs.words.word.Reads as word-reads

@@ -4,7 +4,7 @@ use Rattle.markstmts.proofs.finding.callee.Statement.{statement}
 use Rattle.markstmts.proofs.finding.callee.Tie as tie
 use Rattle.markstmts.proofs.finding.callee.Reads as reads
 use Rattle.markstmts.proofs.finding.callee.Lts as lts
-use Rattle.exprnodes.proofs.fields.sole_name.Reads as sole-name-reads
+use Rattle.exprleaves.proofs.fields.sole_name.Reads as sole-name-reads
 use Rattle.markstmts.proofs.finding.proc_in.Reads as proc-in-reads
 use Rattle.tables.proofs.meaning_of.Reads as meaning-of-reads
 

@@ -1,0 +1,3 @@
+pub mod Naming
+pub mod Linking
+pub mod WordsMaking

@@ -1,0 +1,42 @@
+// The cells of a variable, and an end of a type: nodes and numbers that need no table.
+use crate::nodes::node;
+use parts::Got;
+use tables::Info;
+ghost use mathlib.Core.Path.{_≡_};
+ghost use Rattle.exprnodes.specs.Nodes.{Makes};
+ghost use Rattle.exprnodes.specs.Cells.{spanOf, cellsMade, endBits};
+
+// The first cell and the number of cells in one number.
+fn span(base: u32, size: u32) -> u32
+    ensures { λ r. ⌜ r ≡ spanOf base size ⌝ }
+{
+    if base >= 65536 {
+        return 0;
+    }
+    if size >= 65536 {
+        return 0;
+    }
+    base + 4096 * size
+}
+
+// So many cells of a kind, from a base on.
+pub fn cells(work: &mut [u32], size: u32, kind: u32, base: u32, next: usize, top: u32) -> Got
+    ensures { λ r. ⌜ Makes (cellsMade size kind base next top (now (work .entry))) r (now (work .exit)) ⌝ }
+{
+    if size == 1 {
+        let ns = [2, base];
+        return node(work, kind, next, top, &ns);
+    }
+    let ns = [3, span(base, size)];
+    node(work, kind, next, top, &ns)
+}
+
+// A type's first or last value, in 32 bits.
+pub fn end_bits(last: bool, i: Info) -> u32
+    ensures { λ r. ⌜ r ≡ endBits last i ⌝ }
+{
+    if last {
+        return i.high;
+    }
+    i.low
+}
