@@ -51,7 +51,8 @@ use Rattle.expressions.specs.Walks.{Moves, Leaves}
 use Rattle.expressions.proofs.Joining.{wrong-fits, fits-inj}
 use Rattle.statements.specs.declared.arms.NextArm.{NextArm}
 use Rattle.statements.specs.declared.arms.NextArm.the-variants as next-arm
-use Rattle.stmtnodes.specs.Nodes.{nodeIf, skipGot, joinedGot, finishedGot}
+use Rattle.stmtbase.specs.Nodes.{nodeIf}
+use Rattle.stmtnodes.specs.Nodes.{skipGot, joinedGot, finishedGot}
 use Rattle.statements.specs.Walks.{bare, ActTold, Around, GivesStmt}
 use Rattle.statements.specs.Chains.{many}
 use Rattle.statements.specs.Cases.{LabelsTold, GivesLabels, ArmFormAt, ArmHeadAt, ArmComes, ArmInside, armMade, ArmStmtBy, stmt-parts, ArmBy, arm-parts, ElseBy, else-parts, ArmsLeft, Arming, ArmsTold, GivesArms, selectedKind, cased, FirstArm, an-arm, no-arm, caseMade, CaseEnds, case-ends, CaseBy, case-parts}

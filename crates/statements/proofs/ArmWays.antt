@@ -51,7 +51,8 @@ use Rattle.expressions.specs.Walks.{Moves, Leaves}
 use Rattle.expressions.proofs.Joining.{wrong-fits, fits-inj}
 use Rattle.statements.specs.declared.arms.NextArm.{NextArm}
 use Rattle.statements.specs.declared.arms.NextArm.the-variants as next-arm
-use Rattle.stmtnodes.specs.Nodes.{nodeIf, skipGot, joinedGot, finishedGot}
+use Rattle.stmtbase.specs.Nodes.{nodeIf}
+use Rattle.stmtnodes.specs.Nodes.{skipGot, joinedGot, finishedGot}
 use Rattle.statements.specs.Walks.{bare, ActTold, Around, GivesStmt}
 use Rattle.statements.specs.Chains.{many}
 use Rattle.labels.specs.Repeating.{Repeating}

@@ -34,7 +34,7 @@ use Rattle.parts.specs.Got.{lowest, isForm, isClear, faultOf}
 use Rattle.exprnodes.specs.Nodes.{Makes}
 use Rattle.expressions.specs.Walks.{Moves, Leaves, ExprTold, GivesExpr}
 use Rattle.expressions.proofs.Joining.{wrong-fits, unnamed-fits, unfit-fits, fits-inj}
-use Rattle.stmtnodes.specs.Nodes.{nodeIf}
+use Rattle.stmtbase.specs.Nodes.{nodeIf}
 use Rattle.statements.specs.Walks.{bare, ActTold, Around, GivesVerb}
 use Rattle.labels.specs.Repeating.{labelsDiffer, Repeating}
 use Rattle.statements.specs.Cases.{ArmsTold, GivesArms, selectedKind, cased, FirstArm, an-arm, no-arm, caseMade, CaseEnds, case-ends, CaseBy, case-parts}

@@ -27,7 +27,8 @@ use Rattle.shapes.specs.Parts.{rest, closed}
 use Rattle.exprnodes.specs.Nodes.{Made, Makes, nodeMade, ifClear}
 use Rattle.expressions.specs.Walks.{Moves, Leaves, ExprTold}
 use Rattle.expressions.proofs.Joining.{wrong-fits, unnamed-fits, unfit-fits, fits-inj}
-use Rattle.stmtnodes.specs.Nodes.{nodeIf, wantedGot, withFault}
+use Rattle.stmtbase.specs.Nodes.{nodeIf, withFault}
+use Rattle.stmtnodes.specs.Nodes.{wantedGot}
 use Rattle.statements.specs.Walks.{bare, ActTold, WantTold}
 
 -- ---- the lower fault

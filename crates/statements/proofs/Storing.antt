@@ -54,7 +54,8 @@ use Rattle.parts.specs.Parts.{Before, LeafAt, FormAt, ShutAt, Stands, Closes}
 use Rattle.exprnodes.specs.Nodes.{Makes, failedMade, nodeMade, ifClear}
 use Rattle.expressions.specs.Walks.{Moves, Leaves, ExprTold, GivesExpr, GivesTarget}
 use Rattle.expressions.proofs.Joining.{wrong-fits, unnamed-fits, unfit-fits}
-use Rattle.stmtnodes.specs.Nodes.{withFault, steered, stored, assigned}
+use Rattle.stmtbase.specs.Nodes.{withFault, steered}
+use Rattle.stmtnodes.specs.Nodes.{stored, assigned}
 use Rattle.statements.specs.Walks.{StoreTold, ActTold, Around, GivesVerb, GivesAssign, GivesStore}
 use Rattle.statements.proofs.Faults.{lowest-clear, form-is, form-left, form-right, form-none, closes-leaves, same-refl, then-leaves, expr-closed}
 use Rattle.statements.proofs.Acts.{act-none}

@@ -31,7 +31,8 @@ use Rattle.atoms.specs.declared.Valued.{Valued}
 use Rattle.labels.specs.Repeating.{Repeating}
 use Rattle.exprnodes.specs.Nodes.{IsBits, Made, Makes}
 use Rattle.exprnodes.specs.Members.{memberFault}
-use Rattle.stmtnodes.specs.Nodes.{linked, nodeIf}
+use Rattle.stmtbase.specs.Nodes.{nodeIf}
+use Rattle.stmtnodes.specs.Nodes.{linked}
 use Rattle.statements.specs.Walks.{bare, Around, GivesStmt}
 use Rattle.statements.specs.declared.arms.NextArm.{NextArm}
 use Rattle.statements.specs.declared.arms.NextArm.the-variants as next-arm

@@ -7,7 +7,7 @@ use parts::lowest;
 use parts::part_at;
 use shapes::ArmHead;
 use shapes::arm_head;
-use stmtnodes::nodes::node_if;
+use stmtbase::node_if;
 use tables::Fault;
 use tables::Info;
 use tables::describe;

@@ -21,7 +21,8 @@ use Rattle.parts.specs.Parts.{LeafAt, FormAt, ShutAt, Stands}
 use Rattle.exprnodes.specs.Nodes.{Makes}
 use Rattle.stmtnodes.specs.declared.last.Next.{Next}
 use Rattle.stmtnodes.specs.declared.last.Next.the-variants as following
-use Rattle.stmtnodes.specs.Nodes.{nodeIf, plainMade, handledMade}
+use Rattle.stmtbase.specs.Nodes.{nodeIf}
+use Rattle.stmtnodes.specs.Nodes.{plainMade, handledMade}
 use Rattle.stmtnodes.specs.Handlers.{HandlerAt, PlainAt, HeadAt, HandlerIn, Comes}
 
 no-end : {t : Tree Run} {ts : Trees Run} → (t then ts) ≡ end → ⊥

@@ -1,6 +1,6 @@
 -- The laws of the nodes' code: each way through a function gives the answer that `Nodes` defines.
-use mathlib.Core.Path.{_≡_, refl, sym, ap, _∙_}
-use mathlib.Core.Bool.{Bool, true, false, cond, true≢false}
+use mathlib.Core.Path.{_≡_, refl, ap, _∙_}
+use mathlib.Core.Bool.{Bool, true, false}
 use mathlib.Core.List.{List, [], _∷_}
 use Prim.Native.Nat.{ℕ, _+_, _<_, _≤_}
 use borrow.Author.Tests.{eq-eqb, ne-eqb, lt-ltb, le-ltb}
@@ -19,30 +19,11 @@ use Rattle.tables.specs.Sides.{hostIn}
 use Rattle.parts.specs.declared.Got.{Got}
 use Rattle.parts.specs.Got.{lowest, isClear, failedGot}
 use Rattle.worklist.specs.Laid.{Laid}
-use Rattle.exprnodes.specs.Nodes.{Made, Makes, failedMade, nodeMade, ifClear}
+use Rattle.exprnodes.specs.Nodes.{Makes, nodeMade}
+use Rattle.exprnodes.proofs.Making.{if-clear, if-fault}
+use Rattle.stmtbase.specs.Nodes.{withFault, nodeIf}
 use Rattle.stmtnodes.specs.declared.nodes.Control.{Control}
-use Rattle.stmtnodes.specs.Nodes.{nextNumber, withFault, wantedGot, nodeIf, raised, looped, branched, called, stored, assigned, steered, controlIs, controlBy, controlFault, repeated, repeatedBy, linked, sequenced, joinedGot}
-
-module _ (f : Fault) (k q t : ℕ) (l : List ℕ) (M : Made) (b : Bool) (e : b ≡ isClear f) where
-  if-clear : b ≡ true → (r : Got) (l′ : List ℕ) → Makes M r l′ → Makes (ifClear f k q t l M) r l′
-  unfolding ifClear
-  if-clear h r l′ m = go f (sym e ∙ h)
-    where
-      go : (f : Fault) → isClear f ≡ true → Makes (ifClear f k q t l M) r l′
-      go Clear h = m
-      go Kind h = absurd (true≢false (sym h))
-      go Name h = absurd (true≢false (sym h))
-      go Form h = absurd (true≢false (sym h))
-
-  if-fault : b ≡ false → (r : Got) → r ≡ failedGot f k q t → Makes (ifClear f k q t l M) r l
-  unfolding ifClear
-  if-fault h r g = at-fault f (sym e ∙ h) g
-    where
-      at-fault : (f : Fault) → isClear f ≡ false → r ≡ failedGot f k q t → Makes (ifClear f k q t l M) r l
-      at-fault Clear h g = absurd (true≢false h)
-      at-fault Kind h g = record { given = g; left = refl }
-      at-fault Name h g = record { given = g; left = refl }
-      at-fault Form h g = record { given = g; left = refl }
+use Rattle.stmtnodes.specs.Nodes.{nextNumber, wantedGot, raised, looped, branched, called, stored, assigned, controlIs, controlBy, controlFault, repeated, repeatedBy, linked, sequenced, joinedGot}
 
 module _ (n : ℕ) where
   pub number-next : n < 4294967295 → n + 1 ≡ nextNumber n
@@ -65,17 +46,6 @@ module _ (k : ℕ) (g : Got) where
   wanted-other f r h e m = rw (ne-eqb k (g .kind) h) (m ∙ ap (withFault g) e)
 
 pub ruleset wanted-laws = (wanted-is, wanted-other)
-
-module _ (f : Fault) (k q : ℕ) (ns : List ℕ) (t : ℕ) (l : List ℕ) (b : Bool) (e : b ≡ isClear f) (r : Got) where
-  pub node-clear : (l′ : List ℕ) → b ≡ true → Makes (nodeMade k q (lay ns t l)) r l′ → Makes (nodeIf f k q ns t l) r l′
-  unfolding nodeIf
-  node-clear l′ h m = if-clear f k q t l (nodeMade k q (lay ns t l)) b e h r l′ m
-
-  pub node-fault : b ≡ false → r ≡ failedGot f k q t → Makes (nodeIf f k q ns t l) r l
-  unfolding nodeIf
-  node-fault h m = if-fault f k q t l (nodeMade k q (lay ns t l)) b e h r m
-
-pub ruleset node-laws = (node-clear, node-fault)
 
 module _ (l : List ℕ) (n : ℕ) (r : Got) (l′ : List ℕ) where
   pub raise-is : (c : Got) → Makes (nodeIf (c .fault) n (c .next) (51 ∷ n ∷ c .place ∷ []) (c .top) l) r l′ → Makes (raised l n c) r l′
@@ -160,33 +130,6 @@ module _ (m : Meaning) (r : Control) where
   stepped-value k v h e = rw h e
 
 pub ruleset stepped-laws = (stepped-unknown, stepped-type, stepped-var, stepped-proc, stepped-value)
-
-module _ (w : Mask) (i k a : ℕ) (g : Got) (b : Bool) (e : b ≡ loopsOver w i) where
-  pub steer-over : (f : Fault) (r : Got) → b ≡ true → f ≡ lowest (g .fault) Kind → r ≡ withFault g f → r ≡ steered w (meaning.Var i k a) g
-  steer-over f r h m d = rw (sym e ∙ h) (d ∙ ap (withFault g) m)
-
-  pub steer-free : b ≡ false → g ≡ steered w (meaning.Var i k a) g
-  steer-free h = rw (sym e ∙ h) refl
-
-pub ruleset steer-var-laws = (steer-over, steer-free)
-
-module _ (w : Mask) (m : Meaning) (g : Got) where
-  pub steer-unknown : m ≡ meaning.Unknown → g ≡ steered w m g
-  steer-unknown h = rw h refl
-
-  pub steer-type : (k : ℕ) → m ≡ meaning.Type k → g ≡ steered w m g
-  steer-type k h = rw h refl
-
-  pub steer-meant : (i k a : ℕ) (r : Got) → m ≡ meaning.Var i k a → r ≡ steered w (meaning.Var i k a) g → r ≡ steered w m g
-  steer-meant i k a r h e = rw h e
-
-  pub steer-proc : (p : ℕ) → m ≡ meaning.Proc p → g ≡ steered w m g
-  steer-proc p h = rw h refl
-
-  pub steer-value : (k v : ℕ) → m ≡ meaning.Value k v → g ≡ steered w m g
-  steer-value k v h = rw h refl
-
-pub ruleset steer-laws = (steer-unknown, steer-type, steer-meant, steer-proc, steer-value)
 
 -- ---- an assignment
 

@@ -17,6 +17,7 @@ use Rattle.tables.specs.Sides.{hostIn}
 use Rattle.parts.specs.declared.Got.{Got}
 use Rattle.parts.specs.Got.{lowest, failedGot}
 use Rattle.exprnodes.specs.Nodes.{Made, failedMade, nodeMade, ifClear}
+use Rattle.stmtbase.specs.Nodes.{withFault, nodeIf}
 use Rattle.shapes.specs.declared.Atom.{Atom}
 use Rattle.shapes.specs.declared.Atom.the-variants as AT
 use Rattle.stmtnodes.specs.declared.nodes.Control.{Control}
@@ -25,17 +26,9 @@ use Rattle.stmtnodes.specs.declared.nodes.Control.{Control}
 unfoldable pub nextNumber : ℕ → ℕ
 nextNumber n = cond (ltb n 4294967295) (n + 1) n
 
--- the same answer with another fault
-abbrev pub withFault : Got → Fault → Got
-withFault g f = record { fault = f; kind = g .kind; place = g .place; next = g .next; top = g .top }
-
 -- an expression of which kind k is wanted
 unfoldable pub wantedGot : ℕ → Got → Got
 wantedGot k g = cond (eqb k (g .kind)) g (withFault g (lowest (g .fault) Kind))
-
--- a node where no fault has come; k is the number of the last statement read
-unfoldable pub nodeIf : Fault → ℕ → ℕ → List ℕ → ℕ → List ℕ → Made
-nodeIf f k q ns t l = ifClear f k q t l (nodeMade k q (lay ns t l))
 
 -- ---- the verbs; n is the statement's number, and the last part's kind that of the last statement read
 
@@ -67,14 +60,6 @@ stored l i k n g e = cond (eqb k (e .kind))
 
 unfoldable pub assigned : List ℕ → List ℕ → ℕ → Got → Got → Made
 assigned l ts n g e = ifClear (lowest (g .fault) (e .fault)) n (e .next) (e .top) l (stored l (infoOf l ts (g .kind)) (hostIn l ts (g .kind)) n g e)
-
--- a whole variable that is assigned, by its meaning
-abbrev pub steered : Mask → Meaning → Got → Got
-steered m meaning.Unknown g = g
-steered m (meaning.Type k) g = g
-steered m (meaning.Var i k a) g = cond (loopsOver m i) (withFault g (lowest (g .fault) Kind)) g
-steered m (meaning.Proc p) g = g
-steered m (meaning.Value k v) g = g
 
 -- the control variable of a `for`
 abbrev pub controlIs : Fault → ℕ → ℕ → ℕ → Control

@@ -1,10 +1,10 @@
 // A body's parts: what comes next, and the node of a body.
-use crate::nodes::node_if;
 use parts::Got;
 use parts::Part;
 use parts::lowest;
 use parts::part_at;
 use shapes::is_exception;
+use stmtbase::node_if;
 use worklist::slot;
 ghost use Rattle.exprnodes.specs.Nodes.{Makes};
 ghost use Rattle.stmtnodes.specs.Nodes.{plainMade, handledMade};

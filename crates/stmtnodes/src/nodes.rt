@@ -7,6 +7,8 @@ use parts::is_clear;
 use parts::lowest;
 use shapes::Atom;
 use shapes::atom_of;
+use stmtbase::node_if;
+use stmtbase::with_fault;
 use tables::Fault;
 use tables::Info;
 use tables::Mask;
@@ -20,9 +22,9 @@ ghost use mathlib.Core.Path.{_≡_};
 ghost use Prim.Native.Nat.{_+_};
 ghost use Rattle.exprnodes.specs.Nodes.{Makes};
 ghost use Rattle.worklist.specs.Laid.{Laid};
-ghost use Rattle.tables.specs.declared.Meaning.the-variants.{Var, Proc};
+ghost use Rattle.tables.specs.declared.Meaning.the-variants.{Proc};
 ghost use Rattle.tables.specs.Descriptions.{infoOf};
-ghost use Rattle.stmtnodes.specs.Nodes.{nextNumber, withFault, wantedGot, nodeIf, raised, looped, branched, skipGot, called, stored, assigned, steered, controlIs, controlBy, controlFault, repeated, repeatedBy, linked, sequenced, joinedGot, finishedGot, isNamed};
+ghost use Rattle.stmtnodes.specs.Nodes.{nextNumber, wantedGot, raised, looped, branched, skipGot, called, stored, assigned, controlIs, controlBy, controlFault, repeated, repeatedBy, linked, sequenced, joinedGot, finishedGot, isNamed};
 ghost use Rattle.shapes.specs.Heads.{atomOf};
 
 // The control variable of a `for`: its fault; with no fault its number, type and first cell.
@@ -57,19 +59,6 @@ pub fn wide(p: u32) -> usize
     p as usize
 }
 
-// The same answer with another fault.
-pub fn with_fault(g: Got, f: Fault) -> Got
-    ensures { λ r. ⌜ r ≡ withFault g f ⌝ }
-{
-    Got {
-        fault: f,
-        kind: g.kind,
-        place: g.place,
-        next: g.next,
-        top: g.top,
-    }
-}
-
 // An expression's answer where kind k is wanted.
 pub fn wanted(k: u32, g: Got) -> Got
     ensures { λ r. ⌜ r ≡ wantedGot k g ⌝ }
@@ -79,16 +68,6 @@ pub fn wanted(k: u32, g: Got) -> Got
     }
     let f = g.fault;
     with_fault(g, lowest(f, Fault::Kind))
-}
-
-// A node where no fault has come; `kind` is the number of the last statement read.
-pub fn node_if(work: &mut [u32], fault: Fault, kind: u32, next: usize, top: u32, ns: &[u32]) -> Got
-    ensures { λ r. ⌜ Makes (nodeIf fault kind next (now (ns .entry)) top (now (work .entry))) r (now (work .exit)) ⌝ }
-{
-    if is_clear(fault) {
-        return node(work, kind, next, top, ns);
-    }
-    failed(fault, kind, next, top)
 }
 
 // `raise` with the number c.
@@ -182,30 +161,6 @@ pub fn assign_node(work: &mut [u32], types: &[u32], n: u32, g: Got, e: Got) -> G
         return store_node(work, describe(work, types, g.kind), k, n, g, e);
     }
     failed(f, n, e.next, e.top)
-}
-
-// A variable that is assigned: a fault of row 8 if a loop around steps it.
-fn steer_var(loops: Mask, i: u32, kind: u32, base: u32, g: Got) -> Got
-    ensures { λ r. ⌜ r ≡ steered loops (Var i kind base) g ⌝ }
-{
-    let f = g.fault;
-    if loops_over(loops, i) {
-        return with_fault(g, lowest(f, Fault::Kind));
-    }
-    g
-}
-
-// A whole variable that is assigned, by its meaning.
-pub fn steer(loops: Mask, m: Meaning, g: Got) -> Got
-    ensures { λ r. ⌜ r ≡ steered loops m g ⌝ }
-{
-    match m {
-        Meaning::Unknown => g,
-        Meaning::Type(_) => g,
-        Meaning::Var(i, k, a) => steer_var(loops, i, k, a, g),
-        Meaning::Proc(_) => g,
-        Meaning::Value(_, _) => g,
-    }
 }
 
 // A control variable from its parts.

@@ -6,7 +6,7 @@ use Rattle.statements.proofs.arms.case_node.Reads as reads
 use Rattle.statements.proofs.arms.case_node.Lts as lts
 use Rattle.parts.proofs.lowest.Reads as lowest-reads
 use Rattle.statements.proofs.arms.ordinal_fault.Reads as ordinal-fault-reads
-use Rattle.stmtnodes.proofs.nodes.node_if.Reads as node-if-reads
+use Rattle.stmtbase.proofs.node_if.Reads as node-if-reads
 
 -- src/arms.rt:128:37
 lowest-requires : tie.Need-lowest-requires

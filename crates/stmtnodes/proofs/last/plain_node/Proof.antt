@@ -4,7 +4,7 @@ use Rattle.stmtnodes.proofs.last.plain_node.Statement.{statement}
 use Rattle.stmtnodes.proofs.last.plain_node.Tie as tie
 use Rattle.stmtnodes.proofs.last.plain_node.Reads as reads
 use Rattle.stmtnodes.proofs.last.plain_node.Lts as lts
-use Rattle.stmtnodes.proofs.nodes.node_if.Reads as node-if-reads
+use Rattle.stmtbase.proofs.node_if.Reads as node-if-reads
 use Rattle.worklist.proofs.slot.Reads as slot-reads
 
 -- src/last.rt:53:9

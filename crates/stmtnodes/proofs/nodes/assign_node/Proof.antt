@@ -11,39 +11,39 @@ use Rattle.stmtnodes.proofs.nodes.store_node.Reads as store-node-reads
 use Rattle.tables.proofs.describe.Reads as describe-reads
 use Rattle.tables.proofs.host_of.Reads as host-of-reads
 
--- src/nodes.rt:175:9
+-- src/nodes.rt:154:9
 lowest-requires : tie.Need-lowest-requires
 lowest-requires c κs = search needs
 
--- src/nodes.rt:176:8
+-- src/nodes.rt:155:8
 is-clear-requires : tie.Need-is-clear-requires
 is-clear-requires c κs = search needs
 
--- src/nodes.rt:177:13
+-- src/nodes.rt:156:13
 host-of-requires : tie.Need-host-of-requires
 host-of-requires c κs = search needs
 
--- src/nodes.rt:178:33
+-- src/nodes.rt:157:33
 describe-requires : tie.Need-describe-requires
 describe-requires c κs = search needs
 
--- src/nodes.rt:178:9
+-- src/nodes.rt:157:9
 store-node-requires : tie.Need-store-node-requires
 store-node-requires c κs = search needs
 
--- src/nodes.rt:178:9
+-- src/nodes.rt:157:9
 same-length : tie.Need-same-length
 same-length c = search needs
 
--- src/nodes.rt:178:9
+-- src/nodes.rt:157:9
 returns : tie.Need-returns
 returns c = search assign-laws
 
--- src/nodes.rt:180:5
+-- src/nodes.rt:159:5
 failed-requires : tie.Need-failed-requires
 failed-requires c κs = search needs
 
--- src/nodes.rt:170:1
+-- src/nodes.rt:149:1
 returns-2 : tie.Need-returns-2
 returns-2 c = search assign-laws
 

@@ -4,21 +4,21 @@ use Rattle.stmtnodes.proofs.nodes.begin_node.Statement.{statement}
 use Rattle.stmtnodes.proofs.nodes.begin_node.Tie as tie
 use Rattle.stmtnodes.proofs.nodes.begin_node.Reads as reads
 use Rattle.stmtnodes.proofs.nodes.begin_node.Lts as lts
-use Rattle.stmtnodes.proofs.nodes.node_if.Reads as node-if-reads
+use Rattle.stmtbase.proofs.node_if.Reads as node-if-reads
 
--- src/nodes.rt:282:45
+-- src/nodes.rt:237:45
 slice-aggregate-node-if : tie.Need-slice-aggregate-node-if
 slice-aggregate-node-if c = search needs
 
--- src/nodes.rt:282:5
+-- src/nodes.rt:237:5
 node-if-requires : tie.Need-node-if-requires
 node-if-requires c κs = search needs
 
--- src/nodes.rt:277:1
+-- src/nodes.rt:232:1
 same-length : tie.Need-same-length
 same-length c = search needs
 
--- src/nodes.rt:277:1
+-- src/nodes.rt:232:1
 returns : tie.Need-returns
 returns c = search begin-is
 

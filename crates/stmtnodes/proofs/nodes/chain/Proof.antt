@@ -7,23 +7,23 @@ use Rattle.stmtnodes.proofs.nodes.chain.Lts as lts
 use Rattle.worklist.proofs.lay.Reads as lay-reads
 use Rattle.worklist.proofs.put.Reads as put-reads
 
--- src/nodes.rt:271:28
+-- src/nodes.rt:226:28
 slice-aggregate-lay : tie.Need-slice-aggregate-lay
 slice-aggregate-lay c = search needs
 
--- src/nodes.rt:271:9
+-- src/nodes.rt:226:9
 lay-requires : tie.Need-lay-requires
 lay-requires c κs = search needs
 
--- src/nodes.rt:272:5
+-- src/nodes.rt:227:5
 put-requires : tie.Need-put-requires
 put-requires c κs = search needs
 
--- src/nodes.rt:267:1
+-- src/nodes.rt:222:1
 same-length : tie.Need-same-length
 same-length c = search needs
 
--- src/nodes.rt:267:1
+-- src/nodes.rt:222:1
 returns : tie.Need-returns
 returns c = search chain-is
 

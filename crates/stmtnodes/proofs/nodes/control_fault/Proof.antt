@@ -4,15 +4,15 @@ use Rattle.stmtnodes.proofs.nodes.control_fault.Tie as tie
 use Rattle.stmtnodes.proofs.nodes.control_fault.Reads as reads
 use Rattle.stmtnodes.proofs.nodes.control_fault.Lts as lts
 
--- src/nodes.rt:237:9
+-- src/nodes.rt:192:9
 returns : tie.Need-returns
 returns c = search control-laws
 
--- src/nodes.rt:240:9
+-- src/nodes.rt:195:9
 returns-2 : tie.Need-returns-2
 returns-2 c = search control-laws
 
--- src/nodes.rt:233:1
+-- src/nodes.rt:188:1
 returns-3 : tie.Need-returns-3
 returns-3 c = search control-laws
 

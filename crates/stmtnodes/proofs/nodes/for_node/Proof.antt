@@ -9,27 +9,27 @@ use Rattle.stmtnodes.proofs.nodes.for_parts.Reads as for-parts-reads
 use Rattle.tables.proofs.describe.Reads as describe-reads
 use Rattle.tables.proofs.loops_over.Reads as loops-over-reads
 
--- src/nodes.rt:266:9
+-- src/nodes.rt:221:9
 describe-requires : tie.Need-describe-requires
 describe-requires c κs = search needs
 
--- src/nodes.rt:267:27
+-- src/nodes.rt:222:27
 loops-over-requires : tie.Need-loops-over-requires
 loops-over-requires c κs = search needs
 
--- src/nodes.rt:267:9
+-- src/nodes.rt:222:9
 control-fault-requires : tie.Need-control-fault-requires
 control-fault-requires c κs = search needs
 
--- src/nodes.rt:268:5
+-- src/nodes.rt:223:5
 for-parts-requires : tie.Need-for-parts-requires
 for-parts-requires c κs = search needs
 
--- src/nodes.rt:263:1
+-- src/nodes.rt:218:1
 same-length : tie.Need-same-length
 same-length c = search needs
 
--- src/nodes.rt:263:1
+-- src/nodes.rt:218:1
 returns : tie.Need-returns
 returns c = search for-control
 

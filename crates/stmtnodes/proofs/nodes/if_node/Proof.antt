@@ -5,29 +5,29 @@ use Rattle.stmtnodes.proofs.nodes.if_node.Tie as tie
 use Rattle.stmtnodes.proofs.nodes.if_node.Reads as reads
 use Rattle.stmtnodes.proofs.nodes.if_node.Lts as lts
 use Rattle.parts.proofs.lowest.Reads as lowest-reads
-use Rattle.stmtnodes.proofs.nodes.node_if.Reads as node-if-reads
+use Rattle.stmtbase.proofs.node_if.Reads as node-if-reads
 
--- src/nodes.rt:117:26
+-- src/nodes.rt:96:26
 lowest-requires : tie.Need-lowest-requires
 lowest-requires c κs = search needs
 
--- src/nodes.rt:117:19
+-- src/nodes.rt:96:19
 lowest-requires-2 : tie.Need-lowest-requires-2
 lowest-requires-2 c κs = search needs
 
--- src/nodes.rt:117:67
+-- src/nodes.rt:96:67
 slice-aggregate-node-if : tie.Need-slice-aggregate-node-if
 slice-aggregate-node-if c = search needs
 
--- src/nodes.rt:117:5
+-- src/nodes.rt:96:5
 node-if-requires : tie.Need-node-if-requires
 node-if-requires c κs = search needs
 
--- src/nodes.rt:110:1
+-- src/nodes.rt:89:1
 same-length : tie.Need-same-length
 same-length c = search needs
 
--- src/nodes.rt:110:1
+-- src/nodes.rt:89:1
 returns : tie.Need-returns
 returns c = search if-is
 

@@ -6,11 +6,11 @@ use Rattle.stmtnodes.proofs.nodes.joined.Reads as reads
 use Rattle.stmtnodes.proofs.nodes.joined.Lts as lts
 use Rattle.parts.proofs.lowest.Reads as lowest-reads
 
--- src/nodes.rt:296:16
+-- src/nodes.rt:251:16
 lowest-requires : tie.Need-lowest-requires
 lowest-requires c κs = search needs
 
--- src/nodes.rt:290:1
+-- src/nodes.rt:245:1
 returns : tie.Need-returns
 returns c = search joined-is
 

@@ -5,15 +5,15 @@ use Rattle.stmtnodes.proofs.nodes.next_number.Tie as tie
 use Rattle.stmtnodes.proofs.nodes.next_number.Reads as reads
 use Rattle.stmtnodes.proofs.nodes.next_number.Lts as lts
 
--- src/nodes.rt:37:16
+-- src/nodes.rt:39:16
 add-result : tie.Need-add-result
 add-result c = search needs
 
--- src/nodes.rt:37:9
+-- src/nodes.rt:39:9
 returns : tie.Need-returns
 returns c = search number-laws
 
--- src/nodes.rt:33:1
+-- src/nodes.rt:35:1
 returns-2 : tie.Need-returns-2
 returns-2 c = search number-laws
 

@@ -4,21 +4,21 @@ use Rattle.stmtnodes.proofs.nodes.raise_node.Statement.{statement}
 use Rattle.stmtnodes.proofs.nodes.raise_node.Tie as tie
 use Rattle.stmtnodes.proofs.nodes.raise_node.Reads as reads
 use Rattle.stmtnodes.proofs.nodes.raise_node.Lts as lts
-use Rattle.stmtnodes.proofs.nodes.node_if.Reads as node-if-reads
+use Rattle.stmtbase.proofs.node_if.Reads as node-if-reads
 
--- src/nodes.rt:96:40
+-- src/nodes.rt:75:40
 slice-aggregate-node-if : tie.Need-slice-aggregate-node-if
 slice-aggregate-node-if c = search needs
 
--- src/nodes.rt:96:5
+-- src/nodes.rt:75:5
 node-if-requires : tie.Need-node-if-requires
 node-if-requires c κs = search needs
 
--- src/nodes.rt:91:1
+-- src/nodes.rt:70:1
 same-length : tie.Need-same-length
 same-length c = search needs
 
--- src/nodes.rt:91:1
+-- src/nodes.rt:70:1
 returns : tie.Need-returns
 returns c = search raise-is
 

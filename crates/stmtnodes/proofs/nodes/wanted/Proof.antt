@@ -5,21 +5,21 @@ use Rattle.stmtnodes.proofs.nodes.wanted.Tie as tie
 use Rattle.stmtnodes.proofs.nodes.wanted.Reads as reads
 use Rattle.stmtnodes.proofs.nodes.wanted.Lts as lts
 use Rattle.parts.proofs.lowest.Reads as lowest-reads
-use Rattle.stmtnodes.proofs.nodes.with_fault.Reads as with-fault-reads
+use Rattle.stmtbase.proofs.with_fault.Reads as with-fault-reads
 
--- src/nodes.rt:74:9
+-- src/nodes.rt:63:9
 returns : tie.Need-returns
 returns c = search wanted-laws
 
--- src/nodes.rt:77:19
+-- src/nodes.rt:66:19
 lowest-requires : tie.Need-lowest-requires
 lowest-requires c κs = search needs
 
--- src/nodes.rt:77:5
+-- src/nodes.rt:66:5
 with-fault-requires : tie.Need-with-fault-requires
 with-fault-requires c κs = search needs
 
--- src/nodes.rt:70:1
+-- src/nodes.rt:59:1
 returns-2 : tie.Need-returns-2
 returns-2 c = search wanted-laws
 

@@ -5,25 +5,25 @@ use Rattle.stmtnodes.proofs.nodes.while_node.Tie as tie
 use Rattle.stmtnodes.proofs.nodes.while_node.Reads as reads
 use Rattle.stmtnodes.proofs.nodes.while_node.Lts as lts
 use Rattle.parts.proofs.lowest.Reads as lowest-reads
-use Rattle.stmtnodes.proofs.nodes.node_if.Reads as node-if-reads
+use Rattle.stmtbase.proofs.node_if.Reads as node-if-reads
 
--- src/nodes.rt:106:19
+-- src/nodes.rt:85:19
 lowest-requires : tie.Need-lowest-requires
 lowest-requires c κs = search needs
 
--- src/nodes.rt:106:56
+-- src/nodes.rt:85:56
 slice-aggregate-node-if : tie.Need-slice-aggregate-node-if
 slice-aggregate-node-if c = search needs
 
--- src/nodes.rt:106:5
+-- src/nodes.rt:85:5
 node-if-requires : tie.Need-node-if-requires
 node-if-requires c κs = search needs
 
--- src/nodes.rt:100:1
+-- src/nodes.rt:79:1
 same-length : tie.Need-same-length
 same-length c = search needs
 
--- src/nodes.rt:100:1
+-- src/nodes.rt:79:1
 returns : tie.Need-returns
 returns c = search while-is
 

@@ -1,30 +1,30 @@
-use Rattle.stmtnodes.proofs.Making.{steer-var-laws}
+use Rattle.stmtbase.proofs.Making.{steer-var-laws}
 use borrow.Author.Needs.{needs}
-use Rattle.stmtnodes.proofs.nodes.steer_var.Statement.{statement}
-use Rattle.stmtnodes.proofs.nodes.steer_var.Tie as tie
-use Rattle.stmtnodes.proofs.nodes.steer_var.Reads as reads
-use Rattle.stmtnodes.proofs.nodes.steer_var.Lts as lts
+use Rattle.stmtbase.proofs.steer_var.Statement.{statement}
+use Rattle.stmtbase.proofs.steer_var.Tie as tie
+use Rattle.stmtbase.proofs.steer_var.Reads as reads
+use Rattle.stmtbase.proofs.steer_var.Lts as lts
 use Rattle.parts.proofs.lowest.Reads as lowest-reads
-use Rattle.stmtnodes.proofs.nodes.with_fault.Reads as with-fault-reads
+use Rattle.stmtbase.proofs.with_fault.Reads as with-fault-reads
 use Rattle.tables.proofs.loops_over.Reads as loops-over-reads
 
--- src/nodes.rt:188:8
+-- src/lib.rt:40:8
 loops-over-requires : tie.Need-loops-over-requires
 loops-over-requires c κs = search needs
 
--- src/nodes.rt:189:30
+-- src/lib.rt:41:30
 lowest-requires : tie.Need-lowest-requires
 lowest-requires c κs = search needs
 
--- src/nodes.rt:189:9
+-- src/lib.rt:41:9
 with-fault-requires : tie.Need-with-fault-requires
 with-fault-requires c κs = search needs
 
--- src/nodes.rt:189:9
+-- src/lib.rt:41:9
 returns : tie.Need-returns
 returns c = search steer-var-laws
 
--- src/nodes.rt:184:1
+-- src/lib.rt:36:1
 returns-2 : tie.Need-returns-2
 returns-2 c = search steer-var-laws
 
