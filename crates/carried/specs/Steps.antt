@@ -1,57 +1,30 @@
 -- What is done in one step to what the marking machine carries (semantics, Marking): for every environment that the tables hold and every
 -- store, the step's answer is the machine's, if what it was given is.
-use mathlib.Core.Bool.{Bool, true, false, cond, _&&_}
+use mathlib.Core.Bool.{Bool, true, cond, _&&_}
 use mathlib.Core.List.{List, [], _∷_, map}
 use mathlib.Core.Path.{_≡_}
-use Prim.Native.Nat.{ℕ, _+_, _*_, _-_}
+use Prim.Native.Nat.{ℕ, _+_, _*_}
 use lib.Dec.{eqb}
-use lib.IntN.{ℤ, pos, _-ℤ_}
+use lib.IntN.{ℤ, _-ℤ_}
 use Rattle.spelling.specs.Bytes.{small}
 use Rattle.lexis.specs.Numbers.{signed}
 use Rattle.semantics.specs.Base.{Name, pick}
-use Rattle.semantics.specs.Calculate.{Result, is, _>>=_, natOf, isTrue, tested, rangeError, compute, compute1}
+use Rattle.semantics.specs.Calculate.{Result, is, _>>=_, natOf, tested, rangeError}
 use Rattle.semantics.specs.Elaborate.{inKind}
 use Rattle.semantics.specs.Environment.{Environment}
-use Rattle.semantics.specs.Machine.{Store, readCells, sole, oneCell, shortCircuited}
+use Rattle.semantics.specs.Machine.{Store, readCells, sole}
 use Rattle.semantics.specs.Marking.{TypedValue, TypedPlace, typedValue, typedPlace, typedAs, placedAs, orStuck, require, wanted}
 use Rattle.semantics.specs.Names.{constOf}
-use Rattle.semantics.specs.Operators.{Op, Fun, predIn, succIn, operatorRule, functionRule}
-use Rattle.semantics.specs.Readback.{operationAt, operation1At}
 use Rattle.semantics.specs.Trees.{wordAt}
 use Rattle.semantics.specs.Types.{Types, infoAt, hostOf, sizeOf, ordinal?, array?, baseOf, fieldOf}
-use Rattle.kinds.specs.Kinds.{opNumber}
-use Rattle.kinds.specs.Functions.{funNumber}
-use Rattle.kinds.specs.declared.Ruling.{Ruling}
-use Rattle.kinds.specs.declared.Ruling.the-variants.{Misfit, Fits}
-use Rattle.calc.specs.Words.{wordOf, applied1, distanceWord, elementWord, Holds}
+use Rattle.calc.specs.Words.{distanceWord, elementWord, Holds}
 use Rattle.tables.specs.declared.Info.{Info}
 use Rattle.tables.specs.Descriptions.{infoOf}
 use Rattle.carried.specs.declared.values.Carried.{Carried}
 use Rattle.carried.specs.declared.places.Reached.{Reached}
-use Rattle.carried.specs.Values.{carriedOf, reachedOf, MarkMeans, Carries, Reaches, Known}
-
--- ---- by what an operator comes to: its node's number and the kind of its result
-
-unfoldable pub ruledWord : Ruling → ℤ → ℤ → Carried
-ruledWord Misfit x y = carriedOf 0 (pos 17179869184) 0
-ruledWord (Fits n k) x y = carriedOf k (wordOf (compute (operationAt (n - 9)) x y)) 0
-
--- one-sided, on a value whose kind has the bounds lo and hi
-unfoldable pub nodeWord : ℕ → ℤ → ℤ → ℤ → ℤ
-nodeWord n lo hi x =
-    cond (eqb n 38) (applied1 (predIn lo hi) x) (cond (eqb n 39) (applied1 (succIn lo hi) x) (applied1 (operation1At (n - 29)) x))
-
-unfoldable pub ruledWord1 : Ruling → ℤ → ℤ → ℤ → Carried
-ruledWord1 Misfit lo hi x = carriedOf 0 (pos 17179869184) 0
-ruledWord1 (Fits n k) lo hi x = carriedOf k (nodeWord n lo hi x) 0
+use Rattle.carried.specs.Values.{reachedOf, MarkMeans, Carries, Reaches, Known}
 
 -- ---- the machine's steps
-
-abbrev pub operated : Types → Op → TypedValue → TypedValue → Result TypedValue
-operated Γ o a b = orStuck (operatorRule Γ o (a .kind) (b .kind)) λ r. typedAs (r .kind) (oneCell (compute (r .operation) (sole (a .cells)) (sole (b .cells))))
-
-abbrev pub applied : Types → Fun → TypedValue → Result TypedValue
-applied Γ f a = orStuck (functionRule Γ f (a .kind)) λ r. typedAs (r .kind) (oneCell (compute1 (r .operation) (sole (a .cells))))
 
 abbrev pub constantly : Types → ℕ → ℤ → Result TypedValue
 constantly Γ k z = require (inKind Γ (constOf k z)) (is (typedValue k (z ∷ [])))
@@ -88,19 +61,6 @@ elementPlace l ts i a b = reachedOf (i .element) (elementWord a (distanceWord (s
 -- the value of a kind that is wanted
 pub record Wants (k : ℕ) (x : Carried) (r : ℤ) : Type 0 where
   pub says : (Γ : Types) (m : Store) (v : Result TypedValue) → Carries Γ m v x → MarkMeans r ((v >>= wanted k) >>= λ u. is (sole u))
-
-pub record Operates (l ts : List ℕ) (op : ℕ) (x y r : Carried) : Type 0 where
-  pub says : (s : List ℕ) (count newest : ℕ) (σ : Environment) → Known s l ts count newest σ → (m : Store) (o : Op) → op ≡ opNumber o
-      → (v w : Result TypedValue) → Carries (σ .types) m v x → Carries (σ .types) m w y → Carries (σ .types) m (v >>= λ a. w >>= λ b. operated (σ .types) o a b) r
-
-pub record Applies (l ts : List ℕ) (f : ℕ) (x r : Carried) : Type 0 where
-  pub says : (s : List ℕ) (count newest : ℕ) (σ : Environment) → Known s l ts count newest σ → (m : Store) (o : Fun) → f ≡ funNumber o
-      → (v : Result TypedValue) → Carries (σ .types) m v x → Carries (σ .types) m (v >>= λ a. applied (σ .types) o a) r
-
--- `and_then` (true) and `or_else` (false)
-pub record Shorts (q : Bool) (x y r : Carried) : Type 0 where
-  pub says : (Γ : Types) → ordinal? Γ 1 ≡ true → (m : Store) (v w : Result TypedValue) → Carries Γ m v x → Carries Γ m w y
-      → Carries Γ m ((v >>= wanted 1) >>= λ u. typedAs 1 (shortCircuited q (isTrue (sole u)) (w >>= wanted 1))) r
 
 pub record Constants (l ts : List ℕ) (k : ℕ) (z : ℤ) (r : Carried) : Type 0 where
   pub says : (s : List ℕ) (count newest : ℕ) (σ : Environment) → Known s l ts count newest σ → (m : Store) → Carries (σ .types) m (constantly (σ .types) k z) r

@@ -1,6 +1,5 @@
 // Values and places with their types, as the marking machine carries them, and what is done to them in one step.
 pub mod constants;
 pub mod members;
-pub mod operators;
 pub mod places;
 pub mod values;

@@ -47,7 +47,8 @@ use Rattle.expressions.specs.Walks.{formIn}
 use Rattle.carried.specs.declared.values.Carried.{Carried}
 use Rattle.carried.specs.declared.places.Reached.{Reached}
 use Rattle.carried.specs.Values.{carriedOf, Carries, Reaches, Known}
-use Rattle.carried.specs.Steps.{Operates, Applies, Shorts, Constants, Loads, Indexes, Selects}
+use Rattle.markops.specs.Operations.{Operates, Applies, Shorts}
+use Rattle.carried.specs.Steps.{Constants, Loads, Indexes, Selects}
 use Rattle.carried.proofs.Carrying.{carries-one, carries-stuck}
 use Rattle.carried.proofs.Ruling.{simple-set}
 use Rattle.markexprs.specs.Marks.{MarksExpr, MarksTarget, MarksForm, MarksPlace, MarksMinus, MarksMembers}

@@ -64,9 +64,9 @@ use Rattle.atoms.proofs.type_name.Reads as type-name-reads
 use Rattle.carried.proofs.constants.negative.Reads as negative-reads
 use Rattle.carried.proofs.members.is_set.Reads as is-set-reads
 use Rattle.carried.proofs.members.member.Reads as member-reads
-use Rattle.carried.proofs.operators.apply.Reads as apply-reads
-use Rattle.carried.proofs.operators.operate.Reads as operate-reads
-use Rattle.carried.proofs.operators.short.Reads as short-reads
+use Rattle.markops.proofs.apply.Reads as apply-reads
+use Rattle.markops.proofs.operate.Reads as operate-reads
+use Rattle.markops.proofs.short.Reads as short-reads
 use Rattle.carried.proofs.places.index.Reads as index-reads
 use Rattle.carried.proofs.places.load.Reads as load-reads
 use Rattle.carried.proofs.places.place.Reads as place-reads

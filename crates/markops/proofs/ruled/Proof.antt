@@ -1,37 +1,37 @@
-use Rattle.carried.proofs.Operating.{ruled-laws}
+use Rattle.markops.proofs.Operating.{ruled-laws}
 use borrow.Author.Needs.{needs}
-use Rattle.carried.proofs.operators.ruled.Statement.{statement}
-use Rattle.carried.proofs.operators.ruled.Tie as tie
-use Rattle.carried.proofs.operators.ruled.Reads as reads
-use Rattle.carried.proofs.operators.ruled.Lts as lts
+use Rattle.markops.proofs.ruled.Statement.{statement}
+use Rattle.markops.proofs.ruled.Tie as tie
+use Rattle.markops.proofs.ruled.Reads as reads
+use Rattle.markops.proofs.ruled.Lts as lts
 use Rattle.carried.proofs.values.value.Reads as value-reads
 use Rattle.calc.proofs.operators.combine.Reads as combine-reads
 
--- src/operators.rt:26:27
+-- src/lib.rt:26:27
 enum-told : tie.Need-enum-told
 enum-told c = search needs
 
--- src/operators.rt:26:27
+-- src/lib.rt:26:27
 value-requires : tie.Need-value-requires
 value-requires c κs = search needs
 
--- src/operators.rt:27:22
+-- src/lib.rt:27:22
 enum-known-r : tie.Need-enum-known-r
 enum-known-r c = search needs
 
--- src/operators.rt:27:46
+-- src/lib.rt:27:46
 combine-requires : tie.Need-combine-requires
 combine-requires c κs = search needs
 
--- src/operators.rt:27:34
+-- src/lib.rt:27:34
 value-requires-2 : tie.Need-value-requires-2
 value-requires-2 c κs = search needs
 
--- src/operators.rt:22:1
+-- src/lib.rt:22:1
 returns : tie.Need-returns
 returns c = search ruled-laws
 
--- src/operators.rt:22:1
+-- src/lib.rt:22:1
 returns-2 : tie.Need-returns-2
 returns-2 c = search ruled-laws
 

@@ -1,14 +1,14 @@
 // Operators and functions: what they come to at the kinds that they meet.
-use crate::values::Carried;
-use crate::values::STUCK;
-use crate::values::value;
-use crate::values::wanted;
 use calc::operators::combine;
 use calc::operators::pred;
 use calc::operators::succ;
 use calc::operators::unary;
 use calc::words::GREATEST;
 use calc::words::signed_of;
+use carried::values::Carried;
+use carried::values::STUCK;
+use carried::values::value;
+use carried::values::wanted;
 use kinds::Ruling;
 use kinds::one_sided;
 use kinds::two_sided;
@@ -16,7 +16,7 @@ use tables::describe;
 use tables::side_of;
 ghost use mathlib.Core.Path.{_≡_};
 ghost use Rattle.lexis.specs.Numbers.{signed};
-ghost use Rattle.carried.specs.Steps.{ruledWord, nodeWord, ruledWord1, Operates, Applies, Shorts};
+ghost use Rattle.markops.specs.Operations.{ruledWord, nodeWord, ruledWord1, Operates, Applies, Shorts};
 
 // A two-sided operator on two values, by what it comes to.
 fn ruled(r: Ruling, x: i64, y: i64) -> Carried

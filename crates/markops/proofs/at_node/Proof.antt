@@ -1,51 +1,51 @@
-use Rattle.carried.proofs.Operating.{node-laws}
+use Rattle.markops.proofs.Operating.{node-laws}
 use borrow.Author.Needs.{needs}
-use Rattle.carried.proofs.operators.at_node.Statement.{statement}
-use Rattle.carried.proofs.operators.at_node.Tie as tie
-use Rattle.carried.proofs.operators.at_node.Reads as reads
-use Rattle.carried.proofs.operators.at_node.Lts as lts
+use Rattle.markops.proofs.at_node.Statement.{statement}
+use Rattle.markops.proofs.at_node.Tie as tie
+use Rattle.markops.proofs.at_node.Reads as reads
+use Rattle.markops.proofs.at_node.Lts as lts
 use Rattle.calc.proofs.operators.pred.Reads as pred-reads
 use Rattle.calc.proofs.operators.succ.Reads as succ-reads
 use Rattle.calc.proofs.operators.unary.Reads as unary-reads
 use Rattle.calc.proofs.words.signed_of.Reads as signed-of-reads
 
--- src/operators.rt:52:24
+-- src/lib.rt:52:24
 signed-of-requires : tie.Need-signed-of-requires
 signed-of-requires c κs = search needs
 
--- src/operators.rt:52:40
+-- src/lib.rt:52:40
 signed-of-requires-2 : tie.Need-signed-of-requires-2
 signed-of-requires-2 c κs = search needs
 
--- src/operators.rt:52:9
+-- src/lib.rt:52:9
 pred-requires : tie.Need-pred-requires
 pred-requires c κs = search needs
 
--- src/operators.rt:52:9
+-- src/lib.rt:52:9
 returns : tie.Need-returns
 returns c = search node-laws
 
--- src/operators.rt:55:24
+-- src/lib.rt:55:24
 signed-of-requires-3 : tie.Need-signed-of-requires-3
 signed-of-requires-3 c κs = search needs
 
--- src/operators.rt:55:40
+-- src/lib.rt:55:40
 signed-of-requires-4 : tie.Need-signed-of-requires-4
 signed-of-requires-4 c κs = search needs
 
--- src/operators.rt:55:9
+-- src/lib.rt:55:9
 succ-requires : tie.Need-succ-requires
 succ-requires c κs = search needs
 
--- src/operators.rt:55:9
+-- src/lib.rt:55:9
 returns-2 : tie.Need-returns-2
 returns-2 c = search node-laws
 
--- src/operators.rt:57:5
+-- src/lib.rt:57:5
 unary-requires : tie.Need-unary-requires
 unary-requires c κs = search needs
 
--- src/operators.rt:48:1
+-- src/lib.rt:48:1
 returns-3 : tie.Need-returns-3
 returns-3 c = search node-laws
 

@@ -1,47 +1,47 @@
-use Rattle.carried.proofs.Operating.{operate-laws}
+use Rattle.markops.proofs.Operating.{operate-laws}
 use borrow.Author.Needs.{needs}
-use Rattle.carried.proofs.operators.operate.Statement.{statement}
-use Rattle.carried.proofs.operators.operate.Tie as tie
-use Rattle.carried.proofs.operators.operate.Reads as reads
-use Rattle.carried.proofs.operators.operate.Lts as lts
-use Rattle.carried.proofs.operators.ruled.Reads as ruled-reads
+use Rattle.markops.proofs.operate.Statement.{statement}
+use Rattle.markops.proofs.operate.Tie as tie
+use Rattle.markops.proofs.operate.Reads as reads
+use Rattle.markops.proofs.operate.Lts as lts
+use Rattle.markops.proofs.ruled.Reads as ruled-reads
 use Rattle.carried.proofs.values.value.Reads as value-reads
 use Rattle.kinds.proofs.two_sided.Reads as two-sided-reads
 use Rattle.tables.proofs.side_of.Reads as side-of-reads
 
--- src/operators.rt:38:9
+-- src/lib.rt:38:9
 value-requires : tie.Need-value-requires
 value-requires c κs = search needs
 
--- src/operators.rt:38:9
+-- src/lib.rt:38:9
 returns : tie.Need-returns
 returns c = search operate-laws
 
--- src/operators.rt:41:9
+-- src/lib.rt:41:9
 value-requires-2 : tie.Need-value-requires-2
 value-requires-2 c κs = search needs
 
--- src/operators.rt:41:9
+-- src/lib.rt:41:9
 returns-2 : tie.Need-returns-2
 returns-2 c = search operate-laws
 
--- src/operators.rt:43:27
+-- src/lib.rt:43:27
 side-of-requires : tie.Need-side-of-requires
 side-of-requires c κs = search needs
 
--- src/operators.rt:43:57
+-- src/lib.rt:43:57
 side-of-requires-2 : tie.Need-side-of-requires-2
 side-of-requires-2 c κs = search needs
 
--- src/operators.rt:43:9
+-- src/lib.rt:43:9
 two-sided-requires : tie.Need-two-sided-requires
 two-sided-requires c κs = search needs
 
--- src/operators.rt:44:5
+-- src/lib.rt:44:5
 ruled-requires : tie.Need-ruled-requires
 ruled-requires c κs = search needs
 
--- src/operators.rt:32:1
+-- src/lib.rt:32:1
 returns-3 : tie.Need-returns-3
 returns-3 c = search operate-laws
 

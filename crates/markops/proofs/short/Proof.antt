@@ -1,61 +1,61 @@
-use Rattle.carried.proofs.Operating.{short-laws}
+use Rattle.markops.proofs.Operating.{short-laws}
 use borrow.Author.Needs.{needs}
-use Rattle.carried.proofs.operators.short.Statement.{statement}
-use Rattle.carried.proofs.operators.short.Tie as tie
-use Rattle.carried.proofs.operators.short.Reads as reads
-use Rattle.carried.proofs.operators.short.Lts as lts
+use Rattle.markops.proofs.short.Statement.{statement}
+use Rattle.markops.proofs.short.Tie as tie
+use Rattle.markops.proofs.short.Reads as reads
+use Rattle.markops.proofs.short.Lts as lts
 use Rattle.carried.proofs.values.value.Reads as value-reads
 use Rattle.carried.proofs.values.wanted.Reads as wanted-reads
 
--- src/operators.rt:87:9
+-- src/lib.rt:87:9
 wanted-requires : tie.Need-wanted-requires
 wanted-requires c κs = search needs
 
--- src/operators.rt:89:9
+-- src/lib.rt:89:9
 value-requires : tie.Need-value-requires
 value-requires c κs = search needs
 
--- src/operators.rt:89:9
+-- src/lib.rt:89:9
 returns : tie.Need-returns
 returns c = search short-laws
 
--- src/operators.rt:93:29
+-- src/lib.rt:93:29
 wanted-requires-2 : tie.Need-wanted-requires-2
 wanted-requires-2 c κs = search needs
 
--- src/operators.rt:93:13
+-- src/lib.rt:93:13
 value-requires-2 : tie.Need-value-requires-2
 value-requires-2 c κs = search needs
 
--- src/operators.rt:93:13
+-- src/lib.rt:93:13
 returns-2 : tie.Need-returns-2
 returns-2 c = search short-laws
 
--- src/operators.rt:95:9
+-- src/lib.rt:95:9
 value-requires-3 : tie.Need-value-requires-3
 value-requires-3 c κs = search needs
 
--- src/operators.rt:95:9
+-- src/lib.rt:95:9
 returns-3 : tie.Need-returns-3
 returns-3 c = search short-laws
 
--- src/operators.rt:98:9
+-- src/lib.rt:98:9
 value-requires-4 : tie.Need-value-requires-4
 value-requires-4 c κs = search needs
 
--- src/operators.rt:98:9
+-- src/lib.rt:98:9
 returns-4 : tie.Need-returns-4
 returns-4 c = search short-laws
 
--- src/operators.rt:100:14
+-- src/lib.rt:100:14
 wanted-requires-3 : tie.Need-wanted-requires-3
 wanted-requires-3 c κs = search needs
 
--- src/operators.rt:100:5
+-- src/lib.rt:100:5
 value-requires-5 : tie.Need-value-requires-5
 value-requires-5 c κs = search needs
 
--- src/operators.rt:84:1
+-- src/lib.rt:84:1
 returns-5 : tie.Need-returns-5
 returns-5 c = search short-laws
 

@@ -38,11 +38,12 @@ use Rattle.tables.specs.declared.Info.{Info}
 use Rattle.tables.specs.Descriptions.{infoOf}
 use Rattle.tables.specs.Sides.{sideIn}
 use Rattle.tables.proofs.Telling.{kinded, side-in, low-told, high-told}
 use Rattle.carried.specs.declared.values.Carried.{Carried}
 use Rattle.carried.specs.Values.{carriedOf, MarkRanged, MarkMeans, simple?, Carries}
-use Rattle.carried.specs.Steps.{ruledWord, nodeWord, ruledWord1, operated, applied, Wants, Operates, Applies, Shorts}
+use Rattle.carried.specs.Steps.{Wants}
 use Rattle.carried.proofs.Carrying.{is-inj, broken-bind, carries-broken, by-fault, by-stuck, view-broken, view-value, means-marks, carries-value, carries-cell, carries-one, carries-stuck, carried-broken, carried-value}
 use Rattle.carried.proofs.Ruling.{operation-back, rule-simple, Comes, plainly, by-pred, by-succ, rule-comes}
+use Rattle.markops.specs.Operations.{ruledWord, nodeWord, ruledWord1, operated, applied, Operates, Applies, Shorts}
 
 -- ---- by what an operator comes to
 

@@ -1,37 +1,37 @@
-use Rattle.carried.proofs.Operating.{ruled-one-laws}
+use Rattle.markops.proofs.Operating.{ruled-one-laws}
 use borrow.Author.Needs.{needs}
-use Rattle.carried.proofs.operators.ruled_one.Statement.{statement}
-use Rattle.carried.proofs.operators.ruled_one.Tie as tie
-use Rattle.carried.proofs.operators.ruled_one.Reads as reads
-use Rattle.carried.proofs.operators.ruled_one.Lts as lts
-use Rattle.carried.proofs.operators.at_node.Reads as at-node-reads
+use Rattle.markops.proofs.ruled_one.Statement.{statement}
+use Rattle.markops.proofs.ruled_one.Tie as tie
+use Rattle.markops.proofs.ruled_one.Reads as reads
+use Rattle.markops.proofs.ruled_one.Lts as lts
+use Rattle.markops.proofs.at_node.Reads as at-node-reads
 use Rattle.carried.proofs.values.value.Reads as value-reads
 
--- src/operators.rt:65:27
+-- src/lib.rt:65:27
 enum-told : tie.Need-enum-told
 enum-told c = search needs
 
--- src/operators.rt:65:27
+-- src/lib.rt:65:27
 value-requires : tie.Need-value-requires
 value-requires c κs = search needs
 
--- src/operators.rt:66:22
+-- src/lib.rt:66:22
 enum-known-r : tie.Need-enum-known-r
 enum-known-r c = search needs
 
--- src/operators.rt:66:46
+-- src/lib.rt:66:46
 at-node-requires : tie.Need-at-node-requires
 at-node-requires c κs = search needs
 
--- src/operators.rt:66:34
+-- src/lib.rt:66:34
 value-requires-2 : tie.Need-value-requires-2
 value-requires-2 c κs = search needs
 
--- src/operators.rt:61:1
+-- src/lib.rt:61:1
 returns : tie.Need-returns
 returns c = search ruled-one-laws
 
--- src/operators.rt:61:1
+-- src/lib.rt:61:1
 returns-2 : tie.Need-returns-2
 returns-2 c = search ruled-one-laws
 

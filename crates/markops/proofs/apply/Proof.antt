@@ -1,40 +1,40 @@
-use Rattle.carried.proofs.Operating.{apply-laws}
+use Rattle.markops.proofs.Operating.{apply-laws}
 use borrow.Author.Needs.{needs}
-use Rattle.carried.proofs.operators.apply.Statement.{statement}
-use Rattle.carried.proofs.operators.apply.Tie as tie
-use Rattle.carried.proofs.operators.apply.Reads as reads
-use Rattle.carried.proofs.operators.apply.Lts as lts
-use Rattle.carried.proofs.operators.ruled_one.Reads as ruled-one-reads
+use Rattle.markops.proofs.apply.Statement.{statement}
+use Rattle.markops.proofs.apply.Tie as tie
+use Rattle.markops.proofs.apply.Reads as reads
+use Rattle.markops.proofs.apply.Lts as lts
+use Rattle.markops.proofs.ruled_one.Reads as ruled-one-reads
 use Rattle.carried.proofs.values.value.Reads as value-reads
 use Rattle.kinds.proofs.one_sided.Reads as one-sided-reads
 use Rattle.tables.proofs.describe.Reads as describe-reads
 use Rattle.tables.proofs.side_of.Reads as side-of-reads
 
--- src/operators.rt:76:9
+-- src/lib.rt:76:9
 value-requires : tie.Need-value-requires
 value-requires c κs = search needs
 
--- src/operators.rt:76:9
+-- src/lib.rt:76:9
 returns : tie.Need-returns
 returns c = search apply-laws
 
--- src/operators.rt:78:9
+-- src/lib.rt:78:9
 describe-requires : tie.Need-describe-requires
 describe-requires c κs = search needs
 
--- src/operators.rt:79:26
+-- src/lib.rt:79:26
 side-of-requires : tie.Need-side-of-requires
 side-of-requires c κs = search needs
 
--- src/operators.rt:79:9
+-- src/lib.rt:79:9
 one-sided-requires : tie.Need-one-sided-requires
 one-sided-requires c κs = search needs
 
--- src/operators.rt:80:5
+-- src/lib.rt:80:5
 ruled-one-requires : tie.Need-ruled-one-requires
 ruled-one-requires c κs = search needs
 
--- src/operators.rt:71:1
+-- src/lib.rt:71:1
 returns-2 : tie.Need-returns-2
 returns-2 c = search apply-laws
 
