@@ -41,7 +41,7 @@ use Rattle.calc.proofs.Placing.{index-span, index-up}
 use Rattle.calc.proofs.Ranging.{Bounded, plain, wide, low-range, range-value, above-fault, decoded, binary-means, unary-means, fault-means, value-means}
 
 -- ---- what a node is
-binary-op : (n : ℕ) → 8 < n → n < 29 → codeOp n ≡ Binary (n - 9)
+pub binary-op : (n : ℕ) → 8 < n → n < 29 → codeOp n ≡ Binary (n - 9)
 unfolding codeOp codeOps
 binary-op zero h k = absurd (omega arith)
 binary-op (suc (zero)) h k = absurd (omega arith)
@@ -74,7 +74,7 @@ binary-op (suc (suc (suc (suc (suc (suc (suc (suc (suc (suc (suc (suc (suc (suc 
 binary-op (suc (suc (suc (suc (suc (suc (suc (suc (suc (suc (suc (suc (suc (suc (suc (suc (suc (suc (suc (suc (suc (suc (suc (suc (suc (suc (suc (suc (zero))))))))))))))))))))))))))))) h k = refl
 binary-op (suc (suc (suc (suc (suc (suc (suc (suc (suc (suc (suc (suc (suc (suc (suc (suc (suc (suc (suc (suc (suc (suc (suc (suc (suc (suc (suc (suc (suc (n)))))))))))))))))))))))))))))) h k = absurd (omega arith)
 
-unary-op : (n : ℕ) → 28 < n → n < 38 → codeOp n ≡ Unary (n - 29)
+pub unary-op : (n : ℕ) → 28 < n → n < 38 → codeOp n ≡ Unary (n - 29)
 unfolding codeOp codeOps
 unary-op zero h k = absurd (omega arith)
 unary-op (suc (zero)) h k = absurd (omega arith)
@@ -338,22 +338,22 @@ pub cap-add : (a t : ℕ) → min (min a 4294967295 + t) 4294967295 ≡ min (a +
 cap-add a t = omega arith
 
 -- r is the word of the place v
-unfoldable Found : Result ℕ → Type 0
+unfoldable pub Found : Result ℕ → Type 0
 Found (is a) = Unit {0}
 Found (fails e) = (e ≡ numericError) ⊎ ((e ≡ rangeError) ⊎ (e ≡ undefinedError))
 Found stuck = ⊥
 
-record Located (r : ℤ) (v : Result ℕ) : Type 0 where
-  word : r ≡ placeWord v
-  found : Found v
+pub record Located (r : ℤ) (v : Result ℕ) : Type 0 where
+  pub word : r ≡ placeWord v
+  pub found : Found v
 
-located : (r : ℤ) (v : Result ℕ) → Means r (capped v) → Located r v
+pub located : (r : ℤ) (v : Result ℕ) → Means r (capped v) → Located r v
 unfolding wordOf placeWord Ranged Found
 located r (is a) h = record { word = h .word; found = tt }
 located r (fails e) h = record { word = h .word; found = h .ranged }
 located r stuck h = absurd (h .ranged)
 
-means-place : (r : ℤ) (v : Result ℕ) → Located r v → Means r (capped v)
+pub means-place : (r : ℤ) (v : Result ℕ) → Located r v → Means r (capped v)
 unfolding wordOf placeWord Ranged Found
 means-place r (is a) h = record { word = h .word; ranged = low-range (min a 4294967295) (omega arith) }
 means-place r (fails e) h = record { word = h .word; ranged = h .found }
@@ -381,7 +381,7 @@ at-fault y e (inl q) = rw q
 at-fault y e (inr (inl q)) = rw q
 at-fault y e (inr (inr q)) = rw q
 
-at-means : (ws : List ℤ) (m : Store) → Holds ws m → (w z : ℤ) (c : ℕ) (v : Result ℕ) → Located w v → z ≡ cellsAt ws w c → Means z (first (v >>= λ a. readCells a c m))
+pub at-means : (ws : List ℤ) (m : Store) → Holds ws m → (w z : ℤ) (c : ℕ) (v : Result ℕ) → Located w v → z ≡ cellsAt ws w c → Means z (first (v >>= λ a. readCells a c m))
 unfolding cellsAt placeWord Found Ranged wordOf pick
 at-means ws m h w z c (is a) q e =
     subst (λ (u : Result (List ℤ)). Means z (first u)) (capped-cells ws m h a c)
@@ -551,13 +551,13 @@ cell-decoded w (fails e) h = rw (h .word) (go e (h .found))
     go e (inr (inr q)) = rw q
 cell-decoded w stuck h = absurd (h .found)
 
-shift-means : (w z : ℤ) (c : ℕ) (v : Result ℕ) → Located w v → z ≡ shiftedWord w c → Located z (v >>= λ a. is (a + c))
+pub shift-means : (w z : ℤ) (c : ℕ) (v : Result ℕ) → Located w v → z ≡ shiftedWord w c → Located z (v >>= λ a. is (a + c))
 unfolding shiftedWord placeWord Found
 shift-means w z c (is a) h e = record { word = e ∙ rw (cell-decoded w (is a) h) (ap pos (cap-add a c)); found = tt }
 shift-means w z c (fails q) h e = record { word = e ∙ rw (cell-decoded w (fails q) h); found = h .found }
 shift-means w z c stuck h e = absurd (h .found)
 
-element-means : (w y z : ℤ) (c : ℕ) (v : Result ℕ) (u : Result ℤ) → Located w v → Means y u → z ≡ elementWord w y c → Located z (v >>= λ a. u >>= λ k. is (a + natOf k * c))
+pub element-means : (w y z : ℤ) (c : ℕ) (v : Result ℕ) (u : Result ℤ) → Located w v → Means y u → z ≡ elementWord w y c → Located z (v >>= λ a. u >>= λ k. is (a + natOf k * c))
 unfolding elementWord placeWord Found Ranged
 element-means w y z c (is a) (is k) h g e = record { word = e ∙ rw (cell-decoded w (is a) h, decoded y (is k) g) (ap pos (cap-add a (natOf k * c))); found = tt }
 element-means w y z c (is a) (fails q) h g e = record { word = e ∙ rw (cell-decoded w (is a) h, decoded y (fails q) g); found = g .ranged }
@@ -590,7 +590,7 @@ test-cases lo hi u p q = go (inside lo hi u) refl
     go true h = up-range (u -ℤ lo) (index-span lo hi u p q h) (index-up lo hi u p q h)
     go false h = inr (inl refl)
 
-distance-means : (lo hi x y : ℤ) (v : Result ℤ) → inside least most lo ≡ true → inside least most hi ≡ true → Means x v → y ≡ distanceWord lo hi x → Means y (v >>= λ u. tested rangeError lo hi u >>= λ z. is (z -ℤ lo))
+pub distance-means : (lo hi x y : ℤ) (v : Result ℤ) → inside least most lo ≡ true → inside least most hi ≡ true → Means x v → y ≡ distanceWord lo hi x → Means y (v >>= λ u. tested rangeError lo hi u >>= λ z. is (z -ℤ lo))
 unfolding distanceWord Ranged
 distance-means lo hi x y (is u) p q h e = record { word = e ∙ rw (decoded x (is u) h); ranged = test-cases lo hi u p q }
 distance-means lo hi x y (fails k) p q h e = record { word = e ∙ rw (decoded x (fails k) h); ranged = h .ranged }
@@ -601,7 +601,7 @@ inner a c lo (is z) = refl
 inner a c lo (fails e) = refl
 inner a c lo stuck = refl
 
-index-join : (lo hi : ℤ) (c : ℕ) (v : Result ℕ) (u : Result (List ℤ))
+pub index-join : (lo hi : ℤ) (c : ℕ) (v : Result ℕ) (u : Result (List ℤ))
     → (v >>= λ a. (first u >>= λ x. tested rangeError lo hi x >>= λ z. is (z -ℤ lo)) >>= λ k. is (a + natOf k * c))
     ≡ (v >>= λ a. u >>= λ x. tested rangeError lo hi (sole x) >>= λ z. is (a + natOf (z -ℤ lo) * c))
 index-join lo hi c (is a) (is x) = inner a c lo (tested rangeError lo hi (sole x))

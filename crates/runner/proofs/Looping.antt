@@ -187,7 +187,7 @@ diff-nat y z h = go (y -ℤ z) (sym (leZ-diff z y) ∙ h)
     go (pos n) e = refl
     go (negsuc n) e = absurd (subst T (sym e) tt)
 
-count-one : (y z : ℤ) → leZ z y ≡ true → natOf (sucℤ (y -ℤ z)) ≡ suc (natOf (y -ℤ z))
+pub count-one : (y z : ℤ) → leZ z y ≡ true → natOf (sucℤ (y -ℤ z)) ≡ suc (natOf (y -ℤ z))
 count-one y z h = ap (λ (k : ℤ). natOf (sucℤ k)) (diff-nat y z h)
 
 count-rest : (y z : ℤ) → sucℤ (y -ℤ sucℤ z) ≡ y -ℤ z
@@ -199,13 +199,13 @@ meet (pos a) (negsuc b) h g = absurd (subst T (sym g) tt)
 meet (negsuc a) (pos b) h g = absurd (subst T (sym h) tt)
 meet (negsuc a) (negsuc b) h g = ap (λ (k : ℕ). negsuc k) (le-antisymm (leb-true a b h) (leb-true b a g))
 
-count-last : (y z : ℤ) → leZ z y ≡ true → leZ y z ≡ true → natOf (y -ℤ z) ≡ 0
+pub count-last : (y z : ℤ) → leZ z y ≡ true → leZ y z ≡ true → natOf (y -ℤ z) ≡ 0
 count-last y z h g = ap (λ (k : ℤ). natOf (k -ℤ z)) (meet y z h g) ∙ ap (λ (k : ℤ). natOf k) (+ℤ-invr z)
 
-next-up : (y z : ℤ) → ltZ z y ≡ true → leZ (sucℤ z) y ≡ true
+pub next-up : (y z : ℤ) → ltZ z y ≡ true → leZ (sucℤ z) y ≡ true
 next-up y z h = ap (λ (k : ℤ). leZ k y) (sym (+ℤ-one z)) ∙ up-le z y ∙ h
 
-next-ranged : (y z : ℤ) → ltZ z y ≡ true → InRange z → InRange y → InRange (sucℤ z)
+pub next-ranged : (y z : ℤ) → ltZ z y ≡ true → InRange z → InRange y → InRange (sucℤ z)
 unfolding InRange
 next-ranged y z h R Q =
     inside-both (negsuc 2147483647) (pos 4294967295) (sucℤ z)

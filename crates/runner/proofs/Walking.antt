@@ -77,22 +77,22 @@ ends-there a f ws w E e h =
     (sym (ap (λ (o : Outcome). continued o (a .state) f) (E .outcome ∙ told-normal w ws e) ∙ h (a .state) ∙ ap (λ (o : Outcome). answer o (a .state)) (sym (E .outcome ∙ told-normal w ws e)))) E
 
 -- ---- `acts`
-acts-at : (d : ℕ) (l : List ℕ) (s : ℕ) → readActs d l s ≡ actsAt d l (getD l s 0)
+pub acts-at : (d : ℕ) (l : List ℕ) (s : ℕ) → readActs d l s ≡ actsAt d l (getD l s 0)
 unfolding readActs actsAt
 acts-at zero l s = refl
 acts-at (suc d) l s = refl
 
-acts-none : (ps : Procs) (d : ℕ) (l : List ℕ) (q : ℕ) (s : State) → q ≡ 0 → runActs ps (actsAt d l q) s ≡ answer normal s
+pub acts-none : (ps : Procs) (d : ℕ) (l : List ℕ) (q : ℕ) (s : State) → q ≡ 0 → runActs ps (actsAt d l q) s ≡ answer normal s
 unfolding runActs actsAt actsFrom
 acts-none ps zero l q s e = refl
 acts-none ps (suc d) l q s e = ap (λ (b : Bool). runActs ps (actsFrom b l q (λ q. readAct d l q) (λ r. readActs d l r)) s) (eq-eqb q 0 e)
 
-acts-shallow : (ps : Procs) (d : ℕ) (l : List ℕ) (q : ℕ) (s : State) → d ≤ 0 → runActs ps (actsAt d l q) s ≡ answer normal s
+pub acts-shallow : (ps : Procs) (d : ℕ) (l : List ℕ) (q : ℕ) (s : State) → d ≤ 0 → runActs ps (actsAt d l q) s ≡ answer normal s
 unfolding runActs actsAt
 acts-shallow ps zero l q s e = refl
 acts-shallow ps (suc d) l q s e = absurd (omega arith)
 
-acts-more : (ps : Procs) (d : ℕ) (l : List ℕ) (q : ℕ) (s : State) → 0 < d → ((q ≡ 0) → ⊥)
+pub acts-more : (ps : Procs) (d : ℕ) (l : List ℕ) (q : ℕ) (s : State) → 0 < d → ((q ≡ 0) → ⊥)
     → runActs ps (actsAt d l q) s ≡ andThen (runAct ps (readAct (d - 1) l (getD l q 0)) s) (runActs ps (actsAt (d - 1) l (getD l (q + 1) 0)))
 unfolding runActs actsAt actsFrom
 acts-more ps zero l q s h g = absurd (omega arith)
