@@ -1,5 +1,3 @@
 pub mod Keeping
 pub mod Lists
-pub mod Moving
 pub mod Whole
-pub mod Steering

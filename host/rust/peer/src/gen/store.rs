@@ -116,7 +116,6 @@ pub fn budget(seed: u64, ends: Option<u32>) -> u32 {
         (6, Some(steps)) => steps.saturating_sub(1),
         (7, Some(steps)) => steps + 1,
         (8, Some(steps)) => rng.below(steps as usize + 1) as u32,
-        // the library walks the code up to 16,383 steps, and makes straight code for more
         _ => 10_000 + 10_000 * rng.below(2) as u32,
     }
 }

@@ -1,9 +1,0 @@
-pub mod Leading
-pub mod Comparing
-pub mod Instructing
-pub mod Stacking
-pub mod Expressing
-pub mod Falling
-pub mod Sourcing
-pub mod Performing
-pub mod Rounding
