@@ -23,14 +23,14 @@ use Rattle.arith.specs.declared.Num.{Num}
 use Rattle.arith.specs.declared.Num.the-variants.{Value, Failed}
 use Rattle.sets.specs.declared.Member.{Member}
 use Rattle.sets.specs.declared.Member.the-variants.{Ordinal, Empty}
-use Rattle.sets.specs.Sets.{members, membersOf, patternOf, valueOf, holds, least, greatest, unionOf, differenceOf, intersectionOf, within}
+use Rattle.sets.specs.Sets.{members, membersOf, patternOf, valueOf, holds, least, greatest as greatestOf, unionOf, differenceOf, intersectionOf, within}
 use Rattle.sets.proofs.Digits.{members-length, value-is}
 use Rattle.sets.proofs.Signed.{pattern-lt}
 use Rattle.semantics.specs.Base.{pick}
 use Rattle.semantics.specs.Calculate.{Result, is, fails, stuck, _>>=_, integer, exceptionOf, memberIn, truth, isTrue, equalZ, setValue, tested, rangeError, compute, compute1}
 use Rattle.semantics.specs.Operators.{Operation, intAdd, intSub, intMul, intPower, intDiv, intMod, setUnion, setDifference, setIntersection, numEqual, numUnequal, numLess, numAtMost, numGreater, numAtLeast, setWithin, setHolds, memberOf, boolAnd, boolOr, Operation1, intNegate, boolNot, intAbs, intSqr, intOdd, ordinalOf, predIn, succIn, setCard, setLeast, setGreatest}
 use Rattle.semantics.specs.Readback.{operations, operations1, operationAt, operation1At}
-use Rattle.calc.specs.Words.{wordOf, resultOf, applied, applied1, testedWord}
+use Rattle.calc.specs.Words.{greatest, faultBase, rangeWord, numericWord, wordOf, resultOf, applied, applied1, testedWord}
 
 -- ---- `word`, `member`
 pub word-value : (n : Num) (z : ℤ) → n ≡ Value z → SFits w64 z → wire z ≡ wordOf (integer n)
@@ -38,19 +38,19 @@ unfolding wordOf integer
 word-value n z e s = toZ-ofZ s ∙ rw e
 
 module _ (n : Num) (f : Fault) (e : n ≡ Failed f) where
-  pub word-overflow : f ≡ Overflow → pos 8589934491 ≡ wordOf (integer n)
+  pub word-overflow : f ≡ Overflow → numericWord ≡ wordOf (integer n)
   unfolding wordOf integer exceptionOf
   word-overflow g = rw (e, g)
 
-  pub word-divisor : f ≡ Divisor → pos 8589934491 ≡ wordOf (integer n)
+  pub word-divisor : f ≡ Divisor → numericWord ≡ wordOf (integer n)
   unfolding wordOf integer exceptionOf
   word-divisor g = rw (e, g)
 
-  pub word-exponent : f ≡ Exponent → pos 8589934491 ≡ wordOf (integer n)
+  pub word-exponent : f ≡ Exponent → numericWord ≡ wordOf (integer n)
   unfolding wordOf integer exceptionOf
   word-exponent g = rw (e, g)
 
-  pub word-bound : f ≡ Bound → pos 8589934489 ≡ wordOf (integer n)
+  pub word-bound : f ≡ Bound → rangeWord ≡ wordOf (integer n)
   unfolding wordOf integer exceptionOf
   word-bound g = rw (e, g)
 
@@ -60,7 +60,7 @@ pub member-ordinal : (m : Member) (i : ℕ) → m ≡ Ordinal i → Fits w32 i �
 unfolding wordOf memberIn
 member-ordinal m i e f = toZ-pos w64 {n = i} (omega (arith, f .fits)) ∙ rw e
 
-pub member-empty : (m : Member) → m ≡ Empty → pos 8589934489 ≡ wordOf (memberIn m)
+pub member-empty : (m : Member) → m ≡ Empty → rangeWord ≡ wordOf (memberIn m)
 unfolding wordOf memberIn
 member-empty m e = rw e
 
@@ -260,63 +260,63 @@ module _ (op : ℕ) (x y z : ℤ) (fx : SFits w64 x) (fy : SFits w64 y) (k : SFi
 pub ruleset combine-laws = (intAdd-word, intSub-word, intMul-word, intPower-word, intDiv-word, intMod-word, setUnion-word, setDifference-word, setIntersection-word, numEqual-word, numUnequal-word, numLess-word, numAtMost-word, numGreater-word, numAtLeast-word, setWithin-word, setHolds-word, memberOf-word, boolAnd-word, boolOr-word, sfits-of)
 
 -- ---- on words
-pub fault-again : (x : ℤ) → ltZ (pos 4294967295) x ≡ true → resultOf x ≡ fails (x -ℤ pos 8589934592)
+pub fault-again : (x : ℤ) → ltZ greatest x ≡ true → resultOf x ≡ fails (x -ℤ faultBase)
 unfolding resultOf pick
 fault-again x h = rw h
 
-pub value-again : (x : ℤ) → ltZ (pos 4294967295) x ≡ false → resultOf x ≡ is x
+pub value-again : (x : ℤ) → ltZ greatest x ≡ false → resultOf x ≡ is x
 unfolding resultOf pick
 value-again x h = rw h
 
 module _ (x : ℤ) (fx : SFits w64 x) where
-  above : ltZ (pos 4294967295) (wire x) ≡ true → ltZ (pos 4294967295) x ≡ true
+  above : ltZ greatest (wire x) ≡ true → ltZ greatest x ≡ true
   above h = rw (toZ-ofZ fx) at h
 
-  below : ltZ (pos 4294967295) (wire x) ≡ false → ltZ (pos 4294967295) x ≡ false
+  below : ltZ greatest (wire x) ≡ false → ltZ greatest x ≡ false
   below h = rw (toZ-ofZ fx) at h
 
   module _ (c : Operation) (y : ℤ) where
-    pub binary-left : ltZ (pos 4294967295) (wire x) ≡ true → wire x ≡ applied c x y
+    pub binary-left : ltZ greatest (wire x) ≡ true → wire x ≡ applied c x y
     unfolding applied wordOf
-    binary-left h = toZ-ofZ fx ∙ rw (fault-again x (above h)) (sym (-ℤ-+ℤ-cancel x (pos 8589934592)))
+    binary-left h = toZ-ofZ fx ∙ rw (fault-again x (above h)) (sym (-ℤ-+ℤ-cancel x faultBase))
 
-    module _ (fy : SFits w64 y) (h : ltZ (pos 4294967295) (wire x) ≡ false) where
-      pub binary-right : ltZ (pos 4294967295) (wire y) ≡ true → wire y ≡ applied c x y
+    module _ (fy : SFits w64 y) (h : ltZ greatest (wire x) ≡ false) where
+      pub binary-right : ltZ greatest (wire y) ≡ true → wire y ≡ applied c x y
       unfolding applied wordOf
-      binary-right g = toZ-ofZ fy ∙ rw (value-again x (below h), fault-again y (rw (toZ-ofZ fy) at g)) (sym (-ℤ-+ℤ-cancel y (pos 8589934592)))
+      binary-right g = toZ-ofZ fy ∙ rw (value-again x (below h), fault-again y (rw (toZ-ofZ fy) at g)) (sym (-ℤ-+ℤ-cancel y faultBase))
 
-      pub binary-values : (z : ℤ) → ltZ (pos 4294967295) (wire y) ≡ false → z ≡ wordOf (compute c (wire x) (wire y)) → SFits w64 z → wire z ≡ applied c x y
+      pub binary-values : (z : ℤ) → ltZ greatest (wire y) ≡ false → z ≡ wordOf (compute c (wire x) (wire y)) → SFits w64 z → wire z ≡ applied c x y
       unfolding applied
       binary-values z g e k = toZ-ofZ k ∙ e ∙ rw (value-again x (below h), value-again y (rw (toZ-ofZ fy) at g), toZ-ofZ fx, toZ-ofZ fy)
 
-  pub unary-fault : (c : Operation1) → ltZ (pos 4294967295) (wire x) ≡ true → wire x ≡ applied1 c x
+  pub unary-fault : (c : Operation1) → ltZ greatest (wire x) ≡ true → wire x ≡ applied1 c x
   unfolding applied1 wordOf
-  unary-fault c h = toZ-ofZ fx ∙ rw (fault-again x (above h)) (sym (-ℤ-+ℤ-cancel x (pos 8589934592)))
+  unary-fault c h = toZ-ofZ fx ∙ rw (fault-again x (above h)) (sym (-ℤ-+ℤ-cancel x faultBase))
 
-  pub unary-value : (c : Operation1) (z : ℤ) → ltZ (pos 4294967295) (wire x) ≡ false → z ≡ wordOf (compute1 c (wire x)) → SFits w64 z → wire z ≡ applied1 c x
+  pub unary-value : (c : Operation1) (z : ℤ) → ltZ greatest (wire x) ≡ false → z ≡ wordOf (compute1 c (wire x)) → SFits w64 z → wire z ≡ applied1 c x
   unfolding applied1
   unary-value c z h e k = toZ-ofZ k ∙ e ∙ rw (value-again x (below h), toZ-ofZ fx)
 
   module _ (lo hi : ℤ) (fl : SFits w64 lo) (fh : SFits w64 hi) where
-    pub pred-value : (r : Num) (z : ℤ) → ltZ (pos 4294967295) (wire x) ≡ false → r ≡ previous (wire lo) (wire hi) (wire x) → z ≡ wordOf (integer r) → SFits w64 z → wire z ≡ applied1 (predIn lo hi) x
+    pub pred-value : (r : Num) (z : ℤ) → ltZ greatest (wire x) ≡ false → r ≡ previous (wire lo) (wire hi) (wire x) → z ≡ wordOf (integer r) → SFits w64 z → wire z ≡ applied1 (predIn lo hi) x
     unfolding applied1 compute1
     pred-value r z h e g k = toZ-ofZ k ∙ g ∙ rw (e, value-again x (below h), toZ-ofZ fx, toZ-ofZ fl, toZ-ofZ fh)
 
-    pub succ-value : (r : Num) (z : ℤ) → ltZ (pos 4294967295) (wire x) ≡ false → r ≡ next (wire lo) (wire hi) (wire x) → z ≡ wordOf (integer r) → SFits w64 z → wire z ≡ applied1 (succIn lo hi) x
+    pub succ-value : (r : Num) (z : ℤ) → ltZ greatest (wire x) ≡ false → r ≡ next (wire lo) (wire hi) (wire x) → z ≡ wordOf (integer r) → SFits w64 z → wire z ≡ applied1 (succIn lo hi) x
     unfolding applied1 compute1
     succ-value r z h e g k = toZ-ofZ k ∙ g ∙ rw (e, value-again x (below h), toZ-ofZ fx, toZ-ofZ fl, toZ-ofZ fh)
 
-    pub test-in : (b : Bool) → ltZ (pos 4294967295) (wire x) ≡ false → b ≡ inside (wire lo) (wire hi) (wire x) → b ≡ true → wire x ≡ testedWord lo hi x
+    pub test-in : (b : Bool) → ltZ greatest (wire x) ≡ false → b ≡ inside (wire lo) (wire hi) (wire x) → b ≡ true → wire x ≡ testedWord lo hi x
     unfolding testedWord tested pick wordOf
     test-in b h e g = rw (value-again x (below h)) (rw (toZ-ofZ fx) (rw (sym (rw (toZ-ofZ fx, toZ-ofZ fl, toZ-ofZ fh) at e) ∙ g)))
 
-    pub test-out : (b : Bool) → ltZ (pos 4294967295) (wire x) ≡ false → b ≡ inside (wire lo) (wire hi) (wire x) → b ≡ false → pos 8589934489 ≡ testedWord lo hi x
+    pub test-out : (b : Bool) → ltZ greatest (wire x) ≡ false → b ≡ inside (wire lo) (wire hi) (wire x) → b ≡ false → rangeWord ≡ testedWord lo hi x
     unfolding testedWord tested pick wordOf
     test-out b h e g = rw (value-again x (below h)) (rw (sym (rw (toZ-ofZ fx, toZ-ofZ fl, toZ-ofZ fh) at e) ∙ g))
 
-  pub test-fault : (lo hi : ℤ) → ltZ (pos 4294967295) (wire x) ≡ true → wire x ≡ testedWord lo hi x
+  pub test-fault : (lo hi : ℤ) → ltZ greatest (wire x) ≡ true → wire x ≡ testedWord lo hi x
   unfolding testedWord wordOf
-  test-fault lo hi h = toZ-ofZ fx ∙ rw (fault-again x (above h)) (sym (-ℤ-+ℤ-cancel x (pos 8589934592)))
+  test-fault lo hi h = toZ-ofZ fx ∙ rw (fault-again x (above h)) (sym (-ℤ-+ℤ-cancel x faultBase))
 
 pub ruleset binary-laws = (binary-left, binary-right, binary-values, sfits-of)
 
@@ -378,7 +378,7 @@ module _ (op : ℕ) (x : ℤ) (fx : SFits w64 x) where
     unfolding operation1At operations1 compute1 membersOf
     least-word p m o e f h = toZ-ofZ k ∙ h ∙ rw (f, e, o, toZ-ofZ fx)
 
-    pub greatest-word : (p : ℕ) (m : Member) → op ≡ 37 → p ≡ patternOf (wire x) → m ≡ greatest (members p) → z ≡ wordOf (memberIn m) → wire z ≡ wordOf (compute1 (operation1At (op - 29)) x)
+    pub greatest-word : (p : ℕ) (m : Member) → op ≡ 37 → p ≡ patternOf (wire x) → m ≡ greatestOf (members p) → z ≡ wordOf (memberIn m) → wire z ≡ wordOf (compute1 (operation1At (op - 29)) x)
     unfolding operation1At operations1 compute1 membersOf
     greatest-word p m o e f h = toZ-ofZ k ∙ h ∙ rw (f, e, o, toZ-ofZ fx)
 

@@ -5,7 +5,7 @@ use mathlib.Core.List.{List, [], _∷_}
 use Prim.Native.Nat.{ℕ, zero, suc, _+_, _-_, _%_, _^_, _<_, _≤_, min}
 use native.Mathlib.Numerals.{sub-one}
 use native.Mathlib.Omega.{arith}
-use borrow.Author.Tests.{eq-eqb, ne-eqb, le-leb, lt-leb, lt-ltb, le-ltb, leb-false, leb-true, ltb-false}
+use borrow.Author.Tests.{eq-eqb, ne-eqb, le-leb, lt-leb, lt-ltb, le-ltb, leb-false, leb-true, ltb-false, ltb-true}
 use borrow.Author.Needs.{sfits-of}
 use lib.Dec.{eqb, leb}
 use lib.Signed.{leZ, ltZ}
@@ -24,7 +24,7 @@ use Rattle.lexis.proofs.DecimalHex.{below}
 use Rattle.semantics.specs.Calculate.{truth, natOf}
 use Rattle.semantics.specs.Base.{pick}
 use Rattle.semantics.specs.Readback.{integerAt}
-use Rattle.calc.specs.Words.{codeIn, storeWord, latestIn, undefinedWord, allValues, cellsWord, cellsAt, Integral}
+use Rattle.calc.specs.Words.{greatest, codeIn, storeWord, latestIn, undefinedWord, allValues, cellsWord, cellsAt, Integral}
 
 -- ---- `number`, `cell`, `latest`
 past-take : {A : Type 0} (n : ℕ) (l : List A) (i : ℕ) (d : A) → n ≤ i → getD (take n l) i d ≡ d
@@ -42,7 +42,7 @@ pub cell-here : (l : List ℤ) (a : ℕ) → a < 2048 → SFits w64 (getD l a (p
 unfolding storeWord pick
 cell-here l a h f = toZ-ofZ f ∙ rw (lt-ltb a 2048 h)
 
-pub cell-past : (l : List ℤ) (a : ℕ) → 2048 ≤ a → pos 8589934488 ≡ storeWord l a
+pub cell-past : (l : List ℤ) (a : ℕ) → 2048 ≤ a → undefinedWord ≡ storeWord l a
 unfolding storeWord pick
 cell-past l a h = rw (le-ltb a 2048 h)
 
@@ -115,7 +115,7 @@ pub truth-not : (b : Bool) → b ≡ false → pos 0 ≡ truth b
 unfolding truth
 truth-not b e = rw e
 
--- ---- `natural`, `capped`
+-- ---- `reach`, `capped`
 negative : (z : ℤ) → ltZ z (pos 0) ≡ true → 0 ≡ natOf z
 negative (pos n) h = absurd (true≢false (sym h ∙ le-ltb n 0 (omega arith)))
 negative (negsuc n) h = refl
@@ -125,11 +125,31 @@ natural-abs (pos n) h = refl
 natural-abs (negsuc n) h = absurd (true≢false h)
 
 module _ (z : ℤ) (f : SFits w64 z) where
-  pub natural-none : ltZ (wire z) (pos 0) ≡ true → 0 ≡ natOf z
+  natural-none : ltZ (wire z) (pos 0) ≡ true → 0 ≡ natOf z
   natural-none h = negative z (rw (toZ-ofZ f) at h)
 
-  pub natural-is : ltZ (wire z) (pos 0) ≡ false → natAbs (wire z) ≡ natOf z
+  natural-is : ltZ (wire z) (pos 0) ≡ false → natAbs (wire z) ≡ natOf z
   natural-is h = rw (toZ-ofZ f) (natural-abs z (rw (toZ-ofZ f) at h))
+
+past-cap : (z : ℤ) → ltZ (pos 4294967295) z ≡ true → 4294967295 ≡ min (natOf z) 4294967295
+past-cap (pos n) h = let k : 4294967295 < n = ltb-true 4294967295 n h in omega arith
+past-cap (negsuc n) h = absurd (true≢false (sym h))
+
+below-cap : (z : ℤ) → ltZ (pos 4294967295) z ≡ false → natOf z ≡ min (natOf z) 4294967295
+below-cap (pos n) h = let k : n ≤ 4294967295 = ltb-false 4294967295 n h in omega arith
+below-cap (negsuc n) h = omega arith
+
+module _ (z : ℤ) (f : SFits w64 z) where
+  pub reach-none : ltZ (wire z) (pos 0) ≡ true → 0 ≡ min (natOf z) 4294967295
+  reach-none h = let k = natural-none z f h in omega (arith, k)
+
+  pub reach-past : ltZ (pos 4294967295) (wire z) ≡ true → 4294967295 ≡ min (natOf z) 4294967295
+  reach-past h = past-cap z (rw (toZ-ofZ f) at h)
+
+  pub reach-is : ltZ (wire z) (pos 0) ≡ false → ltZ (pos 4294967295) (wire z) ≡ false → natAbs (wire z) ≡ min (natOf z) 4294967295
+  reach-is h g = natural-is z f h ∙ below-cap z (rw (toZ-ofZ f) at g)
+
+pub ruleset reach-laws = (reach-none, reach-past, reach-is, sfits-of)
 
 pub capped-past : (a : ℕ) → 4294967295 < a → pos 4294967295 ≡ pos (min a 4294967295)
 capped-past a h = ap pos (omega arith)
@@ -138,9 +158,6 @@ pub capped-here : (a : ℕ) → a ≤ 4294967295 → toZ w64 a ≡ pos (min a 42
 capped-here a h = toZ-pos w64 {n = a} (omega arith) ∙ ap pos (omega arith)
 
 -- ---- `cells`, `cells_at`
-pub natural-small : (z : ℤ) → ltZ (pos 4294967295) z ≡ false → natOf z ≤ 4294967295
-natural-small (pos n) h = ltb-false 4294967295 n h
-natural-small (negsuc n) h = omega arith
 
 -- after the cells before i: those from there on are left
 pub record Left (ws : List ℤ) (a n i : ℕ) : Type 0 where
@@ -165,25 +182,25 @@ module _ (ws : List ℤ) (a n : ℕ) where
   pub left-start : Left ws a n 0
   left-start = record { within = omega arith; rest = ap (λ (q : ℕ). allValues ws q n) (omega arith) ∙ ap (allValues ws (a + 0)) (omega arith) }
 
-  seen : (k i : ℕ) → k ≡ suc (n - (i + 1)) → allValues ws (a + i) k ≡ (leZ (storeWord ws (a + i)) (pos 4294967295) && allValues ws (a + i + 1) (n - (i + 1)))
+  seen : (k i : ℕ) → k ≡ suc (n - (i + 1)) → allValues ws (a + i) k ≡ (leZ (storeWord ws (a + i)) greatest && allValues ws (a + i + 1) (n - (i + 1)))
   unfolding allValues
   seen k i e = rw e
 
   module _ (i : ℕ) (h : Left ws a n i) (k : i < n) (w : ℤ) (e : w ≡ storeWord ws (a + i)) (f : SFits w64 w) where
-    after : (t : Bool) → leZ w (pos 4294967295) ≡ t → allValues ws a n ≡ (t && allValues ws (a + i + 1) (n - (i + 1)))
+    after : (t : Bool) → leZ w greatest ≡ t → allValues ws a n ≡ (t && allValues ws (a + i + 1) (n - (i + 1)))
     after t g =
         h .rest ∙ seen (n - i) i (omega arith)
-        ∙ ap (λ (t : Bool). t && allValues ws (a + i + 1) (n - (i + 1))) (ap (λ (q : ℤ). leZ q (pos 4294967295)) (sym e) ∙ g)
+        ∙ ap (λ (t : Bool). t && allValues ws (a + i + 1) (n - (i + 1))) (ap (λ (q : ℤ). leZ q greatest) (sym e) ∙ g)
 
-    pub left-step : ltZ (pos 4294967295) (wire w) ≡ false → Left ws a n (i + 1)
+    pub left-step : ltZ greatest (wire w) ≡ false → Left ws a n (i + 1)
     left-step g =
         record {
           within = omega arith;
-          rest = after true (not-lt (pos 4294967295) w (rw (toZ-ofZ f) at g)) ∙ ap (λ (q : ℕ). allValues ws q (n - (i + 1))) (omega arith);
+          rest = after true (not-lt greatest w (rw (toZ-ofZ f) at g)) ∙ ap (λ (q : ℕ). allValues ws q (n - (i + 1))) (omega arith);
         }
 
-    pub left-fault : ltZ (pos 4294967295) (wire w) ≡ true → pos 8589934488 ≡ cellsWord ws a n
-    left-fault g = sym (cells-fault ws a n (omega arith) (after false (lt-not (pos 4294967295) w (rw (toZ-ofZ f) at g))))
+    pub left-fault : ltZ greatest (wire w) ≡ true → undefinedWord ≡ cellsWord ws a n
+    left-fault g = sym (cells-fault ws a n (omega arith) (after false (lt-not greatest w (rw (toZ-ofZ f) at g))))
 
   pub left-end : (i : ℕ) (z : ℤ) → ((n ≡ 0) → ⊥) → Left ws a n i → n ≤ i → z ≡ storeWord ws a → SFits w64 z → wire z ≡ cellsWord ws a n
   left-end i z q h k e f = toZ-ofZ f ∙ e ∙ sym (cells-are ws a n (omega arith) (h .rest ∙ none-left ws (a + i) (n - i) (omega arith)))
@@ -195,13 +212,13 @@ cells-none ws a n e = rw e
 pub ruleset cells-laws = (cells-none, left-fault, left-end, sfits-of)
 
 module _ (ws : List ℤ) (w : ℤ) (n : ℕ) (f : SFits w64 w) where
-  pub at-fault : ltZ (pos 4294967295) (wire w) ≡ true → wire w ≡ cellsAt ws w n
+  pub at-fault : ltZ greatest (wire w) ≡ true → wire w ≡ cellsAt ws w n
   unfolding cellsAt pick
   at-fault h = toZ-ofZ f ∙ rw (rw (toZ-ofZ f) at h)
 
-  module _ (h : ltZ (pos 4294967295) (wire w) ≡ false) (a : ℕ) (e : a ≡ natOf (wire w)) where
+  module _ (h : ltZ greatest (wire w) ≡ false) (a : ℕ) (e : a ≡ min (natOf (wire w)) 4294967295) where
     pub at-fits : Fits w32 a
-    at-fits = record { fits = omega (arith, e, natural-small w (rw (toZ-ofZ f) at h), ap natOf (toZ-ofZ f)) }
+    at-fits = record { fits = omega (arith, e) }
 
     pub at-one : (z : ℤ) → n ≡ 1 → z ≡ storeWord ws a → SFits w64 z → wire z ≡ cellsAt ws w n
     unfolding cellsAt pick

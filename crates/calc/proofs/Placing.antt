@@ -19,8 +19,8 @@ use Rattle.arith.specs.Integers.{inside, least, most}
 use Rattle.lexis.specs.Numbers.{signed}
 use Rattle.semantics.specs.Base.{pick}
 use Rattle.semantics.specs.Calculate.{Result, is, fails, stuck, _>>=_, natOf, tested, rangeError}
-use Rattle.calc.specs.Words.{wordOf, resultOf, cellOf, placeWord, distanceWord, elementWord, shiftedWord}
-use Rattle.calc.proofs.Leaves.{small-signed, natural-small}
+use Rattle.calc.specs.Words.{greatest, faultBase, rangeWord, wordOf, resultOf, cellOf, placeWord, distanceWord, elementWord, shiftedWord}
+use Rattle.calc.proofs.Leaves.{small-signed}
 use Rattle.calc.proofs.Combining.{fault-again, value-again}
 
 -- ---- a difference of two integers
@@ -57,9 +57,9 @@ module _ (lo hi x : ℤ) (p : inside least most lo ≡ true) (q : inside least m
 
 -- ---- `distance`
 module _ (low high : ℕ) (fl : Fits w32 low) (fh : Fits w32 high) (x : ℤ) (fx : SFits w64 x) where
-  pub distance-fault : ltZ (pos 4294967295) (wire x) ≡ true → wire x ≡ distanceWord (signed low) (signed high) x
+  pub distance-fault : ltZ greatest (wire x) ≡ true → wire x ≡ distanceWord (signed low) (signed high) x
   unfolding distanceWord wordOf
-  distance-fault h = toZ-ofZ fx ∙ rw (fault-again x (rw (toZ-ofZ fx) at h)) (sym (-ℤ-+ℤ-cancel x (pos 8589934592)))
+  distance-fault h = toZ-ofZ fx ∙ rw (fault-again x (rw (toZ-ofZ fx) at h)) (sym (-ℤ-+ℤ-cancel x faultBase))
 
   module _ (lo hi : ℤ) (e : lo ≡ signed low) (f : hi ≡ signed high) (sl : SFits w64 lo) (sh : SFits w64 hi) (b : Bool) (g : b ≡ inside (wire lo) (wire hi) (wire x)) where
     was : (t : Bool) → b ≡ t → inside (signed low) (signed high) x ≡ t
@@ -70,61 +70,58 @@ module _ (low high : ℕ) (fl : Fits w32 low) (fh : Fits w32 high) (x : ℤ) (fx
         rw (toZ-ofZ fx, toZ-ofZ sl, e)
         (fits-mag (x -ℤ signed low) (omega (arith, index-span (signed low) (signed high) x (small-signed low fl) (small-signed high fh) (was true k))))
 
-    pub distance-in : ltZ (pos 4294967295) (wire x) ≡ false → b ≡ true → wire (wire x -ℤ wire lo) ≡ distanceWord (signed low) (signed high) x
+    pub distance-in : ltZ greatest (wire x) ≡ false → b ≡ true → wire (wire x -ℤ wire lo) ≡ distanceWord (signed low) (signed high) x
     unfolding distanceWord wordOf tested pick
     distance-in h k = toZ-ofZ (distance-fits k) ∙ rw (value-again x (rw (toZ-ofZ fx) at h)) (rw (was true k) (rw (toZ-ofZ fx, toZ-ofZ sl, e)))
 
-    pub distance-out : ltZ (pos 4294967295) (wire x) ≡ false → b ≡ false → pos 8589934489 ≡ distanceWord (signed low) (signed high) x
+    pub distance-out : ltZ greatest (wire x) ≡ false → b ≡ false → rangeWord ≡ distanceWord (signed low) (signed high) x
     unfolding distanceWord wordOf tested pick
     distance-out h k = rw (value-again x (rw (toZ-ofZ fx) at h)) (rw (was false k))
 
 pub ruleset distance-laws = (distance-fault, distance-fits, distance-in, distance-out, sfits-of)
 
 -- ---- `element`, `shifted`
-cell-fault : (w : ℤ) → ltZ (pos 4294967295) w ≡ true → cellOf w ≡ fails (w -ℤ pos 8589934592)
+cell-fault : (w : ℤ) → ltZ greatest w ≡ true → cellOf w ≡ fails (w -ℤ faultBase)
 unfolding cellOf pick
 cell-fault w h = rw h
 
-cell-value : (w : ℤ) → ltZ (pos 4294967295) w ≡ false → cellOf w ≡ is (natOf w)
+cell-value : (w : ℤ) → ltZ greatest w ≡ false → cellOf w ≡ is (min (natOf w) 4294967295)
 unfolding cellOf pick
 cell-value w h = rw h
 
 module _ (a : ℤ) (fa : SFits w64 a) where
-  pub shifted-fault : (k : ℕ) → ltZ (pos 4294967295) (wire a) ≡ true → wire a ≡ shiftedWord a k
+  pub shifted-fault : (k : ℕ) → ltZ greatest (wire a) ≡ true → wire a ≡ shiftedWord a k
   unfolding shiftedWord placeWord
-  shifted-fault k h = toZ-ofZ fa ∙ rw (cell-fault a (rw (toZ-ofZ fa) at h)) (sym (-ℤ-+ℤ-cancel a (pos 8589934592)))
+  shifted-fault k h = toZ-ofZ fa ∙ rw (cell-fault a (rw (toZ-ofZ fa) at h)) (sym (-ℤ-+ℤ-cancel a faultBase))
 
-  pub element-left : (d : ℤ) (n : ℕ) → ltZ (pos 4294967295) (wire a) ≡ true → wire a ≡ elementWord a d n
+  pub element-left : (d : ℤ) (n : ℕ) → ltZ greatest (wire a) ≡ true → wire a ≡ elementWord a d n
   unfolding elementWord placeWord
-  element-left d n h = toZ-ofZ fa ∙ rw (cell-fault a (rw (toZ-ofZ fa) at h)) (sym (-ℤ-+ℤ-cancel a (pos 8589934592)))
+  element-left d n h = toZ-ofZ fa ∙ rw (cell-fault a (rw (toZ-ofZ fa) at h)) (sym (-ℤ-+ℤ-cancel a faultBase))
 
-  module _ (h : ltZ (pos 4294967295) (wire a) ≡ false) where
-    small-place : natOf (wire a) ≤ 4294967295
-    small-place = natural-small (wire a) h
-
-    module _ (p : ℕ) (e : p ≡ natOf (wire a)) where
+  module _ (h : ltZ greatest (wire a) ≡ false) where
+    module _ (p : ℕ) (e : p ≡ min (natOf (wire a)) 4294967295) where
       pub shifted-fits : (k : ℕ) → Fits w32 k → Fits w64 (p + k)
-      shifted-fits k f = record { fits = omega (arith, e, small-place, f .fits) }
+      shifted-fits k f = record { fits = omega (arith, e, f .fits) }
 
       pub shifted-is : (k : ℕ) (z : ℤ) → z ≡ pos (min (p + k) 4294967295) → SFits w64 z → wire z ≡ shiftedWord a k
       unfolding shiftedWord placeWord
       shifted-is k z g s = toZ-ofZ s ∙ g ∙ rw (cell-value a (rw (toZ-ofZ fa) at h), e, toZ-ofZ fa)
 
     module _ (d : ℤ) (fd : SFits w64 d) (n : ℕ) where
-      pub element-right : ltZ (pos 4294967295) (wire d) ≡ true → wire d ≡ elementWord a d n
+      pub element-right : ltZ greatest (wire d) ≡ true → wire d ≡ elementWord a d n
       unfolding elementWord placeWord
-      element-right g = toZ-ofZ fd ∙ rw (cell-value a (rw (toZ-ofZ fa) at h), fault-again d (rw (toZ-ofZ fd) at g)) (sym (-ℤ-+ℤ-cancel d (pos 8589934592)))
+      element-right g = toZ-ofZ fd ∙ rw (cell-value a (rw (toZ-ofZ fa) at h), fault-again d (rw (toZ-ofZ fd) at g)) (sym (-ℤ-+ℤ-cancel d faultBase))
 
-      module _ (g : ltZ (pos 4294967295) (wire d) ≡ false) (k : ℕ) (f : k ≡ natOf (wire d)) (fn : Fits w32 n) where
+      module _ (g : ltZ greatest (wire d) ≡ false) (k : ℕ) (f : k ≡ min (natOf (wire d)) 4294967295) (fn : Fits w32 n) where
         product : k * n ≤ 4294967295 * 4294967295
-        product = mul-le-mul {n₁ = k} {m₁ = n} {n₂ = 4294967295} {m₂ = 4294967295} (omega (arith, f, natural-small (wire d) g)) (omega (arith, fn .fits))
+        product = mul-le-mul {n₁ = k} {m₁ = n} {n₂ = 4294967295} {m₂ = 4294967295} (omega (arith, f)) (omega (arith, fn .fits))
 
         pub element-times : Fits w64 (k * n)
         element-times = record { fits = omega (arith, product) }
 
-        module _ (p : ℕ) (e : p ≡ natOf (wire a)) where
+        module _ (p : ℕ) (e : p ≡ min (natOf (wire a)) 4294967295) where
           pub element-plus : Fits w64 (p + k * n)
-          element-plus = record { fits = omega (arith, product, e, small-place) }
+          element-plus = record { fits = omega (arith, product, e) }
 
           pub element-is : (z : ℤ) → z ≡ pos (min (p + k * n) 4294967295) → SFits w64 z → wire z ≡ elementWord a d n
           unfolding elementWord placeWord
@@ -134,24 +131,24 @@ pub ruleset element-laws = (element-left, element-right, element-times, element-
 
 -- ---- `element_of`
 module _ (low high : ℕ) (fl : Fits w32 low) (fh : Fits w32 high) (x : ℤ) (fx : SFits w64 x) (a : ℤ) (fa : SFits w64 a) (n : ℕ) where
-  pub index-left : ltZ (pos 4294967295) (wire a) ≡ true → wire a ≡ elementWord a (distanceWord (signed low) (signed high) x) n
+  pub index-left : ltZ greatest (wire a) ≡ true → wire a ≡ elementWord a (distanceWord (signed low) (signed high) x) n
   index-left h = element-left a fa (distanceWord (signed low) (signed high) x) n h
 
-  module _ (h : ltZ (pos 4294967295) (wire a) ≡ false) where
-    pub index-right : ltZ (pos 4294967295) (wire x) ≡ true → wire x ≡ elementWord a (distanceWord (signed low) (signed high) x) n
+  module _ (h : ltZ greatest (wire a) ≡ false) where
+    pub index-right : ltZ greatest (wire x) ≡ true → wire x ≡ elementWord a (distanceWord (signed low) (signed high) x) n
     index-right g =
         element-right a fa h x fx n g
         ∙ ap (λ (d : ℤ). elementWord a d n) (sym (toZ-ofZ fx) ∙ distance-fault low high fl fh x fx g)
 
-    module _ (g : ltZ (pos 4294967295) (wire x) ≡ false) (lo hi : ℤ) (e : lo ≡ signed low) (f : hi ≡ signed high) (sl : SFits w64 lo) (sh : SFits w64 hi) (b : Bool) (i : b ≡ inside (wire lo) (wire hi) (wire x)) where
+    module _ (g : ltZ greatest (wire x) ≡ false) (lo hi : ℤ) (e : lo ≡ signed low) (f : hi ≡ signed high) (sl : SFits w64 lo) (sh : SFits w64 hi) (b : Bool) (i : b ≡ inside (wire lo) (wire hi) (wire x)) where
       pub index-in : (r : ℤ) → b ≡ true → r ≡ elementWord (wire a) (wire (wire x -ℤ wire lo)) n → SFits w64 r → wire r ≡ elementWord a (distanceWord (signed low) (signed high) x) n
       index-in r k R fr =
           toZ-ofZ fr ∙ R ∙ ap (λ (c : ℤ). elementWord c (wire (wire x -ℤ wire lo)) n) (toZ-ofZ fa)
           ∙ ap (λ (d : ℤ). elementWord a d n) (distance-in low high fl fh x fx lo hi e f sl sh b i g k)
 
-      pub index-out : b ≡ false → pos 8589934489 ≡ elementWord a (distanceWord (signed low) (signed high) x) n
+      pub index-out : b ≡ false → rangeWord ≡ elementWord a (distanceWord (signed low) (signed high) x) n
       index-out k =
-          element-right a fa h (pos 8589934489) (fits-mag (pos 8589934489) (omega arith)) n refl
+          element-right a fa h rangeWord (fits-mag rangeWord (omega arith)) n refl
           ∙ ap (λ (d : ℤ). elementWord a d n) (distance-out low high fl fh x fx lo hi e f sl sh b i g k)
 
 pub ruleset index-laws = (index-left, index-right, distance-fits, index-in, index-out, sfits-of)

@@ -5,7 +5,7 @@ use mathlib.Core.List.{List, [], _∷_}
 use mathlib.Core.Logic.{_⊎_, inl, inr}
 use Prim.Native.Nat.{ℕ, zero, suc, _+_, _-_, _<_, _≤_}
 use native.Mathlib.Omega.{arith}
-use borrow.Author.Tests.{le-leb}
+use borrow.Author.Tests.{le-leb, leb-true, lt-ltb, le-ltb}
 use lib.IntN.{ℤ, pos, negsuc, natAbs, negℤ, _+ℤ_, _-ℤ_, _*ℤ_}
 use lib.Signed.{leZ, ltZ}
 use lib.ListN.{length, getD}
@@ -19,40 +19,40 @@ use Rattle.arith.proofs.Ranges.{inside-is, inside-both, exact-value}
 use Rattle.arith.proofs.Division.{quotient-value, modulus-value}
 use Rattle.powers.proofs.Powers.{power-value}
 use Rattle.arith.proofs.RangeTests.{next-value, previous-value}
-use Rattle.sets.specs.Sets.{members, membersOf, patternOf, those, valueOf, holds, least as leastOf, greatest, unionOf, differenceOf, intersectionOf, within}
+use Rattle.sets.specs.Sets.{members, membersOf, patternOf, those, valueOf, holds, least as leastOf, greatest as greatestOf, unionOf, differenceOf, intersectionOf, within}
 use Rattle.sets.specs.declared.Member.{Member}
 use Rattle.sets.specs.declared.Member.the-variants.{Ordinal, Empty}
 use Rattle.sets.proofs.Digits.{value-lt, members-length}
 use Rattle.sets.proofs.Base.{least-lt, greatest-lt}
 use Rattle.semantics.specs.Base.{pick}
-use Rattle.semantics.specs.Calculate.{Result, is, fails, stuck, _>>=_, integer, exceptionOf, memberIn, truth, isTrue, equalZ, setValue, tested, numericError, rangeError, undefinedError, compute, compute1}
+use Rattle.semantics.specs.Calculate.{natOf, Result, is, fails, stuck, _>>=_, integer, exceptionOf, memberIn, truth, isTrue, equalZ, setValue, tested, numericError, rangeError, undefinedError, compute, compute1}
 use Rattle.semantics.specs.Machine.{sole, oneCell}
 use Rattle.semantics.specs.Operators.{Operation, intAdd, intSub, intMul, intPower, intDiv, intMod, setUnion, setDifference, setIntersection, numEqual, numUnequal, numLess, numAtMost, numGreater, numAtLeast, setWithin, setHolds, memberOf, boolAnd, boolOr, Operation1, intNegate, boolNot, intAbs, intSqr, intOdd, ordinalOf, predIn, succIn, setCard, setLeast, setGreatest}
 use Rattle.semantics.specs.Readback.{operations1, operation1At}
-use Rattle.calc.specs.Words.{wordOf, resultOf, applied, applied1, testedWord, InRange, Ranged, Means, first}
+use Rattle.calc.specs.Words.{lowest, noResult, greatest, faultBase, wordOf, resultOf, applied, applied1, testedWord, InRange, Exceptional, Ranged, Means, first}
 
 -- ---- the range
 pub wide : (z : ℤ) → inside least most z ≡ true → InRange z
 unfolding InRange
 wide z h =
-    inside-both (negsuc 2147483647) (pos 4294967295) z (inside-is least most z h .0)
-    (leZ-trans z most (pos 4294967295) (inside-is least most z h .1) refl)
+    inside-both lowest greatest z (leZ-trans lowest least z refl (inside-is least most z h .0))
+    (leZ-trans z most greatest (inside-is least most z h .1) refl)
 
 pub low-range : (n : ℕ) → n ≤ 4294967295 → InRange (pos n)
 unfolding InRange
-low-range n h = inside-both (negsuc 2147483647) (pos 4294967295) (pos n) refl (le-leb n 4294967295 h)
+low-range n h = inside-both lowest greatest (pos n) refl (le-leb n 9218868437227405311 (omega arith))
 
-pub range-value : (z : ℤ) → InRange z → ltZ (pos 4294967295) z ≡ false
+pub range-value : (z : ℤ) → InRange z → ltZ greatest z ≡ false
 unfolding InRange
-range-value z h = le-not z (pos 4294967295) (inside-is (negsuc 2147483647) (pos 4294967295) z h .1)
+range-value z h = le-not z greatest (inside-is lowest greatest z h .1)
 
 num-ranged : (n : Num) → ((v : ℤ) → n ≡ Value v → InRange v) → Ranged (integer n)
-unfolding Ranged integer exceptionOf
+unfolding Ranged Exceptional inside integer exceptionOf
 num-ranged (Value z) h = h z refl
-num-ranged (Failed Overflow) h = inl refl
-num-ranged (Failed Divisor) h = inl refl
-num-ranged (Failed Exponent) h = inl refl
-num-ranged (Failed Bound) h = inr (inl refl)
+num-ranged (Failed Overflow) h = refl
+num-ranged (Failed Divisor) h = refl
+num-ranged (Failed Exponent) h = refl
+num-ranged (Failed Bound) h = refl
 
 exact-ranged : (z : ℤ) → Ranged (integer (exact z))
 exact-ranged z = num-ranged (exact z) (λ v e. wide v (exact-value z v e .0))
@@ -70,13 +70,13 @@ mod-range : (i j v : ℤ) → InRange j → modulus i j ≡ Value v → InRange 
 unfolding InRange
 mod-range i j v h e =
     let w = inside-is (pos 0) (j -ℤ pos 1) v (modulus-value i j v e) in
-    inside-both (negsuc 2147483647) (pos 4294967295) v (leZ-trans (negsuc 2147483647) (pos 0) v refl (w .0))
-    (leZ-trans v (j -ℤ pos 1) (pos 4294967295) (w .1) (leZ-trans (j -ℤ pos 1) j (pos 4294967295) (add-low j (negsuc 0) refl) (inside-is (negsuc 2147483647) (pos 4294967295) j h .1)))
+    inside-both lowest greatest v (leZ-trans lowest (pos 0) v refl (w .0))
+    (leZ-trans v (j -ℤ pos 1) greatest (w .1) (leZ-trans (j -ℤ pos 1) j greatest (add-low j (negsuc 0) refl) (inside-is lowest greatest j h .1)))
 
 member-ranged : (m : Member) → ((x : ℕ) → m ≡ Ordinal x → x < 32) → Ranged (memberIn m)
-unfolding Ranged memberIn
+unfolding Ranged Exceptional inside memberIn
 member-ranged (Ordinal i) h = low-range i (omega (arith, h i refl))
-member-ranged Empty h = inr (inl refl)
+member-ranged Empty h = refl
 
 card-small : (a : ℤ) → length (membersOf a) ≤ 4294967295
 unfolding membersOf
@@ -137,7 +137,7 @@ compute1-ranged (predIn lo hi) a b p = num-ranged (previous lo hi a) (λ v e. be
 compute1-ranged (succIn lo hi) a b p = num-ranged (next lo hi a) (λ v e. between lo hi v b (next-value lo hi a v e .0))
 compute1-ranged setCard a b p = low-range (length (membersOf a)) (card-small a)
 compute1-ranged setLeast a b p = member-ranged (leastOf (membersOf a)) (λ x e. least-lt a x e)
-compute1-ranged setGreatest a b p = member-ranged (greatest (membersOf a)) (λ x e. greatest-lt a x e)
+compute1-ranged setGreatest a b p = member-ranged (greatestOf (membersOf a)) (λ x e. greatest-lt a x e)
 
 pub plain : (k : ℕ) → Bounded (operation1At k)
 unfolding operation1At operations1
@@ -153,11 +153,36 @@ plain (suc (suc (suc (suc (suc (suc (suc (suc zero)))))))) = tt
 plain (suc (suc (suc (suc (suc (suc (suc (suc (suc k))))))))) = tt
 
 -- ---- words
-fault-result : (e : ℤ) → Ranged (fails e) → resultOf (e +ℤ pos 8589934592) ≡ fails e
+-- an exception's word, and that it is one
+negative : (e : ℤ) → Exceptional e → (k : ℕ) × ((e ≡ negsuc k) × ((100 ≤ k) × (k ≤ 998)))
+unfolding Exceptional
+negative (pos n) h = absurd (true≢false (sym (inside-is (negsuc 998) (negsuc 100) (pos n) h .1)))
+negative (negsuc k) h =
+    let q = inside-is (negsuc 998) (negsuc 100) (negsuc k) h in
+    (k, (refl, (leb-true 100 k (q .1), leb-true k 998 (q .0))))
+
+based : (k : ℕ) → k ≤ 998 → negsuc k +ℤ faultBase ≡ pos (9223372036854775807 - suc k)
+based k h = rw (le-ltb 9223372036854775807 (suc k) (omega arith))
+
+pub above-fault : (e : ℤ) → Exceptional e → true ≡ ltZ greatest (e +ℤ faultBase)
+above-fault e h = let n = negative e h in rw (n .1 .0, based (n .0) (n .1 .1 .1)) (sym (lt-ltb 9218868437227405311 (9223372036854775807 - suc (n .0)) (omega (arith, n .1 .1 .1))))
+
+pub back-fault : (e : ℤ) → Exceptional e → (e +ℤ faultBase) -ℤ faultBase ≡ e
+back-fault e h = let n = negative e h in rw (n .1 .0, based (n .0) (n .1 .1 .1), lt-ltb (9223372036854775807 - suc (n .0)) 9223372036854775807 (omega (arith, n .1 .1 .1))) (ap negsuc (omega (arith, n .1 .1 .1)))
+
+pub not-stuck : (e : ℤ) → Exceptional e → (e +ℤ faultBase) ≡ noResult → ⊥
+not-stuck e h g =
+    let n = negative e h in
+    let q : _≡_ {A = ℕ} (9223372036854775807 - suc (n .0)) 9223372036854775807 = ap natOf (sym (based (n .0) (n .1 .1 .1)) ∙ ap (λ (x : ℤ). x +ℤ faultBase) (sym (n .1 .0)) ∙ g) in
+    omega (arith, n .1 .1 .1)
+
+pub small-fault : (e : ℤ) → Exceptional e → InRange e
+unfolding Exceptional
+small-fault e h = let q = inside-is (negsuc 998) (negsuc 100) e h in wide e (inside-both least most e (leZ-trans least (negsuc 998) e refl (q .0)) (leZ-trans e (negsuc 100) most (q .1) refl))
+
+pub fault-result : (e : ℤ) → Ranged (fails e) → resultOf (e +ℤ faultBase) ≡ fails e
 unfolding resultOf pick Ranged
-fault-result e (inl q) = rw q
-fault-result e (inr (inl q)) = rw q
-fault-result e (inr (inr q)) = rw q
+fault-result e h = rw (sym (above-fault e h), back-fault e h)
 
 value-result : (z : ℤ) → InRange z → resultOf z ≡ is z
 unfolding resultOf pick
@@ -211,21 +236,17 @@ unary-means c x z v b h e =
     subst (λ (u : Result ℤ). Means z u) (join1 (λ a. compute1 c a) v)
     (record { word = e ∙ rw (decoded x (first v) h); ranged = bind-ranged (first v) (λ a. compute1 c a) (h .ranged) (λ a p. compute1-ranged c a b p) })
 
-pub above-fault : (e : ℤ) → (e ≡ numericError) ⊎ ((e ≡ rangeError) ⊎ (e ≡ undefinedError)) → true ≡ ltZ (pos 4294967295) (e +ℤ pos 8589934592)
-above-fault e (inl q) = rw q
-above-fault e (inr (inl q)) = rw q
-above-fault e (inr (inr q)) = rw q
 
 -- a fault is passed on
-pub fault-means : (x : ℤ) (v : Result (List ℤ)) (f : List ℤ → Result (List ℤ)) → ltZ (pos 4294967295) x ≡ true → Means x (first v) → Means x (first (v >>= f))
+pub fault-means : (x : ℤ) (v : Result (List ℤ)) (f : List ℤ → Result (List ℤ)) → ltZ greatest x ≡ true → Means x (first v) → Means x (first (v >>= f))
 unfolding Ranged wordOf
-fault-means x (is a) f h k = absurd (true≢false (sym h ∙ ap (ltZ (pos 4294967295)) (k .word) ∙ range-value (sole a) (k .ranged)))
+fault-means x (is a) f h k = absurd (true≢false (sym h ∙ ap (ltZ greatest) (k .word) ∙ range-value (sole a) (k .ranged)))
 fault-means x (fails e) f h k = record { word = k .word; ranged = k .ranged }
 fault-means x stuck f h k = absurd (k .ranged)
 
 -- a value is there
-pub value-means : (x : ℤ) (v : Result (List ℤ)) → ltZ (pos 4294967295) x ≡ false → Means x (first v) → (zs : List ℤ) × ((v ≡ is zs) × (sole zs ≡ x))
+pub value-means : (x : ℤ) (v : Result (List ℤ)) → ltZ greatest x ≡ false → Means x (first v) → (zs : List ℤ) × ((v ≡ is zs) × (sole zs ≡ x))
 unfolding Ranged wordOf
 value-means x (is a) h k = (a, (refl, sym (k .word)))
-value-means x (fails e) h k = absurd (true≢false (above-fault e (k .ranged) ∙ sym (ap (ltZ (pos 4294967295)) (k .word)) ∙ h))
+value-means x (fails e) h k = absurd (true≢false (above-fault e (k .ranged) ∙ sym (ap (ltZ greatest) (k .word)) ∙ h))
 value-means x stuck h k = absurd (k .ranged)

@@ -2,7 +2,6 @@
 use mathlib.Core.Bool.{Bool, true, false, _&&_}
 use mathlib.Core.List.{List, [], _∷_}
 use mathlib.Core.Path.{_≡_}
-use mathlib.Core.Logic.{_⊎_}
 use Prim.Native.Nat.{ℕ, zero, suc, _+_, _*_, min}
 use lib.Dec.{eqb, ltb}
 use lib.IntN.{ℤ, pos, negsuc, _+ℤ_, _-ℤ_}
@@ -10,7 +9,7 @@ use lib.ListN.{getD, take}
 use lib.Signed.{leZ, ltZ}
 use Rattle.arith.specs.Integers.{inside, least, most}
 use Rattle.semantics.specs.Base.{pick}
-use Rattle.semantics.specs.Calculate.{Result, is, fails, stuck, _>>=_, natOf, tested, numericError, rangeError, undefinedError, compute, compute1}
+use Rattle.semantics.specs.Calculate.{Result, is, fails, stuck, _>>=_, natOf, tested, rangeError, compute, compute1}
 use Rattle.semantics.specs.Operators.{Operation, Operation1}
 use Rattle.semantics.specs.Machine.{Store, readCell, sole}
 use Rattle.semantics.specs.Readback.{integerAt}
@@ -21,17 +20,36 @@ codeIn l = take 16384 l
 
 -- ---- a value is its own word; a fault's is above every value
 
+-- the words that are values: up to the greatest pattern of 64 bits that is a finite real's
+abbrev pub lowest : ℤ
+lowest = negsuc 9223372036854775807
+
+abbrev pub greatest : ℤ
+greatest = pos 9218868437227405311
+
+-- an exception's number, which is below 0, is added to the greatest word; that word itself is no result
+abbrev pub faultBase : ℤ
+faultBase = pos 9223372036854775807
+
+abbrev pub noResult : ℤ
+noResult = faultBase
+
+abbrev pub numericWord : ℤ
+numericWord = pos 9223372036854775706
+
+abbrev pub rangeWord : ℤ
+rangeWord = pos 9223372036854775704
+
+abbrev pub undefinedWord : ℤ
+undefinedWord = pos 9223372036854775703
+
 unfoldable pub wordOf : Result ℤ → ℤ
 wordOf (is z) = z
-wordOf (fails e) = e +ℤ pos 8589934592
-wordOf stuck = pos 17179869184
+wordOf (fails e) = e +ℤ faultBase
+wordOf stuck = noResult
 
 unfoldable pub resultOf : ℤ → Result ℤ
-resultOf w = pick (ltZ (pos 4294967295) w) (fails (w -ℤ pos 8589934592)) (is w)
-
--- an Undefined_Error
-abbrev pub undefinedWord : ℤ
-undefinedWord = pos 8589934488
+resultOf w = pick (ltZ greatest w) (fails (w -ℤ faultBase)) (is w)
 
 -- the store is an array of 2,056 words: the cells' at 0 to 2047; at 2048 the last exception's number, 0 before any, at 2049 its
 -- statement; at 2050 how many cells there are; the rest is not used
@@ -44,14 +62,18 @@ storeWord ws a = pick (ltb a 2048) (getD ws a (pos 0)) undefinedWord
 unfoldable pub latestIn : List ℤ → ℤ
 latestIn ws = getD ws 2048 (pos 0)
 
--- an ordinal or a set is a value in this range
+-- a value's word
 unfoldable pub InRange : ℤ → Type 0
-InRange z = inside (negsuc 2147483647) (pos 4294967295) z ≡ true
+InRange z = inside lowest greatest z ≡ true
+
+-- the exceptions' numbers lie in -999 to -101
+unfoldable pub Exceptional : ℤ → Type 0
+Exceptional e = inside (negsuc 998) (negsuc 100) e ≡ true
 
 -- a value in its range, or one of the exceptions' numbers
 unfoldable pub Ranged : Result ℤ → Type 0
 Ranged (is z) = InRange z
-Ranged (fails e) = (e ≡ numericError) ⊎ ((e ≡ rangeError) ⊎ (e ≡ undefinedError))
+Ranged (fails e) = Exceptional e
 Ranged stuck = ⊥
 
 -- operators on words, the left fault first
@@ -84,7 +106,7 @@ pub record Holds (ws : List ℤ) (m : Store) : Type 0 where
 -- n cells from a on are values
 unfoldable pub allValues : List ℤ → ℕ → ℕ → Bool
 allValues ws a zero = true
-allValues ws a (suc n) = leZ (storeWord ws a) (pos 4294967295) && allValues ws (a + 1) n
+allValues ws a (suc n) = leZ (storeWord ws a) greatest && allValues ws (a + 1) n
 
 -- the first of n cells from a on, all of which must be values
 unfoldable pub cellsWord : List ℤ → ℕ → ℕ → ℤ
@@ -93,7 +115,7 @@ cellsWord ws a (suc n) = pick (allValues ws a (suc n)) (storeWord ws a) undefine
 
 -- the same by the word of a place; one cell is its word
 unfoldable pub cellsAt : List ℤ → ℤ → ℕ → ℤ
-cellsAt ws w n = pick (ltZ (pos 4294967295) w) w (pick (eqb n 1) (storeWord ws (natOf w)) (cellsWord ws (natOf w) n))
+cellsAt ws w n = pick (ltZ greatest w) w (pick (eqb n 1) (storeWord ws (min (natOf w) 4294967295)) (cellsWord ws (min (natOf w) 4294967295) n))
 
 -- ---- a number of the code
 
@@ -102,22 +124,22 @@ pub record Integral (l : List ℕ) (p : ℕ) (r : ℤ) : Type 0 where
   pub value : r ≡ integerAt l p
   pub small : inside least most r ≡ true
 
--- ---- places: no store has a cell past the greatest value
+-- ---- places: no store has a cell past 4294967295
 
 unfoldable pub placeWord : Result ℕ → ℤ
 placeWord (is a) = pos (min a 4294967295)
-placeWord (fails e) = e +ℤ pos 8589934592
-placeWord stuck = pos 17179869184
+placeWord (fails e) = e +ℤ faultBase
+placeWord stuck = noResult
 
 unfoldable pub cellOf : ℤ → Result ℕ
-cellOf w = pick (ltZ (pos 4294967295) w) (fails (w -ℤ pos 8589934592)) (is (natOf w))
+cellOf w = pick (ltZ greatest w) (fails (w -ℤ faultBase)) (is (min (natOf w) 4294967295))
 
 -- an index's distance from its lower bound; the places of an element and of a field
 unfoldable pub distanceWord : ℤ → ℤ → ℤ → ℤ
 distanceWord lo hi x = wordOf (resultOf x >>= λ v. tested rangeError lo hi v >>= λ z. is (z -ℤ lo))
 
 unfoldable pub elementWord : ℤ → ℤ → ℕ → ℤ
-elementWord a d n = placeWord (cellOf a >>= λ p. resultOf d >>= λ k. is (p + natOf k * n))
+elementWord a d n = placeWord (cellOf a >>= λ p. resultOf d >>= λ k. is (p + min (natOf k) 4294967295 * n))
 
 unfoldable pub shiftedWord : ℤ → ℕ → ℤ
 shiftedWord a k = placeWord (cellOf a >>= λ p. is (p + k))

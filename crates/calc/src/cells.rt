@@ -1,7 +1,7 @@
 // The store as words: a cell holds its value, or the word of an Undefined_Error; the last exception stands above the cells.
 use crate::words::GREATEST;
 use crate::words::UNDEFINED;
-use crate::words::natural;
+use crate::words::reach;
 ghost use mathlib.Core.Path.{_≡_};
 ghost use Rattle.calc.specs.Words.{storeWord, latestIn, cellsWord, cellsAt};
 
@@ -47,7 +47,7 @@ pub fn cells_at(store: &[i64; 2056], place: i64, n: u32) -> i64
     if place > GREATEST {
         return place;
     }
-    let a = natural(place) as u32;
+    let a = reach(place) as u32;
     if n == 1 {
         return cell(store, a as usize);
     }

@@ -3,7 +3,7 @@ use crate::words::GREATEST;
 use crate::words::NUMERIC;
 use crate::words::RANGE;
 use crate::words::capped;
-use crate::words::natural;
+use crate::words::reach;
 use crate::words::signed_of;
 use crate::words::truth_of;
 use arith::Fault;
@@ -278,8 +278,8 @@ pub fn element(a: i64, d: i64, n: u32) -> i64
     if d > GREATEST {
         return d;
     }
-    let t = natural(d) * n as u64;
-    capped(natural(a) + t)
+    let t = reach(d) * n as u64;
+    capped(reach(a) + t)
 }
 
 // The place of an element of size n, by the words of the array's place and of the index, whose bounds are low and high.
@@ -306,5 +306,5 @@ pub fn shifted(a: i64, k: u32) -> i64
     if a > GREATEST {
         return a;
     }
-    capped(natural(a) + k as u64)
+    capped(reach(a) + k as u64)
 }

@@ -9,15 +9,17 @@ ghost use Rattle.semantics.specs.Calculate.{natOf};
 ghost use Prim.Native.Nat.{min};
 ghost use lib.IntN.{pos};
 
-// The greatest value; a greater word is a fault.
-pub const GREATEST: i64 = 4294967295;
+// The greatest value, the greatest finite real's pattern; a greater word is a fault.
+pub const GREATEST: i64 = 9218868437227405311;
 
-// The faults: 8589934592 and the exception's number.
-pub const NUMERIC: i64 = 8589934491;
+// A fault's word is the exception's number above this one.
+pub const FAULT: i64 = 9223372036854775807;
 
-pub const RANGE: i64 = 8589934489;
+pub const NUMERIC: i64 = 9223372036854775706;
 
-pub const UNDEFINED: i64 = 8589934488;
+pub const RANGE: i64 = 9223372036854775704;
+
+pub const UNDEFINED: i64 = 9223372036854775703;
 
 // The number at a place, 0 outside the list.
 pub fn number(code: &[u32; 16384], p: usize) -> u32
@@ -61,12 +63,15 @@ pub fn truth_of(b: bool) -> i64
     0
 }
 
-// The natural number that z is, 0 of a negative one.
-pub fn natural(z: i64) -> u64
-    ensures { λ r. ⌜ r ≡ natOf z ⌝ }
+// The place that a word is: 0 of a negative one, and none past the greatest place.
+pub fn reach(z: i64) -> u64
+    ensures { λ r. ⌜ r ≡ min (natOf z) 4294967295 ⌝ }
 {
     if z < 0 {
         return 0;
+    }
+    if z > 4294967295 {
+        return 4294967295;
     }
     z as u64
 }

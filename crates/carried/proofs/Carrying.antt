@@ -16,7 +16,7 @@ use Rattle.semantics.specs.Calculate.{Result, is, fails, stuck, _>>=_}
 use Rattle.semantics.specs.Machine.{Store, readCells, sole, oneCell}
 use Rattle.semantics.specs.Marking.{TypedValue, TypedPlace, typedValue, typedAs, wanted}
 use Rattle.semantics.specs.Types.{Types, sizeOf}
-use Rattle.calc.specs.Words.{wordOf, InRange, Ranged, Means}
+use Rattle.calc.specs.Words.{noResult, greatest, faultBase, wordOf, InRange, Ranged, Means}
 use Rattle.calc.proofs.Ranging.{range-value, above-fault}
 use Rattle.carried.specs.declared.values.Carried.{Carried}
 use Rattle.carried.specs.Values.{carriedOf, reachedOf, MarkRanged, MarkMeans, simple?, Carries, Reaches}
@@ -35,8 +35,8 @@ stuck-is {A} h = let z : _≡_ {A = ℕ} 0 1 = cc in omega arith
 
 -- v is no value, and w is its word
 pub data Broken {A : Type 0} (w : ℤ) : Result A → Type 0 where
-  by-fault : (e : ℤ) → w ≡ e +ℤ pos 8589934592 → MarkRanged (fails e) → Broken w (fails e)
-  by-stuck : w ≡ pos 17179869184 → Broken w stuck
+  by-fault : (e : ℤ) → w ≡ e +ℤ faultBase → MarkRanged (fails e) → Broken w (fails e)
+  by-stuck : w ≡ noResult → Broken w stuck
 
 -- what follows is not done
 pub broken-bind : {A B : Type 0} {w : ℤ} {v : Result A} (f : A → Result B) → Broken w v → Broken w (v >>= f)
@@ -65,18 +65,18 @@ reaches-broken t b = record { word-is = broken-means (broken-bind (λ x. is (pos
 
 -- ---- a word above every value is that of no value, and any other is a value's
 
-pub view-broken : {A : Type 0} (w : ℤ) (v : Result A) (f : A → ℤ) → MarkMeans w (v >>= λ a. is (f a)) → ltZ (pos 4294967295) w ≡ true → Broken w v
+pub view-broken : {A : Type 0} (w : ℤ) (v : Result A) (f : A → ℤ) → MarkMeans w (v >>= λ a. is (f a)) → ltZ greatest w ≡ true → Broken w v
 unfolding wordOf MarkRanged
-view-broken w (is a) f h g = absurd (true≢false (sym g ∙ ap (ltZ (pos 4294967295)) (h .word) ∙ range-value (f a) (h .ranged)))
+view-broken w (is a) f h g = absurd (true≢false (sym g ∙ ap (ltZ greatest) (h .word) ∙ range-value (f a) (h .ranged)))
 view-broken w (fails e) f h g = by-fault e (h .word) (h .ranged)
 view-broken w stuck f h g = by-stuck (h .word)
 
-pub view-value : {A P : Type 0} (w : ℤ) (v : Result A) (f : A → ℤ) → MarkMeans w (v >>= λ a. is (f a)) → ltZ (pos 4294967295) w ≡ false
+pub view-value : {A P : Type 0} (w : ℤ) (v : Result A) (f : A → ℤ) → MarkMeans w (v >>= λ a. is (f a)) → ltZ greatest w ≡ false
     → ((a : A) → v ≡ is a → w ≡ f a → InRange (f a) → P) → P
 unfolding wordOf MarkRanged Ranged
 view-value w (is a) f h g k = k a refl (h .word) (h .ranged)
-view-value w (fails e) f h g k = absurd (true≢false (above-fault e (h .ranged) ∙ sym (ap (ltZ (pos 4294967295)) (h .word)) ∙ g))
-view-value w stuck f h g k = absurd (true≢false (sym (ap (ltZ (pos 4294967295)) (h .word)) ∙ g))
+view-value w (fails e) f h g k = absurd (true≢false (above-fault e (h .ranged) ∙ sym (ap (ltZ greatest) (h .word)) ∙ g))
+view-value w stuck f h g k = absurd (true≢false (sym (ap (ltZ greatest) (h .word)) ∙ g))
 
 -- ---- values
 
@@ -84,7 +84,7 @@ pub means-value : (z : ℤ) → InRange z → MarkMeans z (is z)
 unfolding wordOf MarkRanged
 means-value z h = record { word = refl; ranged = h }
 
-pub means-stuck : MarkMeans (pos 17179869184) stuck
+pub means-stuck : MarkMeans noResult stuck
 unfolding wordOf MarkRanged
 means-stuck = record { word = refl; ranged = tt }
 
@@ -115,30 +115,30 @@ module _ (Γ : Types) (m : Store) where
   carries-one k w (fails e) s h = carries-broken Γ m k 0 (by-fault e (h .word) (h .ranged))
   carries-one k w stuck s h = carries-broken Γ m k 0 (by-stuck (h .word))
 
-  pub carries-stuck : Carries Γ m stuck (carriedOf 0 (pos 17179869184) 0)
+  pub carries-stuck : Carries Γ m stuck (carriedOf 0 noResult 0)
   carries-stuck = carries-broken Γ m 0 0 (by-stuck refl)
 
-pub reaches-stuck : Reaches stuck (reachedOf 0 (pos 17179869184))
+pub reaches-stuck : Reaches stuck (reachedOf 0 noResult)
 reaches-stuck = reaches-broken 0 (by-stuck refl)
 
 -- what is carried is no value, or is one of the kind that it says
 module _ {Γ : Types} {m : Store} {v : Result TypedValue} {x : Carried} (c : Carries Γ m v x) where
-  pub carried-broken : ltZ (pos 4294967295) (x .word) ≡ true → Broken (x .word) v
+  pub carried-broken : ltZ greatest (x .word) ≡ true → Broken (x .word) v
   carried-broken h = view-broken (x .word) v (λ a. sole (a .cells)) (c .word-is) h
 
-  pub carried-value : {P : Type 0} → ltZ (pos 4294967295) (x .word) ≡ false → ((a : TypedValue) → v ≡ is a → x .word ≡ sole (a .cells) → InRange (sole (a .cells)) → x .kind ≡ a .kind → P) → P
+  pub carried-value : {P : Type 0} → ltZ greatest (x .word) ≡ false → ((a : TypedValue) → v ≡ is a → x .word ≡ sole (a .cells) → InRange (sole (a .cells)) → x .kind ≡ a .kind → P) → P
   carried-value h k = view-value (x .word) v (λ a. sole (a .cells)) (c .word-is) h (λ a e f i. k a e f i (c .kind-is a e))
 
 -- ---- `wanted`
 
 module _ (k : ℕ) (x : Carried) (f : SFits w64 (x .word)) where
-  pub wants-fault : ltZ (pos 4294967295) (wire (x .word)) ≡ true → Wants k x (wire (x .word))
+  pub wants-fault : ltZ greatest (wire (x .word)) ≡ true → Wants k x (wire (x .word))
   wants-fault h = rw (toZ-ofZ f) (record { says = λ Γ m v c. broken-means (broken-bind (λ u. is (sole u)) (broken-bind (wanted k) (carried-broken c (rw (toZ-ofZ f) at h)))) })
 
-  pub wants-value : ltZ (pos 4294967295) (wire (x .word)) ≡ false → k ≡ x .kind → Wants k x (wire (x .word))
+  pub wants-value : ltZ greatest (wire (x .word)) ≡ false → k ≡ x .kind → Wants k x (wire (x .word))
   wants-value h e = rw (toZ-ofZ f) (record { says = λ Γ m v c. carried-value c (rw (toZ-ofZ f) at h) (λ a q w i n. rw (q, eq-eqb k (a .kind) (e ∙ n), w) (means-value (sole (a .cells)) i)) })
 
-  pub wants-other : ltZ (pos 4294967295) (wire (x .word)) ≡ false → ((k ≡ x .kind) → ⊥) → Wants k x (pos 17179869184)
+  pub wants-other : ltZ greatest (wire (x .word)) ≡ false → ((k ≡ x .kind) → ⊥) → Wants k x noResult
   wants-other h e = record { says = λ Γ m v c. carried-value c (rw (toZ-ofZ f) at h) (λ a q w i n. rw (q, ne-eqb k (a .kind) (λ j. e (j ∙ sym n))) means-stuck) }
 
 pub ruleset wanted-laws = (wants-fault, wants-value, wants-other, sfits-of)

@@ -26,11 +26,10 @@ use Rattle.semantics.specs.Marking.{TypedValue, TypedPlace, typedValue, typedPl
 use Rattle.semantics.specs.Trees.{wordAt}
 use Rattle.semantics.specs.Types.{Types, Shape, ordinalShape, setShape, arrayShape, recordShape, Field, infoAt, isOrdinal, isSet, hostBy, cellsBy, hostOf, sizeOf, ordinal?, set?, array?, fieldOf}
 use Rattle.semantics.proofs.TypeTables.{Table}
-use Rattle.calc.specs.Words.{wordOf, resultOf, placeWord, cellOf, storeWord, cellsWord, cellsAt, distanceWord, elementWord, shiftedWord, InRange, Ranged, Means, Holds, first}
+use Rattle.calc.specs.Words.{noResult, greatest, rangeWord, wordOf, resultOf, placeWord, cellOf, storeWord, cellsWord, cellsAt, distanceWord, elementWord, shiftedWord, InRange, Ranged, Means, Holds, first, Exceptional}
 use Rattle.calc.proofs.Combining.{value-again}
-use Rattle.calc.proofs.Leaves.{natural-small}
 use Rattle.calc.proofs.Ranging.{range-value, low-range}
-use Rattle.evaluate.proofs.Walking.{capped-cells, one-or-more, le-ltb-cap, cap-add, test-cases}
+use Rattle.evaluate.proofs.Walking.{capped-cells, one-or-more, le-ltb-cap, cap-twice, cap-times, cap-add, test-cases}
 use Rattle.tables.specs.declared.Info.{Info}
 use Rattle.tables.specs.Descriptions.{infoOf, fieldPlace}
 use Rattle.tables.specs.Sides.{hostIn}
@@ -49,26 +48,26 @@ unfolding wordOf MarkRanged
 reaches-place w z e = rw e (record { word-is = record { word = refl; ranged = low-range (min (w .addr) 4294967295) (omega arith) }; type-is = λ y q. ap (λ (t : TypedPlace). t .type) (is-inj q) })
 
 module _ {v : Result TypedPlace} {g : Reached} (c : Reaches v g) where
-  pub reached-broken : ltZ (pos 4294967295) (g .word) ≡ true → Broken (g .word) v
+  pub reached-broken : ltZ greatest (g .word) ≡ true → Broken (g .word) v
   reached-broken h = view-broken (g .word) v (λ w. pos (min (w .addr) 4294967295)) (c .word-is) h
 
-  pub reached-value : {P : Type 0} → ltZ (pos 4294967295) (g .word) ≡ false → ((w : TypedPlace) → v ≡ is w → g .word ≡ pos (min (w .addr) 4294967295) → g .typed ≡ w .type → P) → P
+  pub reached-value : {P : Type 0} → ltZ greatest (g .word) ≡ false → ((w : TypedPlace) → v ≡ is w → g .word ≡ pos (min (w .addr) 4294967295) → g .typed ≡ w .type → P) → P
   reached-value h k = view-value (g .word) v (λ w. pos (min (w .addr) 4294967295)) (c .word-is) h (λ w e f i. k w e f (c .type-is w e))
 
 -- ---- `first_cell`
 
 module _ (w : ℤ) (f : SFits w64 w) where
-  pub first-none : ltZ (pos 4294967295) (wire w) ≡ true → 0 ≡ firstCell w
+  pub first-none : ltZ greatest (wire w) ≡ true → 0 ≡ firstCell w
   unfolding firstCell pick
   first-none h = rw (rw (toZ-ofZ f) at h) refl
 
-  module _ (h : ltZ (pos 4294967295) (wire w) ≡ false) (n : ℕ) (e : n ≡ natOf (wire w)) where
+  module _ (h : ltZ greatest (wire w) ≡ false) (n : ℕ) (e : n ≡ min (natOf (wire w)) 4294967295) where
     pub first-fits : Fits w32 n
-    first-fits = record { fits = omega (arith, e, natural-small w (rw (toZ-ofZ f) at h), ap natOf (toZ-ofZ f)) }
+    first-fits = record { fits = omega (arith, e) }
 
     pub first-is : n ≡ firstCell w
     unfolding firstCell pick
-    first-is = rw (rw (toZ-ofZ f) at h) (e ∙ ap natOf (toZ-ofZ f))
+    first-is = rw (rw (toZ-ofZ f) at h) (e ∙ ap (λ (z : ℤ). min (natOf z) 4294967295) (toZ-ofZ f))
 
 pub ruleset first-laws = (first-none, first-fits, first-is, sfits-of)
 
@@ -76,7 +75,7 @@ pub ruleset first-laws = (first-none, first-fits, first-is, sfits-of)
 
 cells-means : (ws : List ℤ) (m : Store) → Holds ws m → (a n : ℕ) → Means (cellsAt ws (pos (min a 4294967295)) n) (first (readCells a n m))
 unfolding cellsAt pick
-cells-means ws m H a n = rw (le-ltb-cap a) (subst (λ (q : Result (List ℤ)). Means (pick (eqb n 1) (storeWord ws (min a 4294967295)) (cellsWord ws (min a 4294967295) n)) (first q)) (capped-cells ws m H a n) (one-or-more ws m H (min a 4294967295) n))
+cells-means ws m H a n = rw (le-ltb-cap a, cap-twice a) (subst (λ (q : Result (List ℤ)). Means (pick (eqb n 1) (storeWord ws (min a 4294967295)) (cellsWord ws (min a 4294967295) n)) (first q)) (capped-cells ws m H a n) (one-or-more ws m H (min a 4294967295) n))
 
 one-read : (a : ℕ) (m : Store) (zs : List ℤ) → readCells a 1 m ≡ is zs → zs ≡ (sole zs ∷ [])
 unfolding readCells
@@ -131,21 +130,21 @@ module _ (Γ : Types) (T : Table Γ) (ws : List ℤ) (m : Store) (H : Holds ws m
       go (fails x) e h = carries-broken Γ m (hostOf Γ (w .type)) (min (w .addr) 4294967295) (fault-broken x _ h)
       go stuck e h = absurd (no-stuck h)
 
-at-broken : (ws : List ℤ) (w : ℤ) (n : ℕ) → ltZ (pos 4294967295) w ≡ true → cellsAt ws w n ≡ w
+at-broken : (ws : List ℤ) (w : ℤ) (n : ℕ) → ltZ greatest w ≡ true → cellsAt ws w n ≡ w
 unfolding cellsAt pick
 at-broken ws w n h = rw h refl
 
 first-at : (a : ℕ) → firstCell (pos (min a 4294967295)) ≡ min a 4294967295
 unfolding firstCell pick
-first-at a = rw (le-ltb-cap a) refl
+first-at a = rw (le-ltb-cap a, cap-twice a) refl
 
 pub loads-is : (l ts : List ℕ) (ws : List ℤ) (g : Reached) (i : Info) (k a : ℕ) (z : ℤ) → SFits w64 (g .word) → SFits w64 z → i ≡ infoOf l ts (g .typed) → k ≡ hostIn l ts (g .typed)
     → z ≡ cellsAt ws (wire (g .word)) (i .size) → a ≡ firstCell (wire (g .word)) → Loads l ts ws g (carriedOf k (wire z) a)
 loads-is l ts ws g i k a z fg fz ei ek ez ea = rw (toZ-ofZ fz, ez, ea, ek, ei, toZ-ofZ fg) (record {
-  says = λ s count newest σ S m H v R. go σ S m H v R (ltZ (pos 4294967295) (g .word)) refl;
+  says = λ s count newest σ S m H v R. go σ S m H v R (ltZ greatest (g .word)) refl;
 })
   where
-    go : {s : List ℕ} {count newest : ℕ} (σ : Environment) (S : Known s l ts count newest σ) (m : Store) → Holds ws m → (v : Result TypedPlace) → Reaches v g → (b : Bool) → ltZ (pos 4294967295) (g .word) ≡ b
+    go : {s : List ℕ} {count newest : ℕ} (σ : Environment) (S : Known s l ts count newest σ) (m : Store) → Holds ws m → (v : Result TypedPlace) → Reaches v g → (b : Bool) → ltZ greatest (g .word) ≡ b
         → Carries (σ .types) m (v >>= λ w. loaded (σ .types) m w) (carriedOf (hostIn l ts (g .typed)) (cellsAt ws (g .word) (infoOf l ts (g .typed) .size)) (firstCell (g .word)))
     go σ S m H v R true h = rw (at-broken ws (g .word) (infoOf l ts (g .typed) .size) h) (carries-broken (σ .types) m (hostIn l ts (g .typed)) (firstCell (g .word)) (broken-bind (λ w. loaded (σ .types) m w) (reached-broken R h)))
     go σ S m H v R false h = reached-value R h (λ w e f t. rw (e, t, host-in (S .scene) (w .type), size-told (S .scene) (w .type), f, first-at (w .addr)) (load-place (σ .types) (S .scene .table) ws m H w))
@@ -156,19 +155,19 @@ pub ruleset load-laws = (loads-is, sfits-of)
 
 cell-at : (a : ℕ) → cellOf (pos (min a 4294967295)) ≡ is (min a 4294967295)
 unfolding cellOf pick
-cell-at a = rw (le-ltb-cap a) refl
+cell-at a = rw (le-ltb-cap a, cap-twice a) refl
 
 element-value : (a : ℕ) (d : ℤ) (n : ℕ) → Ranged (is d) → elementWord (pos (min a 4294967295)) d n ≡ pos (min (a + natOf d * n) 4294967295)
 unfolding elementWord placeWord Ranged
-element-value a d n h = rw (cell-at a, value-again d (range-value d h)) (ap pos (cap-add a (natOf d * n)))
+element-value a d n h = rw (cell-at a, value-again d (range-value d h)) (ap pos (cap-times a (natOf d) n))
 
-element-range : (a n : ℕ) → elementWord (pos (min a 4294967295)) (pos 8589934489) n ≡ pos 8589934489
+element-range : (a n : ℕ) → elementWord (pos (min a 4294967295)) rangeWord n ≡ rangeWord
 unfolding elementWord placeWord resultOf pick
 element-range a n = rw (cell-at a) refl
 
 range-ranged : MarkRanged (fails rangeError)
-unfolding MarkRanged
-range-ranged = inr (inl refl)
+unfolding MarkRanged Exceptional inside
+range-ranged = refl
 
 -- a value inside its bounds, or a Range_Error
 module _ (lo hi x : ℤ) (p : inside least most lo ≡ true) (q : inside least most hi ≡ true) (i : InRange x) (a n e : ℕ) where
@@ -189,17 +188,17 @@ element-is l ts i e a b d z r fa fb fd fz ee ed ez h = h ∙ rw (toZ-ofZ fz, ez,
 pub ruleset element-laws = (element-is, sfits-of)
 
 module _ (l ts : List ℕ) (g : Reached) (x : Carried) (r : Reached) (fg : SFits w64 (g .word)) where
-  pub indexes-left : ltZ (pos 4294967295) (wire (g .word)) ≡ true → r ≡ reachedOf 0 (wire (g .word)) → Indexes l ts g x r
+  pub indexes-left : ltZ greatest (wire (g .word)) ≡ true → r ≡ reachedOf 0 (wire (g .word)) → Indexes l ts g x r
   indexes-left h e = rw (e, toZ-ofZ fg) (record { says = λ s count newest σ S m v u G X. reaches-broken 0 (broken-bind (λ w. u >>= λ y. indexed (σ .types) w y) (reached-broken G (rw (toZ-ofZ fg) at h))) })
 
-  module _ (fx : SFits w64 (x .word)) (h : ltZ (pos 4294967295) (wire (g .word)) ≡ false) where
-    pub indexes-right : ltZ (pos 4294967295) (wire (x .word)) ≡ true → r ≡ reachedOf 0 (wire (x .word)) → Indexes l ts g x r
+  module _ (fx : SFits w64 (x .word)) (h : ltZ greatest (wire (g .word)) ≡ false) where
+    pub indexes-right : ltZ greatest (wire (x .word)) ≡ true → r ≡ reachedOf 0 (wire (x .word)) → Indexes l ts g x r
     indexes-right j e = rw (e, toZ-ofZ fx) (record {
       says = λ s count newest σ S m v u G X. reached-value G (rw (toZ-ofZ fg) at h) (λ w q f t.
           rw q (reaches-broken 0 (broken-bind (λ y. indexed (σ .types) w y) (carried-broken X (rw (toZ-ofZ fx) at j)))));
     })
 
-    module _ (j : ltZ (pos 4294967295) (wire (x .word)) ≡ false) (i : Info) (ei : i ≡ infoOf l ts (g .typed)) where
+    module _ (j : ltZ greatest (wire (x .word)) ≡ false) (i : Info) (ei : i ≡ infoOf l ts (g .typed)) where
       -- both are values
       both : ((s : List ℕ) (count newest : ℕ) (σ : Environment) → Known s l ts count newest σ → (w : TypedPlace) (y : TypedValue) → g .word ≡ pos (min (w .addr) 4294967295) → g .typed ≡ w .type
           → x .word ≡ sole (y .cells) → InRange (sole (y .cells)) → x .kind ≡ y .kind → Reaches (indexed (σ .types) w y) r) → Indexes l ts g x r
@@ -210,14 +209,14 @@ module _ (l ts : List ℕ) (g : Reached) (x : Carried) (r : Reached) (fg : SFits
       array-is : {s : List ℕ} {count newest : ℕ} {σ : Environment} → Known s l ts count newest σ → eqb (i .shape) 2 ≡ array? (σ .types) (g .typed)
       array-is S = ap (λ (n : Info). eqb (n .shape) 2) ei ∙ shape-array (S .scene) (g .typed)
 
-      pub indexes-shape : ((i .shape ≡ 2) → ⊥) → r ≡ reachedOf 0 (pos 17179869184) → Indexes l ts g x r
+      pub indexes-shape : ((i .shape ≡ 2) → ⊥) → r ≡ reachedOf 0 noResult → Indexes l ts g x r
       indexes-shape n e = both (λ s count newest σ S w y f t f′ z k. rw (← t, ← array-is S, ne-eqb (i .shape) 2 n, e) reaches-stuck)
 
       module _ (a : i .shape ≡ 2) (k : ℕ) (ek : k ≡ hostIn l ts (i .index)) where
         index-kind : {s : List ℕ} {count newest : ℕ} {σ : Environment} → Known s l ts count newest σ → k ≡ hostOf (σ .types) (infoAt (σ .types) (g .typed) .index)
         index-kind {σ = σ} S = ek ∙ ap (λ (n : Info). hostIn l ts (n .index)) ei ∙ ap (hostIn l ts) (index-told (S .scene) (g .typed)) ∙ host-in (S .scene) (infoAt (σ .types) (g .typed) .index)
 
-        pub indexes-kind : ((k ≡ x .kind) → ⊥) → r ≡ reachedOf 0 (pos 17179869184) → Indexes l ts g x r
+        pub indexes-kind : ((k ≡ x .kind) → ⊥) → r ≡ reachedOf 0 noResult → Indexes l ts g x r
         indexes-kind n e = both (λ s count newest σ S w y f t f′ z q. rw (← t, ← array-is S, eq-eqb (i .shape) 2 a, ← index-kind S, ne-eqb k (y .kind) (λ p. n (p ∙ sym q)), e) reaches-stuck)
 
         pub indexes-is : k ≡ x .kind → r ≡ elementPlace l ts i (wire (g .word)) (wire (x .word)) → Indexes l ts g x r
@@ -235,22 +234,22 @@ unfolding shiftedWord placeWord
 shifted-at a k = rw (cell-at a) (ap pos (cap-add a k))
 
 module _ (s l ts : List ℕ) (g : Reached) (p : ℕ) (r : Reached) (fg : SFits w64 (g .word)) where
-  pub selects-fault : ltZ (pos 4294967295) (wire (g .word)) ≡ true → r ≡ reachedOf 0 (wire (g .word)) → Selects s l ts g p r
+  pub selects-fault : ltZ greatest (wire (g .word)) ≡ true → r ≡ reachedOf 0 (wire (g .word)) → Selects s l ts g p r
   selects-fault h e = rw (e, toZ-ofZ fg) (record { says = λ count newest σ S v G. reaches-broken 0 (broken-bind (λ w. selected (σ .types) (map small (wordAt s p)) w) (reached-broken G (rw (toZ-ofZ fg) at h))) })
 
-  module _ (h : ltZ (pos 4294967295) (wire (g .word)) ≡ false) (i : Info) (ei : i ≡ infoOf l ts (g .typed)) (f : ℕ)
+  module _ (h : ltZ greatest (wire (g .word)) ≡ false) (i : Info) (ei : i ≡ infoOf l ts (g .typed)) (f : ℕ)
       (ef : i .place + 8 + 4 * i .fields ≤ 4294967296 → f ≡ fieldPlace s l (i .place + 8) (i .fields) (map small (wordAt s p))) where
     found : {count newest : ℕ} {σ : Environment} → Known s l ts count newest σ → FieldFound l (infoAt (σ .types) (g .typed) .fields) (map small (wordAt s p)) f
     found {σ = σ} S =
         let e = ef (rw ei (fields-short (S .scene) (g .typed))) in
         rw (e, ei) (field-told (S .scene) (g .typed) (map small (wordAt s p)))
 
-    pub selects-none : f ≡ 0 → r ≡ reachedOf 0 (pos 17179869184) → Selects s l ts g p r
+    pub selects-none : f ≡ 0 → r ≡ reachedOf 0 noResult → Selects s l ts g p r
     selects-none z e = record {
       says = λ count newest σ S v G. reached-value G (rw (toZ-ofZ fg) at h) (λ w q k t. rw (q, ← t, e) (go (infoAt (σ .types) (g .typed) .fields) w (found S)));
     }
       where
-        go : (fs : List Field) (w : TypedPlace) → FieldFound l fs (map small (wordAt s p)) f → Reaches (orStuck (fieldOf fs (map small (wordAt s p))) λ x. is (typedPlace (x .type) (w .addr + x .offset))) (reachedOf 0 (pos 17179869184))
+        go : (fs : List Field) (w : TypedPlace) → FieldFound l fs (map small (wordAt s p)) f → Reaches (orStuck (fieldOf fs (map small (wordAt s p))) λ x. is (typedPlace (x .type) (w .addr + x .offset))) (reachedOf 0 noResult)
         go fs w (no-field _ n) = rw n reaches-stuck
         go fs w (a-field x o n tx ox) = absurd (omega (arith, z, o))
 

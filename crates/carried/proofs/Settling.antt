@@ -29,7 +29,7 @@ use Rattle.semantics.specs.Marking.{typedValue, wanted}
 use Rattle.semantics.specs.Types.{Types, Shape, ordinalShape, setShape, arrayShape, recordShape, infoAt, isOrdinal, hostBy, hostOf, ordinal?}
 use Rattle.semantics.proofs.LayoutCode.{signed-bits}
 use Rattle.semantics.proofs.TypeTables.{Table}
-use Rattle.calc.specs.Words.{wordOf, testedWord, latestIn, InRange}
+use Rattle.calc.specs.Words.{noResult, greatest, faultBase, wordOf, testedWord, latestIn, InRange, Exceptional}
 use Rattle.calc.proofs.Combining.{value-again, fault-again}
 use Rattle.calc.proofs.Ranging.{wide}
 use Rattle.tables.specs.declared.Info.{Info}
@@ -81,7 +81,7 @@ between lo hi z p q h =
     (leZ-trans z hi most (inside-is lo hi z h .1) (inside-is least most hi q .1)))
 
 module _ (l ts : List ℕ) (k : ℕ) (z : ℤ) (r : Carried) (i : Info) (ei : i ≡ infoOf l ts k) where
-  pub constant-shape : ((i .shape ≡ 0) → ⊥) → r ≡ carriedOf 0 (pos 17179869184) 0 → Constants l ts k z r
+  pub constant-shape : ((i .shape ≡ 0) → ⊥) → r ≡ carriedOf 0 noResult 0 → Constants l ts k z r
   constant-shape h e = rw e (record { says = λ s count newest σ S m. rw (ordinal-no S k (λ q. h (ap (λ (j : Info). j .shape) ei ∙ q))) (carries-stuck (σ .types) m) })
 
   module _ (h : i .shape ≡ 0) (lo hi : ℤ) (fz : SFits w64 z) (el : lo ≡ signed (i .low)) (eh : hi ≡ signed (i .high)) (fl : SFits w64 lo) (fh : SFits w64 hi) (b : Bool) (g : b ≡ inside (wire lo) (wire hi) (wire z)) where
@@ -97,7 +97,7 @@ module _ (l ts : List ℕ) (k : ℕ) (z : ℤ) (r : Carried) (i : Info) (ei : i 
           (carries-cell (σ .types) m k z 0 (simple-ordinal (σ .types) (kinded (S .scene)) k (ordinal S)) (between (infoAt (σ .types) k .low) (infoAt (σ .types) k .high) z (low-small S k) (high-small S k) (tested-as S ∙ q)));
     })
 
-    pub constant-out : b ≡ false → r ≡ carriedOf 0 (pos 17179869184) 0 → Constants l ts k z r
+    pub constant-out : b ≡ false → r ≡ carriedOf 0 noResult 0 → Constants l ts k z r
     constant-out q e = rw e (record { says = λ s count newest σ S m. rw (ordinal S, tested-as S, q) (carries-stuck (σ .types) m) })
 
 pub ruleset constant-laws = (constant-shape, constant-in, constant-out, sfits-of)
@@ -106,7 +106,7 @@ module _ (l ts : List ℕ) (z : ℤ) (fz : SFits w64 z) (r : Carried) (n : Num) 
   pub negative-value : (v : ℤ) → n ≡ Value v → SFits w64 v → Constants l ts 0 (wire v) r → Constants l ts 0 (negℤ z) r
   negative-value v h f C = rw (← toZ-ofZ fz, exact-value (negℤ (wire z)) v (sym e ∙ h) .1, ← toZ-ofZ f) C
 
-  pub negative-past : (f : Fault) → n ≡ Failed f → r ≡ carriedOf 0 (pos 17179869184) 0 → Constants l ts 0 (negℤ z) r
+  pub negative-past : (f : Fault) → n ≡ Failed f → r ≡ carriedOf 0 noResult 0 → Constants l ts 0 (negℤ z) r
   unfolding exact
   negative-past f h g =
       let q : inside least most (negℤ z) ≡ false = rw (toZ-ofZ fz) at (ranged-fault _ f least most (negℤ (wire z)) (sym e ∙ h) .0) in
@@ -139,7 +139,7 @@ module _ {s l ts : List ℕ} {count newest : ℕ} {σ : Environment} (S : Known 
   end-small false = wide (infoAt (σ .types) t .low) (low-small S t)
 
 module _ (l ts : List ℕ) (last : Bool) (t : ℕ) (r : Carried) (i : Info) (ei : i ≡ infoOf l ts t) where
-  pub end-shape : ((i .shape ≡ 0) → ⊥) → r ≡ carriedOf 0 (pos 17179869184) 0 → Ends l ts last t r
+  pub end-shape : ((i .shape ≡ 0) → ⊥) → r ≡ carriedOf 0 noResult 0 → Ends l ts last t r
   end-shape h e = rw e (record { says = λ s count newest σ S m. rw (ordinal-no S t (λ q. h (ap (λ (j : Info). j .shape) ei ∙ q))) (carries-stuck (σ .types) m) })
 
   pub end-is : (k : ℕ) (w : ℤ) → i .shape ≡ 0 → k ≡ hostIn l ts t → w ≡ endWord last i → SFits w64 w → r ≡ carriedOf k (wire w) 0 → Ends l ts last t r
@@ -170,11 +170,11 @@ module _ (l ts : List ℕ) (t : ℕ) (i : Info) (e : i ≡ infoOf l ts t) where
   set-not h = sym (ne-eqb (infoOf l ts t .shape) 1 (λ q. h (ap (λ (j : Info). j .shape) e ∙ q)))
 
 tested-marks : (lo hi w : ℤ) (q : Result (List ℤ)) → MarkMeans w (q >>= λ u. is (sole u)) → MarkMeans (testedWord lo hi w) (q >>= λ u. tested rangeError lo hi (sole u))
-unfolding testedWord wordOf tested pick MarkRanged
-tested-marks lo hi w q h = go (ltZ (pos 4294967295) w) refl
+unfolding testedWord wordOf tested pick MarkRanged Exceptional inside
+tested-marks lo hi w q h = go (ltZ greatest w) refl
   where
-    go : (b : Bool) → ltZ (pos 4294967295) w ≡ b → MarkMeans (testedWord lo hi w) (q >>= λ u. tested rangeError lo hi (sole u))
-    go true g = rw (fault-again w g, -ℤ-+ℤ-cancel w (pos 8589934592)) (broken-means (broken-bind (λ u. tested rangeError lo hi (sole u)) (view-broken w q (λ u. sole u) h g)))
+    go : (b : Bool) → ltZ greatest w ≡ b → MarkMeans (testedWord lo hi w) (q >>= λ u. tested rangeError lo hi (sole u))
+    go true g = rw (fault-again w g, -ℤ-+ℤ-cancel w faultBase) (broken-means (broken-bind (λ u. tested rangeError lo hi (sole u)) (view-broken w q (λ u. sole u) h g)))
     go false g = view-value w q (λ u. sole u) h g (λ u e f i. rw (e, value-again w g, f) (cases (sole u) i))
       where
         cases : (z : ℤ) → InRange z → MarkMeans (wordOf (tested rangeError lo hi z)) (tested rangeError lo hi z)
@@ -182,7 +182,7 @@ tested-marks lo hi w q h = go (ltZ (pos 4294967295) w) refl
           where
             pass : (b : Bool) → MarkMeans (wordOf (pick b (is z) (fails rangeError))) (pick b (is z) (fails rangeError))
             pass true = means-value z i
-            pass false = record { word = refl; ranged = inr (inl refl) }
+            pass false = record { word = refl; ranged = refl }
 
 pub member-is : (l ts : List ℕ) (t : ℕ) (x : Carried) (i : Info) (h : ℕ) (w lo hi z : ℤ) → i ≡ infoOf l ts t → h ≡ hostIn l ts (i .element) → Wants h x w → lo ≡ signed (i .low) → hi ≡ signed (i .high)
     → z ≡ testedWord (wire lo) (wire hi) (wire w) → SFits w64 w → SFits w64 lo → SFits w64 hi → SFits w64 z → Admits l ts t x (wire z)

@@ -13,7 +13,7 @@ use Rattle.semantics.specs.Machine.{Store, readCells, sole}
 use Rattle.semantics.specs.Marking.{TypedValue, TypedPlace}
 use Rattle.semantics.specs.Types.{Types, ordinal?, set?, sizeOf}
 use Rattle.semantics.proofs.TypeSizes.{SmallTypes}
-use Rattle.calc.specs.Words.{wordOf, InRange}
+use Rattle.calc.specs.Words.{greatest, wordOf, InRange, Exceptional}
 use Rattle.tables.specs.Scene.{Scene}
 use Rattle.carried.specs.declared.values.Carried.{Carried}
 use Rattle.carried.specs.declared.places.Reached.{Reached}
@@ -26,12 +26,12 @@ reachedOf t w = record { typed = t; word = w }
 
 -- a place's first cell by its word, 0 of a fault
 unfoldable pub firstCell : ℤ → ℕ
-firstCell w = pick (ltZ (pos 4294967295) w) 0 (natOf w)
+firstCell w = pick (ltZ greatest w) 0 (min (natOf w) 4294967295)
 
 -- a value in its range, one of the exceptions' numbers, or stuck
 unfoldable pub MarkRanged : Result ℤ → Type 0
 MarkRanged (is z) = InRange z
-MarkRanged (fails e) = (e ≡ numericError) ⊎ ((e ≡ rangeError) ⊎ (e ≡ undefinedError))
+MarkRanged (fails e) = Exceptional e
 MarkRanged stuck = Unit {0}
 
 -- r is the word of v, which may be stuck

@@ -6,7 +6,7 @@ use calc::operators::distance;
 use calc::operators::element;
 use calc::operators::shifted;
 use calc::words::GREATEST;
-use calc::words::natural;
+use calc::words::reach;
 use tables::Info;
 use tables::describe;
 use tables::find_field;
@@ -36,7 +36,7 @@ fn first_cell(word: i64) -> u32
     if word > GREATEST {
         return 0;
     }
-    natural(word) as u32
+    reach(word) as u32
 }
 
 // The cells at a place.

@@ -1,11 +1,12 @@
 // A value with its kind.
+use calc::words::FAULT;
 use calc::words::GREATEST;
 ghost use mathlib.Core.Path.{_≡_};
 ghost use Rattle.carried.specs.Values.{carriedOf};
 ghost use Rattle.carried.specs.Steps.{Wants};
 
 // The word of no result: what was met has a kind that does not fit.
-pub const STUCK: i64 = 17179869184;
+pub const STUCK: i64 = FAULT;
 
 // A value, a fault or no result: its kind and its word. The cells of an array's or record's value stand from cell `from` on.
 pub struct Carried {

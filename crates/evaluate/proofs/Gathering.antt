@@ -27,7 +27,7 @@ use Rattle.semantics.specs.Chair.{evalCode, gatherCodes}
 use Rattle.semantics.specs.Code.{Code, Codes, noCodes, _with_}
 use Rattle.semantics.specs.Machine.{Store, sole}
 use Rattle.semantics.specs.Readback.{integerAt, codesFrom, readCode, readCodes}
-use Rattle.calc.specs.Words.{wordOf, resultOf, InRange, Ranged, Means, Holds, first, testedWord, Integral}
+use Rattle.calc.specs.Words.{greatest, wordOf, resultOf, InRange, Exceptional, Ranged, Means, Holds, first, testedWord, Integral}
 use Rattle.evaluate.specs.Walks.{Evaluates, Gathers}
 use Rattle.calc.proofs.Combining.{value-again}
 use Rattle.calc.proofs.Ranging.{decoded, low-range, range-value}
@@ -95,16 +95,16 @@ bind-twice (fails e) f g = refl
 bind-twice stuck f g = refl
 
 tested-means : (lo hi x z : ℤ) (v : Result ℤ) → Means x v → z ≡ testedWord lo hi x → Means z (v >>= λ u. tested rangeError lo hi u)
-unfolding testedWord tested pick Ranged
+unfolding testedWord tested pick Ranged Exceptional inside
 tested-means lo hi x z (is u) h e = record { word = e ∙ rw (decoded x (is u) h); ranged = go (inside lo hi u) }
   where
     go : (t : Bool) → Ranged (pick t (is u) (fails rangeError))
     go true = h .ranged
-    go false = inr (inl refl)
+    go false = refl
 tested-means lo hi x z (fails q) h e = record { word = e ∙ rw (decoded x (fails q) h); ranged = h .ranged }
 tested-means lo hi x z stuck h e = absurd (h .ranged)
 
-value-there : (z : ℤ) (v : Result ℤ) → Means z v → ltZ (pos 4294967295) z ≡ false → v ≡ is z
+value-there : (z : ℤ) (v : Result ℤ) → Means z v → ltZ greatest z ≡ false → v ≡ is z
 value-there z v h g = sym (decoded z v h) ∙ value-again z g
 
 no-value : {z e : ℤ} → fails e ≡ is z → ⊥
@@ -118,14 +118,14 @@ through (is u) g f z e = ap (λ (q : Result ℤ). q >>= f) e
 through (fails q) g f z e = absurd (no-value e)
 through stuck g f z e = absurd (no-stuck e)
 
-fault-on : (z : ℤ) (q : Result ℤ) (f h : ℤ → Result ℤ) → ltZ (pos 4294967295) z ≡ true → Means z q → Means z ((q >>= f) >>= h)
+fault-on : (z : ℤ) (q : Result ℤ) (f h : ℤ → Result ℤ) → ltZ greatest z ≡ true → Means z q → Means z ((q >>= f) >>= h)
 unfolding wordOf Ranged
-fault-on z (is u) f h k m = absurd (true≢false (sym k ∙ ap (ltZ (pos 4294967295)) (m .word) ∙ range-value u (m .ranged)))
+fault-on z (is u) f h k m = absurd (true≢false (sym k ∙ ap (ltZ greatest) (m .word) ∙ range-value u (m .ranged)))
 fault-on z (fails e) f h k m = m
 fault-on z stuck f h k m = m
 
 -- a fault of a member is that of the set
-fault-through : (z : ℤ) (v : Result (List ℤ)) (g f : ℤ → Result ℤ) (h : ℤ → Result ℤ) → ltZ (pos 4294967295) z ≡ true → Means z (first v >>= g) → Means z ((v >>= λ u. g (sole u) >>= f) >>= h)
+fault-through : (z : ℤ) (v : Result (List ℤ)) (g f : ℤ → Result ℤ) (h : ℤ → Result ℤ) → ltZ greatest z ≡ true → Means z (first v >>= g) → Means z ((v >>= λ u. g (sole u) >>= f) >>= h)
 fault-through z (is u) g f h k m = fault-on z (g (sole u)) f h k m
 fault-through z (fails q) g f h k m = m
 fault-through z stuck g f h k m = m
@@ -186,16 +186,16 @@ module _ (l : List ℕ) (ws : List ℤ) (p depth : ℕ) (lo hi : ℤ) where
     unfolding gatherCodes
     more m = rw (rest-more d l q dp nq)
 
-    fault-means : ltZ (pos 4294967295) (wire z) ≡ true → (m : Store) → Holds ws m → Means z (gatherCodes (integerAt l (p + 1)) (integerAt l (p + 2)) (readCodes depth l (getD l (p + 3) 0)) m)
+    fault-means : ltZ greatest (wire z) ≡ true → (m : Store) → Holds ws m → Means z (gatherCodes (integerAt l (p + 1)) (integerAt l (p + 2)) (readCodes depth l (getD l (p + 3) 0)) m)
     fault-means o m g =
         rw (← h .low .value, ← h .high .value)
         (subst (λ (v : Result ℤ). Means z v) (sym (h .whole m g ∙ ap (λ (v : Result ℤ). v >>= λ t. is (h .seen t)) (more m)))
         (fault-through z (evalCode (readCode (d - 1) l (getD l q 0)) m) (λ u. tested rangeError lo hi u) (λ v. gatherCodes lo hi (readCodes (d - 1) l (q + 1)) m >>= λ zs. is (joined v zs)) (λ t. is (h .seen t)) (rw (toZ-ofZ fz) at o) (test-means m g)))
 
-    pub gather-fault : ltZ (pos 4294967295) (wire z) ≡ true → Gathers l ws (integerAt l (p + 1)) (integerAt l (p + 2)) (getD l (p + 3) 0) depth (wire z)
+    pub gather-fault : ltZ greatest (wire z) ≡ true → Gathers l ws (integerAt l (p + 1)) (integerAt l (p + 2)) (getD l (p + 3) 0) depth (wire z)
     gather-fault o = rw (toZ-ofZ fz) (record { says = λ m g. fault-means o m g })
 
-    pub gather-step : (s′ q′ : ℕ) → Fits w32 s′ → Fits w32 q′ → ltZ (pos 4294967295) (wire z) ≡ false → s′ ≡ valueOf (added (wire z) (members s)) → q′ ≡ getD l (q + 1) 0 → Gathering l ws p depth lo hi s′ (d - 1) q′
+    pub gather-step : (s′ q′ : ℕ) → Fits w32 s′ → Fits w32 q′ → ltZ greatest (wire z) ≡ false → s′ ≡ valueOf (added (wire z) (members s)) → q′ ≡ getD l (q + 1) 0 → Gathering l ws p depth lo hi s′ (d - 1) q′
     gather-step s′ q′ f f′ o i j =
         record {
           low = h .low;

@@ -9,7 +9,8 @@ use native.Mathlib.Omega.{arith}
 use borrow.Author.Tests.{eq-eqb, ne-eqb, lt-ltb, le-ltb, leb-true, leb-false, eqb-true, eqb-false}
 use borrow.Author.Needs.{sfits-of}
 use lib.Dec.{eqb, ltb, leb}
-use Rattle.arith.proofs.Order.{le-not, not-le}
+use Rattle.arith.proofs.Order.{le-not, not-le, le-or-lt}
+use native.Mathlib.Nat.{mul-zero, mul-suc}
 use Rattle.calc.proofs.Combining.{fault-again, value-again}
 use lib.IntN.{ℤ, pos, negsuc, _+ℤ_, _-ℤ_}
 use lib.Signed.{leZ, ltZ, mag, nonNeg}
@@ -34,11 +35,11 @@ use Rattle.semantics.specs.Code.{Code, literal, load, lastNumber, makeSet, calc
 use Rattle.semantics.specs.Machine.{Store, readCell, readCells, sole, oneCell, shortCircuited, defined, undefined}
 use Rattle.semantics.specs.Operators.{predIn, succIn}
 use Rattle.semantics.specs.Readback.{codeOps, codeOp, placeOp, operationAt, operation1At, integerAt, codeFrom, placeFrom, readCode, readPlace, readCodes}
-use Rattle.calc.specs.Words.{wordOf, resultOf, applied, applied1, InRange, Ranged, Means, Holds, first, undefinedWord, storeWord, latestIn, allValues, cellsWord, cellsAt, Integral, placeWord, cellOf, distanceWord, elementWord, shiftedWord}
+use Rattle.calc.specs.Words.{greatest, faultBase, wordOf, resultOf, applied, applied1, InRange, Exceptional, Ranged, Means, Holds, first, undefinedWord, storeWord, latestIn, allValues, cellsWord, cellsAt, Integral, placeWord, cellOf, distanceWord, elementWord, shiftedWord}
 use Rattle.evaluate.specs.Walks.{Evaluates, Places, Gathers, capped}
 use Rattle.calc.proofs.Leaves.{small-signed}
 use Rattle.calc.proofs.Placing.{index-span, index-up}
-use Rattle.calc.proofs.Ranging.{Bounded, plain, wide, low-range, range-value, above-fault, decoded, binary-means, unary-means, fault-means, value-means}
+use Rattle.calc.proofs.Ranging.{Bounded, plain, wide, low-range, range-value, above-fault, back-fault, decoded, binary-means, unary-means, fault-means, value-means}
 
 -- ---- what a node is
 pub binary-op : (n : ℕ) → 8 < n → n < 29 → codeOp n ≡ Binary (n - 9)
@@ -204,10 +205,10 @@ cell-fails a m e h = go (eqb (getD (m .marks) a undefined) defined) h
     go true q = absurd (value-fault q)
     go false q = refl
 
-as-value : (w : ℤ) → ltZ (pos 4294967295) w ≡ false → resultOf w ≡ is w
+as-value : (w : ℤ) → ltZ greatest w ≡ false → resultOf w ≡ is w
 as-value w e = value-again w e
 
-as-fault : (w : ℤ) → ltZ (pos 4294967295) w ≡ true → resultOf w ≡ fails (w -ℤ pos 8589934592)
+as-fault : (w : ℤ) → ltZ greatest w ≡ true → resultOf w ≡ fails (w -ℤ faultBase)
 as-fault w e = fault-again w e
 
 zero-word : pos 0 ≡ wordOf (is (pos 0))
@@ -219,22 +220,22 @@ unfolding Ranged
 zero-ranged = low-range 0 (omega arith)
 
 undefined-means : Means undefinedWord (fails undefinedError)
-unfolding wordOf Ranged
-undefined-means = record { word = refl; ranged = inr (inr refl) }
+unfolding wordOf Ranged Exceptional inside
+undefined-means = record { word = refl; ranged = refl }
 
 past-word : (ws : List ℤ) (a : ℕ) → 2048 ≤ a → storeWord ws a ≡ undefinedWord
 unfolding storeWord pick
 past-word ws a e = rw (le-ltb a 2048 e)
 
 module _ (ws : List ℤ) (m : Store) (h : Holds ws m) where
-  cell-is : (a : ℕ) → leZ (storeWord ws a) (pos 4294967295) ≡ true → readCell a m ≡ is (storeWord ws a)
+  cell-is : (a : ℕ) → leZ (storeWord ws a) greatest ≡ true → readCell a m ≡ is (storeWord ws a)
   cell-is a e = go (readCell a m) (h .cells a)
     where
       go : (v : Result ℤ) → Means (storeWord ws a) v → v ≡ is (storeWord ws a)
-      go v q = sym (decoded (storeWord ws a) v q) ∙ as-value (storeWord ws a) (le-not (storeWord ws a) (pos 4294967295) e)
+      go v q = sym (decoded (storeWord ws a) v q) ∙ as-value (storeWord ws a) (le-not (storeWord ws a) greatest e)
 
-  cell-none : (a : ℕ) → leZ (storeWord ws a) (pos 4294967295) ≡ false → readCell a m ≡ fails undefinedError
-  cell-none a e = cell-fails a m (storeWord ws a -ℤ pos 8589934592) (sym (decoded (storeWord ws a) (readCell a m) (h .cells a)) ∙ as-fault (storeWord ws a) (not-le (storeWord ws a) (pos 4294967295) e))
+  cell-none : (a : ℕ) → leZ (storeWord ws a) greatest ≡ false → readCell a m ≡ fails undefinedError
+  cell-none a e = cell-fails a m (storeWord ws a -ℤ faultBase) (sym (decoded (storeWord ws a) (readCell a m) (h .cells a)) ∙ as-fault (storeWord ws a) (not-le (storeWord ws a) greatest e))
 
   none-read : (a : ℕ) → Means (pos 0) (first (readCells a 0 m))
   unfolding readCells
@@ -248,23 +249,23 @@ module _ (ws : List ℤ) (m : Store) (h : Holds ws m) where
   unfolding readCells allValues
   reads zero a e = ([], refl)
   reads (suc n) a e =
-      let w = and-eq-true-iff (leZ (storeWord ws a) (pos 4294967295)) (allValues ws (a + 1) n) .0 e in
+      let w = and-eq-true-iff (leZ (storeWord ws a) greatest) (allValues ws (a + 1) n) .0 e in
       let r = reads n (suc a) (sym (up a n) ∙ w .1) in
       (storeWord ws a ∷ r .0, rw (cell-is a (w .0), r .1))
 
-  reads-more : (n a : ℕ) → allValues ws a (suc n) ≡ true → (leZ (storeWord ws a) (pos 4294967295) ≡ true) × ((zs : List ℤ) × (readCells a (suc n) m ≡ is (storeWord ws a ∷ zs)))
+  reads-more : (n a : ℕ) → allValues ws a (suc n) ≡ true → (leZ (storeWord ws a) greatest ≡ true) × ((zs : List ℤ) × (readCells a (suc n) m ≡ is (storeWord ws a ∷ zs)))
   unfolding readCells allValues
   reads-more n a e =
-      let w = and-eq-true-iff (leZ (storeWord ws a) (pos 4294967295)) (allValues ws (a + 1) n) .0 e in
+      let w = and-eq-true-iff (leZ (storeWord ws a) greatest) (allValues ws (a + 1) n) .0 e in
       let r = reads n (suc a) (sym (up a n) ∙ w .1) in
       (w .0, (r .0, rw (cell-is a (w .0), r .1)))
 
   reads-none : (n a : ℕ) → allValues ws a n ≡ false → readCells a n m ≡ fails undefinedError
   unfolding readCells allValues
   reads-none zero a e = absurd (true≢false e)
-  reads-none (suc n) a e = go (λ q. reads-none n (suc a) (sym (up a n) ∙ q)) (leZ (storeWord ws a) (pos 4294967295)) refl e
+  reads-none (suc n) a e = go (λ q. reads-none n (suc a) (sym (up a n) ∙ q)) (leZ (storeWord ws a) greatest) refl e
     where
-      go : (allValues ws (a + 1) n ≡ false → readCells (suc a) n m ≡ fails undefinedError) → (t : Bool) → leZ (storeWord ws a) (pos 4294967295) ≡ t → (t && allValues ws (a + 1) n) ≡ false
+      go : (allValues ws (a + 1) n ≡ false → readCells (suc a) n m ≡ fails undefinedError) → (t : Bool) → leZ (storeWord ws a) greatest ≡ t → (t && allValues ws (a + 1) n) ≡ false
           → (readCell a m >>= λ z. readCells (suc a) n m >>= λ zs. is (z ∷ zs)) ≡ fails undefinedError
       go f true q r = rw (cell-is a q, f r)
       go f false q r = rw (cell-none a q)
@@ -326,21 +327,32 @@ deep-not d h = omega arith
 eight : (n : ℕ) → ((n ≡ 7) → ⊥) → 6 < n → n < 9 → n ≡ 8
 eight n h a b = omega arith
 
-short-when : (q t : Bool) (v w : Result (List ℤ)) (x : ℤ) → ltZ (pos 4294967295) x ≡ false → Means x (first v) → ltZ (pos 0) x ≡ t → (v >>= λ u. shortCircuited q (isTrue (sole u)) w) ≡ shortCircuited q t w
+short-when : (q t : Bool) (v w : Result (List ℤ)) (x : ℤ) → ltZ greatest x ≡ false → Means x (first v) → ltZ (pos 0) x ≡ t → (v >>= λ u. shortCircuited q (isTrue (sole u)) w) ≡ shortCircuited q t w
 short-when q t v w x h k g =
     let s = value-means x v h k in
     ap (λ (v : Result (List ℤ)). v >>= λ u. shortCircuited q (isTrue (sole u)) w) (s .1 .0) ∙ ap (λ (z : ℤ). shortCircuited q (isTrue z) w) (s .1 .1) ∙ ap (λ (b : Bool). shortCircuited q b w) g
 
-pub le-ltb-cap : (a : ℕ) → ltb 4294967295 (min a 4294967295) ≡ false
-le-ltb-cap a = le-ltb 4294967295 (min a 4294967295) (omega arith)
+pub le-ltb-cap : (a : ℕ) → ltb 9218868437227405311 (min a 4294967295) ≡ false
+le-ltb-cap a = le-ltb 9218868437227405311 (min a 4294967295) (omega arith)
+
+pub cap-twice : (a : ℕ) → min (min a 4294967295) 4294967295 ≡ min a 4294967295
+cap-twice a = omega arith
 
 pub cap-add : (a t : ℕ) → min (min a 4294967295 + t) 4294967295 ≡ min (a + t) 4294967295
 cap-add a t = omega arith
 
+pub cap-times : (a k c : ℕ) → min (min a 4294967295 + min k 4294967295 * c) 4294967295 ≡ min (a + k * c) 4294967295
+cap-times a k zero = rw (mul-zero k, mul-zero (min k 4294967295)) (omega arith)
+cap-times a k (suc c) = go (le-or-lt k 4294967295)
+  where
+    go : (k ≤ 4294967295) ⊎ (4294967295 < k) → min (min a 4294967295 + min k 4294967295 * suc c) 4294967295 ≡ min (a + k * suc c) 4294967295
+    go (inl h) = let e : min k 4294967295 ≡ k = omega arith in rw e (cap-add a (k * suc c))
+    go (inr h) = let e : min k 4294967295 ≡ 4294967295 = omega arith in rw (e, mul-suc k c, mul-suc 4294967295 c) (omega arith)
+
 -- r is the word of the place v
 unfoldable pub Found : Result ℕ → Type 0
 Found (is a) = Unit {0}
-Found (fails e) = (e ≡ numericError) ⊎ ((e ≡ rangeError) ⊎ (e ≡ undefinedError))
+Found (fails e) = Exceptional e
 Found stuck = ⊥
 
 pub record Located (r : ℤ) (v : Result ℕ) : Type 0 where
@@ -375,17 +387,15 @@ one-or-more ws m h a c = go (eqb c 1) refl
     go true q = rw (eqb-true c 1 q, ← cell-read a m) (h .cells a)
     go false q = cells-word ws m h a c
 
-at-fault : (y e : ℤ) → (e ≡ numericError) ⊎ ((e ≡ rangeError) ⊎ (e ≡ undefinedError)) → pick (ltZ (pos 4294967295) (e +ℤ pos 8589934592)) (e +ℤ pos 8589934592) y ≡ e +ℤ pos 8589934592
+at-fault : (y e : ℤ) → Exceptional e → pick (ltZ greatest (e +ℤ faultBase)) (e +ℤ faultBase) y ≡ e +ℤ faultBase
 unfolding pick
-at-fault y e (inl q) = rw q
-at-fault y e (inr (inl q)) = rw q
-at-fault y e (inr (inr q)) = rw q
+at-fault y e h = rw (sym (above-fault e h))
 
 pub at-means : (ws : List ℤ) (m : Store) → Holds ws m → (w z : ℤ) (c : ℕ) (v : Result ℕ) → Located w v → z ≡ cellsAt ws w c → Means z (first (v >>= λ a. readCells a c m))
 unfolding cellsAt placeWord Found Ranged wordOf pick
 at-means ws m h w z c (is a) q e =
     subst (λ (u : Result (List ℤ)). Means z (first u)) (capped-cells ws m h a c)
-    (subst (λ (x : ℤ). Means x (first (readCells (min a 4294967295) c m))) (sym (e ∙ rw (q .word, le-ltb-cap a))) (one-or-more ws m h (min a 4294967295) c))
+    (subst (λ (x : ℤ). Means x (first (readCells (min a 4294967295) c m))) (sym (e ∙ rw (q .word, le-ltb-cap a, cap-twice a))) (one-or-more ws m h (min a 4294967295) c))
 at-means ws m h w z c (fails x) q e = record { word = e ∙ rw (q .word) (at-fault _ x (q .found)); ranged = q .found }
 at-means ws m h w z c stuck q e = absurd (q .found)
 
@@ -510,7 +520,7 @@ module _ (l : List ℕ) (ws : List ℤ) (p d : ℕ) where
     unfolding codeFrom evalCode codeOp codeOps
     or-read m o = rw (is-op l ws p d n dp e OrElse (rw o), ← f)
 
-    pub short-fault : ltZ (pos 4294967295) (wire x) ≡ true → Evaluates l ws p d (wire x)
+    pub short-fault : ltZ greatest (wire x) ≡ true → Evaluates l ws p d (wire x)
     short-fault g = rw (toZ-ofZ fx) (record { says = λ m h. go m h (eqb n 7) refl })
       where
         go : (m : Store) → Holds ws m → (t : Bool) → eqb n 7 ≡ t → Means x (first (evalCode (readCode d l p) m))
@@ -521,7 +531,7 @@ module _ (l : List ℕ) (ws : List ℤ) (p d : ℕ) where
             rw (or-read m (eight n (eqb-false n 7 q) (omega (arith, e, h1)) (omega (arith, e, h2))))
             (fault-means x (evalCode (readCode (d - 1) l a) m) (λ u. shortCircuited false (isTrue (sole u)) (evalCode (readCode (d - 1) l (getD l (p + 2) 0)) m)) (rw (toZ-ofZ fx) at g) (r .says m h))
 
-    module _ (v : ltZ (pos 4294967295) (wire x) ≡ false) where
+    module _ (v : ltZ greatest (wire x) ≡ false) where
       short-is : (q t : Bool) (m : Store) → Holds ws m → ltZ (pos 0) (wire x) ≡ t → (evalCode (readCode (d - 1) l a) m >>= λ u. shortCircuited q (isTrue (sole u)) (evalCode (readCode (d - 1) l (getD l (p + 2) 0)) m)) ≡ shortCircuited q t (evalCode (readCode (d - 1) l (getD l (p + 2) 0)) m)
       short-is q t m h g = short-when q t (evalCode (readCode (d - 1) l a) m) (evalCode (readCode (d - 1) l (getD l (p + 2) 0)) m) x (rw (toZ-ofZ fx) at v) (r .says m h) (rw (toZ-ofZ fx) at g)
 
@@ -542,13 +552,11 @@ pub ruleset short-laws = (short-fault, and-right, and-stop, or-stop, or-right, s
 -- ---- places
 cell-decoded : (w : ℤ) (v : Result ℕ) → Located w v → cellOf w ≡ (v >>= λ a. is (min a 4294967295))
 unfolding placeWord cellOf pick Found
-cell-decoded w (is a) h = rw (h .word, le-ltb-cap a)
+cell-decoded w (is a) h = rw (h .word, le-ltb-cap a, cap-twice a)
 cell-decoded w (fails e) h = rw (h .word) (go e (h .found))
   where
-    go : (e : ℤ) → (e ≡ numericError) ⊎ ((e ≡ rangeError) ⊎ (e ≡ undefinedError)) → cellOf (e +ℤ pos 8589934592) ≡ fails e
-    go e (inl q) = rw q
-    go e (inr (inl q)) = rw q
-    go e (inr (inr q)) = rw q
+    go : (e : ℤ) → Exceptional e → cellOf (e +ℤ faultBase) ≡ fails e
+    go e q = rw (sym (above-fault e q), back-fault e q)
 cell-decoded w stuck h = absurd (h .found)
 
 pub shift-means : (w z : ℤ) (c : ℕ) (v : Result ℕ) → Located w v → z ≡ shiftedWord w c → Located z (v >>= λ a. is (a + c))
@@ -559,36 +567,36 @@ shift-means w z c stuck h e = absurd (h .found)
 
 pub element-means : (w y z : ℤ) (c : ℕ) (v : Result ℕ) (u : Result ℤ) → Located w v → Means y u → z ≡ elementWord w y c → Located z (v >>= λ a. u >>= λ k. is (a + natOf k * c))
 unfolding elementWord placeWord Found Ranged
-element-means w y z c (is a) (is k) h g e = record { word = e ∙ rw (cell-decoded w (is a) h, decoded y (is k) g) (ap pos (cap-add a (natOf k * c))); found = tt }
+element-means w y z c (is a) (is k) h g e = record { word = e ∙ rw (cell-decoded w (is a) h, decoded y (is k) g) (ap pos (cap-times a (natOf k) c)); found = tt }
 element-means w y z c (is a) (fails q) h g e = record { word = e ∙ rw (cell-decoded w (is a) h, decoded y (fails q) g); found = g .ranged }
 element-means w y z c (is a) stuck h g e = absurd (g .ranged)
 element-means w y z c (fails q) u h g e = record { word = e ∙ rw (cell-decoded w (fails q) h); found = h .found }
 element-means w y z c stuck u h g e = absurd (h .found)
 
 -- a fault of the array's place, and then one of the index, is the element's
-fault-place : (w : ℤ) (v : Result ℕ) (f : ℕ → Result ℕ) → ltZ (pos 4294967295) w ≡ true → Located w v → Located w (v >>= f)
+fault-place : (w : ℤ) (v : Result ℕ) (f : ℕ → Result ℕ) → ltZ greatest w ≡ true → Located w v → Located w (v >>= f)
 unfolding placeWord Found
-fault-place w (is a) f h g = absurd (true≢false (sym h ∙ ap (ltZ (pos 4294967295)) (g .word) ∙ le-ltb-cap a))
+fault-place w (is a) f h g = absurd (true≢false (sym h ∙ ap (ltZ greatest) (g .word) ∙ le-ltb-cap a))
 fault-place w (fails e) f h g = record { word = g .word; found = g .found }
 fault-place w stuck f h g = absurd (g .found)
 
-fault-index : (w x : ℤ) (v : Result ℕ) (u : Result (List ℤ)) (f : ℕ → List ℤ → Result ℕ) → ltZ (pos 4294967295) w ≡ false → ltZ (pos 4294967295) x ≡ true → Located w v → Means x (first u)
+fault-index : (w x : ℤ) (v : Result ℕ) (u : Result (List ℤ)) (f : ℕ → List ℤ → Result ℕ) → ltZ greatest w ≡ false → ltZ greatest x ≡ true → Located w v → Means x (first u)
     → Located x (v >>= λ a. u >>= λ z. f a z)
 unfolding placeWord Found wordOf Ranged
-fault-index w x (is a) (is z) f h k g q = absurd (true≢false (sym k ∙ ap (ltZ (pos 4294967295)) (q .word) ∙ range-value (sole z) (q .ranged)))
+fault-index w x (is a) (is z) f h k g q = absurd (true≢false (sym k ∙ ap (ltZ greatest) (q .word) ∙ range-value (sole z) (q .ranged)))
 fault-index w x (is a) (fails e) f h k g q = record { word = q .word; found = q .ranged }
 fault-index w x (is a) stuck f h k g q = absurd (q .ranged)
-fault-index w x (fails e) u f h k g q = absurd (true≢false (above-fault e (g .found) ∙ sym (ap (ltZ (pos 4294967295)) (g .word)) ∙ h))
+fault-index w x (fails e) u f h k g q = absurd (true≢false (above-fault e (g .found) ∙ sym (ap (ltZ greatest) (g .word)) ∙ h))
 fault-index w x stuck u f h k g q = absurd (g .found)
 
 -- an index's distance
 pub test-cases : (lo hi u : ℤ) → inside least most lo ≡ true → inside least most hi ≡ true → Ranged (tested rangeError lo hi u >>= λ z. is (z -ℤ lo))
-unfolding tested pick Ranged
+unfolding tested pick Ranged Exceptional inside
 test-cases lo hi u p q = go (inside lo hi u) refl
   where
     go : (t : Bool) → inside lo hi u ≡ t → Ranged (pick t (is u) (fails rangeError) >>= λ z. is (z -ℤ lo))
     go true h = up-range (u -ℤ lo) (index-span lo hi u p q h) (index-up lo hi u p q h)
-    go false h = inr (inl refl)
+    go false h = refl
 
 pub distance-means : (lo hi x y : ℤ) (v : Result ℤ) → inside least most lo ≡ true → inside least most hi ≡ true → Means x v → y ≡ distanceWord lo hi x → Means y (v >>= λ u. tested rangeError lo hi u >>= λ z. is (z -ℤ lo))
 unfolding distanceWord Ranged
@@ -655,7 +663,7 @@ module _ (l : List ℕ) (ws : List ℤ) (p d : ℕ) where
               (v ∙ rw (toZ-ofZ fw, toZ-ofZ fx)))));
         })
 
-    pub finds-left : (a : ℕ) (w : ℤ) → n ≡ 41 → a ≡ getD l (p + 1) 0 → Places l ws a (d - 1) w → SFits w64 w → ltZ (pos 4294967295) (wire w) ≡ true → Places l ws p d (wire w)
+    pub finds-left : (a : ℕ) (w : ℤ) → n ≡ 41 → a ≡ getD l (p + 1) 0 → Places l ws a (d - 1) w → SFits w64 w → ltZ greatest (wire w) ≡ true → Places l ws p d (wire w)
     unfolding placeFrom placeCode placeOp
     finds-left a w o fa r fw g =
         rw (toZ-ofZ fw) (record {
@@ -664,7 +672,7 @@ module _ (l : List ℕ) (ws : List ℤ) (p d : ℕ) where
         })
 
     pub finds-right : (a b : ℕ) (w x : ℤ) → n ≡ 41 → a ≡ getD l (p + 1) 0 → b ≡ getD l (p + 2) 0 → Places l ws a (d - 1) w → Evaluates l ws b (d - 1) x
-        → SFits w64 w → SFits w64 x → ltZ (pos 4294967295) (wire w) ≡ false → ltZ (pos 4294967295) (wire x) ≡ true → Places l ws p d (wire x)
+        → SFits w64 w → SFits w64 x → ltZ greatest (wire w) ≡ false → ltZ greatest (wire x) ≡ true → Places l ws p d (wire x)
     unfolding placeFrom placeCode placeOp
     finds-right a b w x o fa fb r t fw fx g k =
         rw (toZ-ofZ fx) (record {

@@ -23,7 +23,7 @@ use Rattle.semantics.specs.Chair.{evalCode, placeCode, runAct}
 use Rattle.semantics.specs.Machine.{Store, State, state, Answer, answer, normal, raised, branch, passOn, raiseNumber, raising, oneCell, readCell, readCells, undefined, sole, stored, storeOrdinal, storeWhole, withResult, Procs}
 use Rattle.semantics.specs.Readback.{actOpAt, integerAt, readAct, readCode, readPlace}
 use Rattle.evaluate.specs.Walks.{Evaluates, Places, capped}
-use Rattle.calc.specs.Words.{InRange, Means, Holds, first, cellsWord, latestIn}
+use Rattle.calc.specs.Words.{greatest, InRange, Means, Holds, first, cellsWord, latestIn}
 use Rattle.steps.specs.Ends.{cellsIn, leftIn, raisedWord, faultIn, notedIn, numberIn, Raises, RaisesNumber}
 use Rattle.steps.specs.Stands.{Stands, Ends, Runs, after}
 use Rattle.leaves.specs.Cells.{Addresses, Puts, Copies, Copying}
@@ -41,16 +41,16 @@ at-node z n k ws s ws′ r e R = subst (λ (i : ℕ). Raises z i ws s ws′ r) e
 
 -- ---- what a result gives in statement n
 module _ (l : List ℕ) (ws : List ℤ) (s : ℕ) (m : Store) (S : Stands ws s m) (x : ℤ) (h : SFits w64 x) where
-  pub value-here : (q d : ℕ) → Evaluates l ws q d x → ltZ (pos 4294967295) (wire x) ≡ false → Cells (evalCode (readCode d l q) m) x
+  pub value-here : (q d : ℕ) → Evaluates l ws q d x → ltZ greatest (wire x) ≡ false → Cells (evalCode (readCode d l q) m) x
   value-here q d E g = first-value (evalCode (readCode d l q) m) x (E .says m (S .holds)) (rw (toZ-ofZ h) at g)
 
-  pub fault-here : (q d : ℕ) → Evaluates l ws q d x → ltZ (pos 4294967295) (wire x) ≡ true → Faulty (evalCode (readCode d l q) m) (wire x)
+  pub fault-here : (q d : ℕ) → Evaluates l ws q d x → ltZ greatest (wire x) ≡ true → Faulty (evalCode (readCode d l q) m) (wire x)
   fault-here q d E g = rw (toZ-ofZ h) (first-fault (evalCode (readCode d l q) m) x (E .says m (S .holds)) (rw (toZ-ofZ h) at g))
 
-  pub place-here : (q d : ℕ) → Places l ws q d x → ltZ (pos 4294967295) (wire x) ≡ false → Address (placeCode (readPlace d l q) m) x
+  pub place-here : (q d : ℕ) → Places l ws q d x → ltZ greatest (wire x) ≡ false → Address (placeCode (readPlace d l q) m) x
   place-here q d E g = place-value (placeCode (readPlace d l q) m) x (E .says m (S .holds)) (rw (toZ-ofZ h) at g)
 
-  pub place-fails : (q d : ℕ) → Places l ws q d x → ltZ (pos 4294967295) (wire x) ≡ true → Faulty (placeCode (readPlace d l q) m) (wire x)
+  pub place-fails : (q d : ℕ) → Places l ws q d x → ltZ greatest (wire x) ≡ true → Faulty (placeCode (readPlace d l q) m) (wire x)
   place-fails q d E g = rw (toZ-ofZ h) (place-fault (placeCode (readPlace d l q) m) x (E .says m (S .holds)) (rw (toZ-ofZ h) at g))
 
 -- the number that a place's word is
@@ -76,13 +76,13 @@ module _ (l : List ℕ) (ws : List ℤ) (s : ℕ) (p d : ℕ) (x : ℤ) (h : SFi
     fewer = e;
   }
 
-  ordinal-fault : (ws′ : List ℤ) (r : ℕ) → ltZ (pos 4294967295) (wire x) ≡ true → Raises (faultIn (wire x)) (getD l (p + 1) 0) ws s ws′ r → Does AssignOrdinal l d p ws s ws′ r
+  ordinal-fault : (ws′ : List ℤ) (r : ℕ) → ltZ greatest (wire x) ≡ true → Raises (faultIn (wire x)) (getD l (p + 1) 0) ws s ws′ r → Does AssignOrdinal l d p ws s ws′ r
   ordinal-fault ws′ r g R =
       ordinal-from ws′ r (raised-fewer (faultIn (wire x)) (getD l (p + 1) 0) ws s ws′ r R)
       (λ m S. fault-ends ws s m (getD l (p + 1) 0) (evalCode (readCode d l (getD l (p + 3) 0)) m) (wire x) (λ zs. ordinalWith l d p zs (state m s)) ws′ r S
       (fault-here l ws s m S x h (getD l (p + 3) 0) d E g) R)
 
-  module _ (g : ltZ (pos 4294967295) (wire x) ≡ false) where
+  module _ (g : ltZ greatest (wire x) ≡ false) where
     ordinal-value : (ws′ : List ℤ) (r : ℕ) → leftIn r ≤ s
         → ((m : Store) (zs : List ℤ) → sole zs ≡ x → InRange x → Stands ws s m → Ends (ordinalWith l d p zs (state m s)) ws′ r) → Does AssignOrdinal l d p ws s ws′ r
     ordinal-value ws′ r e k = ordinal-from ws′ r e (λ m S. go m S (value-here l ws s m S x h (getD l (p + 3) 0) d E g))
@@ -94,7 +94,7 @@ module _ (l : List ℕ) (ws : List ℤ) (s : ℕ) (p d : ℕ) (x : ℤ) (h : SFi
             (C .gives) (k m (C .zs) (C .first-is) (C .ranged) S)
 
     module _ (a : ℤ) (i : SFits w64 a) (P : Places l ws (getD l (p + 2) 0) d a) where
-      ordinal-unplaced : (ws′ : List ℤ) (r : ℕ) → ltZ (pos 4294967295) (wire a) ≡ true → Raises (faultIn (wire a)) (getD l (p + 1) 0) ws s ws′ r → Does AssignOrdinal l d p ws s ws′ r
+      ordinal-unplaced : (ws′ : List ℤ) (r : ℕ) → ltZ greatest (wire a) ≡ true → Raises (faultIn (wire a)) (getD l (p + 1) 0) ws s ws′ r → Does AssignOrdinal l d p ws s ws′ r
       unfolding ordinalWith
       ordinal-unplaced ws′ r k R =
           ordinal-value ws′ r (raised-fewer (faultIn (wire a)) (getD l (p + 1) 0) ws s ws′ r R)
@@ -102,7 +102,7 @@ module _ (l : List ℕ) (ws : List ℤ) (s : ℕ) (p d : ℕ) (x : ℤ) (h : SFi
           (λ c. storeOrdinal (getD l (p + 1) 0) c (integerAt l (p + 4)) (integerAt l (p + 5)) (sole zs) (state m s)) ws′ r S
           (place-fails l ws s m S a i (getD l (p + 2) 0) d P k) R)
 
-      module _ (k : ltZ (pos 4294967295) (wire a) ≡ false) where
+      module _ (k : ltZ greatest (wire a) ≡ false) where
         ordinal-placed : (ws′ : List ℤ) (r : ℕ) → leftIn r ≤ s
             → ((m : Store) (A : Address (placeCode (readPlace d l (getD l (p + 2) 0)) m) a) → InRange x → Stands ws s m
             → Ends (storeOrdinal (getD l (p + 1) 0) (A .a) (integerAt l (p + 4)) (integerAt l (p + 5)) x (state m s)) ws′ r)
@@ -128,17 +128,17 @@ module _ (l : List ℕ) (ws : List ℤ) (s : ℕ) (p d e : ℕ) (x : ℤ) (r : �
   there : Evaluates l ws (getD l (p + 3) 0) d x
   there = subst (λ (k : ℕ). Evaluates l ws k d x) Q E
 
-  pub assign-fault : (n : ℕ) (ws′ : List ℤ) → ltZ (pos 4294967295) (wire x) ≡ true → n ≡ getD l (p + 1) 0 → Raises (faultIn (wire x)) n ws s ws′ r → Does AssignOrdinal l d p ws s ws′ r
+  pub assign-fault : (n : ℕ) (ws′ : List ℤ) → ltZ greatest (wire x) ≡ true → n ≡ getD l (p + 1) 0 → Raises (faultIn (wire x)) n ws s ws′ r → Does AssignOrdinal l d p ws s ws′ r
   assign-fault n ws′ g N u = ordinal-fault l ws s p d x h there ws′ r g (at-node (faultIn (wire x)) n (getD l (p + 1) 0) ws s ws′ r N u)
 
-  module _ (g : ltZ (pos 4294967295) (wire x) ≡ false) (c : ℕ) (a : ℤ) (C : c ≡ getD l (p + 2) 0) (P : Places l ws c d a) (i : SFits w64 a) where
+  module _ (g : ltZ greatest (wire x) ≡ false) (c : ℕ) (a : ℤ) (C : c ≡ getD l (p + 2) 0) (P : Places l ws c d a) (i : SFits w64 a) where
     spot : Places l ws (getD l (p + 2) 0) d a
     spot = subst (λ (k : ℕ). Places l ws k d a) C P
 
-    pub assign-unplaced : (n : ℕ) (ws′ : List ℤ) → ltZ (pos 4294967295) (wire a) ≡ true → n ≡ getD l (p + 1) 0 → Raises (faultIn (wire a)) n ws s ws′ r → Does AssignOrdinal l d p ws s ws′ r
+    pub assign-unplaced : (n : ℕ) (ws′ : List ℤ) → ltZ greatest (wire a) ≡ true → n ≡ getD l (p + 1) 0 → Raises (faultIn (wire a)) n ws s ws′ r → Does AssignOrdinal l d p ws s ws′ r
     assign-unplaced n ws′ k N u = ordinal-unplaced l ws s p d x h there g a i spot ws′ r k (at-node (faultIn (wire a)) n (getD l (p + 1) 0) ws s ws′ r N u)
 
-    pub assign-stores : (ws′ : List ℤ) → ltZ (pos 4294967295) (wire a) ≡ false → Ordinates l (wire a) (wire x) p ws s ws′ r → Does AssignOrdinal l d p ws s ws′ r
+    pub assign-stores : (ws′ : List ℤ) → ltZ greatest (wire a) ≡ false → Ordinates l (wire a) (wire x) p ws s ws′ r → Does AssignOrdinal l d p ws s ws′ r
     assign-stores ws′ k O = ordinal-stores l ws s p d x h there g a i spot k ws′ r O
 
 pub ruleset assign-laws = (assign-fault, assign-unplaced, assign-stores, sfits-of)
@@ -196,7 +196,7 @@ module _ (l : List ℕ) (ws : List ℤ) (s : ℕ) (p d n e : ℕ) (x : ℤ) (ws�
   heard : Evaluates l ws (getD l (p + 2) 0) d x
   heard = subst (λ (k : ℕ). Evaluates l ws k d x) Q E
 
-  pub raise-fault : ltZ (pos 4294967295) (wire x) ≡ true → Raises (faultIn (wire x)) n ws s ws′ r → Does Raise l d p ws s ws′ r
+  pub raise-fault : ltZ greatest (wire x) ≡ true → Raises (faultIn (wire x)) n ws s ws′ r → Does Raise l d p ws s ws′ r
   raise-fault g u = record {
     runs = λ ps o. record {
       says = λ m S. subst (λ (a : Answer). Ends a ws′ r) (sym (Shapes.raise-shape ps l d p m s o))
@@ -212,7 +212,7 @@ module _ (l : List ℕ) (ws : List ℤ) (s : ℕ) (p d n e : ℕ) (x : ℤ) (ws�
       is-ends (getD l (p + 1) 0) (state m s) (evalCode (readCode d l (getD l (p + 2) 0)) m) (C .zs) (λ zs. raiseNumber (getD l (p + 1) 0) (sole zs) (state m s)) (numberIn x (getD l (p + 1) 0) ws) r (C .gives)
       (subst (λ (z : ℤ). Ends (raiseNumber (getD l (p + 1) 0) z (state m s)) (numberIn x (getD l (p + 1) 0) ws) r) (sym (C .first-is)) (raise-ends ws s m x (getD l (p + 1) 0) S (C .ranged) r w k))
 
-  pub raise-value : ltZ (pos 4294967295) (wire x) ≡ false → RaisesNumber (wire x) n ws s ws′ r → Does Raise l d p ws s ws′ r
+  pub raise-value : ltZ greatest (wire x) ≡ false → RaisesNumber (wire x) n ws s ws′ r → Does Raise l d p ws s ws′ r
   raise-value g u =
       let k : getD l (p + 1) 0 ≤ 4294967295 = omega (arith, N, u .small) in
       let e : ws′ ≡ numberIn x (getD l (p + 1) 0) ws = u .store ∙ ap (λ (z : ℤ). numberIn z n ws) (toZ-ofZ h) ∙ ap (λ (i : ℕ). numberIn x i ws) N in
@@ -228,13 +228,13 @@ module _ (l : List ℕ) (ws : List ℤ) (s : ℕ) (p d n e : ℕ) (x : ℤ) (ws�
 pub ruleset raise-ways = (raise-fault, raise-value, sfits-of)
 
 -- ---- `assign_value`
-one-fault : (x : ℤ) (v : Result (List ℤ)) → Single x v → ltZ (pos 4294967295) x ≡ true → Faulty v x
+one-fault : (x : ℤ) (v : Result (List ℤ)) → Single x v → ltZ greatest x ≡ true → Faulty v x
 one-fault x v U g =
     let F : Faulty (U .x) x = word-fault (U .x) x (U .means) g in
     record { gives = U .gives ∙ ap (λ (u : Result ℤ). oneCell u) (F .gives); ranged = F .ranged }
 
 module _ (l : List ℕ) (ws : List ℤ) (s : ℕ) (p d n : ℕ) (x : ℤ) (r : ℕ) (N : n ≡ getD l (p + 1) 0) (h : SFits w64 x) where
-  pub value-fault : (ws′ : List ℤ) → ltZ (pos 4294967295) (wire x) ≡ true → Raises (faultIn (wire x)) n ws s ws′ r → FromValue l x p d ws s ws′ r
+  pub value-fault : (ws′ : List ℤ) → ltZ greatest (wire x) ≡ true → Raises (faultIn (wire x)) n ws s ws′ r → FromValue l x p d ws s ws′ r
   value-fault ws′ g u = record {
     says = λ m v U S. fault-ends ws s m (getD l (p + 1) 0) v (wire x)
         (λ zs. withResult (getD l (p + 1) 0) (state m s) (placeCode (readPlace d l (getD l (p + 2) 0)) m) λ a. storeWhole a zs (state m s)) ws′ r S
@@ -242,7 +242,7 @@ module _ (l : List ℕ) (ws : List ℤ) (s : ℕ) (p d n : ℕ) (x : ℤ) (r : �
     fewer = raised-fewer (faultIn (wire x)) n ws s ws′ r u;
   }
 
-  module _ (g : ltZ (pos 4294967295) (wire x) ≡ false) (c : ℕ) (a : ℤ) (C : c ≡ getD l (p + 2) 0) (P : Places l ws c d a) (i : SFits w64 a) where
+  module _ (g : ltZ greatest (wire x) ≡ false) (c : ℕ) (a : ℤ) (C : c ≡ getD l (p + 2) 0) (P : Places l ws c d a) (i : SFits w64 a) where
     target : Places l ws (getD l (p + 2) 0) d a
     target = subst (λ (k : ℕ). Places l ws k d a) C P
 
@@ -255,7 +255,7 @@ module _ (l : List ℕ) (ws : List ℤ) (s : ℕ) (p d n : ℕ) (x : ℤ) (r : �
         (λ zs. withResult (getD l (p + 1) 0) (state m s) (placeCode (readPlace d l (getD l (p + 2) 0)) m) λ a. storeWhole a zs (state m s)) ws′ q
         (U .gives ∙ ap (λ (u : Result ℤ). oneCell u) (V′ .gives)) (E (V′ .ranged))
 
-    pub value-unplaced : (ws′ : List ℤ) → ltZ (pos 4294967295) (wire a) ≡ true → Raises (faultIn (wire a)) n ws s ws′ r → FromValue l x p d ws s ws′ r
+    pub value-unplaced : (ws′ : List ℤ) → ltZ greatest (wire a) ≡ true → Raises (faultIn (wire a)) n ws s ws′ r → FromValue l x p d ws s ws′ r
     value-unplaced ws′ k u = record {
       says = λ m v U S. one-ends ws′ r m v U
           (λ q. fault-ends ws s m (getD l (p + 1) 0) (placeCode (readPlace d l (getD l (p + 2) 0)) m) (wire a) (λ b. storeWhole b (x ∷ []) (state m s)) ws′ r S
@@ -263,7 +263,7 @@ module _ (l : List ℕ) (ws : List ℤ) (s : ℕ) (p d n : ℕ) (x : ℤ) (r : �
       fewer = raised-fewer (faultIn (wire a)) n ws s ws′ r u;
     }
 
-    pub value-placed : (b : ℕ) (ws′ : List ℤ) → ltZ (pos 4294967295) (wire a) ≡ false → Addresses (wire a) b → Puts ws (cellsIn ws) b (wire x) ws′ → r ≡ s → FromValue l x p d ws s ws′ r
+    pub value-placed : (b : ℕ) (ws′ : List ℤ) → ltZ greatest (wire a) ≡ false → Addresses (wire a) b → Puts ws (cellsIn ws) b (wire x) ws′ → r ≡ s → FromValue l x p d ws s ws′ r
     unfolding storeWhole
     value-placed b ws′ k B W u = subst (λ (t : ℕ). FromValue l x p d ws s ws′ t) (sym u) (record {
       says = λ m v U S. one-ends ws′ s m v U (λ q. go m S q (place-here l ws s m S a i (getD l (p + 2) 0) d target k));
@@ -280,7 +280,7 @@ module _ (l : List ℕ) (ws : List ℤ) (s : ℕ) (p d n : ℕ) (x : ℤ) (r : �
 pub ruleset value-laws = (value-fault, value-unplaced, value-placed, sfits-of)
 
 -- ---- `assign_cells`
-placed-fault : (m : Store) (w : ℤ) (k : ℕ) (v : Result (List ℤ)) → Placed m w k v → ltZ (pos 4294967295) w ≡ true → Faulty v w
+placed-fault : (m : Store) (w : ℤ) (k : ℕ) (v : Result (List ℤ)) → Placed m w k v → ltZ greatest w ≡ true → Faulty v w
 placed-fault m w k v U g =
     let F : Faulty (U .at) w = place-fault (U .at) w (U .means) g in
     record { gives = U .gives ∙ ap (λ (u : Result ℕ). u >>= λ a. readCells a k m) (F .gives); ranged = F .ranged }
@@ -303,7 +303,7 @@ capped-cells m a (suc k) h = go (le-or-lt a 4294967295)
     go (inr g) = past-fails m a k (omega arith) ∙ sym (past-fails m (min a 4294967295) k (omega arith))
 
 module _ (l : List ℕ) (ws : List ℤ) (s : ℕ) (p d n k : ℕ) (w : ℤ) (r : ℕ) (N : n ≡ getD l (p + 1) 0) (h : SFits w64 w) where
-  pub cells-unplaced : (ws′ : List ℤ) → ltZ (pos 4294967295) (wire w) ≡ true → Raises (faultIn (wire w)) n ws s ws′ r → FromCells l w k p d ws s ws′ r
+  pub cells-unplaced : (ws′ : List ℤ) → ltZ greatest (wire w) ≡ true → Raises (faultIn (wire w)) n ws s ws′ r → FromCells l w k p d ws s ws′ r
   cells-unplaced ws′ g u = record {
     says = λ m v U S. fault-ends ws s m (getD l (p + 1) 0) v (wire w)
         (λ zs. withResult (getD l (p + 1) 0) (state m s) (placeCode (readPlace d l (getD l (p + 2) 0)) m) λ a. storeWhole a zs (state m s)) ws′ r S
@@ -311,7 +311,7 @@ module _ (l : List ℕ) (ws : List ℤ) (s : ℕ) (p d n k : ℕ) (w : ℤ) (r :
     fewer = raised-fewer (faultIn (wire w)) n ws s ws′ r u;
   }
 
-  module _ (g : ltZ (pos 4294967295) (wire w) ≡ false) (b : ℕ) (x : ℤ) (B : Addresses (wire w) b) (X : x ≡ cellsWord ws b k) (j : SFits w64 x) where
+  module _ (g : ltZ greatest (wire w) ≡ false) (b : ℕ) (x : ℤ) (B : Addresses (wire w) b) (X : x ≡ cellsWord ws b k) (j : SFits w64 x) where
     -- the cells are those from b on
     from-b : (m : Store) (v : Result (List ℤ)) → Placed m w k v → Stands ws s m → v ≡ readCells b k m
     from-b m v U S = go (place-value (U .at) w (U .means) (rw (toZ-ofZ h) at g))
@@ -321,7 +321,7 @@ module _ (l : List ℕ) (ws : List ℤ) (s : ℕ) (p d n k : ℕ) (w : ℤ) (r :
             U .gives ∙ ap (λ (u : Result ℕ). u >>= λ a. readCells a k m) (A .gives) ∙ capped-cells m (A .a) k (omega (arith, S .marks, S .few))
             ∙ ap (λ (c : ℕ). readCells c k m) (sym (address-of (U .at) w b h A B))
 
-    pub cells-undefined : (ws′ : List ℤ) → ltZ (pos 4294967295) (wire x) ≡ true → Raises (faultIn (wire x)) n ws s ws′ r → FromCells l w k p d ws s ws′ r
+    pub cells-undefined : (ws′ : List ℤ) → ltZ greatest (wire x) ≡ true → Raises (faultIn (wire x)) n ws s ws′ r → FromCells l w k p d ws s ws′ r
     cells-undefined ws′ y u = record {
       says = λ m v U S. fault-ends ws s m (getD l (p + 1) 0) v (wire x)
           (λ zs. withResult (getD l (p + 1) 0) (state m s) (placeCode (readPlace d l (getD l (p + 2) 0)) m) λ a. storeWhole a zs (state m s)) ws′ r S
@@ -330,7 +330,7 @@ module _ (l : List ℕ) (ws : List ℤ) (s : ℕ) (p d n k : ℕ) (w : ℤ) (r :
       fewer = raised-fewer (faultIn (wire x)) n ws s ws′ r u;
     }
 
-    module _ (y : ltZ (pos 4294967295) (wire x) ≡ false) (c : ℕ) (a : ℤ) (C : c ≡ getD l (p + 2) 0) (P : Places l ws c d a) (i : SFits w64 a) where
+    module _ (y : ltZ greatest (wire x) ≡ false) (c : ℕ) (a : ℤ) (C : c ≡ getD l (p + 2) 0) (P : Places l ws c d a) (i : SFits w64 a) where
       goal : Places l ws (getD l (p + 2) 0) d a
       goal = subst (λ (k : ℕ). Places l ws k d a) C P
 
@@ -343,7 +343,7 @@ module _ (l : List ℕ) (ws : List ℤ) (s : ℕ) (p d n k : ℕ) (w : ℤ) (r :
           (λ zs. withResult (getD l (p + 1) 0) (state m s) (placeCode (readPlace d l (getD l (p + 2) 0)) m) λ a. storeWhole a zs (state m s)) ws′ q
           (from-b m v U S ∙ R .gives) (E R)
 
-      pub cells-nowhere : (ws′ : List ℤ) → ltZ (pos 4294967295) (wire a) ≡ true → Raises (faultIn (wire a)) n ws s ws′ r → FromCells l w k p d ws s ws′ r
+      pub cells-nowhere : (ws′ : List ℤ) → ltZ greatest (wire a) ≡ true → Raises (faultIn (wire a)) n ws s ws′ r → FromCells l w k p d ws s ws′ r
       cells-nowhere ws′ o u = record {
         says = λ m v U S. all-ends ws′ r m v U S
             (λ R. fault-ends ws s m (getD l (p + 1) 0) (placeCode (readPlace d l (getD l (p + 2) 0)) m) (wire a) (λ b. storeWhole b (R .zs) (state m s)) ws′ r S
@@ -351,7 +351,7 @@ module _ (l : List ℕ) (ws : List ℤ) (s : ℕ) (p d n k : ℕ) (w : ℤ) (r :
         fewer = raised-fewer (faultIn (wire a)) n ws s ws′ r u;
       }
 
-      pub cells-placed : (t : ℕ) (ws′ : List ℤ) → ltZ (pos 4294967295) (wire a) ≡ false → Addresses (wire a) t → Copying ws (cellsIn ws) b t k ws′ → r ≡ s → FromCells l w k p d ws s ws′ r
+      pub cells-placed : (t : ℕ) (ws′ : List ℤ) → ltZ greatest (wire a) ≡ false → Addresses (wire a) t → Copying ws (cellsIn ws) b t k ws′ → r ≡ s → FromCells l w k p d ws s ws′ r
       unfolding storeWhole
       cells-placed t ws′ o A W u = subst (λ (t : ℕ). FromCells l w k p d ws s ws′ t) (sym u) (record {
         says = λ m v U S. all-ends ws′ s m v U S (λ R. go m S R (place-here l ws s m S a i (getD l (p + 2) 0) d goal o));

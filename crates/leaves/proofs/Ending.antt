@@ -13,13 +13,14 @@ use lib.ListN.{length, getD, set, length-set}
 use lib.Seq.{getD-set-same, getD-set-other}
 use borrow.Author.Tests.{ne-eqb, lt-ltb, le-ltb, ltb-true}
 use Rattle.arith.specs.Integers.{inside}
-use Rattle.arith.proofs.Order.{le-or-lt, lt-le, lt-not, le-not}
-use Rattle.arith.proofs.Ranges.{inside-is, inside-both}
+use Rattle.arith.proofs.Order.{le-or-lt}
 use Rattle.semantics.specs.Base.{pick}
 use Rattle.semantics.specs.Calculate.{Result, is, fails, stuck, _>>=_, natOf, numericError, rangeError, undefinedError}
 use Rattle.semantics.specs.Machine.{Store, State, state, Answer, answer, Outcome, normal, spent, raised, raising, noting, sole, readCell, withResult}
 use Rattle.evaluate.specs.Walks.{capped}
-use Rattle.calc.specs.Words.{InRange, Ranged, wordOf, Means, Holds, first, latestIn, storeWord, undefinedWord}
+use Rattle.calc.specs.Words.{greatest, faultBase, InRange, Ranged, wordOf, Means, Holds, first, latestIn, storeWord, undefinedWord}
+use Rattle.calc.proofs.Ranging.{range-value, above-fault, small-fault}
+use Rattle.steps.proofs.Noting.{fault-back}
 use Rattle.steps.specs.Ends.{cellsIn, placeIn, leftIn, toldBy, stepWord, raisedWord, faultIn, notedIn, Raises}
 use Rattle.steps.specs.Stands.{Tidy, Stands, Ends, Runs}
 
@@ -225,21 +226,13 @@ module _ (ws : List ℤ) (s : ℕ) (m : Store) (S : Stands ws s m) where
 -- ---- words of values and faults
 -- an exception's number is in its range
 fault-ranged : (e : ℤ) → Ranged (fails e) → InRange e
-unfolding Ranged InRange inside
-fault-ranged e (inl f) = rw f
-fault-ranged e (inr (inl f)) = rw f
-fault-ranged e (inr (inr f)) = rw f
+unfolding Ranged
+fault-ranged e f = small-fault e f
 
 -- the word of a fault is above the values, and holds it
-fault-word : (e : ℤ) → Ranged (fails e) → (ltZ (pos 4294967295) (e +ℤ pos 8589934592) ≡ true) × (faultIn (e +ℤ pos 8589934592) ≡ e)
-unfolding Ranged faultIn pick
-fault-word e (inl f) = rw f (refl, refl)
-fault-word e (inr (inl f)) = rw f (refl, refl)
-fault-word e (inr (inr f)) = rw f (refl, refl)
-
-value-low : (z : ℤ) → InRange z → ltZ (pos 4294967295) z ≡ false
-unfolding InRange
-value-low z h = le-not z (pos 4294967295) (inside-is (negsuc 2147483647) (pos 4294967295) z h .1)
+fault-word : (e : ℤ) → Ranged (fails e) → (ltZ greatest (e +ℤ faultBase) ≡ true) × (faultIn (e +ℤ faultBase) ≡ e)
+unfolding Ranged
+fault-word e f = (sym (above-fault e f), fault-back e f)
 
 clash : {A : Type 0} → _≡_ {A = Bool} true false → A
 clash h = absurd (subst T h tt)
@@ -249,23 +242,23 @@ pub record Value (v : Result ℤ) (x : ℤ) : Type 0 where
   pub gives : v ≡ is x
   pub ranged : InRange x
 
-pub word-value : (v : Result ℤ) (x : ℤ) → Means x v → ltZ (pos 4294967295) x ≡ false → Value v x
+pub word-value : (v : Result ℤ) (x : ℤ) → Means x v → ltZ greatest x ≡ false → Value v x
 unfolding wordOf Ranged
 word-value (is z) x M h = record { gives = ap (λ (y : ℤ). is y) (sym (M .word)); ranged = subst InRange (sym (M .word)) (M .ranged) }
-word-value (fails e) x M h = clash (sym (fault-word e (M .ranged) .0) ∙ ap (ltZ (pos 4294967295)) (sym (M .word)) ∙ h)
+word-value (fails e) x M h = clash (sym (fault-word e (M .ranged) .0) ∙ ap (ltZ greatest) (sym (M .word)) ∙ h)
 word-value stuck x M h = absurd (M .ranged)
 
-pub value-not-fault : (z x : ℤ) → Means x (is z) → ltZ (pos 4294967295) x ≡ true → ⊥
+pub value-not-fault : (z x : ℤ) → Means x (is z) → ltZ greatest x ≡ true → ⊥
 unfolding wordOf Ranged
-value-not-fault z x M h = clash (sym h ∙ ap (ltZ (pos 4294967295)) (M .word) ∙ value-low z (M .ranged))
+value-not-fault z x M h = clash (sym h ∙ ap (ltZ greatest) (M .word) ∙ range-value z (M .ranged))
 
 pub record Faulty {A : Type 0} (v : Result A) (x : ℤ) : Type 0 where
   pub gives : v ≡ fails (faultIn x)
   pub ranged : InRange (faultIn x)
 
-pub word-fault : (v : Result ℤ) (x : ℤ) → Means x v → ltZ (pos 4294967295) x ≡ true → Faulty v x
+pub word-fault : (v : Result ℤ) (x : ℤ) → Means x v → ltZ greatest x ≡ true → Faulty v x
 unfolding wordOf Ranged
-word-fault (is z) x M h = clash (sym h ∙ ap (ltZ (pos 4294967295)) (M .word) ∙ value-low z (M .ranged))
+word-fault (is z) x M h = clash (sym h ∙ ap (ltZ greatest) (M .word) ∙ range-value z (M .ranged))
 word-fault (fails e) x M h =
     let f : faultIn x ≡ e = ap faultIn (M .word) ∙ fault-word e (M .ranged) .1 in
     record { gives = ap (λ (y : ℤ). fails y) (sym f); ranged = subst InRange (sym f) (fault-ranged e (M .ranged)) }
@@ -278,15 +271,15 @@ pub record Cells (v : Result (List ℤ)) (x : ℤ) : Type 0 where
   pub first-is : sole zs ≡ x
   pub ranged : InRange x
 
-pub first-value : (v : Result (List ℤ)) (x : ℤ) → Means x (first v) → ltZ (pos 4294967295) x ≡ false → Cells v x
+pub first-value : (v : Result (List ℤ)) (x : ℤ) → Means x (first v) → ltZ greatest x ≡ false → Cells v x
 unfolding wordOf Ranged
 first-value (is zs) x M h = record { zs = zs; gives = refl; first-is = sym (M .word); ranged = subst InRange (sym (M .word)) (M .ranged) }
-first-value (fails e) x M h = clash (sym (fault-word e (M .ranged) .0) ∙ ap (ltZ (pos 4294967295)) (sym (M .word)) ∙ h)
+first-value (fails e) x M h = clash (sym (fault-word e (M .ranged) .0) ∙ ap (ltZ greatest) (sym (M .word)) ∙ h)
 first-value stuck x M h = absurd (M .ranged)
 
-pub first-fault : (v : Result (List ℤ)) (x : ℤ) → Means x (first v) → ltZ (pos 4294967295) x ≡ true → Faulty v x
+pub first-fault : (v : Result (List ℤ)) (x : ℤ) → Means x (first v) → ltZ greatest x ≡ true → Faulty v x
 unfolding wordOf Ranged
-first-fault (is zs) x M h = clash (sym h ∙ ap (ltZ (pos 4294967295)) (M .word) ∙ value-low (sole zs) (M .ranged))
+first-fault (is zs) x M h = clash (sym h ∙ ap (ltZ greatest) (M .word) ∙ range-value (sole zs) (M .ranged))
 first-fault (fails e) x M h =
     let f : faultIn x ≡ e = ap faultIn (M .word) ∙ fault-word e (M .ranged) .1 in
     record { gives = ap (λ (y : ℤ). fails y) (sym f); ranged = subst InRange (sym f) (fault-ranged e (M .ranged)) }
@@ -298,15 +291,15 @@ pub record Address (v : Result ℕ) (x : ℤ) : Type 0 where
   pub gives : v ≡ is a
   pub word : x ≡ pos (min a 4294967295)
 
-pub place-value : (v : Result ℕ) (x : ℤ) → Means x (capped v) → ltZ (pos 4294967295) x ≡ false → Address v x
+pub place-value : (v : Result ℕ) (x : ℤ) → Means x (capped v) → ltZ greatest x ≡ false → Address v x
 unfolding wordOf Ranged
 place-value (is a) x M h = record { a = a; gives = refl; word = M .word }
-place-value (fails e) x M h = clash (sym (fault-word e (M .ranged) .0) ∙ ap (ltZ (pos 4294967295)) (sym (M .word)) ∙ h)
+place-value (fails e) x M h = clash (sym (fault-word e (M .ranged) .0) ∙ ap (ltZ greatest) (sym (M .word)) ∙ h)
 place-value stuck x M h = absurd (M .ranged)
 
-pub place-fault : (v : Result ℕ) (x : ℤ) → Means x (capped v) → ltZ (pos 4294967295) x ≡ true → Faulty v x
+pub place-fault : (v : Result ℕ) (x : ℤ) → Means x (capped v) → ltZ greatest x ≡ true → Faulty v x
 unfolding wordOf Ranged
-place-fault (is a) x M h = clash (sym h ∙ ap (ltZ (pos 4294967295)) (M .word) ∙ value-low (pos (min a 4294967295)) (M .ranged))
+place-fault (is a) x M h = clash (sym h ∙ ap (ltZ greatest) (M .word) ∙ range-value (pos (min a 4294967295)) (M .ranged))
 place-fault (fails e) x M h =
     let f : faultIn x ≡ e = ap faultIn (M .word) ∙ fault-word e (M .ranged) .1 in
     record { gives = ap (λ (y : ℤ). fails y) (sym f); ranged = subst InRange (sym f) (fault-ranged e (M .ranged)) }

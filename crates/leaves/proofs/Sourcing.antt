@@ -27,7 +27,7 @@ use Rattle.semantics.specs.Machine.{Store, oneCell, readCell, readCells, shortC
 use Rattle.semantics.specs.Operators.{predIn, succIn}
 use Rattle.semantics.specs.Readback.{codeFrom, integerAt, operationAt, operation1At, codeOp, codeOps, readCode, readPlace, readCodes}
 use Rattle.evaluate.specs.Walks.{Evaluates, Places, capped}
-use Rattle.calc.specs.Words.{InRange, Ranged, Means, Holds, first, wordOf}
+use Rattle.calc.specs.Words.{greatest, InRange, Ranged, Means, Holds, first, wordOf}
 use Rattle.leaves.specs.declared.simple.Source.{Source}
 use Rattle.leaves.specs.declared.simple.Source.the-variants.{Value, Cells}
 use Rattle.leaves.specs.Sources.{Single, Placed, SourceIs, Sources}
@@ -141,7 +141,7 @@ place-means : (a : ℕ) → a < 4096 → Means (toZ w64 a) (capped (is a))
 unfolding wordOf Ranged InRange inside
 place-means a h =
     let e : min a 4294967295 ≡ a = omega arith in
-    record { word = toZ-pos w64 {n = a} (omega arith) ∙ ap (λ (x : ℕ). pos x) (sym e); ranged = le-leb (min a 4294967295) 4294967295 (omega arith) }
+    record { word = toZ-pos w64 {n = a} (omega arith) ∙ ap (λ (x : ℕ). pos x) (sym e); ranged = le-leb (min a 4294967295) 9218868437227405311 (omega arith) }
 
 zero-single : Single (pos 0) (is (pos 0 ∷ []))
 unfolding wordOf Ranged InRange inside
@@ -201,7 +201,7 @@ module _ (l : List ℕ) (ws : List ℤ) (p d n : ℕ) (D : (d ≡ 0) → ⊥) (N
     both-is true m = refl
     both-is false m = refl
 
-    both-fault : (b : Bool) → codeOp n ≡ both b → ltZ (pos 4294967295) (wire x) ≡ true → Sources l ws p d (Value (wire x))
+    both-fault : (b : Bool) → codeOp n ≡ both b → ltZ greatest (wire x) ≡ true → Sources l ws p d (Value (wire x))
     both-fault b e g = node (both b) (Value (wire x)) e (λ m H. go m (there .says m H))
       where
         go : (m : Store) → Means x (first (evalCode (readCode (d - 1) l (getD l (p + 1) 0)) m)) → Single (wire x) (by l p m (both b) (d - 1))
@@ -213,7 +213,7 @@ module _ (l : List ℕ) (ws : List ℤ) (p d n : ℕ) (D : (d ≡ 0) → ⊥) (N
               gives = both-is b m ∙ rw (F .gives);
             }
 
-    both-value : (b : Bool) (r : Source) → codeOp n ≡ both b → ltZ (pos 4294967295) (wire x) ≡ false
+    both-value : (b : Bool) (r : Source) → codeOp n ≡ both b → ltZ greatest (wire x) ≡ false
         → ((m : Store) → Holds ws m → SourceIs m r (shortCircuited b (isTrue x) (evalCode (readCode (d - 1) l (getD l (p + 2) 0)) m))) → Sources l ws p d r
     both-value b r e g i = node (both b) r e (λ m H. go m H (there .says m H))
       where
@@ -226,7 +226,7 @@ module _ (l : List ℕ) (ws : List ℤ) (p d n : ℕ) (D : (d ≡ 0) → ⊥) (N
             subst (SourceIs m r) (sym y) (i m H)
 
     -- the right side decides
-    both-right : (b : Bool) (q′ : ℕ) (r : Source) → codeOp n ≡ both b → ltZ (pos 4294967295) (wire x) ≡ false → isTrue x ≡ b → q′ ≡ getD l (p + 2) 0 → Sources l ws q′ (d - 1) r → Sources l ws p d r
+    both-right : (b : Bool) (q′ : ℕ) (r : Source) → codeOp n ≡ both b → ltZ greatest (wire x) ≡ false → isTrue x ≡ b → q′ ≡ getD l (p + 2) 0 → Sources l ws q′ (d - 1) r → Sources l ws p d r
     both-right b q′ r e g i Q′ R = both-value b r e g (λ m H. subst (SourceIs m r) (open′ b (isTrue x) i (evalCode (readCode (d - 1) l (getD l (p + 2) 0)) m))
         (subst (λ (y : ℕ). SourceIs m r (evalCode (readCode (d - 1) l y) m)) Q′ (R .says m H)))
       where
@@ -236,28 +236,28 @@ module _ (l : List ℕ) (ws : List ℤ) (p d n : ℕ) (D : (d ≡ 0) → ⊥) (N
         open′ true false e v = absurd (subst T (sym e) tt)
         open′ false true e v = absurd (subst T e tt)
 
-    pub and-fault : n ≡ 7 → ltZ (pos 4294967295) (wire x) ≡ true → Sources l ws p d (Value (wire x))
+    pub and-fault : n ≡ 7 → ltZ greatest (wire x) ≡ true → Sources l ws p d (Value (wire x))
     unfolding codeOp codeOps both
     and-fault e g = both-fault true (ap (λ (y : ℕ). codeOp y) e) g
 
-    pub or-fault : n ≡ 8 → ltZ (pos 4294967295) (wire x) ≡ true → Sources l ws p d (Value (wire x))
+    pub or-fault : n ≡ 8 → ltZ greatest (wire x) ≡ true → Sources l ws p d (Value (wire x))
     unfolding codeOp codeOps both
     or-fault e g = both-fault false (ap (λ (y : ℕ). codeOp y) e) g
 
-    pub and-right : (q′ : ℕ) (r : Source) → n ≡ 7 → ltZ (pos 4294967295) (wire x) ≡ false → ltZ (pos 0) (wire x) ≡ true → q′ ≡ getD l (p + 2) 0 → Sources l ws q′ (d - 1) r → Sources l ws p d r
+    pub and-right : (q′ : ℕ) (r : Source) → n ≡ 7 → ltZ greatest (wire x) ≡ false → ltZ (pos 0) (wire x) ≡ true → q′ ≡ getD l (p + 2) 0 → Sources l ws q′ (d - 1) r → Sources l ws p d r
     unfolding codeOp codeOps both
     and-right q′ r e g i Q′ R = both-right true q′ r (ap (λ (y : ℕ). codeOp y) e) g (rw (toZ-ofZ h) at i) Q′ R
 
-    pub or-right : (q′ : ℕ) (r : Source) → n ≡ 8 → ltZ (pos 4294967295) (wire x) ≡ false → ltZ (pos 0) (wire x) ≡ false → q′ ≡ getD l (p + 2) 0 → Sources l ws q′ (d - 1) r → Sources l ws p d r
+    pub or-right : (q′ : ℕ) (r : Source) → n ≡ 8 → ltZ greatest (wire x) ≡ false → ltZ (pos 0) (wire x) ≡ false → q′ ≡ getD l (p + 2) 0 → Sources l ws q′ (d - 1) r → Sources l ws p d r
     unfolding codeOp codeOps both
     or-right q′ r e g i Q′ R = both-right false q′ r (ap (λ (y : ℕ). codeOp y) e) g (rw (toZ-ofZ h) at i) Q′ R
 
-    pub and-left : n ≡ 7 → ltZ (pos 4294967295) (wire x) ≡ false → ltZ (pos 0) (wire x) ≡ false → Sources l ws p d (Value (pos 0))
+    pub and-left : n ≡ 7 → ltZ greatest (wire x) ≡ false → ltZ (pos 0) (wire x) ≡ false → Sources l ws p d (Value (pos 0))
     unfolding codeOp codeOps both
     and-left e g i = both-value true (Value (pos 0)) (ap (λ (y : ℕ). codeOp y) e) g
         (λ m H. subst (λ (b : Bool). Single (pos 0) (shortCircuited true b (evalCode (readCode (d - 1) l (getD l (p + 2) 0)) m))) (sym (rw (toZ-ofZ h) at i)) zero-single)
 
-    pub or-left : n ≡ 8 → ltZ (pos 4294967295) (wire x) ≡ false → ltZ (pos 0) (wire x) ≡ true → Sources l ws p d (Value (pos 1))
+    pub or-left : n ≡ 8 → ltZ greatest (wire x) ≡ false → ltZ (pos 0) (wire x) ≡ true → Sources l ws p d (Value (pos 1))
     unfolding codeOp codeOps both
     or-left e g i = both-value false (Value (pos 1)) (ap (λ (y : ℕ). codeOp y) e) g
         (λ m H. subst (λ (b : Bool). Single (pos 1) (shortCircuited false b (evalCode (readCode (d - 1) l (getD l (p + 2) 0)) m))) (sym (rw (toZ-ofZ h) at i)) one-single)

@@ -15,7 +15,7 @@ use Rattle.arith.proofs.Order.{le-or-lt, le-not, not-le}
 use Rattle.semantics.specs.Base.{pick}
 use Rattle.semantics.specs.Calculate.{Result, is, fails, natOf, undefinedError}
 use Rattle.semantics.specs.Machine.{Store, stored, readCell, readCells, defined, undefined}
-use Rattle.calc.specs.Words.{storeWord, latestIn, InRange, Ranged, wordOf, Means, Holds, allValues, cellsWord, undefinedWord}
+use Rattle.calc.specs.Words.{greatest, storeWord, latestIn, InRange, Ranged, wordOf, Means, Holds, allValues, cellsWord, undefinedWord}
 use Rattle.steps.specs.Ends.{cellsIn, faultIn}
 use Rattle.steps.specs.Stands.{Tidy, Stands}
 use Rattle.arith.specs.Integers.{inside}
@@ -235,27 +235,27 @@ and-right true b h = h
 and-right false b h = absurd (subst T (sym h) tt)
 
 module _ (ws : List ℤ) (m : Store) (H : Holds ws m) where
-  low-cell : (a : ℕ) → leZ (storeWord ws a) (pos 4294967295) ≡ true → Value (readCell a m) (storeWord ws a)
-  low-cell a h = word-value (readCell a m) (storeWord ws a) (H .cells a) (le-not (storeWord ws a) (pos 4294967295) h)
+  low-cell : (a : ℕ) → leZ (storeWord ws a) greatest ≡ true → Value (readCell a m) (storeWord ws a)
+  low-cell a h = word-value (readCell a m) (storeWord ws a) (H .cells a) (le-not (storeWord ws a) greatest h)
 
   -- an undefined cell is the only fault
-  high-cell : (a : ℕ) → leZ (storeWord ws a) (pos 4294967295) ≡ false → readCell a m ≡ fails undefinedError
+  high-cell : (a : ℕ) → leZ (storeWord ws a) greatest ≡ false → readCell a m ≡ fails undefinedError
   unfolding readCell pick
   high-cell a h = go (eqb (getD (m .marks) a undefined) defined) refl
     where
       go : (b : Bool) → eqb (getD (m .marks) a undefined) defined ≡ b → readCell a m ≡ fails undefinedError
       go true e =
           let r : readCell a m ≡ is (getD (m .values) a (pos 0)) = ap (λ (b : Bool). pick b (is (getD (m .values) a (pos 0))) (fails undefinedError)) e in
-          absurd (value-not-fault (getD (m .values) a (pos 0)) (storeWord ws a) (subst (Means (storeWord ws a)) r (H .cells a)) (not-le (storeWord ws a) (pos 4294967295) h))
+          absurd (value-not-fault (getD (m .values) a (pos 0)) (storeWord ws a) (subst (Means (storeWord ws a)) r (H .cells a)) (not-le (storeWord ws a) greatest h))
       go false e = ap (λ (b : Bool). pick b (is (getD (m .values) a (pos 0))) (fails undefinedError)) e
 
   pub cells-read : (n a : ℕ) → allValues ws a n ≡ true → AllRead ws m a n
   unfolding allValues readCells
   cells-read zero a h = record { zs = []; count = refl; gives = refl; here = λ j g. absurd (omega arith); ranged = λ j g. absurd (omega arith) }
   cells-read (suc n) a h =
-      let f : leZ (storeWord ws a) (pos 4294967295) ≡ true = and-left (leZ (storeWord ws a) (pos 4294967295)) (allValues ws (a + 1) n) h in
+      let f : leZ (storeWord ws a) greatest ≡ true = and-left (leZ (storeWord ws a) greatest) (allValues ws (a + 1) n) h in
       let C : Value (readCell a m) (storeWord ws a) = low-cell a f in
-      let R : AllRead ws m (a + 1) n = cells-read n (a + 1) (and-right (leZ (storeWord ws a) (pos 4294967295)) (allValues ws (a + 1) n) h) in
+      let R : AllRead ws m (a + 1) n = cells-read n (a + 1) (and-right (leZ (storeWord ws a) greatest) (allValues ws (a + 1) n) h) in
       let g : readCells (suc a) n m ≡ is (R .zs) = ap (λ (x : ℕ). readCells x n m) (omega arith) ∙ R .gives in
       record {
         zs = storeWord ws a ∷ R .zs;
@@ -276,9 +276,9 @@ module _ (ws : List ℤ) (m : Store) (H : Holds ws m) where
   pub cells-fail : (n a : ℕ) → allValues ws a n ≡ false → readCells a n m ≡ fails undefinedError
   unfolding allValues readCells
   cells-fail zero a h = absurd (subst T h tt)
-  cells-fail (suc n) a h = go (leZ (storeWord ws a) (pos 4294967295)) refl h (λ g. cells-fail n (a + 1) g)
+  cells-fail (suc n) a h = go (leZ (storeWord ws a) greatest) refl h (λ g. cells-fail n (a + 1) g)
     where
-      go : (b : Bool) → leZ (storeWord ws a) (pos 4294967295) ≡ b → leZ (storeWord ws a) (pos 4294967295) && allValues ws (a + 1) n ≡ false
+      go : (b : Bool) → leZ (storeWord ws a) greatest ≡ b → leZ (storeWord ws a) greatest && allValues ws (a + 1) n ≡ false
           → (allValues ws (a + 1) n ≡ false → readCells (a + 1) n m ≡ fails undefinedError) → readCells a (suc n) m ≡ fails undefinedError
       go false e h rest = rw (high-cell a e)
       go true e h rest =
@@ -288,24 +288,24 @@ module _ (ws : List ℤ) (m : Store) (H : Holds ws m) where
           rw (C .gives, f)
 
   -- what the word of some cells says
-  pub cells-value : (n a : ℕ) (x : ℤ) → x ≡ cellsWord ws a n → ltZ (pos 4294967295) x ≡ false → AllRead ws m a n
+  pub cells-value : (n a : ℕ) (x : ℤ) → x ≡ cellsWord ws a n → ltZ greatest x ≡ false → AllRead ws m a n
   unfolding cellsWord pick allValues
   cells-value zero a x e h = cells-read 0 a refl
   cells-value (suc n) a x e h = go (allValues ws a (suc n)) refl
     where
       go : (b : Bool) → allValues ws a (suc n) ≡ b → AllRead ws m a (suc n)
       go true f = cells-read (suc n) a f
-      go false f = absurd (subst T (ap (λ (b : Bool). ltZ (pos 4294967295) (pick b (storeWord ws a) undefinedWord)) (sym f) ∙ ap (ltZ (pos 4294967295)) (sym e) ∙ h) tt)
+      go false f = absurd (subst T (ap (λ (b : Bool). ltZ greatest (pick b (storeWord ws a) undefinedWord)) (sym f) ∙ ap (ltZ greatest) (sym e) ∙ h) tt)
 
-  pub cells-fault : (n a : ℕ) (x : ℤ) → x ≡ cellsWord ws a n → ltZ (pos 4294967295) x ≡ true → Faulty (readCells a n m) x
+  pub cells-fault : (n a : ℕ) (x : ℤ) → x ≡ cellsWord ws a n → ltZ greatest x ≡ true → Faulty (readCells a n m) x
   unfolding cellsWord pick allValues faultIn InRange inside
-  cells-fault zero a x e h = absurd (subst T (sym h ∙ ap (ltZ (pos 4294967295)) e) tt)
+  cells-fault zero a x e h = absurd (subst T (sym h ∙ ap (ltZ greatest) e) tt)
   cells-fault (suc n) a x e h = go (allValues ws a (suc n)) refl
     where
       go : (b : Bool) → allValues ws a (suc n) ≡ b → Faulty (readCells a (suc n) m) x
       go true f =
           let z : x ≡ storeWord ws a = e ∙ ap (λ (b : Bool). pick b (storeWord ws a) undefinedWord) f in
-          absurd (subst T (sym h ∙ ap (ltZ (pos 4294967295)) z ∙ le-not (storeWord ws a) (pos 4294967295) (and-left (leZ (storeWord ws a) (pos 4294967295)) (allValues ws (a + 1) n) f)) tt)
+          absurd (subst T (sym h ∙ ap (ltZ greatest) z ∙ le-not (storeWord ws a) greatest (and-left (leZ (storeWord ws a) greatest) (allValues ws (a + 1) n) f)) tt)
       go false f =
           let z : x ≡ undefinedWord = e ∙ ap (λ (b : Bool). pick b (storeWord ws a) undefinedWord) f in
           let y : faultIn x ≡ undefinedError = ap faultIn z in

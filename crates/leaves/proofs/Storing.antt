@@ -19,7 +19,7 @@ use Rattle.arith.proofs.Order.{le-or-lt}
 use Rattle.arith.proofs.Machine.{wire}
 use Rattle.semantics.specs.Base.{pick}
 use Rattle.semantics.specs.Calculate.{natOf}
-use Rattle.calc.specs.Words.{storeWord}
+use Rattle.calc.specs.Words.{undefinedWord, storeWord}
 use Rattle.steps.specs.Ends.{cellsIn}
 use Rattle.leaves.specs.Cells.{Addresses, Puts, Copies, Copying, CopyingUp, CopyingFrom, CopyingDown}
 
@@ -30,7 +30,7 @@ word-same ws a z l h = rw (lt-ltb a 2048 h) (getD-set-same ws a z (pos 0) (omega
 
 word-other : (ws : List ℤ) (a i : ℕ) (z : ℤ) → ((i ≡ a) → ⊥) → storeWord (set ws a z) i ≡ storeWord ws i
 unfolding storeWord
-word-other ws a i z h = ap (λ (x : ℤ). pick (ltb i 2048) x (pos 8589934488)) (getD-set-other ws a i z (pos 0) h)
+word-other ws a i z h = ap (λ (x : ℤ). pick (ltb i 2048) x undefinedWord) (getD-set-other ws a i z (pos 0) h)
 
 -- ---- `put`: whether a cell is one of the store's
 counted : (ws : List ℤ) (a : ℕ) (b : Bool) → ltZ (pos a) (getD ws 2050 (pos 0)) ≡ b → ltb a (cellsIn ws) ≡ b

@@ -29,7 +29,7 @@ use Rattle.semantics.specs.Syntax as Syntax
 use Rattle.semantics.specs.Trees.{word, form, Trees, end, _then_, Run, first, stackAt}
 use Rattle.semantics.specs.Types.{Types, Var, Vars, variable, infoAt, hostOf, ordinal?}
 use Rattle.semantics.proofs.Inversion.{none-some, some-inj, bind-some}
-use Rattle.calc.specs.Words.{Holds}
+use Rattle.calc.specs.Words.{noResult, greatest, Holds}
 use Rattle.shapes.specs.declared.Atom.{Atom}
 use Rattle.shapes.specs.declared.Atom.the-variants as AT
 use Rattle.shapes.specs.Heads as heads
@@ -78,24 +78,24 @@ module _ (l ts : List ℕ) (g : Reached) (x y : Carried) (k : ℕ) (K : k ≡ ho
 
   -- it sticks where the bounds do
   sticks-so : (σ : Environment) (c : Var) (u v : TypedValue) → markBounds (σ .types) (σ .vars) c u v ≡ stuck
-      → SpanIs (σ .types) (joined (σ .types) (σ .vars) c (is u) (is v)) (span.Halted (pos 17179869184))
-  sticks-so σ c u v e = record { says = subst (λ (o : Result (ℤ × ℤ)). Broken {A = Counted} (pos 17179869184) (o >>= λ p. is (c, p))) (sym e) (by-stuck refl) }
+      → SpanIs (σ .types) (joined (σ .types) (σ .vars) c (is u) (is v)) (span.Halted noResult)
+  sticks-so σ c u v e = record { says = subst (λ (o : Result (ℤ × ℤ)). Broken {A = Counted} noResult (o >>= λ p. is (c, p))) (sym e) (by-stuck refl) }
 
-  pub join-left : ((k ≡ x .kind) → ⊥) → Joins l ts g x y (span.Halted (pos 17179869184))
+  pub join-left : ((k ≡ x .kind) → ⊥) → Joins l ts g x y (span.Halted noResult)
   join-left h = record {
     says = λ s count newest σ S m i c hc R u v C D.
         sticks-so σ c u v (bounds-by (σ .types) (σ .vars) c u v false (eqb (hostOf (σ .types) (c .type)) (v .kind)) (ordinal? (σ .types) (c .type)) (other-kind S m c R x u C h) refl refl);
   }
 
   module _ (h : k ≡ x .kind) where
-    pub join-right : ((k ≡ y .kind) → ⊥) → Joins l ts g x y (span.Halted (pos 17179869184))
+    pub join-right : ((k ≡ y .kind) → ⊥) → Joins l ts g x y (span.Halted noResult)
     join-right j = record {
       says = λ s count newest σ S m i c hc R u v C D.
           sticks-so σ c u v (bounds-by (σ .types) (σ .vars) c u v true false (ordinal? (σ .types) (c .type)) (fits-kind S m c R x u C h) (other-kind S m c R y v D j) refl);
     }
 
     module _ (j : k ≡ y .kind) (i : Info) (I : i ≡ infoOf l ts (g .typed)) where
-      pub join-shape : ((i .shape ≡ 0) → ⊥) → Joins l ts g x y (span.Halted (pos 17179869184))
+      pub join-shape : ((i .shape ≡ 0) → ⊥) → Joins l ts g x y (span.Halted noResult)
       join-shape t = record {
         says = λ s count newest σ S m n c hc R u v C D.
             let o : ordinal? (σ .types) (c .type) ≡ false = ap (ordinal? (σ .types)) (sym (R .type-is (typedPlace (c .type) (c .base)) refl)) ∙ ordinal-no S (g .typed) (λ p. t (ap (λ (z : Info). z .shape) I ∙ p)) in
@@ -187,16 +187,16 @@ module _ (s l ts : List ℕ) (ws : List ℤ) (count newest at : ℕ) (g : Reache
         (λ e q Q E. E .says σ S .says b z (ap (exprIn 33) (skip-rest s p q Q (expr-there 33 (first (stackAt s p)) a ha′) ∙ ap rest n) ∙ hb) hz m H));
   }
 
-  pub bounds-from : ltZ (pos 4294967295) (wire (x .word)) ≡ true → r ≡ span.Halted (wire (x .word)) → Bounding s l ts ws count newest at r
+  pub bounds-from : ltZ greatest (wire (x .word)) ≡ true → r ≡ span.Halted (wire (x .word)) → Bounding s l ts ws count newest at r
   bounds-from h e = bounded (λ σ S m H i c hc R u v C D. rw (e, toZ-ofZ fx)
       (record { says = broken-bind (λ a. v >>= λ b. markBounds (σ .types) (σ .vars) c a b >>= λ q. is (c, q)) (carried-broken C (rw (toZ-ofZ fx) at h)) }))
 
-  module _ (h : ltZ (pos 4294967295) (wire (x .word)) ≡ false) (q : ℕ) (Q : Skips s p q) (y : Carried) (Y : MarksExpr s l ts ws count newest 33 q y) (fy : SFits w64 (y .word)) where
-    pub bounds-to : ltZ (pos 4294967295) (wire (y .word)) ≡ true → r ≡ span.Halted (wire (y .word)) → Bounding s l ts ws count newest at r
+  module _ (h : ltZ greatest (wire (x .word)) ≡ false) (q : ℕ) (Q : Skips s p q) (y : Carried) (Y : MarksExpr s l ts ws count newest 33 q y) (fy : SFits w64 (y .word)) where
+    pub bounds-to : ltZ greatest (wire (y .word)) ≡ true → r ≡ span.Halted (wire (y .word)) → Bounding s l ts ws count newest at r
     bounds-to j e = bounded (λ σ S m H i c hc R u v C D. carried-value C (rw (toZ-ofZ fx) at h) (λ a ha w t k. rw (e, toZ-ofZ fy, ha)
         (record { says = broken-bind (λ b. markBounds (σ .types) (σ .vars) c a b >>= λ q. is (c, q)) (carried-broken (D y q Q Y) (rw (toZ-ofZ fy) at j)) })))
 
-    pub bounds-join : ltZ (pos 4294967295) (wire (y .word)) ≡ false → Joins l ts g x y r → Bounding s l ts ws count newest at r
+    pub bounds-join : ltZ greatest (wire (y .word)) ≡ false → Joins l ts g x y r → Bounding s l ts ws count newest at r
     bounds-join j J = bounded (λ σ S m H i c hc R u v C D. carried-value C (rw (toZ-ofZ fx) at h) (λ a ha w t k. carried-value (D y q Q Y) (rw (toZ-ofZ fy) at j) (λ b hb w′ t′ k′.
         subst (λ (o : Result TypedValue). SpanIs (σ .types) (joined (σ .types) (σ .vars) c o v) r) (sym ha)
         (subst (λ (o : Result TypedValue). SpanIs (σ .types) (joined (σ .types) (σ .vars) c (is a) o) r) (sym hb)

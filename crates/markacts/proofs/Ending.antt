@@ -2,22 +2,22 @@
 use mathlib.Core.Path.{_≡_, refl, sym, ap, subst, _∙_}
 use mathlib.Core.Bool.{Bool}
 use mathlib.Core.List.{List}
-use mathlib.Core.Logic.{inl, inr}
 use Prim.Native.Nat.{ℕ, _+_, _-_, _%_, _<_, _≤_}
 use native.Mathlib.Nat.{mod-lt, mod-eq-of-lt, mod-eq-sub-mod}
 use native.Mathlib.Omega.{arith}
 use borrow.Author.Tests.{lt-ltb, le-ltb}
 use borrow.Author.Needs.{sfits-of}
-use lib.IntN.{ℤ, pos, _+ℤ_}
+use lib.IntN.{ℤ}
 use mir.Syntax.{w64}
 use mir.Val.{SFits, ofZ}
 use mir.Facts.{toZ-ofZ}
 use Rattle.arith.proofs.Machine.{wire, same-bits, fits-mag}
-use Rattle.arith.specs.Integers.{inside}
 use Rattle.semantics.specs.Base.{pick}
-use Rattle.semantics.specs.Calculate.{Result, is, fails, natOf}
+use Rattle.semantics.specs.Calculate.{Result, is}
 use Rattle.semantics.specs.Machine.{Store, State, state, Answer, answer, normal, sticks, raising, withResult}
-use Rattle.calc.specs.Words.{InRange}
+use Rattle.calc.specs.Words.{noResult, InRange}
+use Rattle.calc.proofs.Ranging.{small-fault, not-stuck}
+use Rattle.steps.proofs.Noting.{fault-back}
 use Rattle.steps.specs.Ends.{leftIn, toldBy, raisedWord, faultIn, Raises}
 use Rattle.steps.specs.Stands.{Stands, Ends}
 use Rattle.leaves.proofs.Ending.{left-most, left-of, raised-fewer, normal-ends, raising-ends}
@@ -84,25 +84,14 @@ module _ (ws : List ℤ) (s : ℕ) (m : Store) (S : Stands ws s m) where
 
 -- ---- no value
 
-not-stuck : (e : ℤ) → MarkRanged (fails e) → ((e +ℤ pos 8589934592) ≡ pos 17179869184) → ⊥
-unfolding MarkRanged
-not-stuck e (inl f) h = let q : _≡_ {A = ℕ} 8589934491 17179869184 = ap natOf (rw f at h) in omega arith
-not-stuck e (inr (inl f)) h = let q : _≡_ {A = ℕ} 8589934489 17179869184 = ap natOf (rw f at h) in omega arith
-not-stuck e (inr (inr f)) h = let q : _≡_ {A = ℕ} 8589934488 17179869184 = ap natOf (rw f at h) in omega arith
-
-fault-is : (e : ℤ) → MarkRanged (fails e) → (InRange e) × (faultIn (e +ℤ pos 8589934592) ≡ e)
-unfolding MarkRanged InRange inside faultIn pick
-fault-is e (inl f) = rw f (refl, refl)
-fault-is e (inr (inl f)) = rw f (refl, refl)
-fault-is e (inr (inr f)) = rw f (refl, refl)
-
 -- what gave no value ends statement n
 pub halts-ends : {A : Type 0} (ws : List ℤ) (s : ℕ) (m : Store) (n : ℕ) (v : Result A) (w : ℤ) (f : A → Answer) (ws′ : List ℤ) (r : ℕ) → Stands ws s m → Broken w v → Halts w n ws s ws′ r
     → MarkEnds (withResult n (state m s) v f) ws′ r
+unfolding MarkRanged
 halts-ends ws s m n _ w f ws′ r S (by-fault e h R) H =
-    let d : (w ≡ pos 17179869184) → ⊥ = λ g. not-stuck e R (sym h ∙ g) in
-    let q : faultIn w ≡ e = ap faultIn h ∙ fault-is e R .1 in
-    raising-marks ws s m S e n ws′ r (fault-is e R .0) (subst (λ (z : ℤ). Raises z n ws s ws′ r) q (H .raises d))
+    let d : (w ≡ noResult) → ⊥ = λ g. not-stuck e R (sym h ∙ g) in
+    let q : faultIn w ≡ e = ap faultIn h ∙ fault-back e R in
+    raising-marks ws s m S e n ws′ r (small-fault e R) (subst (λ (z : ℤ). Raises z n ws s ws′ r) q (H .raises d))
 halts-ends ws s m n _ w f ws′ r S (by-stuck h) H =
     let e = H .stays h in
     subst (λ (us : List ℤ). MarkEnds (answer sticks (state m s)) us r) (sym (e .0)) (stuck-marks ws s m S r (e .1))
@@ -114,14 +103,14 @@ goes-on {A} n t v z f ws r e E = subst (λ (u : Result A). MarkEnds (withResult 
 -- ---- `halting`
 
 module _ (w : ℤ) (n : ℕ) (ws : List ℤ) (left : ℕ) (r : ℕ) (f : SFits w64 w) where
-  pub halting-stuck : ofZ w64 w ≡ 17179869184 → r ≡ stuckWord left → Halts w n ws left ws r
+  pub halting-stuck : ofZ w64 w ≡ 9223372036854775807 → r ≡ stuckWord left → Halts w n ws left ws r
   halting-stuck e q = record {
     stays = λ h. (refl, q);
-    raises = λ h. absurd (h (same-bits w (pos 17179869184) f (fits-mag (pos 17179869184) (omega arith)) e));
+    raises = λ h. absurd (h (same-bits w noResult f (fits-mag noResult (omega arith)) e));
     fewer = stuck-fewer left r q;
   }
 
-  pub halting-fault : (ws′ : List ℤ) → ((ofZ w64 w ≡ 17179869184) → ⊥) → Raises (faultIn (wire w)) n ws left ws′ r → Halts w n ws left ws′ r
+  pub halting-fault : (ws′ : List ℤ) → ((ofZ w64 w ≡ 9223372036854775807) → ⊥) → Raises (faultIn (wire w)) n ws left ws′ r → Halts w n ws left ws′ r
   halting-fault ws′ e R = record {
     stays = λ h. absurd (e (ap (ofZ w64) h));
     raises = λ h. subst (λ (z : ℤ). Raises (faultIn z) n ws left ws′ r) (toZ-ofZ f) R;

@@ -8,6 +8,7 @@ use Rattle.semantics.specs.Base.{pick}
 use Rattle.semantics.specs.Machine.{Store, State, state, Answer, Outcome, sticks}
 use Rattle.steps.specs.Ends.{leftIn, toldBy, faultIn, Raises}
 use Rattle.steps.specs.Stands.{Stands}
+use Rattle.calc.specs.Words.{noResult}
 
 -- three times 4294967296 is added to the steps left where it sticks
 unfoldable pub markTold : ℕ → List ℤ → Outcome
@@ -28,6 +29,6 @@ pub record MarkRuns (f : State → Answer) (ws : List ℤ) (left : ℕ) (ws′ :
 
 -- the end by the word of no value, in statement n
 pub record Halts (w : ℤ) (n : ℕ) (ws : List ℤ) (left : ℕ) (ws′ : List ℤ) (r : ℕ) : Type 0 where
-  pub stays : w ≡ pos 17179869184 → (ws′ ≡ ws) × (r ≡ stuckWord left)
-  pub raises : ((w ≡ pos 17179869184) → ⊥) → Raises (faultIn w) n ws left ws′ r
+  pub stays : w ≡ noResult → (ws′ ≡ ws) × (r ≡ stuckWord left)
+  pub raises : ((w ≡ noResult) → ⊥) → Raises (faultIn w) n ws left ws′ r
   pub fewer : leftIn r ≤ left

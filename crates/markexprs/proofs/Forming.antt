@@ -26,7 +26,7 @@ use Rattle.semantics.specs.Trees.{Tree, Trees, end, _then_, Run, first, stackAt
 use Rattle.semantics.proofs.Inversion.{none-some, some-inj, bind-some}
 use Rattle.kinds.specs.Kinds.{opNumber}
 use Rattle.kinds.specs.Functions.{funNumber}
-use Rattle.calc.specs.Words.{Holds}
+use Rattle.calc.specs.Words.{noResult, Holds}
 use Rattle.shapes.specs.declared.ExprHead.the-variants as EH
 use Rattle.shapes.specs.Parts.{rest, exprIn, nameIn}
 use Rattle.tables.specs.Descriptions.{infoOf}
@@ -147,7 +147,7 @@ module _ (s l ts : List ℕ) (ws : List ℤ) (count newest d at : ℕ) where
       };
     }
 
-    pub set-not : b ≡ false → r ≡ carriedOf 0 (pos 17179869184) 0 → MarksForm s l ts ws count newest EH.Members d at r
+    pub set-not : b ≡ false → r ≡ carriedOf 0 noResult 0 → MarksForm s l ts ws count newest EH.Members d at r
     unfolding exprOf markExpr
     set-not h e = record {
       says = λ σ S. record {

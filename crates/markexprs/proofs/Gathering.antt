@@ -24,7 +24,7 @@ use Rattle.semantics.specs.Syntax as Syntax
 use Rattle.semantics.specs.Trees.{Trees, end, _then_, Run, first, stackAt}
 use Rattle.semantics.specs.Types.{baseOf}
 use Rattle.semantics.proofs.Inversion.{some-inj, bind-some}
-use Rattle.calc.specs.Words.{Holds}
+use Rattle.calc.specs.Words.{greatest, Holds}
 use Rattle.evaluate.proofs.Gathering.{joined-turn, joined-set, bind-id, bind-twice}
 use Rattle.calc.proofs.Ranging.{low-range}
 use Rattle.shapes.specs.Parts.{partOf, rest, exprIn, exprsIn}
@@ -53,10 +53,10 @@ exprs-end : (d : ℕ) (us : Trees Run) (xs : Syntax.Exprs) → us ≡ end → ex
 unfolding exprsIn
 exprs-end d us xs e h = some-inj (rw e at h)
 
-value-there : (z : ℤ) (q : Result ℤ) → MarkMeans z q → ltZ (pos 4294967295) z ≡ false → q ≡ is z
+value-there : (z : ℤ) (q : Result ℤ) → MarkMeans z q → ltZ greatest z ≡ false → q ≡ is z
 value-there z q h g = view-value z q (λ y. y) (subst (λ (v : Result ℤ). MarkMeans z v) (bind-id q) h) g (λ y e f i. e ∙ ap is (sym f))
 
-broken-there : (z : ℤ) (q : Result ℤ) → MarkMeans z q → ltZ (pos 4294967295) z ≡ true → Broken z q
+broken-there : (z : ℤ) (q : Result ℤ) → MarkMeans z q → ltZ greatest z ≡ true → Broken z q
 broken-there z q h g = view-broken z q (λ y. y) (subst (λ (v : Result ℤ). MarkMeans z v) (bind-id q) h) g
 
 module _ {A : Type 0} (v : A → Result ℤ) (f : ℤ → Result ℤ) where
@@ -146,7 +146,7 @@ module _ (s l ts : List ℕ) (ws : List ℤ) (count newest t d at : ℕ) where
             whole = L .whole ∙ ap (λ (ws : Exprs). markMembers (σ .types) (σ .vars) t ws m >>= λ y. is (F .seen y)) (sym (some-inj p));
           })))
 
-      pub members-fault : ltZ (pos 4294967295) (wire z) ≡ true → MarksMembers s l ts ws count newest t d at (wire z)
+      pub members-fault : ltZ greatest (wire z) ≡ true → MarksMembers s l ts ws count newest t d at (wire z)
       members-fault g = rw (toZ-ofZ fz) (record {
         says = λ σ S. record {
           says = λ xs es i k m H.
@@ -166,7 +166,7 @@ module _ (s l ts : List ℕ) (ws : List ℤ) (count newest t d at : ℕ) where
             go end i = absurd (not-end i)
             go (u then us) i = let b : us ≡ first (stackAt s q) = ap rest (sym i ∙ Q .says u us i .here) in rw b (omega arith)
 
-        pub members-next : (set′ : ℕ) → ltZ (pos 4294967295) (wire z) ≡ false → set′ ≡ valueOf (added (wire z) (members set)) → Fits w32 set′ → Sofar s l ts ws count newest t d at q set′
+        pub members-next : (set′ : ℕ) → ltZ greatest (wire z) ≡ false → set′ ≡ valueOf (added (wire z) (members set)) → Fits w32 set′ → Sofar s l ts ws count newest t d at q set′
         members-next set′ g i f = record {
           small-set = omega (arith, f .fits);
           seen = λ y. F .seen (joined z y);

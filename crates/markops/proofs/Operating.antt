@@ -31,7 +31,7 @@ use Rattle.kinds.proofs.OneSided.{one-sided-rule}
 use Rattle.kinds.specs.declared.Side.{Side}
 use Rattle.kinds.specs.declared.Ruling.{Ruling}
 use Rattle.kinds.specs.declared.Ruling.the-variants.{Misfit, Fits}
-use Rattle.calc.specs.Words.{wordOf, applied1, InRange}
+use Rattle.calc.specs.Words.{noResult, greatest, wordOf, applied1, InRange}
 use Rattle.calc.proofs.Combining.{value-again}
 use Rattle.calc.proofs.Ranging.{range-value, low-range, Bounded, plain, compute-ranged, compute1-ranged}
 use Rattle.tables.specs.declared.Info.{Info}
@@ -48,7 +48,7 @@ use Rattle.markops.specs.Operations.{ruledWord, nodeWord, ruledWord1, op
 -- ---- by what an operator comes to
 
 module _ (r : Ruling) (c : Carried) where
-  pub ruled-misfit : (x y : ℤ) → r ≡ Misfit → c ≡ carriedOf 0 (pos 17179869184) 0 → c ≡ ruledWord r x y
+  pub ruled-misfit : (x y : ℤ) → r ≡ Misfit → c ≡ carriedOf 0 noResult 0 → c ≡ ruledWord r x y
   unfolding ruledWord
   ruled-misfit x y h e = e ∙ rw h refl
 
@@ -57,7 +57,7 @@ module _ (r : Ruling) (c : Carried) where
   unfolding ruledWord
   ruled-fits x y z n k h fx fy fz g e = e ∙ rw (h, toZ-ofZ fz, g, toZ-ofZ fx, toZ-ofZ fy) refl
 
-  pub ruled1-misfit : (lo hi x : ℤ) → r ≡ Misfit → c ≡ carriedOf 0 (pos 17179869184) 0 → c ≡ ruledWord1 r lo hi x
+  pub ruled1-misfit : (lo hi x : ℤ) → r ≡ Misfit → c ≡ carriedOf 0 noResult 0 → c ≡ ruledWord1 r lo hi x
   unfolding ruledWord1
   ruled1-misfit lo hi x h e = e ∙ rw h refl
 
@@ -101,17 +101,17 @@ module _ (Γ : Types) (K : Kinded Γ) (m : Store) where
       go (some r) e = rw (back (r .operation)) (carries-one Γ m (r .kind) (wordOf (compute (r .operation) x y)) (compute (r .operation) x y) (rule-simple Γ K k j o r e) (means-marks _ _ (record { word = refl; ranged = compute-ranged (r .operation) x y hx hy })))
 
 module _ (l ts : List ℕ) (op : ℕ) (x y r : Carried) (fx : SFits w64 (x .word)) where
-  pub operates-left : ltZ (pos 4294967295) (wire (x .word)) ≡ true → r ≡ carriedOf 0 (wire (x .word)) 0 → Operates l ts op x y r
+  pub operates-left : ltZ greatest (wire (x .word)) ≡ true → r ≡ carriedOf 0 (wire (x .word)) 0 → Operates l ts op x y r
   operates-left h e = rw (e, toZ-ofZ fx) (record { says = λ s count newest σ S m o n v w X Y. carries-broken (σ .types) m 0 0 (broken-bind (λ a. w >>= λ b. operated (σ .types) o a b) (carried-broken X (rw (toZ-ofZ fx) at h))) })
 
-  module _ (fy : SFits w64 (y .word)) (h : ltZ (pos 4294967295) (wire (x .word)) ≡ false) where
-    pub operates-right : ltZ (pos 4294967295) (wire (y .word)) ≡ true → r ≡ carriedOf 0 (wire (y .word)) 0 → Operates l ts op x y r
+  module _ (fy : SFits w64 (y .word)) (h : ltZ greatest (wire (x .word)) ≡ false) where
+    pub operates-right : ltZ greatest (wire (y .word)) ≡ true → r ≡ carriedOf 0 (wire (y .word)) 0 → Operates l ts op x y r
     operates-right g e = rw (e, toZ-ofZ fy) (record {
       says = λ s count newest σ S m o n v w X Y. carried-value X (rw (toZ-ofZ fx) at h) (λ a q f i k.
           rw q (carries-broken (σ .types) m 0 0 (broken-bind (λ b. operated (σ .types) o a b) (carried-broken Y (rw (toZ-ofZ fy) at g)))));
     })
 
-    pub operates-both : (a b : Side) (R : Ruling) → ltZ (pos 4294967295) (wire (y .word)) ≡ false → a ≡ sideIn l ts (x .kind) → b ≡ sideIn l ts (y .kind) → R ≡ ruling2 op a b
+    pub operates-both : (a b : Side) (R : Ruling) → ltZ greatest (wire (y .word)) ≡ false → a ≡ sideIn l ts (x .kind) → b ≡ sideIn l ts (y .kind) → R ≡ ruling2 op a b
         → r ≡ ruledWord R (wire (x .word)) (wire (y .word)) → Operates l ts op x y r
     operates-both a b R g ea eb eR e = rw (e, eR, ea, eb, toZ-ofZ fx, toZ-ofZ fy) (record {
       says = λ s count newest σ S m o n v w X Y. carried-value X (rw (toZ-ofZ fx) at h) (λ p q f i k. carried-value Y (rw (toZ-ofZ fy) at g) (λ p′ q′ f′ i′ k′.
@@ -148,10 +148,10 @@ module _ (Γ : Types) (K : Kinded Γ) (m : Store) (k : ℕ) (bl : inside least m
       go (some r) e = let u = rule-comes Γ K k f r e in carries-one Γ m (r .kind) _ (compute1 (r .operation) x) (u .simple) (node-means (r .operation) (u .comes))
 
 module _ (l ts : List ℕ) (f : ℕ) (x r : Carried) (fx : SFits w64 (x .word)) where
-  pub applies-fault : ltZ (pos 4294967295) (wire (x .word)) ≡ true → r ≡ carriedOf 0 (wire (x .word)) 0 → Applies l ts f x r
+  pub applies-fault : ltZ greatest (wire (x .word)) ≡ true → r ≡ carriedOf 0 (wire (x .word)) 0 → Applies l ts f x r
   applies-fault h e = rw (e, toZ-ofZ fx) (record { says = λ s count newest σ S m o n v X. carries-broken (σ .types) m 0 0 (broken-bind (λ a. applied (σ .types) o a) (carried-broken X (rw (toZ-ofZ fx) at h))) })
 
-  pub applies-value : (i : Info) (a : Side) (R : Ruling) → ltZ (pos 4294967295) (wire (x .word)) ≡ false → i ≡ infoOf l ts (x .kind) → a ≡ sideIn l ts (x .kind) → R ≡ ruling1 f a
+  pub applies-value : (i : Info) (a : Side) (R : Ruling) → ltZ greatest (wire (x .word)) ≡ false → i ≡ infoOf l ts (x .kind) → a ≡ sideIn l ts (x .kind) → R ≡ ruling1 f a
       → r ≡ ruledWord1 R (signed (i .low)) (signed (i .high)) (wire (x .word)) → Applies l ts f x r
   applies-value i a R h ei ea eR e = rw (e, eR, ea, ei, toZ-ofZ fx) (record {
     says = λ s count newest σ S m o n v X. carried-value X (rw (toZ-ofZ fx) at h) (λ p q g z k.
@@ -187,17 +187,17 @@ module _ (Γ : Types) (o : ordinal? Γ 1 ≡ true) (m : Store) where
       go stuck _ n = carries-broken Γ m 1 0 (by-stuck (n .word))
 
 module _ (q : Bool) (x y r : Carried) (a : ℤ) (fa : SFits w64 a) (A : Wants 1 x a) where
-  pub shorts-fault : ltZ (pos 4294967295) (wire a) ≡ true → r ≡ carriedOf 0 (wire a) 0 → Shorts q x y r
+  pub shorts-fault : ltZ greatest (wire a) ≡ true → r ≡ carriedOf 0 (wire a) 0 → Shorts q x y r
   shorts-fault h e = rw (e, toZ-ofZ fa) (record { says = λ Γ o m v w X Y. carries-broken Γ m 0 0 (broken-bind (λ u. typedAs 1 (shortCircuited q (isTrue (sole u)) (w >>= wanted 1))) (view-broken a (v >>= wanted 1) (λ u. sole u) (A .says Γ m v X) (rw (toZ-ofZ fa) at h))) })
 
   -- the left side is t, and leaves it open or not
-  module _ (h : ltZ (pos 4294967295) (wire a) ≡ false) (t : Bool) (g : ltZ (pos 0) (wire a) ≡ t) where
+  module _ (h : ltZ greatest (wire a) ≡ false) (t : Bool) (g : ltZ (pos 0) (wire a) ≡ t) where
     by-left : ((Γ : Types) → ordinal? Γ 1 ≡ true → (m : Store) (w : Result TypedValue) → Carries Γ m w y → Carries Γ m (typedAs 1 (shortCircuited q t (w >>= wanted 1))) r) → Shorts q x y r
     by-left K = record {
       says = λ Γ o m v w X Y. view-value a (v >>= wanted 1) (λ u. sole u) (A .says Γ m v X) (rw (toZ-ofZ fa) at h) (λ u e f i. rw (e, ← f, rw (toZ-ofZ fa) at g) (K Γ o m w Y));
     }
 
-  module _ (h : ltZ (pos 4294967295) (wire a) ≡ false) where
+  module _ (h : ltZ greatest (wire a) ≡ false) where
     pub and-open : (b : ℤ) → q ≡ true → ltZ (pos 0) (wire a) ≡ true → SFits w64 b → Wants 1 y b → r ≡ carriedOf 1 (wire b) 0 → Shorts q x y r
     and-open b z g fb B e = by-left h true g (λ Γ o m w Y. rw (z, e, toZ-ofZ fb) (right-carries Γ o m w y b Y (B .says Γ m w Y)))
 

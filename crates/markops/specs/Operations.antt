@@ -17,14 +17,14 @@ use Rattle.kinds.specs.Kinds.{opNumber}
 use Rattle.kinds.specs.Functions.{funNumber}
 use Rattle.kinds.specs.declared.Ruling.{Ruling}
 use Rattle.kinds.specs.declared.Ruling.the-variants.{Misfit, Fits}
-use Rattle.calc.specs.Words.{wordOf, applied1}
+use Rattle.calc.specs.Words.{noResult, wordOf, applied1}
 use Rattle.carried.specs.declared.values.Carried.{Carried}
 use Rattle.carried.specs.Values.{carriedOf, Carries, Known}
 
 -- ---- by what an operator comes to: its node's number and the kind of its result
 
 unfoldable pub ruledWord : Ruling → ℤ → ℤ → Carried
-ruledWord Misfit x y = carriedOf 0 (pos 17179869184) 0
+ruledWord Misfit x y = carriedOf 0 noResult 0
 ruledWord (Fits n k) x y = carriedOf k (wordOf (compute (operationAt (n - 9)) x y)) 0
 
 -- one-sided, on a value whose kind has the bounds lo and hi
@@ -33,7 +33,7 @@ nodeWord n lo hi x =
     cond (eqb n 38) (applied1 (predIn lo hi) x) (cond (eqb n 39) (applied1 (succIn lo hi) x) (applied1 (operation1At (n - 29)) x))
 
 unfoldable pub ruledWord1 : Ruling → ℤ → ℤ → ℤ → Carried
-ruledWord1 Misfit lo hi x = carriedOf 0 (pos 17179869184) 0
+ruledWord1 Misfit lo hi x = carriedOf 0 noResult 0
 ruledWord1 (Fits n k) lo hi x = carriedOf k (nodeWord n lo hi x) 0
 
 -- ---- the machine's steps

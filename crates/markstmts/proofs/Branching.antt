@@ -52,7 +52,7 @@ use Rattle.statements.specs.Walks.{verbIn}
 use Rattle.statements.proofs.Shapes.{form-shape, none-shape}
 use Rattle.steps.specs.Ends.{leftIn, stepWord, Raises}
 use Rattle.steps.specs.Stands.{Stands, after}
-use Rattle.calc.specs.Words.{InRange}
+use Rattle.calc.specs.Words.{greatest, InRange}
 use Rattle.leaves.proofs.Ending.{left-most, raised-fewer, step-taken, step-fewer}
 use Rattle.carried.specs.declared.values.Carried.{Carried}
 use Rattle.carried.specs.Values.{Known}
@@ -225,13 +225,13 @@ module _ {s l us ts tb : List ℕ} {count newest calls : ℕ} (F : Frame s l us 
   abbrev answered : Result (List ℤ)
   answered = markExpr (F .env .types) (F .env .vars) (E .expr) k >>= wanted 1
 
-  pub test-halts : (ws′ : List ℤ) (r : ℕ) → ltZ (pos 4294967295) x ≡ true → Halts x n ws t ws′ r → (f : Bool → Answer) → MarkEnds (testing F n (E .expr) (state k t) f) ws′ r
+  pub test-halts : (ws′ : List ℤ) (r : ℕ) → ltZ greatest x ≡ true → Halts x n ws t ws′ r → (f : Bool → Answer) → MarkEnds (testing F n (E .expr) (state k t) f) ws′ r
   unfolding markCondition
   test-halts ws′ r h H f =
       halts-ends ws t k n answered x (λ u. f (isTrue (sole u))) ws′ r S
       (view-broken x answered (λ u. sole u) (C .says (F .env) (known F) (E .form) (E .expr) (E .reads) (E .names) k (S .holds)) h) H
 
-  pub test-gives : ltZ (pos 4294967295) x ≡ false → (b : Bool) → isTrue x ≡ b → (f : Bool → Answer) → testing F n (E .expr) (state k t) f ≡ f b
+  pub test-gives : ltZ greatest x ≡ false → (b : Bool) → isTrue x ≡ b → (f : Bool → Answer) → testing F n (E .expr) (state k t) f ≡ f b
   unfolding markCondition
   test-gives h b e f =
       view-value x answered (λ u. sole u) (C .says (F .env) (known F) (E .form) (E .expr) (E .reads) (E .names) k (S .holds)) h (λ u g w i.
@@ -251,10 +251,10 @@ module _ (s l us ts tb : List ℕ) (count newest calls d n at : ℕ) (ws : List 
     fewer = l;
   }
 
-  pub if-halts : ltZ (pos 4294967295) (wire x) ≡ true → Halts (wire x) n ws left ws′ r → MarksVerb s l us ts tb count newest calls VB.If d n at ws left ws′ r
+  pub if-halts : ltZ greatest (wire x) ≡ true → Halts (wire x) n ws left ws′ r → MarksVerb s l us ts tb count newest calls VB.If d n at ws left ws′ r
   if-halts h H = if-from (H .fewer) (λ F E A B k S. test-halts F n at E ws left x C k S ws′ r (rw (toZ-ofZ fx) at h) (rw (toZ-ofZ fx) at H) (λ q. branch q (machine F (A .stmt)) (machine F (B .stmt)) (state k left)))
 
-  module _ (h : ltZ (pos 4294967295) (wire x) ≡ false) (q : ℕ) (Q : Skips s at q) where
+  module _ (h : ltZ greatest (wire x) ≡ false) (q : ℕ) (Q : Skips s at q) where
     if-gives : (b : Bool) → isTrue x ≡ b → leftIn r ≤ left
         → ((F : Frame s l us ts tb count newest calls) (E : FoundExpr (F .env) (exprIn 33 (first (stackAt s at)))) (A : Found (F .env) (stmtIn d n (rest (first (stackAt s at)))))
         (B : Found (F .env) (elseIn d (A .form .1) (rest (rest (first (stackAt s at)))))) (k : Store) → Stands ws left k
@@ -337,12 +337,12 @@ module _ (s l us ts tb : List ℕ) (count newest calls d n at : ℕ) (ws : List 
     fewer = g;
   }
 
-  pub case-halts : (ws′ : List ℤ) (r : ℕ) → ltZ (pos 4294967295) (wire (x .word)) ≡ true → Halts (wire (x .word)) n ws left ws′ r → MarksVerb s l us ts tb count newest calls VB.Case d n at ws left ws′ r
+  pub case-halts : (ws′ : List ℤ) (r : ℕ) → ltZ greatest (wire (x .word)) ≡ true → Halts (wire (x .word)) n ws left ws′ r → MarksVerb s l us ts tb count newest calls VB.Case d n at ws left ws′ r
   case-halts ws′ r h H = case-from ws′ r (H .fewer) (λ F E bs ys k hb hy b S.
       halts-ends ws left k n (selected F E k) (x .word) (chosenBy F E k ys) ws′ r S
       (carried-broken (C .says (F .env) (known F) (E .form) (E .expr) (E .reads) (E .names) k (S .holds)) (rw (toZ-ofZ fx) at h)) (rw (toZ-ofZ fx) at H))
 
-  module _ (h : ltZ (pos 4294967295) (wire (x .word)) ≡ false) (q : ℕ) (Q : Skips s at q) (a : Arm) (A : Chooses s l count newest (x .kind) (wire (x .word)) n q a) where
+  module _ (h : ltZ greatest (wire (x .word)) ≡ false) (q : ℕ) (Q : Skips s at q) (a : Arm) (A : Chooses s l count newest (x .kind) (wire (x .word)) n q a) where
     taken : Chooses s l count newest (x .kind) (x .word) n q a
     taken = rw (toZ-ofZ fx) at A
 

@@ -25,7 +25,7 @@ use Rattle.shapes.specs.declared.Verb.the-variants as VB
 use Rattle.shapes.specs.Parts.{partOf, rest, exprIn, nameIn, stmtIn}
 use Rattle.shapes.proofs.Expressions.{expr-end}
 use Rattle.skips.specs.Skips.{Skips}
-use Rattle.calc.specs.Words.{InRange}
+use Rattle.calc.specs.Words.{greatest, InRange}
 use Rattle.steps.specs.Ends.{cellsIn, leftIn, stepWord, Raises}
 use Rattle.steps.specs.Stands.{Stands, after}
 use Rattle.steps.specs.Turns.{Increments}
@@ -83,11 +83,11 @@ module _ (s l us ts tb : List ℕ) (count newest calls d n c b : ℕ) (ws : List
       fewer = h;
     }
 
-    pub while-halts : (os : List ℤ) (r : ℕ) → ltZ (pos 4294967295) (wire x) ≡ true → Halts (wire x) n vs t os r → MarksWhile s l us ts tb count newest calls d n c b ws left os r
+    pub while-halts : (os : List ℤ) (r : ℕ) → ltZ greatest (wire x) ≡ true → Halts (wire x) n vs t os r → MarksWhile s l us ts tb count newest calls d n c b ws left os r
     while-halts os r h H = while-from os r (omega (arith, H .fewer, R .fewer)) (λ F E X f z k S.
         test-halts F n c E vs t x C k S os r (rw (toZ-ofZ fx) at h) (rw (toZ-ofZ fx) at H) (λ q. branch q (onward (testing F n (E .expr)) (machine F (X .stmt)) f) (answer normal) (state k t)))
 
-    module _ (h : ltZ (pos 4294967295) (wire x) ≡ false) where
+    module _ (h : ltZ greatest (wire x) ≡ false) where
       -- what the test leads to
       while-gives : (q : Bool) → isTrue x ≡ q → (F : Frame s l us ts tb count newest calls) (E : FoundExpr (F .env) (exprIn 33 (first (stackAt s c)))) (X : Found (F .env) (stmtIn d n (first (stackAt s b)))) (f : ℕ)
           (k : Store) → Stands vs t k

@@ -14,7 +14,7 @@ use Rattle.arith.proofs.Order.{leZ-diff, leZ-trans, up-le, add-high}
 use Rattle.arith.proofs.Ranges.{inside-is, inside-both}
 use Rattle.semantics.specs.Calculate.{natOf, rangeError}
 use Rattle.semantics.specs.Machine.{Store, State, state, Answer, answer, normal, spent, andThen, branch, countUp, forRounds, raising, step, stored, whileRounds}
-use Rattle.calc.specs.Words.{InRange}
+use Rattle.calc.specs.Words.{lowest, greatest, InRange}
 
 -- ---- `while`
 module _ (test : State → (Bool → Answer) → Answer) (body : State → Answer) where
@@ -69,9 +69,9 @@ next-up y z h = ap (λ (k : ℤ). leZ k y) (sym (+ℤ-one z)) ∙ up-le z y ∙ 
 pub next-ranged : (y z : ℤ) → ltZ z y ≡ true → InRange z → InRange y → InRange (sucℤ z)
 unfolding InRange
 next-ranged y z h R Q =
-    inside-both (negsuc 2147483647) (pos 4294967295) (sucℤ z)
-    (leZ-trans (negsuc 2147483647) z (sucℤ z) (inside-is (negsuc 2147483647) (pos 4294967295) z R .0) (ap (leZ z) (sym (+ℤ-one z)) ∙ add-high z (pos 1) refl))
-    (leZ-trans (sucℤ z) y (pos 4294967295) (next-up y z h) (inside-is (negsuc 2147483647) (pos 4294967295) y Q .1))
+    inside-both lowest greatest (sucℤ z)
+    (leZ-trans lowest z (sucℤ z) (inside-is lowest greatest z R .0) (ap (leZ z) (sym (+ℤ-one z)) ∙ add-high z (pos 1) refl))
+    (leZ-trans (sucℤ z) y greatest (next-up y z h) (inside-is lowest greatest y Q .1))
 
 -- ---- the rounds of a `for`
 module _ (a : ℕ) (body : State → Answer) (z : ℤ) where

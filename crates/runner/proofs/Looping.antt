@@ -26,7 +26,7 @@ use Rattle.semantics.specs.ListMachine.{callable}
 use Rattle.semantics.specs.Machine.{Store, State, state, Answer, answer, normal, spent, Procs, andThen, branch, countUp, forRounds, raising, setControl, sole, step, stepIf, stored, whileRounds, withResult}
 use Rattle.semantics.specs.Readback.{actOpAt, integerAt, readAct, readCode}
 use Rattle.evaluate.specs.Walks.{Evaluates}
-use Rattle.calc.specs.Words.{InRange, Holds}
+use Rattle.calc.specs.Words.{lowest, greatest, InRange, Holds}
 use Rattle.steps.specs.Ends.{cellsIn, leftIn, stepWord, faultIn, Raises}
 use Rattle.steps.specs.Stands.{Stands, Ends, Runs, after}
 use Rattle.steps.specs.Turns.{Increments}
@@ -95,14 +95,14 @@ module _ (l : List ℕ) (calls d p : ℕ) (ws : List ℤ) (s : ℕ) (n c b : ℕ
         go : {a : Answer} → length l ≡ 16384 → Rounds a l calls d n c b us t → Ends a vs r
         go {a} L Q = subst (λ (y : Answer). Ends y vs r) (sym (Q .goes .rest)) (g L (Q .fuel) (Q .goes .store) (Q .enough) (Q .goes .stands))
 
-    pub while-fault : (vs : List ℤ) (r : ℕ) → ltZ (pos 4294967295) (wire x) ≡ true → Raises (faultIn (wire x)) n us t vs r → Performs While l calls d p ws s vs r
+    pub while-fault : (vs : List ℤ) (r : ℕ) → ltZ greatest (wire x) ≡ true → Raises (faultIn (wire x)) n us t vs r → Performs While l calls d p ws s vs r
     while-fault vs r g e =
         while-from vs r (omega (arith, raised-fewer (faultIn (wire x)) n us t vs r e, R .fewer))
         (λ L f m k S. subst (λ (y : Answer). Ends y vs r) (sym (rounds-by n (readCode d l c) (runAct (callable calls l) (readAct d l b)) f m t))
         (fault-ends us t m n (evalCode (readCode d l c) m) (wire x) (λ zs. branch (isTrue (sole zs)) (onward n (readCode d l c) (runAct (callable calls l) (readAct d l b)) f) (answer normal) (state m t)) vs r S
         (fault-here l us t m S x h c d E g) e))
 
-    module _ (g : ltZ (pos 4294967295) (wire x) ≡ false) where
+    module _ (g : ltZ greatest (wire x) ≡ false) where
       -- what the test leads to
       while-tested : (q : Bool) → isTrue x ≡ q → (f : ℕ) (m : Store) → Stands us t m
           → whileRounds f (condition n (readCode d l c)) (runAct (callable calls l) (readAct d l b)) (state m t)
@@ -208,9 +208,9 @@ next-up y z h = ap (λ (k : ℤ). leZ k y) (sym (+ℤ-one z)) ∙ up-le z y ∙ 
 pub next-ranged : (y z : ℤ) → ltZ z y ≡ true → InRange z → InRange y → InRange (sucℤ z)
 unfolding InRange
 next-ranged y z h R Q =
-    inside-both (negsuc 2147483647) (pos 4294967295) (sucℤ z)
-    (leZ-trans (negsuc 2147483647) z (sucℤ z) (inside-is (negsuc 2147483647) (pos 4294967295) z R .0) (ap (leZ z) (sym (+ℤ-one z)) ∙ add-high z (pos 1) refl))
-    (leZ-trans (sucℤ z) y (pos 4294967295) (next-up y z h) (inside-is (negsuc 2147483647) (pos 4294967295) y Q .1))
+    inside-both lowest greatest (sucℤ z)
+    (leZ-trans lowest z (sucℤ z) (inside-is lowest greatest z R .0) (ap (leZ z) (sym (+ℤ-one z)) ∙ add-high z (pos 1) refl))
+    (leZ-trans (sucℤ z) y greatest (next-up y z h) (inside-is lowest greatest y Q .1))
 
 -- ---- `rounds`
 for-spent : (k a : ℕ) (body : State → Answer) (z : ℤ) (m : Store) → forRounds (suc k) a body z (state m 0) ≡ answer spent (state m 0)
@@ -438,13 +438,13 @@ module _ (l : List ℕ) (calls d p : ℕ) (ws : List ℤ) (s : ℕ) (e : ℕ) (x
     fewer = k;
   }
 
-  pub count-fault : (ws′ : List ℤ) (r n : ℕ) → ltZ (pos 4294967295) (wire x) ≡ true → n ≡ getD l (p + 1) 0 → Raises (faultIn (wire x)) n ws s ws′ r → Performs For l calls d p ws s ws′ r
+  pub count-fault : (ws′ : List ℤ) (r n : ℕ) → ltZ greatest (wire x) ≡ true → n ≡ getD l (p + 1) 0 → Raises (faultIn (wire x)) n ws s ws′ r → Performs For l calls d p ws s ws′ r
   count-fault ws′ r n g N u =
       count-from ws′ r (raised-fewer (faultIn (wire x)) n ws s ws′ r u)
       (λ L m S. fault-ends ws s m (getD l (p + 1) 0) (evalCode (readCode d l (getD l (p + 5) 0)) m) (wire x) (toY m) ws′ r S
       (fault-here l ws s m S x h (getD l (p + 5) 0) d from-x g) (at-node (faultIn (wire x)) n (getD l (p + 1) 0) ws s ws′ r N u))
 
-  module _ (g : ltZ (pos 4294967295) (wire x) ≡ false) (c : ℕ) (y : ℤ) (D : c ≡ getD l (p + 6) 0) (F : Evaluates l ws c d y) (i : SFits w64 y) where
+  module _ (g : ltZ greatest (wire x) ≡ false) (c : ℕ) (y : ℤ) (D : c ≡ getD l (p + 6) 0) (F : Evaluates l ws c d y) (i : SFits w64 y) where
     from-y : Evaluates l ws (getD l (p + 6) 0) d y
     from-y = subst (λ (k : ℕ). Evaluates l ws k d y) D F
 
@@ -463,14 +463,14 @@ module _ (l : List ℕ) (calls d p : ℕ) (ws : List ℤ) (s : ℕ) (e : ℕ) (x
             countUp (getD l (p + 1) 0) (getD l (p + 2) 0) (integerAt l (p + 3)) (integerAt l (p + 4)) z (sole v) (runAct (callable calls l) (readAct d l (getD l (p + 7) 0))) (state m s)) ws′ r)
             (sym (K .first-is)) (o L m (K .ranged) S))
 
-    pub count-second : (ws′ : List ℤ) (r n : ℕ) → ltZ (pos 4294967295) (wire y) ≡ true → n ≡ getD l (p + 1) 0 → Raises (faultIn (wire y)) n ws s ws′ r → Performs For l calls d p ws s ws′ r
+    pub count-second : (ws′ : List ℤ) (r n : ℕ) → ltZ greatest (wire y) ≡ true → n ≡ getD l (p + 1) 0 → Raises (faultIn (wire y)) n ws s ws′ r → Performs For l calls d p ws s ws′ r
     count-second ws′ r n k N u =
         count-to ws′ r (raised-fewer (faultIn (wire y)) n ws s ws′ r u)
         (λ L m R S. fault-ends ws s m (getD l (p + 1) 0) (evalCode (readCode d l (getD l (p + 6) 0)) m) (wire y)
         (λ v. countUp (getD l (p + 1) 0) (getD l (p + 2) 0) (integerAt l (p + 3)) (integerAt l (p + 4)) x (sole v) (runAct (callable calls l) (readAct d l (getD l (p + 7) 0))) (state m s)) ws′ r S
         (fault-here l ws s m S y i (getD l (p + 6) 0) d from-y k) (at-node (faultIn (wire y)) n (getD l (p + 1) 0) ws s ws′ r N u))
 
-    pub count-both : (r : ℕ) (ws′ : List ℤ) → ltZ (pos 4294967295) (wire y) ≡ false → CountsUp l calls d p (wire x) (wire y) ws s ws′ r → Performs For l calls d p ws s ws′ r
+    pub count-both : (r : ℕ) (ws′ : List ℤ) → ltZ greatest (wire y) ≡ false → CountsUp l calls d p (wire x) (wire y) ws s ws′ r → Performs For l calls d p ws s ws′ r
     count-both r ws′ k K = count-to ws′ r (K .fewer) (λ L m R S. go L m R S (value-here l ws s m S y i (getD l (p + 6) 0) d from-y k))
       where
         counted : CountsUp l calls d p x y ws s ws′ r

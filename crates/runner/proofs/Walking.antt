@@ -30,7 +30,7 @@ use Rattle.semantics.specs.Readback.{actFrom, actOp, actOpAt, actOpUnless, acts
 use Rattle.semantics.specs.Whole.{runBody}
 use Rattle.semantics.proofs.ListMachineRuns.{called-none, called-body, callable-at, callable-past}
 use Rattle.evaluate.specs.Walks.{Evaluates}
-use Rattle.calc.specs.Words.{InRange, Holds}
+use Rattle.calc.specs.Words.{greatest, InRange, Holds}
 use Rattle.steps.specs.Ends.{leftIn, stepWord, faultIn, toldBy, Raises}
 use Rattle.steps.specs.Stands.{Stands, Ends, Runs, after}
 use Rattle.leaves.specs.declared.arms.Arm.{Arm}
@@ -398,7 +398,7 @@ module _ (l : List ℕ) (calls d p : ℕ) (ws : List ℤ) (s : ℕ) (e : ℕ) (x
   tested : Evaluates l ws (getD l (p + 2) 0) d x
   tested = subst (λ (k : ℕ). Evaluates l ws k d x) Q E
 
-  pub branch-fault : (n : ℕ) → ltZ (pos 4294967295) (wire x) ≡ true → n ≡ getD l (p + 1) 0 → Raises (faultIn (wire x)) n ws s ws′ r → Performs Branch l calls d p ws s ws′ r
+  pub branch-fault : (n : ℕ) → ltZ greatest (wire x) ≡ true → n ≡ getD l (p + 1) 0 → Raises (faultIn (wire x)) n ws s ws′ r → Performs Branch l calls d p ws s ws′ r
   branch-fault n g N u = record {
     runs = λ L o. record {
       says = λ m S. subst (λ (a : Answer). Ends a ws′ r) (sym (Shapes.branch-shape (callable calls l) l d p m s o))
@@ -409,7 +409,7 @@ module _ (l : List ℕ) (calls d p : ℕ) (ws : List ℤ) (s : ℕ) (e : ℕ) (x
     fewer = raised-fewer (faultIn (wire x)) n ws s ws′ r u;
   }
 
-  pub case-fault : (n : ℕ) → ltZ (pos 4294967295) (wire x) ≡ true → n ≡ getD l (p + 1) 0 → Raises (faultIn (wire x)) n ws s ws′ r → Performs Case l calls d p ws s ws′ r
+  pub case-fault : (n : ℕ) → ltZ greatest (wire x) ≡ true → n ≡ getD l (p + 1) 0 → Raises (faultIn (wire x)) n ws s ws′ r → Performs Case l calls d p ws s ws′ r
   case-fault n g N u = record {
     runs = λ L o. record {
       says = λ m S. subst (λ (a : Answer). Ends a ws′ r) (sym (Shapes.case-shape (callable calls l) l d p m s o))
@@ -420,7 +420,7 @@ module _ (l : List ℕ) (calls d p : ℕ) (ws : List ℤ) (s : ℕ) (e : ℕ) (x
     fewer = raised-fewer (faultIn (wire x)) n ws s ws′ r u;
   }
 
-  module _ (g : ltZ (pos 4294967295) (wire x) ≡ false) where
+  module _ (g : ltZ greatest (wire x) ≡ false) where
     -- the arm that the test takes
     branch-by : (b : Bool) → isTrue x ≡ b → leftIn r ≤ s
         → (length l ≡ 16384 → (m : Store) → Stands ws s m → Ends (branch b (runAct (callable calls l) (readAct d l (getD l (p + 3) 0))) (runAct (callable calls l) (readAct d l (getD l (p + 4) 0))) (state m s)) ws′ r)
@@ -480,7 +480,7 @@ module _ (l : List ℕ) (calls d p : ℕ) (ws : List ℤ) (s : ℕ) (e : ℕ) (x
 
 -- no arm is taken
 pub case-absent : (l : List ℕ) (calls d p : ℕ) (ws : List ℤ) (s : ℕ) (e : ℕ) (x : ℤ) (ws′ : List ℤ) (r : ℕ) (n c : ℕ) (a : Arm) → e ≡ getD l (p + 2) 0
-    → Evaluates l ws e d x → SFits w64 x → ltZ (pos 4294967295) (wire x) ≡ false → c ≡ getD l (p + 3) 0 → Chooses l c (wire x) d a → a ≡ Absent
+    → Evaluates l ws e d x → SFits w64 x → ltZ greatest (wire x) ≡ false → c ≡ getD l (p + 3) 0 → Chooses l c (wire x) d a → a ≡ Absent
     → n ≡ getD l (p + 1) 0 → Raises (negsuc 104) n ws s ws′ r → Performs Case l calls d p ws s ws′ r
 unfolding byArm InRange inside
 case-absent l calls d p ws s e x ws′ r n c a Q E h g C A k N u =

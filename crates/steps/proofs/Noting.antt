@@ -4,7 +4,7 @@ use mathlib.Core.Bool.{Bool, true, false}
 use mathlib.Core.List.{List}
 use Prim.Native.Nat.{ℕ, zero, suc, _+_, _-_, _%_, _<_, _≤_}
 use native.Mathlib.Omega.{arith}
-use lib.IntN.{ℤ, pos, negsuc, _-ℤ_}
+use lib.IntN.{ℤ, pos, negsuc, _+ℤ_, _-ℤ_}
 use lib.ListN.{getD, set}
 use lib.Signed.{ltZ}
 use lib.Dec.{eqb, T}
@@ -18,7 +18,8 @@ use Rattle.arith.proofs.Machine.{wire, low, high, zero-bits, fits-between}
 use Rattle.arith.proofs.Order.{lt-le, lt-moved, moved-lt}
 use Rattle.semantics.specs.Base.{pick}
 use Rattle.semantics.specs.Calculate.{systemError}
-use Rattle.calc.specs.Words.{latestIn}
+use Rattle.calc.specs.Words.{greatest, faultBase, latestIn, Exceptional}
+use Rattle.calc.proofs.Ranging.{above-fault, back-fault}
 use Rattle.steps.specs.Ends.{leftIn, stepWord, raisedWord, faultIn, notedIn, numberIn, Raises, RaisesNumber}
 
 -- ---- `left_in`, `stepped`
@@ -47,28 +48,34 @@ raising-is z n ws left f g = record {
 }
 
 -- ---- `failing`
-less-room : (w : ℤ) → SFits w64 w → ltZ (pos 4294967295) w ≡ true → SFits w64 (w -ℤ pos 8589934592)
+
+-- the word of an exception holds it
+pub fault-back : (e : ℤ) → Exceptional e → faultIn (e +ℤ faultBase) ≡ e
+unfolding faultIn pick
+fault-back e h = rw (sym (above-fault e h)) (back-fault e h)
+
+less-room : (w : ℤ) → SFits w64 w → ltZ greatest w ≡ true → SFits w64 (w -ℤ faultBase)
 less-room (pos n) f h =
     let g : n < 9223372036854775808 = f .sfits in
-    fits-between (pos n -ℤ pos 8589934592)
-    (lt-le low (pos n -ℤ pos 8589934592) (lt-moved low (pos 8589934592) (pos n)))
-    (lt-le (pos n -ℤ pos 8589934592) high (moved-lt high (pos 8589934592) (pos n) ∙ lt-ltb n 9223372045444710399 (omega arith)))
+    fits-between (pos n -ℤ faultBase)
+    (lt-le low (pos n -ℤ faultBase) (lt-moved low faultBase (pos n)))
+    (lt-le (pos n -ℤ faultBase) high (moved-lt high faultBase (pos n) ∙ lt-ltb n 18446744073709551614 (omega arith)))
 less-room (negsuc n) f h = absurd (subst T (sym h) tt)
 
 module _ (w : ℤ) (n : ℕ) (ws : List ℤ) (left : ℕ) (ws′ : List ℤ) (r : ℕ) (f : SFits w64 w) where
-  pub failing-room : ltZ (pos 4294967295) (wire w) ≡ true → SFits w64 (wire w -ℤ pos 8589934592)
+  pub failing-room : ltZ greatest (wire w) ≡ true → SFits w64 (wire w -ℤ faultBase)
   failing-room h = rw (toZ-ofZ f) (less-room w f (rw (toZ-ofZ f) at h))
 
-  pub failing-above : ltZ (pos 4294967295) (wire w) ≡ true → Raises (wire (wire w -ℤ pos 8589934592)) n ws left ws′ r → Raises (faultIn w) n ws left ws′ r
+  pub failing-above : ltZ greatest (wire w) ≡ true → Raises (wire (wire w -ℤ faultBase)) n ws left ws′ r → Raises (faultIn w) n ws left ws′ r
   unfolding faultIn pick
   failing-above h R =
-      let g : ltZ (pos 4294967295) w ≡ true = rw (toZ-ofZ f) at h in
-      subst (λ (z : ℤ). Raises z n ws left ws′ r) (toZ-ofZ (failing-room h) ∙ ap (λ (z : ℤ). z -ℤ pos 8589934592) (toZ-ofZ f) ∙ rw g) R
+      let g : ltZ greatest w ≡ true = rw (toZ-ofZ f) at h in
+      subst (λ (z : ℤ). Raises z n ws left ws′ r) (toZ-ofZ (failing-room h) ∙ ap (λ (z : ℤ). z -ℤ faultBase) (toZ-ofZ f) ∙ rw g) R
 
-  pub failing-below : ltZ (pos 4294967295) (wire w) ≡ false → Raises (wire w) n ws left ws′ r → Raises (faultIn w) n ws left ws′ r
+  pub failing-below : ltZ greatest (wire w) ≡ false → Raises (wire w) n ws left ws′ r → Raises (faultIn w) n ws left ws′ r
   unfolding faultIn pick
   failing-below h R =
-      let g : ltZ (pos 4294967295) w ≡ false = rw (toZ-ofZ f) at h in
+      let g : ltZ greatest w ≡ false = rw (toZ-ofZ f) at h in
       subst (λ (z : ℤ). Raises z n ws left ws′ r) (toZ-ofZ f ∙ rw g) R
 
 pub ruleset failing-laws = (failing-room, failing-above, failing-below)

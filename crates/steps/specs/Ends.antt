@@ -10,7 +10,7 @@ use Rattle.arith.specs.Integers.{isZero}
 use Rattle.semantics.specs.Base.{pick}
 use Rattle.semantics.specs.Calculate.{natOf, systemError}
 use Rattle.semantics.specs.Machine.{Outcome, normal, spent, raised}
-use Rattle.calc.specs.Words.{latestIn}
+use Rattle.calc.specs.Words.{greatest, faultBase, latestIn}
 
 -- the statement of the last exception
 unfoldable pub placeIn : List ℤ → ℕ
@@ -43,7 +43,7 @@ raisedWord left = 8589934592 + left % 4294967296
 
 -- the exception that a word is
 unfoldable pub faultIn : ℤ → ℤ
-faultIn w = pick (ltZ (pos 4294967295) w) (w -ℤ pos 8589934592) w
+faultIn w = pick (ltZ greatest w) (w -ℤ faultBase) w
 
 -- the array after exception z at statement n
 unfoldable pub notedIn : ℤ → ℕ → List ℤ → List ℤ

@@ -1,5 +1,7 @@
 // How a statement ends, as one word: the steps left; with SPENT, a step was due and none was left; with RAISED, an exception,
 // which is the last one. The store's array tells that: its number is word 2048 and its statement word 2049.
+use calc::words::FAULT;
+use calc::words::GREATEST;
 ghost use mathlib.Core.Path.{_≡_};
 ghost use lib.Dec.{ltb};
 ghost use Rattle.steps.specs.Ends.{leftIn, stepWord, faultIn, Raises, RaisesNumber};
@@ -45,8 +47,8 @@ pub fn raising(store: &mut [i64; 2056], left: u64, z: i64, n: u32) -> u64
 pub fn failing(store: &mut [i64; 2056], left: u64, w: i64, n: u32) -> u64
     ensures { λ r. ⌜ Raises (faultIn w) n (now (store .entry)) left (now (store .exit)) r ⌝ }
 {
-    if w > 4294967295 {
-        return raising(store, left, w - 8589934592, n);
+    if w > GREATEST {
+        return raising(store, left, w - FAULT, n);
     }
     raising(store, left, w, n)
 }

@@ -1,4 +1,4 @@
-use Rattle.calc.proofs.Leaves.{at-fits, at-laws}
+use Rattle.calc.proofs.Leaves.{at-laws}
 use borrow.Author.Needs.{needs}
 use Rattle.calc.proofs.cells.cells_at.Statement.{statement}
 use Rattle.calc.proofs.cells.cells_at.Tie as tie
@@ -6,19 +6,19 @@ use Rattle.calc.proofs.cells.cells_at.Reads as reads
 use Rattle.calc.proofs.cells.cells_at.Lts as lts
 use Rattle.calc.proofs.cells.cell.Reads as cell-reads
 use Rattle.calc.proofs.cells.cells.Reads as cells-reads
-use Rattle.calc.proofs.words.natural.Reads as natural-reads
+use Rattle.calc.proofs.words.reach.Reads as reach-reads
 
 -- src/cells.rt:48:9
 returns : tie.Need-returns
 returns c = search at-laws
 
 -- src/cells.rt:50:13
-natural-requires : tie.Need-natural-requires
-natural-requires c κs = search needs
+reach-requires : tie.Need-reach-requires
+reach-requires c κs = search needs
 
 -- src/cells.rt:50:13
 cast-a : tie.Need-cast-a
-cast-a c = search (at-fits, needs)
+cast-a c = search needs
 
 -- src/cells.rt:52:28
 cast-cell : tie.Need-cast-cell
@@ -45,7 +45,7 @@ cells-at-spec =
     tie.close
     (tie.spec
     returns
-    natural-requires
+    reach-requires
     cast-a
     cast-cell
     cell-requires

@@ -5,7 +5,7 @@ use Rattle.calc.proofs.operators.element.Tie as tie
 use Rattle.calc.proofs.operators.element.Reads as reads
 use Rattle.calc.proofs.operators.element.Lts as lts
 use Rattle.calc.proofs.words.capped.Reads as capped-reads
-use Rattle.calc.proofs.words.natural.Reads as natural-reads
+use Rattle.calc.proofs.words.reach.Reads as reach-reads
 
 -- src/operators.rt:276:9
 returns : tie.Need-returns
@@ -16,16 +16,16 @@ returns-2 : tie.Need-returns-2
 returns-2 c = search (element-laws, needs)
 
 -- src/operators.rt:281:13
-natural-requires : tie.Need-natural-requires
-natural-requires c κs = search needs
+reach-requires : tie.Need-reach-requires
+reach-requires c κs = search needs
 
 -- src/operators.rt:281:13
 mul-t : tie.Need-mul-t
 mul-t c = search (element-laws, needs)
 
 -- src/operators.rt:282:12
-natural-requires-2 : tie.Need-natural-requires-2
-natural-requires-2 c κs = search needs
+reach-requires-2 : tie.Need-reach-requires-2
+reach-requires-2 c κs = search needs
 
 -- src/operators.rt:282:12
 add-capped : tie.Need-add-capped
@@ -45,9 +45,9 @@ element-spec =
     (tie.spec
     returns
     returns-2
-    natural-requires
+    reach-requires
     mul-t
-    natural-requires-2
+    reach-requires-2
     add-capped
     capped-requires
     returns-3)

@@ -1,26 +1,26 @@
-use Rattle.carried.proofs.Reaching.{first-fits, first-laws}
+use Rattle.carried.proofs.Reaching.{first-laws}
 use borrow.Author.Needs.{needs}
 use Rattle.carried.proofs.places.first_cell.Statement.{statement}
 use Rattle.carried.proofs.places.first_cell.Tie as tie
 use Rattle.carried.proofs.places.first_cell.Reads as reads
 use Rattle.carried.proofs.places.first_cell.Lts as lts
-use Rattle.calc.proofs.words.natural.Reads as natural-reads
+use Rattle.calc.proofs.words.reach.Reads as reach-reads
 
--- src/places.rt:39:9
+-- src/places.rt:37:9
 returns : tie.Need-returns
 returns c = search first-laws
 
--- src/places.rt:41:5
-natural-requires : tie.Need-natural-requires
-natural-requires c κs = search needs
+-- src/places.rt:39:5
+reach-requires : tie.Need-reach-requires
+reach-requires c κs = search needs
 
--- src/places.rt:41:5
+-- src/places.rt:39:5
 cast-result : tie.Need-cast-result
-cast-result c = search (first-fits, needs)
+cast-result c = search needs
 
--- src/places.rt:35:1
+-- src/places.rt:33:1
 returns-2 : tie.Need-returns-2
 returns-2 c = search first-laws
 
 pub first-cell-spec : {M : Type 1} → statement M
-first-cell-spec = tie.close (tie.spec returns natural-requires cast-result returns-2)
+first-cell-spec = tie.close (tie.spec returns reach-requires cast-result returns-2)
