@@ -104,7 +104,7 @@ unfolding runAct
 putting-run Γ Δ ps n w c = go (ordinal? Γ (w .type))
   where
     go : (b : Bool) → runAct ps (cond b (assignOrdinal n (w .place) (infoAt Γ (w .type) .low) (infoAt Γ (w .type) .high) c) (assignWhole n (w .place) c))
-        ≡ (λ s. step s λ s′. withResult n s′ (evalCode c (s′ .store)) λ zs. withResult n s′ (placeCode (w .place) (s′ .store)) λ a. branch b (storeOrdinal n a (infoAt Γ (w .type) .low) (infoAt Γ (w .type) .high) (sole zs)) (storeWhole a zs) s′)
+        ≡ (λ s. step s λ s′. withResult n s′ (evalCode c (s′ .store)) λ zs. withResult n s′ (placeCode (w .place) (s′ .store)) λ a. branch b (storeOrdinal n a (infoAt Γ (w .type) .low) (infoAt Γ (w .type) .high) (sole zs)) (storeWhole n a zs) s′)
     go true = refl
     go false = refl
 

@@ -33,7 +33,7 @@ use Rattle.semantics.proofs.TextsAgree.{Paired, empty, more, judged-agr
 use Rattle.semantics.proofs.StoreInRange.{Fine}
 use Rattle.semantics.proofs.ValuesInRange.{Sound, Test}
 use Rattle.semantics.proofs.LinesKeep.{AllFormed, body as formed, tests, text-keeps}
-use Rattle.semantics.proofs.BodiesInRange.{store-sound, sound-store, text-safely}
+use Rattle.semantics.proofs.BodiesInRange.{store-passes, store-sound, sound-store, text-safely}
 use Rattle.semantics.proofs.Reports.{ended, moved-on, at-most, all-spent, next-taken, same-report}
 use Rattle.semantics.proofs.Bodies as Numbered
 use Rattle.semantics.proofs.Bodies.{Bodies}
@@ -69,7 +69,7 @@ module _ (text : List ℕ) (work : ℕ) (r : Read) (accept : verdictOf text work
 
   -- ---- both machines. The run is that of the text's code on the lent store
 
-  pub run-is : (budget : ℕ) → run budget ≡ report budget (ended (r .codes) (fresh vs ms) budget)
+  pub run-is : (budget : ℕ) → run budget ≡ report (length vs) budget (ended (r .codes) (fresh vs ms) budget)
   unfolding runOf onStore lent
   run-is budget = rw (accept, Texts.unless-on, sane)
 
@@ -83,31 +83,31 @@ module _ (text : List ℕ) (work : ℕ) (r : Read) (accept : verdictOf text work
 
   -- the marking machine never sticks
   pub never-stuck : (budget n : ℕ) → marking budget .ending ≡ ran sticks n → ⊥
-  never-stuck budget n h = moved-on (r .codes) (fresh vs ms) budget n (ends-fine budget .moved) (rw (agreement budget, run-is budget) at h)
+  never-stuck budget n h = moved-on (r .codes) (fresh vs ms) (length vs) budget n (ends-fine budget .moved) (rw (agreement budget, run-is budget) at h)
 
   -- "A cell is in range when row 11 finds no fault in it": neither row 10 nor row 11 finds one in the final store, "a spent run too".
   -- "As every budget is meant, all this holds after each step": the store after n steps is the one that the run at budget n leaves
   pub in-range : (budget : ℕ) → faultIn r (run budget .values) (run budget .marks) ≡ none
   unfolding report
-  in-range budget = rw (run-is budget) (sound-store (r .known .env .types) (r .known .cells) _ (ends-fine budget .sound))
+  in-range budget = rw (run-is budget) (sound-store (r .known .env .types) (r .known .cells) (length vs) _ (store-passes (r .known .env .types) (r .known .cells) vs ms sane .values) (ends-fine budget .sound))
 
   -- ---- steps
 
   -- at most the budget's steps are taken
   pub steps-within : (budget n : ℕ) (o : Outcome) → run budget .ending ≡ ran o n → n ≤ budget
-  steps-within budget n o h = at-most (r .codes) (fresh vs ms) budget n o (rw (run-is budget) at h)
+  steps-within budget n o h = at-most (r .codes) (fresh vs ms) (length vs) budget n o (rw (run-is budget) at h)
 
   -- "spent only after budget steps ..
   pub spent-after : (budget n : ℕ) → run budget .ending ≡ ran spent n → n ≡ budget
-  spent-after budget n h = all-spent (r .codes) (fresh vs ms) budget n (rw (run-is budget) at h)
+  spent-after budget n h = all-spent (r .codes) (fresh vs ms) (length vs) budget n (rw (run-is budget) at h)
 
   -- .. with one more due": with a budget of one more, that step is taken
   pub one-more-due : (budget n m : ℕ) (o : Outcome) → run budget .ending ≡ ran spent n → run (budget + 1) .ending ≡ ran o m → m ≡ budget + 1
-  one-more-due budget n m o h k = next-taken (r .codes) (fresh vs ms) budget n m o (rw (run-is budget) at h) (rw (run-is (budget + 1)) at k)
+  one-more-due budget n m o h k = next-taken (r .codes) (fresh vs ms) (length vs) budget n m o (rw (run-is budget) at h) (rw (run-is (budget + 1)) at k)
 
   -- a run that ended otherwise ends so with any larger budget: with the same outcome, steps and store
   pub larger-budget : (budget k n : ℕ) (o : Outcome) → run budget .ending ≡ ran o n → (o ≡ spent → ⊥) → run (budget + k) ≡ run budget
-  larger-budget budget k n o h e = rw (run-is budget, run-is (budget + k)) (same-report (r .codes) (fresh vs ms) budget k n o (rw (run-is budget) at h) e)
+  larger-budget budget k n o h e = rw (run-is budget, run-is (budget + k)) (same-report (r .codes) (fresh vs ms) (length vs) budget k n o (rw (run-is budget) at h) e)
 
 -- ---- the code of an accepted text, for those who lay it down and run it. The predicates are in CodeSafe, CodeCalls and CodeSized; bodies are
 -- counted from 0, main's is the last

@@ -230,7 +230,7 @@ module _ (Γ : Types) (Δ : Vars) (xs : List Test) (𝓕 : Formed Γ Δ xs) wher
   gives-e e r h o = record { at = λ m s. weaken (λ zs v. has-value (r .kind) _ o refl zs v) (good-e Γ Δ xs 𝓕 e r h s) }
 
   reaches-t : (g : Target) (w : Located) → elabTarget Γ Δ g ≡ some w → Reaches xs (w .place) (sizeOf Γ (w .type))
-  reaches-t g w h = record { at = λ m s. weaken (λ a i. rw (s .enough) (i .short)) (good-t Γ Δ xs 𝓕 g w h s) }
+  reaches-t g w h = record { at = λ m s. weaken (λ a i. omega (arith, s .enough, i .short)) (good-t Γ Δ xs 𝓕 g w h s) }
 
   load-one : {p : C.Place} {k : Kind} (n : ℕ) → n ≡ 1 → SafePlace xs p n → Gives xs (C.load p n) k → SafeCode xs (C.load p n) k
   load-one n e p g = rw e (load (rw e at p) (rw e at g))

@@ -1,17 +1,16 @@
 -- A run that ends within its budget ends in the same way, after as many steps, with any larger one.
 use mathlib.Core.Path.{_≡_, refl}
-use mathlib.Core.Bool.{Bool, true, false, _&&_}
+use mathlib.Core.Bool.{Bool, true, false}
 use mathlib.Core.List.{List}
 use Prim.Native.Nat.{ℕ, zero, suc, _+_, _≤_}
 use native.Mathlib.Nat.{le-of-suc-le-suc, suc-add, not-suc-le-zero}
 use native.Mathlib.Omega.{arith}
-use lib.IntN.{ℤ, sucℤ, _-ℤ_}
-use lib.Signed.{leZ}
+use lib.IntN.{ℤ, sucℤ}
 use Rattle.arith.specs.Integers.{inside, isZero}
-use Rattle.semantics.specs.Calculate.{Result, fails, is, isTrue, natOf, stuck}
+use Rattle.semantics.specs.Calculate.{Result, fails, is, isTrue, stuck}
 use Rattle.semantics.specs.Chair.{condition, evalCode, matches, placeCode, runAct, runActs, runCases}
 use Rattle.semantics.specs.Code.{Act, Acts, Cases, Code, _also_, assignOrdinal, assignWhole, branchOn, callTo, caseOf, elseCase, forLoop, noCase, noAct, oneCase, raiseWith, sequence, stop, whileLoop}
-use Rattle.semantics.specs.Machine.{Answer, Outcome, Procs, State, Store, andThen, answer, branch, continued, countUp, forRounds, normal, passOn, procedureAt, raiseNumber, raised, raising, setControl, sole, spent, state, step, stepIf, sticks, storeOrdinal, storeWhole, whileRounds, withResult}
+use Rattle.semantics.specs.Machine.{Answer, Outcome, Procs, State, Store, andThen, answer, branch, continued, Plan, countUp, forRounds, noRound, opened, outside, planned, rounds, normal, passOn, procedureAt, raiseNumber, raised, raising, setControl, sole, spent, state, step, stepIf, sticks, storeOrdinal, storeWhole, whileRounds, withResult}
 
 abbrev pub more : ℕ → State → State
 more k s = state (s .store) (s .left + k)
@@ -86,9 +85,9 @@ module _ (k : ℕ) where
   unfolding storeOrdinal
   keep-f n a lo hi z = branch-f (inside lo hi z) (record { at = λ s e. refl }) (raising-f _ n)
 
-  copy-f : (a : ℕ) (zs : List ℤ) → Stable k (storeWhole a zs)
+  copy-f : (n a : ℕ) (zs : List ℤ) → Stable k (storeWhole n a zs)
   unfolding storeWhole
-  copy-f a zs = record { at = λ s e. refl }
+  copy-f n a zs = record { at = λ s e. refl }
 
   passes-f : (n : ℕ) → Stable k (passOn n)
   unfolding passOn
@@ -114,10 +113,15 @@ module _ (k : ℕ) where
   turns-f zero a h z = answer-f normal
   turns-f (suc j) a h z = step-f (then-f (set-f a z h) (turns-f j a h (sucℤ z)))
 
+  opened-f : (q : Plan) (n a : ℕ) (x : ℤ) {body : State → Answer} → Stable k body → Stable k (opened q n a x body)
+  unfolding opened
+  opened-f noRound n a x h = answer-f normal
+  opened-f outside n a x h = raising-f _ n
+  opened-f (rounds j) n a x h = then-f (turns-f j a h x) (answer-f normal)
+
   counting-f : (n a : ℕ) (lo hi x y : ℤ) {body : State → Answer} → Stable k body → Stable k (countUp n a lo hi x y body)
   unfolding countUp
-  counting-f n a lo hi x y h = branch-f (leZ x y)
-      (branch-f (inside lo hi x && inside lo hi y) (turns-f (natOf (sucℤ (y -ℤ x))) a h x) (raising-f _ n)) (answer-f normal)
+  counting-f n a lo hi x y h = opened-f (planned lo hi x y) n a x h
 
   module _ (ps : Procs) (hp : (p : ℕ) → Stable k (procedureAt ps p)) where
     mutual
@@ -125,7 +129,7 @@ module _ (k : ℕ) where
 
       pub run-f : (a : Act) → Stable k (runAct ps a)
       run-f (assignOrdinal n p lo hi c) = step-f (after-f n (evalCode c) λ zs. after-f n (placeCode p) λ a. keep-f n a lo hi (sole zs))
-      run-f (assignWhole n p c) = step-f (after-f n (evalCode c) λ zs. after-f n (placeCode p) λ a. copy-f a zs)
+      run-f (assignWhole n p c) = step-f (after-f n (evalCode c) λ zs. after-f n (placeCode p) λ a. copy-f n a zs)
       run-f (sequence n bs) = step-f (runs-f bs)
       run-f (branchOn n c a b) = step-f (check-f n c λ q. branch-f q (run-f a) (run-f b))
       run-f (whileLoop n c a) = step-f (record { at = λ s. (rounds-f n c (runAct ps a) (run-f a) (s .left) (s .left + k) (omega arith)) .at s })

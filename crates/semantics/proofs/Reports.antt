@@ -43,39 +43,40 @@ module _ (cs : List BodyCode) (m : Store) where
   used : (budget : ℕ) → Spent.Used budget (ended budget)
   used budget = program-d cs budget .at (state m budget) (omega arith)
 
-  pub moved-on : (budget n : ℕ) → Moved ((ended budget) .outcome) → report budget (ended budget) .ending ≡ ran sticks n → ⊥
-  unfolding report
-  moved-on budget n m h = not-stuck m (ran-outcome h)
+  module _ (cells : ℕ) where
+    pub moved-on : (budget n : ℕ) → Moved ((ended budget) .outcome) → report cells budget (ended budget) .ending ≡ ran sticks n → ⊥
+    unfolding report
+    moved-on budget n m h = not-stuck m (ran-outcome h)
 
-  pub at-most : (budget n : ℕ) (o : Outcome) → report budget (ended budget) .ending ≡ ran o n → n ≤ budget
-  unfolding report
-  at-most budget n o h = let e : budget - (ended budget) .state .left ≡ n = ran-steps h in omega arith
+    pub at-most : (budget n : ℕ) (o : Outcome) → report cells budget (ended budget) .ending ≡ ran o n → n ≤ budget
+    unfolding report
+    at-most budget n o h = let e : budget - (ended budget) .state .left ≡ n = ran-steps h in omega arith
 
-  pub all-spent : (budget n : ℕ) → report budget (ended budget) .ending ≡ ran spent n → n ≡ budget
-  unfolding report
-  all-spent budget n h =
-      let e : budget - (ended budget) .state .left ≡ n = ran-steps h in
-      let z : (ended budget) .state .left ≡ 0 = nothing-left (used budget .ended) (ran-outcome h) in
-      omega arith
+    pub all-spent : (budget n : ℕ) → report cells budget (ended budget) .ending ≡ ran spent n → n ≡ budget
+    unfolding report
+    all-spent budget n h =
+        let e : budget - (ended budget) .state .left ≡ n = ran-steps h in
+        let z : (ended budget) .state .left ≡ 0 = nothing-left (used budget .ended) (ran-outcome h) in
+        omega arith
 
-  pub next-taken : (budget n k : ℕ) (o : Outcome) → report budget (ended budget) .ending ≡ ran spent n → report (budget + 1) (ended (budget + 1)) .ending ≡ ran o k → k ≡ budget + 1
-  unfolding report
-  next-taken budget n k o h h′ =
-      let e : (budget + 1) - (ended (budget + 1)) .state .left ≡ k = ran-steps h′ in
-      let z : (ended (budget + 1)) .state .left ≡ 0 = go ((ended (budget + 1)) .state .left) refl (ran-outcome h) in
-      omega arith
-    where
-      go : (l : ℕ) → (ended (budget + 1)) .state .left ≡ l → (ended budget) .outcome ≡ spent → (ended (budget + 1)) .state .left ≡ 0
-      go zero e p = e
-      go (suc l) e p =
-          let q = program-l cs budget .at (state m budget) (omega arith) (omega arith) in
-          nothing-left (used (budget + 1) .ended) (ap (λ (a : Answer). a .outcome) q ∙ p)
+    pub next-taken : (budget n k : ℕ) (o : Outcome) → report cells budget (ended budget) .ending ≡ ran spent n → report cells (budget + 1) (ended (budget + 1)) .ending ≡ ran o k → k ≡ budget + 1
+    unfolding report
+    next-taken budget n k o h h′ =
+        let e : (budget + 1) - (ended (budget + 1)) .state .left ≡ k = ran-steps h′ in
+        let z : (ended (budget + 1)) .state .left ≡ 0 = go ((ended (budget + 1)) .state .left) refl (ran-outcome h) in
+        omega arith
+      where
+        go : (l : ℕ) → (ended (budget + 1)) .state .left ≡ l → (ended budget) .outcome ≡ spent → (ended (budget + 1)) .state .left ≡ 0
+        go zero e p = e
+        go (suc l) e p =
+            let q = program-l cs budget .at (state m budget) (omega arith) (omega arith) in
+            nothing-left (used (budget + 1) .ended) (ap (λ (a : Answer). a .outcome) q ∙ p)
 
-  more-less : (b l k : ℕ) → (b + k) - (l + k) ≡ b - l
-  more-less b l k = omega arith
+    more-less : (b l k : ℕ) → (b + k) - (l + k) ≡ b - l
+    more-less b l k = omega arith
 
-  pub same-report : (budget k n : ℕ) (o : Outcome) → report budget (ended budget) .ending ≡ ran o n → (o ≡ spent → ⊥) → report (budget + k) (ended (budget + k)) ≡ report budget (ended budget)
-  unfolding report
-  same-report budget k n o h e =
-      let o′ : Ends ((ended budget) .outcome) = rw (ran-outcome h) (not-spent o e) in
-      rw (program-f k cs .at (state m budget) o′, more-less budget ((ended budget) .state .left) k)
+    pub same-report : (budget k n : ℕ) (o : Outcome) → report cells budget (ended budget) .ending ≡ ran o n → (o ≡ spent → ⊥) → report cells (budget + k) (ended (budget + k)) ≡ report cells budget (ended budget)
+    unfolding report
+    same-report budget k n o h e =
+        let o′ : Ends ((ended budget) .outcome) = rw (ran-outcome h) (not-spent o e) in
+        rw (program-f k cs .at (state m budget) o′, more-less budget ((ended budget) .state .left) k)

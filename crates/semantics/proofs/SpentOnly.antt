@@ -1,16 +1,15 @@
 -- Steps: what is left never grows, and an answer is `spent` only when nothing is left.
 use mathlib.Core.Path.{_≡_, refl}
-use mathlib.Core.Bool.{Bool, true, false, _&&_}
+use mathlib.Core.Bool.{Bool, true, false}
 use mathlib.Core.List.{List}
 use Prim.Native.Nat.{ℕ, zero, suc, _≤_}
 use native.Mathlib.Omega.{arith}
-use lib.IntN.{ℤ, sucℤ, _-ℤ_}
-use lib.Signed.{leZ}
+use lib.IntN.{ℤ, sucℤ}
 use Rattle.arith.specs.Integers.{inside, isZero}
-use Rattle.semantics.specs.Calculate.{Result, fails, is, isTrue, natOf, stuck}
+use Rattle.semantics.specs.Calculate.{Result, fails, is, isTrue, stuck}
 use Rattle.semantics.specs.Chair.{condition, evalCode, matches, placeCode, runAct, runActs, runCases}
 use Rattle.semantics.specs.Code.{Act, Acts, Cases, Code, _also_, assignOrdinal, assignWhole, branchOn, callTo, caseOf, elseCase, forLoop, noCase, noAct, oneCase, raiseWith, sequence, stop, whileLoop}
-use Rattle.semantics.specs.Machine.{Answer, Outcome, Procs, State, Store, andThen, answer, branch, continued, countUp, forRounds, normal, passOn, procedureAt, raiseNumber, raised, raising, setControl, sole, spent, state, step, stepIf, sticks, storeOrdinal, storeWhole, whileRounds, withResult}
+use Rattle.semantics.specs.Machine.{Answer, Outcome, Procs, State, Store, andThen, answer, branch, continued, Plan, countUp, forRounds, noRound, opened, outside, planned, rounds, normal, passOn, procedureAt, raiseNumber, raised, raising, setControl, sole, spent, state, step, stepIf, sticks, storeOrdinal, storeWhole, whileRounds, withResult}
 
 -- nothing is asked but of `spent`
 pub data Ended (n : ℕ) : Outcome → Type 0 where
@@ -90,17 +89,23 @@ unfolding forRounds
 turns-d zero a h z b = answer-d λ _. normally
 turns-d (suc j) a h z b = lower (omega arith) (step-d {b = b} (then-d (record { at = λ s l. (h b) .at (setControl a z s) l }) (turns-d j a h (sucℤ z) b)))
 
+opened-d : (q : Plan) (n a : ℕ) (x : ℤ) {body : State → Answer} → ((k : ℕ) → Falls k body) → (b : ℕ) → Falls b (opened q n a x body)
+unfolding opened
+opened-d noRound n a x h b = answer-d λ _. normally
+opened-d outside n a x h b = raising-d _ n
+opened-d (rounds j) n a x h b = then-d (turns-d j a h x b) (answer-d λ _. normally)
+
 counting-d : (n a : ℕ) (lo hi x y : ℤ) {body : State → Answer} → ((k : ℕ) → Falls k body) → (b : ℕ) → Falls b (countUp n a lo hi x y body)
 unfolding countUp
-counting-d n a lo hi x y h b = branch-d (leZ x y) (branch-d (inside lo hi x && inside lo hi y) (turns-d (natOf (sucℤ (y -ℤ x))) a h x b) (raising-d _ n)) (answer-d λ _. normally)
+counting-d n a lo hi x y h b = opened-d (planned lo hi x y) n a x h b
 
 keep-d : (b n a : ℕ) (lo hi z : ℤ) → Falls b (storeOrdinal n a lo hi z)
 unfolding storeOrdinal
 keep-d b n a lo hi z = branch-d (inside lo hi z) (record { at = λ s l. used (omega arith) normally }) (raising-d _ n)
 
-copy-d : (b a : ℕ) (zs : List ℤ) → Falls b (storeWhole a zs)
+copy-d : (b n a : ℕ) (zs : List ℤ) → Falls b (storeWhole n a zs)
 unfolding storeWhole
-copy-d b a zs = record { at = λ s l. used (omega arith) normally }
+copy-d b n a zs = record { at = λ s l. used (omega arith) normally }
 
 passes-d : (b n : ℕ) → Falls b (passOn n)
 unfolding passOn
@@ -116,7 +121,7 @@ module _ (ps : Procs) (hp : (p b : ℕ) → Falls b (procedureAt ps p)) where
 
     pub run-d : (a : Act) (b : ℕ) → Falls b (runAct ps a)
     run-d (assignOrdinal n p lo hi c) b = step-any (λ b. after-d n (evalCode c) λ zs. after-d n (placeCode p) λ a. keep-d b n a lo hi (sole zs)) b
-    run-d (assignWhole n p c) b = step-any (λ b. after-d n (evalCode c) λ zs. after-d n (placeCode p) λ a. copy-d b a zs) b
+    run-d (assignWhole n p c) b = step-any (λ b. after-d n (evalCode c) λ zs. after-d n (placeCode p) λ a. copy-d b n a zs) b
     run-d (sequence n bs) b = step-any (λ b. runs-d bs b) b
     run-d (branchOn n c a e) b = step-any (λ b. check-d n c λ q. branch-d q (run-d a b) (run-d e b)) b
     run-d (whileLoop n c a) b = step-any (λ b. record { at = λ s l. (rounds-d (s .left) n c (λ k. run-d a k)) .at s (omega arith) }) b

@@ -1,18 +1,17 @@
 -- If something is left at the end of a run that had one step more, the run without that step goes the same way. So a run that is spent
 -- had one more step due: with one step more it takes that one too.
 use mathlib.Core.Path.{_≡_, refl}
-use mathlib.Core.Bool.{Bool, true, false, _&&_}
+use mathlib.Core.Bool.{Bool, true, false}
 use mathlib.Core.List.{List, []}
 use Prim.Native.Nat.{ℕ, zero, suc, _+_, _≤_}
 use native.Mathlib.Nat.{suc-add}
 use native.Mathlib.Omega.{arith}
-use lib.IntN.{ℤ, sucℤ, _-ℤ_}
-use lib.Signed.{leZ}
+use lib.IntN.{ℤ, sucℤ}
 use Rattle.arith.specs.Integers.{inside, isZero}
-use Rattle.semantics.specs.Calculate.{Result, fails, is, isTrue, natOf, stuck, systemError}
+use Rattle.semantics.specs.Calculate.{Result, fails, is, isTrue, stuck, systemError}
 use Rattle.semantics.specs.Chair.{condition, evalCode, matches, placeCode, runAct, runActs, runCases}
 use Rattle.semantics.specs.Code.{Act, Acts, BodyCode, Cases, Code, _also_, assignOrdinal, assignWhole, branchOn, callTo, caseOf, elseCase, forLoop, noCase, noAct, oneCase, raiseWith, sequence, stop, whileLoop}
-use Rattle.semantics.specs.Machine.{Answer, Outcome, Procs, State, Store, andThen, answer, branch, caught, continued, countUp, forRounds, handled, normal, passOn, procedureAt, raiseNumber, raised, raising, setControl, sole, spent, state, step, stepIf, sticks, storeOrdinal, storeWhole, whileRounds, withResult}
+use Rattle.semantics.specs.Machine.{Answer, Outcome, Procs, State, Store, andThen, answer, branch, caught, continued, Plan, countUp, forRounds, noRound, opened, outside, planned, rounds, handled, normal, passOn, procedureAt, raiseNumber, raised, raising, setControl, sole, spent, state, step, stepIf, sticks, storeOrdinal, storeWhole, whileRounds, withResult}
 use Rattle.semantics.specs.Whole.{runAll, runBody}
 use Rattle.semantics.proofs.MoreBudget.{more, moreA}
 use Rattle.semantics.proofs.Programs.{all-bodies, no-procs}
@@ -127,17 +126,23 @@ unfolding forRounds
 turns-l zero a h z b = answer-l
 turns-l (suc j) a h z b = step-any (λ b. then-l (set-l a z (h b)) (turns-l j a h (sucℤ z) b)) b
 
+opened-l : (q : Plan) (n a : ℕ) (x : ℤ) {body : State → Answer} → ((b : ℕ) → Lower b body body) → (b : ℕ) → Lower b (opened q n a x body) (opened q n a x body)
+unfolding opened
+opened-l noRound n a x h b = answer-l
+opened-l outside n a x h b = raising-l _ n
+opened-l (rounds j) n a x h b = then-l (turns-l j a h x b) answer-l
+
 counting-l : (n a : ℕ) (lo hi x y : ℤ) {body : State → Answer} → ((b : ℕ) → Lower b body body) → (b : ℕ) → Lower b (countUp n a lo hi x y body) (countUp n a lo hi x y body)
 unfolding countUp
-counting-l n a lo hi x y h b = branch-l (leZ x y) (branch-l (inside lo hi x && inside lo hi y) (turns-l (natOf (sucℤ (y -ℤ x))) a h x b) (raising-l _ n)) answer-l
+counting-l n a lo hi x y h b = opened-l (planned lo hi x y) n a x h b
 
 keep-l : (b n a : ℕ) (lo hi z : ℤ) → Lower b (storeOrdinal n a lo hi z) (storeOrdinal n a lo hi z)
 unfolding storeOrdinal
 keep-l b n a lo hi z = branch-l (inside lo hi z) (record { less-f = record { by = λ s. omega arith }; less-g = record { by = λ s. omega arith }; at = λ s l e. refl }) (raising-l _ n)
 
-copy-l : (b a : ℕ) (zs : List ℤ) → Lower b (storeWhole a zs) (storeWhole a zs)
+copy-l : (b n a : ℕ) (zs : List ℤ) → Lower b (storeWhole n a zs) (storeWhole n a zs)
 unfolding storeWhole
-copy-l b a zs = record { less-f = record { by = λ s. omega arith }; less-g = record { by = λ s. omega arith }; at = λ s l e. refl }
+copy-l b n a zs = record { less-f = record { by = λ s. omega arith }; less-g = record { by = λ s. omega arith }; at = λ s l e. refl }
 
 passes-l : (b n : ℕ) → Lower b (passOn n) (passOn n)
 unfolding passOn
@@ -159,7 +164,7 @@ module _ (ps : Procs) (hp : (p : ℕ) → L (procedureAt ps p)) where
 
     run-l : (a : Act) (b : ℕ) → Lower b (runAct ps a) (runAct ps a)
     run-l (assignOrdinal n p lo hi c) b = step-any (λ b. after-l n (evalCode c) λ zs. after-l n (placeCode p) λ a. keep-l b n a lo hi (sole zs)) b
-    run-l (assignWhole n p c) b = step-any (λ b. after-l n (evalCode c) λ zs. after-l n (placeCode p) λ a. copy-l b a zs) b
+    run-l (assignWhole n p c) b = step-any (λ b. after-l n (evalCode c) λ zs. after-l n (placeCode p) λ a. copy-l b n a zs) b
     run-l (sequence n bs) b = step-any (λ b. runs-l bs b) b
     run-l (branchOn n c a e) b = step-any (λ b. check-l n c λ q. branch-l q (run-l a b) (run-l e b)) b
     run-l (whileLoop n c a) b = step-any (λ b. record {

@@ -5,15 +5,16 @@ use mathlib.Core.List.{List, [], _∷_}
 use mathlib.Core.Option.{some}
 use Prim.Native.Nat.{ℕ, zero, suc, _+_, _<_}
 use native.Mathlib.Omega.{arith}
-use lib.IntN.{ℤ, pos, sucℤ, _+ℤ_, +ℤ-idr, sucℤ-+ℤ, +ℤ-sucℤ}
+use lib.IntN.{ℤ, pos, sucℤ, _+ℤ_, _-ℤ_, +ℤ-idr, sucℤ-+ℤ, +ℤ-sucℤ}
 use lib.Signed.{leZ}
 use borrow.Author.Tests.{eqb-true}
 use Rattle.arith.specs.Integers.{inside, isZero}
-use Rattle.semantics.specs.Calculate.{Result, caseError, isTrue, systemError}
+use Rattle.semantics.specs.Base.{pick}
+use Rattle.semantics.specs.Calculate.{Result, caseError, isTrue, natOf, systemError}
 use Rattle.semantics.specs.Chair.{condition, evalCode, matches, placeCode, runAct, runActs, runCases}
 use Rattle.semantics.specs.Code.{Act, Acts, Cases, Code, assignOrdinal, assignWhole}
 use Rattle.semantics.specs.Elaborate.{Located, elabArms, elabStmt, elabStmts, expects}
-use Rattle.semantics.specs.Machine.{Answer, Outcome, Procs, State, Store, andThen, answer, branch, continued, countUp, forRounds, normal, passOn, procedureAt, raiseNumber, raised, raising, setControl, sole, spent, state, step, stepIf, storeOrdinal, storeWhole, whileRounds, withResult}
+use Rattle.semantics.specs.Machine.{Answer, Outcome, Procs, State, Store, andThen, answer, branch, continued, countUp, forRounds, noRound, normal, opened, outside, passOn, planned, procedureAt, raiseNumber, raised, raising, rounds, setControl, sole, spent, state, step, stepIf, storeOrdinal, storeWhole, whileRounds, withResult}
 use Rattle.semantics.specs.Script.{Arms, Expr, Stmt, Stmts, _next_, arm, assign, begin, call, case, done, elseArm, for, ifElse, noElse, raise, skip, while}
 use Rattle.semantics.specs.Types.{Types, Vars, cellsOf, hostOf, infoAt, ordinal?}
 use Rattle.semantics.proofs.Inversion.{and-true, some-inj, both-some, bind-some, given-some}
@@ -98,9 +99,9 @@ module _ (Γ : Types) (Δ : Vars) (tests : List Test) (𝓕 : Formed Γ Δ tests
   check-s n e c h k = after-s n (expected e 1 c h) λ x _. k (isTrue (sole x))
 
   -- a value goes to a place of its type
-  copy-s : (a : ℕ) (zs : List ℤ) (ts : List ℕ) → Here Γ tests a ts → Fits Γ Δ tests 𝓕 ts zs → Safely tests (storeWhole a zs)
+  copy-s : (n a : ℕ) (zs : List ℤ) (ts : List ℕ) → Here Γ tests a ts → Fits Γ Δ tests 𝓕 ts zs → Safely tests (storeWhole n a zs)
   unfolding storeWhole
-  copy-s a zs ts h f = record { at = λ s g. fine normally (stored-all Γ Δ tests 𝓕 ts zs a h f g) }
+  copy-s n a zs ts h f = record { at = λ s g. fine normally (stored-all Γ Δ tests 𝓕 ts zs a h f g) }
 
   -- a cell that is an ordinal's
   pub cell-fits : (t a : ℕ) → ordinal? Γ t ≡ true → Here Γ tests a (cellsOf Γ t) → (z : ℤ) → inside (infoAt Γ t .low) (infoAt Γ t .high) z ≡ true → Fits Γ Δ tests 𝓕 (cellsOf Γ t) (z ∷ [])
@@ -128,12 +129,14 @@ module _ (Γ : Types) (Δ : Vars) (tests : List Test) (𝓕 : Formed Γ Δ tests
 
   counting-s : (n t a : ℕ) → ordinal? Γ t ≡ true → Here Γ tests a (cellsOf Γ t) → (x y : ℤ) {body : State → Answer} → Safely tests body
       → Safely tests (countUp n a (infoAt Γ t .low) (infoAt Γ t .high) x y body)
-  unfolding countUp
-  counting-s n t a o h x y b = branch-s (leZ x y)
-      (λ _. branch-s (inside (infoAt Γ t .low) (infoAt Γ t .high) x && inside (infoAt Γ t .low) (infoAt Γ t .high) y)
-      (λ p. let q = and-true _ _ p in turns-s t a o h b _ x (λ i l. span-inside _ _ x y i (q .0) (q .1) l))
-      (λ _. raising-s e-range n))
-      (λ _. answer-s normally)
+  unfolding countUp planned opened pick
+  counting-s n t a o h x y {body} b = go (leZ x y) (inside (infoAt Γ t .low) (infoAt Γ t .high) x && inside (infoAt Γ t .low) (infoAt Γ t .high) y) refl
+    where
+      go : (p q : Bool) → (inside (infoAt Γ t .low) (infoAt Γ t .high) x && inside (infoAt Γ t .low) (infoAt Γ t .high) y) ≡ q
+          → Safely tests (opened (pick p (pick q (rounds (natOf (sucℤ (y -ℤ x)))) outside) noRound) n a x body)
+      go false q e = answer-s normally
+      go true false e = raising-s e-range n
+      go true true e = let w = and-true _ _ e in then-s (turns-s t a o h b _ x (λ i l. span-inside _ _ x y i (w .0) (w .1) l)) (answer-s normally)
 
   module _ (ps : Procs) (hp : (p : ℕ) → Safely tests (procedureAt ps p)) where
     putting-s : (b : Bool) (n : ℕ) (w : Located) → ordinal? Γ (w .type) ≡ b → (e : Expr) (c : Code) → expects Γ Δ (hostOf Γ (w .type)) e ≡ some c
@@ -141,7 +144,7 @@ module _ (Γ : Types) (Δ : Vars) (tests : List Test) (𝓕 : Formed Γ Δ tests
         → Safely tests (runAct ps (cond b (assignOrdinal n (w .place) (infoAt Γ (w .type) .low) (infoAt Γ (w .type) .high) c) (assignWhole n (w .place) c)))
     unfolding runAct
     putting-s true n w o e c h g = step-s (after-s n (expected e _ c h) λ zs _. after-s n g λ a p. keep-s n (w .type) a o p (sole zs))
-    putting-s false n w o e c h g = step-s (after-s n (expected e _ c h) λ zs f. after-s n g λ a p. copy-s a zs (cellsOf Γ (w .type)) p ((rw (own-host _ (w .type) _ o) at f) .fits o))
+    putting-s false n w o e c h g = step-s (after-s n (expected e _ c h) λ zs f. after-s n g λ a p. copy-s n a zs (cellsOf Γ (w .type)) p ((rw (own-host _ (w .type) _ o) at f) .fits o))
 
     mutual
       unfolding elabStmt runAct

@@ -34,7 +34,7 @@ use Rattle.semantics.specs.Calculate.{Result, is, fails, _>>=_, natOf, n
 use Rattle.semantics.specs.Chair.{evalCode, gatherCodes, placeCode}
 use Rattle.semantics.specs.Code.{Codes}
 use Rattle.semantics.specs.Elaborate.{Elaborated, Located, elabExpr, elabMembers, elabTarget}
-use Rattle.semantics.specs.Machine.{Store, oneCell, readCell, readCells, shortCircuited, sole, stored}
+use Rattle.semantics.specs.Machine.{Store, defined, isDefined, oneCell, readCell, readCells, shortCircuited, sole, stored}
 use Rattle.semantics.specs.Operators.{Fun, Op, Operation, Rule, Rule1, abs, andBoth, atLeast, atMost, bothIntegers as ints?, card, divide, equal, functionRule, greater, intDiv, intMod, intPower, less, member, minus, modulo, negate, notOf, odd, operatorRule, orBoth, ord, plus, power, pred, rule, sameSets as sets?, setmax, setmin, sqr, predIn, succIn, succ, times, unequal}
 use Rattle.semantics.specs.Script.{Expr, Exprs, Target, _and_, at, binary, const, dot, endOf, errorNumber, members, nil, read, shortCircuit, unary, var}
 use Rattle.semantics.specs.Store.{cellFits}
@@ -196,11 +196,11 @@ here-trans {Γ} {a} {b} h g = record {
 
 -- a cell as row 11 wants it
 abbrev pub okBy : Test → ℤ → ℕ → Bool
-okBy f v m = cond (eqb m 1) (f v) (eqb m 0 && isZero v)
+okBy f v m = cond (isDefined m) (eqb m defined && f v) (isZero v)
 
 pub record Sound (tests : List Test) (m : Store) : Type 0 where
   pub long : length (m .values) ≡ length (m .marks)
-  pub enough : length (m .values) ≡ length tests
+  pub enough : length tests ≤ length (m .values)
   pub each : (i : ℕ) → okBy (getD tests i any) (getD (m .values) i (pos 0)) (getD (m .marks) i 0) ≡ true
   pub number : InInt (m .latest)
 
@@ -259,7 +259,7 @@ module _ (Γ : Types) (Δ : Vars) (tests : List Test) (𝓕 : Formed Γ Δ tests
 
   fetch-g : {m : Store} → Sound tests m → (a : ℕ) → Good (λ z. getD tests a any z ≡ true) (readCell a m)
   unfolding readCell
-  fetch-g {m} s a = pick-g _ (λ h. value (ok-defined _ _ _ (s .each a) h)) (failure e-undefined)
+  fetch-g {m} s a = pick-g _ (λ h. value (and-true (eqb (getD (m .marks) a 0) defined) _ (ok-defined _ _ (isZero (getD (m .values) a (pos 0))) (s .each a) h) .1)) (failure e-undefined)
 
   here-tail : {t : ℕ} {ts : List ℕ} {a : ℕ} → Here Γ tests a (t ∷ ts) → Here Γ tests (suc a) ts
   here-tail {a} h = record { short = omega (arith, h .short); each = λ j l z. rw (suc-add a j, ← add-suc a j) (h .each (suc j) (omega arith) z) }
@@ -287,7 +287,7 @@ module _ (Γ : Types) (Δ : Vars) (tests : List Test) (𝓕 : Formed Γ Δ tests
   pub stored-one : {m : Store} (i : ℕ) (z : ℤ) → getD tests i any z ≡ true → Sound tests m → Sound tests (stored i (z ∷ []) m)
   stored-one {m} i z h s = record {
     long = length-set (m .values) i z ∙ s .long ∙ sym (length-set (m .marks) i 1);
-    enough = length-set (m .values) i z ∙ s .enough;
+    enough = rw (length-set (m .values) i z) (s .enough);
     each = λ j. here j (ℕ-discrete j i) (decLt i (length (m .values)));
     number = s .number;
   }

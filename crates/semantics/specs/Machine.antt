@@ -1,6 +1,6 @@
 -- Document 01, "The store and the run": the store, steps, outcomes, loops, exceptions. Both machines are made of these parts, so that
 -- they differ in nothing but types.
-use mathlib.Core.Bool.{Bool, true, false, _&&_}
+use mathlib.Core.Bool.{Bool, true, false, not, _&&_}
 use mathlib.Core.List.{List, [], _∷_}
 use Prim.Native.Nat.{ℕ, zero, suc}
 use lib.Seq as Seq
@@ -20,12 +20,19 @@ pub record Store : Type 0 where
   pub latest : ℤ  -- the last exception's number, 0 before any
   pub place : ℕ  -- and its statement
 
+-- every store has so many cells: the 2,048 that may be lent, then 128 that no script of document 01 reaches
+abbrev pub storeCells : ℕ
+storeCells = 2176
+
 -- a cell's mark
 abbrev pub undefined : ℕ
 undefined = 0
 
 abbrev pub defined : ℕ
 defined = 1
+
+abbrev pub isDefined : ℕ → Bool
+isDefined m = not (eqb m undefined)
 
 pub record State : Type 0 where
   pub store : Store
@@ -34,16 +41,23 @@ pub record State : Type 0 where
 abbrev pub state : Store → ℕ → State
 state m n = record { store = m; left = n }
 
--- the values zs in the cells from a on
+-- values and marks in the cells from a on
+abbrev pub overwritten : ℕ → List ℤ → List ℕ → Store → Store
+overwritten a vs ms m = record { values = Seq.sets (m .values) a vs; marks = Seq.sets (m .marks) a ms; latest = m .latest; place = m .place }
+
+-- the values zs; k cells made undefined
 abbrev pub stored : ℕ → List ℤ → Store → Store
-stored a zs m = record { values = Seq.sets (m .values) a zs; marks = Seq.sets (m .marks) a (replicate (length zs) defined); latest = m .latest; place = m .place }
+stored a zs m = overwritten a zs (replicate (length zs) defined) m
+
+abbrev pub forgotten : ℕ → ℕ → Store → Store
+forgotten a k m = overwritten a (replicate k (pos 0)) (replicate k undefined) m
 
 abbrev pub noting : ℤ → ℕ → Store → Store
 noting z n m = record { values = m .values; marks = m .marks; latest = z; place = n }
 
 -- reading an undefined cell is an Undefined_Error
 unfoldable pub readCell : ℕ → Store → Result ℤ
-readCell a m = pick (eqb (getD (m .marks) a undefined) defined) (is (getD (m .values) a (pos 0))) (fails undefinedError)
+readCell a m = pick (isDefined (getD (m .marks) a undefined)) (is (getD (m .values) a (pos 0))) (fails undefinedError)
 
 -- n cells from a on
 unfoldable pub readCells : ℕ → ℕ → Store → Result (List ℤ)
@@ -127,18 +141,31 @@ forRounds zero a body z s = answer normal s
 forRounds (suc k) a body z s = step s λ s′. andThen (body (setControl a z s′)) (forRounds k a body (sucℤ z))
 
 -- with no round the control variable is untouched; otherwise both bounds must fit its type, lo to hi, before round one
+pub data Plan : Type 0 where
+  noRound outside : Plan
+  rounds : ℕ → Plan
+
+unfoldable pub planned : ℤ → ℤ → ℤ → ℤ → Plan
+planned lo hi x y = pick (leZ x y) (pick (inside lo hi x && inside lo hi y) (rounds (natOf (sucℤ (y -ℤ x)))) outside) noRound
+
+-- the end of a `for` over cell a, whose rounds have all come to theirs
+abbrev pub ended : ℕ → State → Answer
+ended a = answer normal
+
+unfoldable pub opened : Plan → ℕ → ℕ → ℤ → (State → Answer) → State → Answer
+opened noRound n a x body s = ended a s
+opened outside n a x body s = raising rangeError n s
+opened (rounds k) n a x body s = andThen (forRounds k a body x s) (ended a)
+
 unfoldable pub countUp : ℕ → ℕ → ℤ → ℤ → ℤ → ℤ → (State → Answer) → State → Answer
-countUp n a lo hi x y body =
-    branch (leZ x y)
-    (branch (inside lo hi x && inside lo hi y) (forRounds (natOf (sucℤ (y -ℤ x))) a body x) (raising rangeError n))
-    (answer normal)
+countUp n a lo hi x y body = opened (planned lo hi x y) n a x body
 
 -- the range test is the last; a raising assignment changes no cell
 unfoldable pub storeOrdinal : ℕ → ℕ → ℤ → ℤ → ℤ → State → Answer
 storeOrdinal n a lo hi z = branch (inside lo hi z) (λ s. answer normal (state (stored a (z ∷ []) (s .store)) (s .left))) (raising rangeError n)
 
-unfoldable pub storeWhole : ℕ → List ℤ → State → Answer
-storeWhole a zs s = answer normal (state (stored a zs (s .store)) (s .left))
+unfoldable pub storeWhole : ℕ → ℕ → List ℤ → State → Answer
+storeWhole n a zs s = answer normal (state (stored a zs (s .store)) (s .left))
 
 -- `raise 0` passes on the last exception with its number and statement kept, or raises System_Error if there was none
 unfoldable pub passOn : ℕ → State → Answer

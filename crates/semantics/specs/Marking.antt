@@ -87,7 +87,7 @@ module _ (Γ : Types) (Δ : Vars) where
   markLabels k z (l ∷ ls) = require (eqb k (l .kind)) (pick (equalZ (l .value) z) (is true) (markLabels k z ls))
 
   abbrev pub markStore : ℕ → TypedPlace → List ℤ → State → Answer
-  markStore n w zs = branch (ordinal? Γ (w .type)) (storeOrdinal n (w .addr) (infoAt Γ (w .type) .low) (infoAt Γ (w .type) .high) (sole zs)) (storeWhole (w .addr) zs)
+  markStore n w zs = branch (ordinal? Γ (w .type)) (storeOrdinal n (w .addr) (infoAt Γ (w .type) .low) (infoAt Γ (w .type) .high) (sole zs)) (storeWhole n (w .addr) zs)
 
   -- both bounds of a `for` are met after both are worked out
   unfoldable pub markBounds : Var → TypedValue → TypedValue → Result (ℤ × ℤ)

@@ -7,7 +7,7 @@ use lib.Dec.{eqb}
 use lib.ListN.{length, replicate}
 use Rattle.spelling.specs.Bytes.{bytes}
 use Rattle.semantics.specs.Base.{Name}
-use Rattle.semantics.specs.Machine.{Outcome, defined, normal, raised, spent, sticks, undefined}
+use Rattle.semantics.specs.Machine.{Outcome, isDefined, normal, raised, spent, sticks, undefined}
 use Rattle.semantics.specs.Verdict.{Fitting, accepted, judge, loosely, refused, strictly}
 use Rattle.semantics.specs.Whole.{Report, markOf, ran, refusal, runOf}
 
@@ -36,7 +36,7 @@ outcome sticks n = row (bytes "stuck" ∷ decimalOf n ∷ [])
 outcome (raised z p) n = row (bytes "exception" ∷ signedOf z ∷ decimalOf p ∷ decimalOf n ∷ [])
 
 unfoldable pub cellValue : ℤ → ℕ → List ℕ
-cellValue v m = elim (eqb m defined) [ true ↦ signedOf v | false ↦ 45 ∷ [] ]
+cellValue v m = elim (isDefined m) [ true ↦ signedOf v | false ↦ 45 ∷ [] ]
 
 -- cells from number n on
 unfoldable pub cells : ℕ → List Name → List ℤ → List ℕ → List ℕ

@@ -8,16 +8,16 @@ use lib.Dec.{eqb}
 use lib.ListN.{length}
 use Rattle.arith.specs.Integers.{inside, isZero}
 use Rattle.sets.specs.Sets.{liesIn}
-use Rattle.semantics.specs.Machine.{defined, undefined}
+use Rattle.semantics.specs.Machine.{defined, isDefined}
 use Rattle.semantics.specs.Types.{Types, infoAt, ordinal?}
 
 -- a value of a cell's type: an ordinal in its bounds, or a set of ordinals in its base's
 abbrev pub cellFits : Types → ℕ → ℤ → Bool
 cellFits Γ t v = cond (ordinal? Γ t) (inside (infoAt Γ t .low) (infoAt Γ t .high) v) (liesIn (infoAt Γ t .low) (infoAt Γ t .high) v)
 
--- row 11 finds no fault in a cell: it is defined with a value of its type, or undefined with value 0
+-- row 11 finds no fault in a cell: it is defined, by mark 1, with a value of its type, or undefined with value 0
 abbrev pub cellOk : Types → ℕ → ℤ → ℕ → Bool
-cellOk Γ t v m = cond (eqb m defined) (cellFits Γ t v) (eqb m undefined && isZero v)
+cellOk Γ t v m = cond (isDefined m) (eqb m defined && cellFits Γ t v) (isZero v)
 
 unfoldable pub cellsOk : Types → List ℕ → List ℤ → List ℕ → Bool
 cellsOk Γ [] vs ms = true

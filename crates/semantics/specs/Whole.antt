@@ -4,11 +4,11 @@ use mathlib.Core.Option.{Option, none, some}
 use Prim.Native.Nat.{ℕ, _-_, min}
 use Prim.Native.String.{String}
 use lib.IntN.{ℤ, pos}
-use lib.ListN.{length, replicate, drop, getD}
+use lib.ListN.{length, replicate, take, drop, getD}
 use Rattle.semantics.specs.Chair.{runActs}
 use Rattle.semantics.specs.Code.{BodyCode}
 use Rattle.semantics.specs.Environment.{Declared, PlacedBody}
-use Rattle.semantics.specs.Machine.{Answer, Outcome, Procs, State, Store, answer, handled, normal, state}
+use Rattle.semantics.specs.Machine.{Answer, Outcome, Procs, State, Store, answer, handled, normal, state, storeCells, undefined}
 use Rattle.semantics.specs.Marking.{markStmts}
 use Rattle.semantics.specs.Store.{storeFault}
 use Rattle.semantics.specs.Verdict.{Read, Verdict, accepted, judge, loosely, refused, strictly}
@@ -46,18 +46,22 @@ pub record Report : Type 0 where
 abbrev pub reported : Ending → List ℤ → List ℕ → Report
 reported e vs ms = record { ending = e; values = vs; marks = ms }
 
--- no exception has come yet
-abbrev pub fresh : List ℤ → List ℕ → Store
-fresh vs ms = record { values = vs; marks = ms; latest = pos 0; place = 0 }
+-- a lent list as a machine's: filled up to all its cells
+abbrev pub filled : {A : Type 0} → A → List A → List A
+filled z xs = xs ++ replicate (storeCells - length xs) z
 
--- what a machine's answer says, after a start with that budget
-unfoldable pub report : ℕ → Answer → Report
-report budget a = reported (ran (a .outcome) (budget - a .state .left)) (a .state .store .values) (a .state .store .marks)
+-- the cells past the lent ones are undefined; no exception has come yet
+abbrev pub fresh : List ℤ → List ℕ → Store
+fresh vs ms = record { values = filled (pos 0) vs; marks = filled undefined ms; latest = pos 0; place = 0 }
+
+-- what a machine's answer says, after a start with n lent cells and that budget
+unfoldable pub report : ℕ → ℕ → Answer → Report
+report n budget a = reported (ran (a .outcome) (budget - a .state .left)) (take n (a .state .store .values)) (take n (a .state .store .marks))
 
 -- a machine on a lent store, after rows 10 and 11
 unfoldable pub lent : Option ℕ → (State → Answer) → List ℤ → List ℕ → ℕ → Report
 lent (some n) machine vs ms budget = reported (refusal n 0) vs ms
-lent none machine vs ms budget = report budget (machine (state (fresh vs ms) budget))
+lent none machine vs ms budget = report (length vs) budget (machine (state (fresh vs ms) budget))
 
 unfoldable pub onStore : Declared → (State → Answer) → List ℤ → List ℕ → ℕ → Report
 onStore k machine vs ms budget = lent (storeFault (k .env .types) (k .cells) vs ms) machine vs ms budget
