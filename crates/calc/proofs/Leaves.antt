@@ -24,7 +24,8 @@ use Rattle.lexis.proofs.DecimalHex.{below}
 use Rattle.semantics.specs.Calculate.{truth, natOf}
 use Rattle.semantics.specs.Base.{pick}
 use Rattle.semantics.specs.Readback.{integerAt}
-use Rattle.calc.specs.Words.{greatest, codeIn, storeWord, latestIn, undefinedWord, allValues, cellsWord, cellsAt, Integral}
+use Rattle.semantics.specs.Machine.{storeCells}
+use Rattle.calc.specs.Words.{greatest, latestAt, codeIn, storeWord, latestIn, undefinedWord, allValues, cellsWord, cellsAt, Integral}
 
 -- ---- `number`, `cell`, `latest`
 past-take : {A : Type 0} (n : ℕ) (l : List A) (i : ℕ) (d : A) → n ≤ i → getD (take n l) i d ≡ d
@@ -38,15 +39,15 @@ pub number-past : (l : List ℕ) (p : ℕ) → 16384 ≤ p → 0 ≡ getD (codeI
 unfolding codeIn
 number-past l p h = sym (past-take 16384 l p 0 h)
 
-pub cell-here : (l : List ℤ) (a : ℕ) → a < 2048 → SFits w64 (getD l a (pos 0)) → wire (getD l a (pos 0)) ≡ storeWord l a
+pub cell-here : (l : List ℤ) (a : ℕ) → a < storeCells → SFits w64 (getD l a (pos 0)) → wire (getD l a (pos 0)) ≡ storeWord l a
 unfolding storeWord pick
-cell-here l a h f = toZ-ofZ f ∙ rw (lt-ltb a 2048 h)
+cell-here l a h f = toZ-ofZ f ∙ rw (lt-ltb a storeCells h)
 
-pub cell-past : (l : List ℤ) (a : ℕ) → 2048 ≤ a → undefinedWord ≡ storeWord l a
+pub cell-past : (l : List ℤ) (a : ℕ) → storeCells ≤ a → undefinedWord ≡ storeWord l a
 unfolding storeWord pick
-cell-past l a h = rw (le-ltb a 2048 h)
+cell-past l a h = rw (le-ltb a storeCells h)
 
-pub latest-here : (l : List ℤ) → SFits w64 (getD l 2048 (pos 0)) → wire (getD l 2048 (pos 0)) ≡ latestIn l
+pub latest-here : (l : List ℤ) → SFits w64 (getD l latestAt (pos 0)) → wire (getD l latestAt (pos 0)) ≡ latestIn l
 unfolding latestIn
 latest-here l f = toZ-ofZ f
 

@@ -1,14 +1,13 @@
 -- What operators give lies in the range of values again, and a word is decoded to the result that it is of.
 use mathlib.Core.Path.{_≡_, refl, sym, ap, subst, _∙_}
 use mathlib.Core.Bool.{Bool, true, false, not, _&&_, _||_, true≢false}
-use mathlib.Core.List.{List, [], _∷_}
-use mathlib.Core.Logic.{_⊎_, inl, inr}
+use mathlib.Core.List.{List}
 use Prim.Native.Nat.{ℕ, zero, suc, _+_, _-_, _<_, _≤_}
 use native.Mathlib.Omega.{arith}
 use borrow.Author.Tests.{le-leb, leb-true, lt-ltb, le-ltb}
 use lib.IntN.{ℤ, pos, negsuc, natAbs, negℤ, _+ℤ_, _-ℤ_, _*ℤ_}
 use lib.Signed.{leZ, ltZ}
-use lib.ListN.{length, getD}
+use lib.ListN.{length}
 use Rattle.arith.specs.Integers.{inside, least, most, exact, quotient, modulus, next, previous, isOdd}
 use Rattle.powers.specs.Powers.{power}
 use Rattle.arith.specs.declared.Fault.the-variants.{Overflow, Divisor, Exponent, Bound}
@@ -19,17 +18,17 @@ use Rattle.arith.proofs.Ranges.{inside-is, inside-both, exact-value}
 use Rattle.arith.proofs.Division.{quotient-value, modulus-value}
 use Rattle.powers.proofs.Powers.{power-value}
 use Rattle.arith.proofs.RangeTests.{next-value, previous-value}
-use Rattle.sets.specs.Sets.{members, membersOf, patternOf, those, valueOf, holds, least as leastOf, greatest as greatestOf, unionOf, differenceOf, intersectionOf, within}
+use Rattle.sets.specs.Sets.{membersOf, patternOf, those, valueOf, holds, least as leastOf, greatest as greatestOf, unionOf, differenceOf, intersectionOf, within}
 use Rattle.sets.specs.declared.Member.{Member}
 use Rattle.sets.specs.declared.Member.the-variants.{Ordinal, Empty}
 use Rattle.sets.proofs.Digits.{value-lt, members-length}
 use Rattle.sets.proofs.Base.{least-lt, greatest-lt}
 use Rattle.semantics.specs.Base.{pick}
-use Rattle.semantics.specs.Calculate.{natOf, Result, is, fails, stuck, _>>=_, integer, exceptionOf, memberIn, truth, isTrue, equalZ, setValue, tested, numericError, rangeError, undefinedError, compute, compute1}
+use Rattle.semantics.specs.Calculate.{natOf, Result, is, fails, stuck, _>>=_, integer, exceptionOf, memberIn, truth, isTrue, equalZ, setValue, compute, compute1}
 use Rattle.semantics.specs.Machine.{sole, oneCell}
 use Rattle.semantics.specs.Operators.{Operation, intAdd, intSub, intMul, intPower, intDiv, intMod, setUnion, setDifference, setIntersection, numEqual, numUnequal, numLess, numAtMost, numGreater, numAtLeast, setWithin, setHolds, memberOf, boolAnd, boolOr, Operation1, intNegate, boolNot, intAbs, intSqr, intOdd, ordinalOf, predIn, succIn, setCard, setLeast, setGreatest}
 use Rattle.semantics.specs.Readback.{operations1, operation1At}
-use Rattle.calc.specs.Words.{lowest, noResult, greatest, faultBase, wordOf, resultOf, applied, applied1, testedWord, InRange, Exceptional, Ranged, Means, first}
+use Rattle.calc.specs.Words.{lowest, noResult, greatest, faultBase, wordOf, resultOf, applied, applied1, InRange, Exceptional, Ranged, Means, first}
 
 -- ---- the range
 pub wide : (z : ℤ) → inside least most z ≡ true → InRange z

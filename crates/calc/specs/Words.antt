@@ -11,7 +11,7 @@ use Rattle.arith.specs.Integers.{inside, least, most}
 use Rattle.semantics.specs.Base.{pick}
 use Rattle.semantics.specs.Calculate.{Result, is, fails, stuck, _>>=_, natOf, tested, rangeError, compute, compute1}
 use Rattle.semantics.specs.Operators.{Operation, Operation1}
-use Rattle.semantics.specs.Machine.{Store, readCell, sole}
+use Rattle.semantics.specs.Machine.{Store, defined, readCell, sole, storeCells, undefined}
 use Rattle.semantics.specs.Readback.{integerAt}
 
 -- the code that an array of 16,384 numbers holds
@@ -51,16 +51,24 @@ wordOf stuck = noResult
 unfoldable pub resultOf : ℤ → Result ℤ
 resultOf w = pick (ltZ greatest w) (fails (w -ℤ faultBase)) (is w)
 
--- the store is an array of 2,056 words: the cells' at 0 to 2047; at 2048 the last exception's number, 0 before any, at 2049 its
--- statement; at 2050 how many cells there are; the rest is not used
+-- ---- the store is an array of words: the cells', then the last exception's number, 0 before any, and its statement; the rest is not used
+
+abbrev pub storeWords : ℕ
+storeWords = 2184
+
+abbrev pub latestAt : ℕ
+latestAt = 2176
+
+abbrev pub placeAt : ℕ
+placeAt = 2177
 
 -- the word of a cell
 unfoldable pub storeWord : List ℤ → ℕ → ℤ
-storeWord ws a = pick (ltb a 2048) (getD ws a (pos 0)) undefinedWord
+storeWord ws a = pick (ltb a storeCells) (getD ws a (pos 0)) undefinedWord
 
 -- the last exception's number
 unfoldable pub latestIn : List ℤ → ℤ
-latestIn ws = getD ws 2048 (pos 0)
+latestIn ws = getD ws latestAt (pos 0)
 
 -- a value's word
 unfoldable pub InRange : ℤ → Type 0
@@ -95,6 +103,13 @@ pub record Means (r : ℤ) (v : Result ℤ) : Type 0 where
 -- the first cell of a value
 abbrev pub first : Result (List ℤ) → Result ℤ
 first v = v >>= λ zs. is (sole zs)
+
+-- the value and the mark of a cell that has this word
+unfoldable pub valueIn : ℤ → ℤ
+valueIn w = pick (ltZ greatest w) (pos 0) w
+
+unfoldable pub markIn : ℤ → ℕ
+markIn w = pick (ltZ greatest w) undefined defined
 
 -- ---- the store as words: each cell's value, or an Undefined_Error, and the last exception
 

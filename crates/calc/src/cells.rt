@@ -1,29 +1,32 @@
 // The store as words: a cell holds its value, or the word of an Undefined_Error; the last exception stands above the cells.
+use crate::words::CELLS;
 use crate::words::GREATEST;
+use crate::words::LATEST;
 use crate::words::UNDEFINED;
+use crate::words::WORDS;
 use crate::words::reach;
 ghost use mathlib.Core.Path.{_≡_};
 ghost use Rattle.calc.specs.Words.{storeWord, latestIn, cellsWord, cellsAt};
 
 // The word of a cell.
-pub fn cell(store: &[i64; 2056], a: usize) -> i64
+pub fn cell(store: &[i64; WORDS], a: usize) -> i64
     ensures { λ r. ⌜ r ≡ storeWord (now (store .entry)) a ⌝ }
 {
-    if a < 2048 {
+    if a < CELLS {
         return store[a];
     }
     UNDEFINED
 }
 
 // The last exception's number, 0 before any.
-pub fn latest(store: &[i64; 2056]) -> i64
+pub fn latest(store: &[i64; WORDS]) -> i64
     ensures { λ r. ⌜ r ≡ latestIn (now (store .entry)) ⌝ }
 {
-    store[2048]
+    store[LATEST]
 }
 
 // The first of n cells from a on, all of which must be defined; 0 for no cell.
-pub fn cells(store: &[i64; 2056], a: u32, n: u32) -> i64
+pub fn cells(store: &[i64; WORDS], a: u32, n: u32) -> i64
     ensures { λ r. ⌜ r ≡ cellsWord (now (store .entry)) a n ⌝ }
 {
     if n == 0 {
@@ -41,7 +44,7 @@ pub fn cells(store: &[i64; 2056], a: u32, n: u32) -> i64
 }
 
 // The same by the word of a place.
-pub fn cells_at(store: &[i64; 2056], place: i64, n: u32) -> i64
+pub fn cells_at(store: &[i64; WORDS], place: i64, n: u32) -> i64
     ensures { λ r. ⌜ r ≡ cellsAt (now (store .entry)) place n ⌝ }
 {
     if place > GREATEST {

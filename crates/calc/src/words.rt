@@ -21,6 +21,15 @@ pub const RANGE: i64 = 9223372036854775704;
 
 pub const UNDEFINED: i64 = 9223372036854775703;
 
+// The store's array: the cells' words, then the last exception's number and its statement; the rest is not used.
+pub const WORDS: usize = 2184;
+
+pub const CELLS: usize = 2176;
+
+pub const LATEST: usize = 2176;
+
+pub const PLACE: usize = 2177;
+
 // The number at a place, 0 outside the list.
 pub fn number(code: &[u32; 16384], p: usize) -> u32
     ensures { λ r. ⌜ r ≡ getD (codeIn (now (code .entry))) p 0 ⌝ }

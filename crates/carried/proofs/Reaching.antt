@@ -2,7 +2,6 @@
 use mathlib.Core.Path.{_≡_, refl, sym, ap, subst, _∙_}
 use mathlib.Core.Bool.{Bool, true, false, _||_, true≢false}
 use mathlib.Core.List.{List, [], _∷_, map}
-use mathlib.Core.Logic.{inl, inr}
 use Prim.Native.Nat.{ℕ, _+_, _*_, min, _≤_}
 use native.Mathlib.Omega.{arith}
 use borrow.Author.Tests.{eq-eqb, ne-eqb}
@@ -29,7 +28,7 @@ use Rattle.semantics.proofs.TypeTables.{Table}
 use Rattle.calc.specs.Words.{noResult, greatest, rangeWord, wordOf, resultOf, placeWord, cellOf, storeWord, cellsWord, cellsAt, distanceWord, elementWord, shiftedWord, InRange, Ranged, Means, Holds, first, Exceptional}
 use Rattle.calc.proofs.Combining.{value-again}
 use Rattle.calc.proofs.Ranging.{range-value, low-range}
-use Rattle.evaluate.proofs.Walking.{capped-cells, one-or-more, le-ltb-cap, cap-twice, cap-times, cap-add, test-cases}
+use Rattle.calc.proofs.Loading.{capped-cells, one-or-more, le-ltb-cap, cap-twice, cap-times, cap-add, test-cases}
 use Rattle.tables.specs.declared.Info.{Info}
 use Rattle.tables.specs.Descriptions.{infoOf, fieldPlace}
 use Rattle.tables.specs.Sides.{hostIn}

@@ -1,13 +1,12 @@
 -- What a value or a place with its type, as the code carries it, is in the marking machine (semantics, Marking).
 use mathlib.Core.Bool.{Bool, true, false, _||_}
 use mathlib.Core.List.{List, [], _∷_}
-use mathlib.Core.Logic.{_⊎_}
 use mathlib.Core.Path.{_≡_}
 use Prim.Native.Nat.{ℕ, min}
 use lib.IntN.{ℤ, pos}
 use lib.Signed.{ltZ}
 use Rattle.semantics.specs.Base.{pick}
-use Rattle.semantics.specs.Calculate.{Result, is, fails, stuck, _>>=_, natOf, numericError, rangeError, undefinedError}
+use Rattle.semantics.specs.Calculate.{Result, is, fails, stuck, _>>=_, natOf}
 use Rattle.semantics.specs.Environment.{Environment}
 use Rattle.semantics.specs.Machine.{Store, readCells, sole}
 use Rattle.semantics.specs.Marking.{TypedValue, TypedPlace}

@@ -1,62 +1,33 @@
 -- The loop over the members of a set: the members come one after another into a set, in whatever order it is the same.
 use mathlib.Core.Path.{_≡_, refl, sym, ap, subst, _∙_}
-use mathlib.Core.Bool.{Bool, true, false, _||_, true≢false}
-use mathlib.Core.List.{List, [], _∷_}
-use mathlib.Core.Logic.{_⊎_, inl, inr}
-use Prim.Native.Nat.{ℕ, zero, suc, _+_, _-_, _%_, _<_, _≤_}
-use native.Mathlib.Nat.{mod-eq-of-lt}
+use mathlib.Core.Bool.{Bool, true, false, true≢false}
+use mathlib.Core.List.{List}
+use Prim.Native.Nat.{ℕ, zero, suc, _+_, _-_, _<_, _≤_}
 use native.Mathlib.Numerals.{sub-one}
 use native.Mathlib.Omega.{arith}
-use borrow.Author.Tests.{ne-eqb, eq-eqb}
-use borrow.Author.Needs.{sfits-of}
+use borrow.Author.Tests.{ne-eqb}
 use lib.Dec.{eqb}
-use lib.IntN.{ℤ, pos, negsuc}
-use lib.Signed.{leZ, ltZ}
+use lib.IntN.{ℤ, pos}
+use lib.Signed.{ltZ}
 use lib.ListN.{getD}
 use mir.Syntax.{w32, w64}
-use mir.Val.{SFits, Fits, toZ, ofZ}
+use mir.Val.{SFits, Fits}
 use mir.Facts.{toZ-ofZ}
 use Rattle.arith.specs.Integers.{inside}
 use Rattle.arith.proofs.Machine.{wire}
-use Rattle.sets.specs.Sets.{members, membersOf, patternOf, valueOf, those, has, holds, with as added}
-use Rattle.sets.proofs.Those.{those-same, inside as inside-those}
-use Rattle.sets.proofs.Digits.{value-is, value-lt, members-value}
+use Rattle.sets.specs.Sets.{members, valueOf, with as added}
+use Rattle.sets.proofs.Digits.{value-is}
 use Rattle.semantics.specs.Base.{pick}
-use Rattle.semantics.specs.Calculate.{Result, is, fails, stuck, _>>=_, tested, rangeError, setValue, joined}
+use Rattle.semantics.specs.Calculate.{Result, is, fails, stuck, _>>=_, tested, rangeError, joined}
 use Rattle.semantics.specs.Chair.{evalCode, gatherCodes}
-use Rattle.semantics.specs.Code.{Code, Codes, noCodes, _with_}
+use Rattle.semantics.specs.Code.{Codes, noCodes, _with_}
 use Rattle.semantics.specs.Machine.{Store, sole}
 use Rattle.semantics.specs.Readback.{integerAt, codesFrom, readCode, readCodes}
-use Rattle.calc.specs.Words.{greatest, wordOf, resultOf, InRange, Exceptional, Ranged, Means, Holds, first, testedWord, Integral}
+use Rattle.calc.specs.Words.{greatest, wordOf, Exceptional, Ranged, Means, Holds, first, testedWord, Integral}
 use Rattle.evaluate.specs.Walks.{Evaluates, Gathers}
 use Rattle.calc.proofs.Combining.{value-again}
+use Rattle.calc.proofs.Joining.{joined-turn, joined-set, bind-id, bind-twice}
 use Rattle.calc.proofs.Ranging.{decoded, low-range, range-value}
-
--- ---- one member more
-has-joined : (f : ℕ → Bool) (j : ℕ) → j < 32 → has j (membersOf (setValue (those f 0 32))) ≡ f j
-unfolding membersOf patternOf setValue
-has-joined f j h =
-    ap (λ (n : ℕ). has j (members n)) (mod-eq-of-lt {n = valueOf (those f 0 32)} {m = 4294967296} (value-lt f))
-    ∙ ap (has j) (members-value f) ∙ inside-those f 0 j 32 (omega arith) (omega arith)
-
-or-turn : (a b c : Bool) → ((a || b) || c) ≡ ((a || c) || b)
-or-turn true b c = refl
-or-turn false true true = refl
-or-turn false true false = refl
-or-turn false false true = refl
-or-turn false false false = refl
-
-pub joined-turn : (z w t : ℤ) → joined z (joined w t) ≡ joined w (joined z t)
-unfolding joined added
-joined-turn z w t =
-    ap setValue (those-same _ _ 0 32 (λ j h k.
-    ap (λ (b : Bool). b || holds z (j ∷ [])) (has-joined (λ i. has i (membersOf t) || holds w (i ∷ [])) j k)
-    ∙ or-turn (has j (membersOf t)) (holds w (j ∷ [])) (holds z (j ∷ []))
-    ∙ ap (λ (b : Bool). b || holds w (j ∷ [])) (sym (has-joined (λ i. has i (membersOf t) || holds z (i ∷ [])) j k))))
-
-pub joined-set : (z : ℤ) (s r : ℕ) → s < 4294967296 → r ≡ valueOf (added z (members s)) → pos r ≡ joined z (pos s)
-unfolding joined setValue membersOf patternOf
-joined-set z s r h e = ap pos (e ∙ ap (λ (n : ℕ). valueOf (added z (members n))) (sym (mod-eq-of-lt {n = s} {m = 4294967296} h)))
 
 -- ---- the links from place q on
 unfoldable pub restOf : ℕ → List ℕ → ℕ → Codes
@@ -84,16 +55,6 @@ rest-more zero l q h n = absurd (omega arith)
 rest-more (suc d) l q h n = rw (ne-eqb q 0 n, sub-one (suc d))
 
 -- ---- what the loop has done
-pub bind-id : (v : Result ℤ) → v ≡ (v >>= λ t. is t)
-bind-id (is z) = refl
-bind-id (fails e) = refl
-bind-id stuck = refl
-
-pub bind-twice : (v : Result ℤ) (f g : ℤ → ℤ) → ((v >>= λ t. is (f t)) >>= λ t. is (g t)) ≡ (v >>= λ t. is (g (f t)))
-bind-twice (is z) f g = refl
-bind-twice (fails e) f g = refl
-bind-twice stuck f g = refl
-
 tested-means : (lo hi x z : ℤ) (v : Result ℤ) → Means x v → z ≡ testedWord lo hi x → Means z (v >>= λ u. tested rangeError lo hi u)
 unfolding testedWord tested pick Ranged Exceptional inside
 tested-means lo hi x z (is u) h e = record { word = e ∙ rw (decoded x (is u) h); ranged = go (inside lo hi u) }

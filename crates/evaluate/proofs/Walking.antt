@@ -1,26 +1,21 @@
 -- The ways through the walk over expressions and places.
 use mathlib.Core.Path.{_≡_, refl, sym, ap, subst, _∙_}
-use mathlib.Core.Bool.{Bool, true, false, _&&_, and-eq-true-iff, true≢false}
+use mathlib.Core.Bool.{Bool, true, false, true≢false}
 use mathlib.Core.List.{List, [], _∷_}
-use mathlib.Core.Logic.{_⊎_, inl, inr}
 use Prim.Native.Nat.{ℕ, zero, suc, _+_, _*_, _-_, _/_, _%_, _<_, _≤_, min}
 use native.Mathlib.Numerals.{sub-one}
 use native.Mathlib.Omega.{arith}
-use borrow.Author.Tests.{eq-eqb, ne-eqb, lt-ltb, le-ltb, leb-true, leb-false, eqb-true, eqb-false}
+use borrow.Author.Tests.{eqb-true, eqb-false}
 use borrow.Author.Needs.{sfits-of}
-use lib.Dec.{eqb, ltb, leb}
-use Rattle.arith.proofs.Order.{le-not, not-le, le-or-lt}
-use native.Mathlib.Nat.{mul-zero, mul-suc}
-use Rattle.calc.proofs.Combining.{fault-again, value-again}
-use lib.IntN.{ℤ, pos, negsuc, _+ℤ_, _-ℤ_}
-use lib.Signed.{leZ, ltZ, mag, nonNeg}
-use lib.ListN.{length, getD}
+use lib.Dec.{eqb}
+use lib.IntN.{ℤ, pos, _+ℤ_, _-ℤ_}
+use lib.Signed.{ltZ}
+use lib.ListN.{getD}
 use mir.Syntax.{w32, w64}
-use mir.Val.{SFits, Fits, toZ, ofZ}
+use mir.Val.{SFits, Fits, toZ}
 use mir.Facts.{toZ-pos, toZ-ofZ}
 use Rattle.arith.specs.Integers.{inside, least, most}
 use Rattle.arith.proofs.Machine.{wire}
-use Rattle.arith.proofs.Ranges.{inside-both}
 use Rattle.lexis.specs.Numbers.{signed}
 use Rattle.semantics.specs.declared.CodeOp.{CodeOp}
 use Rattle.semantics.specs.declared.CodeOp.the-variants as code
@@ -29,17 +24,16 @@ use Rattle.semantics.specs.declared.PlaceOp.{PlaceOp}
 use Rattle.semantics.specs.declared.PlaceOp.the-variants as place
 use Rattle.semantics.specs.declared.PlaceOp.the-variants.{Cell, Index, Shift}
 use Rattle.semantics.specs.Base.{pick}
-use Rattle.semantics.specs.Calculate.{Result, is, fails, stuck, _>>=_, natOf, isTrue, tested, numericError, rangeError, undefinedError, compute, compute1}
+use Rattle.semantics.specs.Calculate.{Result, is, fails, stuck, _>>=_, natOf, isTrue, tested, rangeError}
 use Rattle.semantics.specs.Chair.{evalCode, placeCode, gatherCodes}
-use Rattle.semantics.specs.Code.{Code, literal, load, lastNumber, makeSet, calculate, shortCut, calculate1, Place, cell, index, shift, Codes}
-use Rattle.semantics.specs.Machine.{Store, readCell, readCells, sole, oneCell, shortCircuited, defined, undefined}
+use Rattle.semantics.specs.Machine.{Store, readCells, sole, oneCell, shortCircuited}
 use Rattle.semantics.specs.Operators.{predIn, succIn}
 use Rattle.semantics.specs.Readback.{codeOps, codeOp, placeOp, operationAt, operation1At, integerAt, codeFrom, placeFrom, readCode, readPlace, readCodes}
-use Rattle.calc.specs.Words.{greatest, faultBase, wordOf, resultOf, applied, applied1, InRange, Exceptional, Ranged, Means, Holds, first, undefinedWord, storeWord, latestIn, allValues, cellsWord, cellsAt, Integral, placeWord, cellOf, distanceWord, elementWord, shiftedWord}
+use Rattle.calc.specs.Words.{greatest, faultBase, wordOf, applied, applied1, InRange, Exceptional, Ranged, Means, Holds, first, storeWord, latestIn, cellsWord, cellsAt, Integral, placeWord, cellOf, distanceWord, elementWord, shiftedWord}
 use Rattle.evaluate.specs.Walks.{Evaluates, Places, Gathers, capped}
 use Rattle.calc.proofs.Leaves.{small-signed}
-use Rattle.calc.proofs.Placing.{index-span, index-up}
-use Rattle.calc.proofs.Ranging.{Bounded, plain, wide, low-range, range-value, above-fault, back-fault, decoded, binary-means, unary-means, fault-means, value-means}
+use Rattle.calc.proofs.Loading.{cell-read, zero-word, zero-ranged, cells-word, capped-cells, one-or-more, le-ltb-cap, cap-twice, cap-add, cap-times, test-cases}
+use Rattle.calc.proofs.Ranging.{plain, wide, low-range, range-value, above-fault, back-fault, decoded, binary-means, unary-means, fault-means, value-means}
 
 -- ---- what a node is
 pub binary-op : (n : ℕ) → 8 < n → n < 29 → codeOp n ≡ Binary (n - 9)
@@ -183,117 +177,6 @@ unfolding readPlace
 place-step zero l p h = absurd (omega arith)
 place-step (suc d) l p h = rw (sub-one (suc d))
 
--- ---- cells
-one-read : (v : Result ℤ) → v ≡ first (v >>= λ z. is (z ∷ []))
-one-read (is z) = refl
-one-read (fails e) = refl
-one-read stuck = refl
-
-cell-read : (a : ℕ) (m : Store) → readCell a m ≡ first (readCells a 1 m)
-unfolding readCells
-cell-read a m = one-read (readCell a m)
-
-value-fault : {z e : ℤ} → is z ≡ fails e → ⊥
-value-fault q = let z : _≡_ {A = ℕ} 0 1 = cc in omega arith
-
--- a cell gives a value or an Undefined_Error
-cell-fails : (a : ℕ) (m : Store) (e : ℤ) → readCell a m ≡ fails e → readCell a m ≡ fails undefinedError
-unfolding readCell pick
-cell-fails a m e h = go (eqb (getD (m .marks) a undefined) defined) h
-  where
-    go : (t : Bool) → pick t (is (getD (m .values) a (pos 0))) (fails undefinedError) ≡ fails e → pick t (is (getD (m .values) a (pos 0))) (fails undefinedError) ≡ fails undefinedError
-    go true q = absurd (value-fault q)
-    go false q = refl
-
-as-value : (w : ℤ) → ltZ greatest w ≡ false → resultOf w ≡ is w
-as-value w e = value-again w e
-
-as-fault : (w : ℤ) → ltZ greatest w ≡ true → resultOf w ≡ fails (w -ℤ faultBase)
-as-fault w e = fault-again w e
-
-zero-word : pos 0 ≡ wordOf (is (pos 0))
-unfolding wordOf
-zero-word = refl
-
-zero-ranged : Ranged (is (pos 0))
-unfolding Ranged
-zero-ranged = low-range 0 (omega arith)
-
-undefined-means : Means undefinedWord (fails undefinedError)
-unfolding wordOf Ranged Exceptional inside
-undefined-means = record { word = refl; ranged = refl }
-
-past-word : (ws : List ℤ) (a : ℕ) → 2048 ≤ a → storeWord ws a ≡ undefinedWord
-unfolding storeWord pick
-past-word ws a e = rw (le-ltb a 2048 e)
-
-module _ (ws : List ℤ) (m : Store) (h : Holds ws m) where
-  cell-is : (a : ℕ) → leZ (storeWord ws a) greatest ≡ true → readCell a m ≡ is (storeWord ws a)
-  cell-is a e = go (readCell a m) (h .cells a)
-    where
-      go : (v : Result ℤ) → Means (storeWord ws a) v → v ≡ is (storeWord ws a)
-      go v q = sym (decoded (storeWord ws a) v q) ∙ as-value (storeWord ws a) (le-not (storeWord ws a) greatest e)
-
-  cell-none : (a : ℕ) → leZ (storeWord ws a) greatest ≡ false → readCell a m ≡ fails undefinedError
-  cell-none a e = cell-fails a m (storeWord ws a -ℤ faultBase) (sym (decoded (storeWord ws a) (readCell a m) (h .cells a)) ∙ as-fault (storeWord ws a) (not-le (storeWord ws a) greatest e))
-
-  none-read : (a : ℕ) → Means (pos 0) (first (readCells a 0 m))
-  unfolding readCells
-  none-read a = record { word = zero-word; ranged = zero-ranged }
-
-  up : (a n : ℕ) → allValues ws (a + 1) n ≡ allValues ws (suc a) n
-  up a n = ap (λ (q : ℕ). allValues ws q n) (omega arith)
-
-  -- all values are read, or none
-  reads : (n a : ℕ) → allValues ws a n ≡ true → (zs : List ℤ) × (readCells a n m ≡ is zs)
-  unfolding readCells allValues
-  reads zero a e = ([], refl)
-  reads (suc n) a e =
-      let w = and-eq-true-iff (leZ (storeWord ws a) greatest) (allValues ws (a + 1) n) .0 e in
-      let r = reads n (suc a) (sym (up a n) ∙ w .1) in
-      (storeWord ws a ∷ r .0, rw (cell-is a (w .0), r .1))
-
-  reads-more : (n a : ℕ) → allValues ws a (suc n) ≡ true → (leZ (storeWord ws a) greatest ≡ true) × ((zs : List ℤ) × (readCells a (suc n) m ≡ is (storeWord ws a ∷ zs)))
-  unfolding readCells allValues
-  reads-more n a e =
-      let w = and-eq-true-iff (leZ (storeWord ws a) greatest) (allValues ws (a + 1) n) .0 e in
-      let r = reads n (suc a) (sym (up a n) ∙ w .1) in
-      (w .0, (r .0, rw (cell-is a (w .0), r .1)))
-
-  reads-none : (n a : ℕ) → allValues ws a n ≡ false → readCells a n m ≡ fails undefinedError
-  unfolding readCells allValues
-  reads-none zero a e = absurd (true≢false e)
-  reads-none (suc n) a e = go (λ q. reads-none n (suc a) (sym (up a n) ∙ q)) (leZ (storeWord ws a) greatest) refl e
-    where
-      go : (allValues ws (a + 1) n ≡ false → readCells (suc a) n m ≡ fails undefinedError) → (t : Bool) → leZ (storeWord ws a) greatest ≡ t → (t && allValues ws (a + 1) n) ≡ false
-          → (readCell a m >>= λ z. readCells (suc a) n m >>= λ zs. is (z ∷ zs)) ≡ fails undefinedError
-      go f true q r = rw (cell-is a q, f r)
-      go f false q r = rw (cell-none a q)
-
-  cells-word : (a n : ℕ) → Means (cellsWord ws a n) (first (readCells a n m))
-  unfolding cellsWord pick
-  cells-word a zero = none-read a
-  cells-word a (suc n) = go (allValues ws a (suc n)) refl
-    where
-      go : (t : Bool) → allValues ws a (suc n) ≡ t → Means (pick t (storeWord ws a) undefinedWord) (first (readCells a (suc n) m))
-      go true q =
-          subst (λ (v : Result (List ℤ)). Means (storeWord ws a) (first v)) (sym (reads-more n a q .1 .1))
-          (subst (λ (v : Result ℤ). Means (storeWord ws a) v) (cell-is a (reads-more n a q .0)) (h .cells a))
-      go false q = subst (λ (v : Result (List ℤ)). Means undefinedWord (first v)) (sym (reads-none (suc n) a q)) undefined-means
-
-  -- past every store
-  cell-past : (a : ℕ) → 2048 ≤ a → readCell a m ≡ fails undefinedError
-  cell-past a e = cell-none a (rw (past-word ws a e))
-
-  pub capped-cells : (a n : ℕ) → readCells (min a 4294967295) n m ≡ readCells a n m
-  unfolding readCells
-  capped-cells a zero = refl
-  capped-cells a (suc n) = go (leb a 4294967295) refl
-    where
-      go : (t : Bool) → leb a 4294967295 ≡ t → readCells (min a 4294967295) (suc n) m ≡ readCells a (suc n) m
-      go true q = ap (λ (b : ℕ). readCells b (suc n) m) (omega (arith, leb-true a 4294967295 q))
-      go false q = rw (cell-past (min a 4294967295) (omega (arith, leb-false a 4294967295 q)), cell-past a (omega (arith, leb-false a 4294967295 q)))
-
 one-word : pos 1 ≡ wordOf (is (pos 1))
 unfolding wordOf
 one-word = refl
@@ -332,23 +215,6 @@ short-when q t v w x h k g =
     let s = value-means x v h k in
     ap (λ (v : Result (List ℤ)). v >>= λ u. shortCircuited q (isTrue (sole u)) w) (s .1 .0) ∙ ap (λ (z : ℤ). shortCircuited q (isTrue z) w) (s .1 .1) ∙ ap (λ (b : Bool). shortCircuited q b w) g
 
-pub le-ltb-cap : (a : ℕ) → ltb 9218868437227405311 (min a 4294967295) ≡ false
-le-ltb-cap a = le-ltb 9218868437227405311 (min a 4294967295) (omega arith)
-
-pub cap-twice : (a : ℕ) → min (min a 4294967295) 4294967295 ≡ min a 4294967295
-cap-twice a = omega arith
-
-pub cap-add : (a t : ℕ) → min (min a 4294967295 + t) 4294967295 ≡ min (a + t) 4294967295
-cap-add a t = omega arith
-
-pub cap-times : (a k c : ℕ) → min (min a 4294967295 + min k 4294967295 * c) 4294967295 ≡ min (a + k * c) 4294967295
-cap-times a k zero = rw (mul-zero k, mul-zero (min k 4294967295)) (omega arith)
-cap-times a k (suc c) = go (le-or-lt k 4294967295)
-  where
-    go : (k ≤ 4294967295) ⊎ (4294967295 < k) → min (min a 4294967295 + min k 4294967295 * suc c) 4294967295 ≡ min (a + k * suc c) 4294967295
-    go (inl h) = let e : min k 4294967295 ≡ k = omega arith in rw e (cap-add a (k * suc c))
-    go (inr h) = let e : min k 4294967295 ≡ 4294967295 = omega arith in rw (e, mul-suc k c, mul-suc 4294967295 c) (omega arith)
-
 -- r is the word of the place v
 unfoldable pub Found : Result ℕ → Type 0
 Found (is a) = Unit {0}
@@ -374,18 +240,6 @@ means-place r stuck h = absurd (h .found)
 place-zero : Located (pos 0) (is 0)
 unfolding placeWord Found
 place-zero = record { word = ap pos (omega arith); found = tt }
-
-up-range : (z : ℤ) → mag z ≤ 4294967295 → nonNeg z ≡ true → InRange z
-up-range (pos n) h k = low-range n h
-up-range (negsuc n) h k = absurd (true≢false (sym k))
-
-pub one-or-more : (ws : List ℤ) (m : Store) → Holds ws m → (a c : ℕ) → Means (pick (eqb c 1) (storeWord ws a) (cellsWord ws a c)) (first (readCells a c m))
-unfolding pick
-one-or-more ws m h a c = go (eqb c 1) refl
-  where
-    go : (t : Bool) → eqb c 1 ≡ t → Means (pick t (storeWord ws a) (cellsWord ws a c)) (first (readCells a c m))
-    go true q = rw (eqb-true c 1 q, ← cell-read a m) (h .cells a)
-    go false q = cells-word ws m h a c
 
 at-fault : (y e : ℤ) → Exceptional e → pick (ltZ greatest (e +ℤ faultBase)) (e +ℤ faultBase) y ≡ e +ℤ faultBase
 unfolding pick
@@ -590,14 +444,6 @@ fault-index w x (fails e) u f h k g q = absurd (true≢false (above-fault e (g .
 fault-index w x stuck u f h k g q = absurd (g .found)
 
 -- an index's distance
-pub test-cases : (lo hi u : ℤ) → inside least most lo ≡ true → inside least most hi ≡ true → Ranged (tested rangeError lo hi u >>= λ z. is (z -ℤ lo))
-unfolding tested pick Ranged Exceptional inside
-test-cases lo hi u p q = go (inside lo hi u) refl
-  where
-    go : (t : Bool) → inside lo hi u ≡ t → Ranged (pick t (is u) (fails rangeError) >>= λ z. is (z -ℤ lo))
-    go true h = up-range (u -ℤ lo) (index-span lo hi u p q h) (index-up lo hi u p q h)
-    go false h = refl
-
 pub distance-means : (lo hi x y : ℤ) (v : Result ℤ) → inside least most lo ≡ true → inside least most hi ≡ true → Means x v → y ≡ distanceWord lo hi x → Means y (v >>= λ u. tested rangeError lo hi u >>= λ z. is (z -ℤ lo))
 unfolding distanceWord Ranged
 distance-means lo hi x y (is u) p q h e = record { word = e ∙ rw (decoded x (is u) h); ranged = test-cases lo hi u p q }

@@ -11,6 +11,7 @@ use calc::operators::succ;
 use calc::operators::test;
 use calc::operators::unary;
 use calc::words::GREATEST;
+use calc::words::WORDS;
 use calc::words::integral;
 use calc::words::number;
 ghost use Prim.Native.Nat.{_+_, _<_};
@@ -21,7 +22,7 @@ ghost use Rattle.evaluate.specs.Walks.{Evaluates, Places, Gathers};
 
 // The value of the expression at pc: the most common ones here, in ways that need no stack. Past 16,376 a node may reach over
 // the code's end; up to it the compiler drops the bounds tests.
-pub fn eval(code: &[u32; 16384], store: &[i64; 2056], pc: u32, depth: u32) -> i64
+pub fn eval(code: &[u32; 16384], store: &[i64; WORDS], pc: u32, depth: u32) -> i64
     ensures { λ r. ⌜ Evaluates (codeIn (now (code .entry))) (now (store .entry)) pc depth r ⌝ }
 {
     if depth == 0 {
@@ -54,7 +55,7 @@ pub fn eval(code: &[u32; 16384], store: &[i64; 2056], pc: u32, depth: u32) -> i6
 }
 
 // The same of an operand: a literal or a whole variable of one cell is read here, which saves a call.
-fn operand(code: &[u32; 16384], store: &[i64; 2056], pc: u32, depth: u32) -> i64
+fn operand(code: &[u32; 16384], store: &[i64; WORDS], pc: u32, depth: u32) -> i64
     ensures { λ r. ⌜ Evaluates (codeIn (now (code .entry))) (now (store .entry)) pc depth r ⌝ }
 {
     if depth == 0 {
@@ -75,7 +76,7 @@ fn operand(code: &[u32; 16384], store: &[i64; 2056], pc: u32, depth: u32) -> i64
 }
 
 // A one-sided operator at pc, or no expression.
-fn one_sided(code: &[u32; 16384], store: &[i64; 2056], pc: u32, depth: u32) -> i64
+fn one_sided(code: &[u32; 16384], store: &[i64; WORDS], pc: u32, depth: u32) -> i64
     requires { ⌜ (0 < depth) × (28 < getD (codeIn (now code)) pc 0) ⌝ }
     ensures { λ r. ⌜ Evaluates (codeIn (now (code .entry))) (now (store .entry)) pc depth r ⌝ }
 {
@@ -95,7 +96,7 @@ fn one_sided(code: &[u32; 16384], store: &[i64; 2056], pc: u32, depth: u32) -> i
 }
 
 // The value of any expression at pc.
-fn eval_form(code: &[u32; 16384], store: &[i64; 2056], pc: u32, depth: u32) -> i64
+fn eval_form(code: &[u32; 16384], store: &[i64; WORDS], pc: u32, depth: u32) -> i64
     ensures { λ r. ⌜ Evaluates (codeIn (now (code .entry))) (now (store .entry)) pc depth r ⌝ }
 {
     if depth == 0 {
@@ -132,7 +133,7 @@ fn eval_form(code: &[u32; 16384], store: &[i64; 2056], pc: u32, depth: u32) -> i
 }
 
 // `and_then` and `or_else` at pc: the right side is worked out only if the left leaves it open.
-fn short_cut(code: &[u32; 16384], store: &[i64; 2056], pc: u32, depth: u32) -> i64
+fn short_cut(code: &[u32; 16384], store: &[i64; WORDS], pc: u32, depth: u32) -> i64
     requires { ⌜ (0 < depth) × ((6 < getD (codeIn (now code)) pc 0) × (getD (codeIn (now code)) pc 0 < 9)) ⌝ }
     ensures { λ r. ⌜ Evaluates (codeIn (now (code .entry))) (now (store .entry)) pc depth r ⌝ }
 {
@@ -155,7 +156,7 @@ fn short_cut(code: &[u32; 16384], store: &[i64; 2056], pc: u32, depth: u32) -> i
 }
 
 // The first cell of the place at pc: a whole variable's here.
-pub fn place(code: &[u32; 16384], store: &[i64; 2056], pc: u32, depth: u32) -> i64
+pub fn place(code: &[u32; 16384], store: &[i64; WORDS], pc: u32, depth: u32) -> i64
     ensures { λ r. ⌜ Places (codeIn (now (code .entry))) (now (store .entry)) pc depth r ⌝ }
 {
     if depth == 0 {
@@ -173,7 +174,7 @@ pub fn place(code: &[u32; 16384], store: &[i64; 2056], pc: u32, depth: u32) -> i
 }
 
 // The same of a component: an element's here, and a fault at once.
-fn component(code: &[u32; 16384], store: &[i64; 2056], pc: u32, depth: u32) -> i64
+fn component(code: &[u32; 16384], store: &[i64; WORDS], pc: u32, depth: u32) -> i64
     ensures { λ r. ⌜ Places (codeIn (now (code .entry))) (now (store .entry)) pc depth r ⌝ }
 {
     if depth == 0 {
@@ -201,7 +202,7 @@ fn component(code: &[u32; 16384], store: &[i64; 2056], pc: u32, depth: u32) -> i
 }
 
 // The first cell of any place at pc.
-fn place_form(code: &[u32; 16384], store: &[i64; 2056], pc: u32, depth: u32) -> i64
+fn place_form(code: &[u32; 16384], store: &[i64; WORDS], pc: u32, depth: u32) -> i64
     ensures { λ r. ⌜ Places (codeIn (now (code .entry))) (now (store .entry)) pc depth r ⌝ }
 {
     if depth == 0 {
@@ -227,7 +228,7 @@ fn place_form(code: &[u32; 16384], store: &[i64; 2056], pc: u32, depth: u32) -> 
 }
 
 // The set of the members of the node at pc.
-fn gather(code: &[u32; 16384], store: &[i64; 2056], pc: u32, depth: u32) -> i64
+fn gather(code: &[u32; 16384], store: &[i64; WORDS], pc: u32, depth: u32) -> i64
     ensures { λ r. ⌜ Gathers (codeIn (now (code .entry))) (now (store .entry)) (integerAt (codeIn (now (code .entry))) (pc + 1)) (integerAt (codeIn (now (code .entry))) (pc + 2)) (getD (codeIn (now (code .entry))) (pc + 3) 0) depth r ⌝ }
 {
     let p = pc as usize;

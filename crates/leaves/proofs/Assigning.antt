@@ -1,38 +1,36 @@
 -- The ways through the statements that hold no other.
 use mathlib.Core.Path.{_≡_, refl, sym, ap, subst, _∙_}
-use mathlib.Core.Bool.{Bool, true, false}
+use mathlib.Core.Bool.{true, false}
 use mathlib.Core.List.{List, [], _∷_}
 use mathlib.Core.Logic.{_⊎_, inl, inr}
 use Prim.Native.Nat.{ℕ, zero, suc, _+_, _-_, _<_, _≤_, min}
 use native.Mathlib.Omega.{arith}
-use lib.IntN.{ℤ, pos, negsuc}
+use lib.IntN.{ℤ}
 use lib.Signed.{ltZ}
-use lib.Dec.{T}
 use lib.ListN.{getD, length, List·getD-eq-default}
 use mir.Syntax.{w64}
 use mir.Val.{SFits}
 use mir.Facts.{toZ-ofZ}
 use borrow.Author.Needs.{sfits-of}
-use Rattle.arith.specs.Integers.{inside, isZero}
 use Rattle.arith.proofs.Machine.{wire}
 use Rattle.arith.proofs.Order.{le-or-lt}
 use Rattle.semantics.specs.declared.ActOp.the-variants.{AssignOrdinal, AssignWhole, Raise}
 use Rattle.semantics.specs.Base.{pick}
-use Rattle.semantics.specs.Calculate.{Result, is, fails, _>>=_, rangeError, systemError, undefinedError}
-use Rattle.semantics.specs.Chair.{evalCode, placeCode, runAct}
-use Rattle.semantics.specs.Machine.{Store, State, state, Answer, answer, normal, raised, branch, passOn, raiseNumber, raising, oneCell, readCell, readCells, undefined, sole, stored, storeOrdinal, storeWhole, withResult, Procs}
-use Rattle.semantics.specs.Readback.{actOpAt, integerAt, readAct, readCode, readPlace}
-use Rattle.evaluate.specs.Walks.{Evaluates, Places, capped}
-use Rattle.calc.specs.Words.{greatest, InRange, Means, Holds, first, cellsWord, latestIn}
-use Rattle.steps.specs.Ends.{cellsIn, leftIn, raisedWord, faultIn, notedIn, numberIn, Raises, RaisesNumber}
-use Rattle.steps.specs.Stands.{Stands, Ends, Runs, after}
-use Rattle.leaves.specs.Cells.{Addresses, Puts, Copies, Copying}
+use Rattle.semantics.specs.Calculate.{Result, is, fails, _>>=_, undefinedError}
+use Rattle.semantics.specs.Chair.{evalCode, placeCode}
+use Rattle.semantics.specs.Machine.{Store, State, state, Answer, raiseNumber, oneCell, readCell, readCells, undefined, sole, storeCells, storeOrdinal, storeWhole, withResult}
+use Rattle.semantics.specs.Readback.{integerAt, readCode, readPlace}
+use Rattle.evaluate.specs.Walks.{Evaluates, Places}
+use Rattle.calc.specs.Words.{greatest, InRange, cellsWord}
+use Rattle.steps.specs.Ends.{leftIn, raisedWord, faultIn, numberIn, Raises, RaisesNumber}
+use Rattle.steps.specs.Stands.{Stands, Ends}
+use Rattle.leaves.specs.Cells.{Addresses, StoresOrdinal, StoresOne, StoresCells}
 use Rattle.leaves.specs.Does.{Does}
-use Rattle.leaves.specs.Sources.{Single, Placed, SourceIs, Sources, FromCells, FromValue, Ordinates, assigned}
+use Rattle.leaves.specs.Sources.{Single, Placed, SourceIs, Sources, FromCells, FromValue, assigned}
 use Rattle.leaves.specs.declared.simple.Source.{Source}
 use Rattle.leaves.specs.declared.simple.Source.the-variants as source
-use Rattle.leaves.proofs.Ending.{Value, Faulty, Cells, Address, first-value, first-fault, place-value, place-fault, fault-ends, is-ends, normal-ends, raising-ends, again-ends, word-value, word-fault, left-most, raised-fewer, again-fewer}
-use Rattle.leaves.proofs.Stored.{AllRead, cells-value, cells-fault, copy-written, put-stands, written-stands}
+use Rattle.leaves.proofs.Ending.{Value, Faulty, Cells, Address, first-value, first-fault, place-value, place-fault, fault-ends, is-ends, word-value, word-fault, raised-fewer, again-fewer, raise-ends}
+use Rattle.leaves.proofs.Stored.{AllRead, cells-value, cells-fault}
 use Rattle.leaves.proofs.Shapes as Shapes
 
 -- an exception at the statement whose number a node holds
@@ -117,11 +115,8 @@ module _ (l : List ℕ) (ws : List ℤ) (s : ℕ) (p d : ℕ) (x : ℤ) (h : SFi
                 (λ c. storeOrdinal (getD l (p + 1) 0) c (integerAt l (p + 4)) (integerAt l (p + 5)) (sole zs) (state m s)) ws′ r (A .gives)
                 (subst (λ (z : ℤ). Ends (storeOrdinal (getD l (p + 1) 0) (A .a) (integerAt l (p + 4)) (integerAt l (p + 5)) z (state m s)) ws′ r) (sym j) (u m A q S))
 
-        ordinal-stores : (ws′ : List ℤ) (r : ℕ) → Ordinates l (wire a) (wire x) p ws s ws′ r → Does AssignOrdinal l d p ws s ws′ r
-        ordinal-stores ws′ r O =
-            ordinal-placed ws′ r (O .fewer)
-            (λ m A q S. subst (λ (z : ℤ). Ends (storeOrdinal (getD l (p + 1) 0) (A .a) (integerAt l (p + 4)) (integerAt l (p + 5)) z (state m s)) ws′ r) (toZ-ofZ h)
-            (O .says m (A .a) (toZ-ofZ i ∙ A .word) (subst InRange (sym (toZ-ofZ h)) q) S))
+        ordinal-stores : (ws′ : List ℤ) (r : ℕ) → StoresOrdinal (getD l (p + 1) 0) (integerAt l (p + 4)) (integerAt l (p + 5)) (wire a) x ws s ws′ r → Does AssignOrdinal l d p ws s ws′ r
+        ordinal-stores ws′ r O = ordinal-placed ws′ r (O .fewer) (λ m A q S. O .says q (A .a) (toZ-ofZ i ∙ A .word) .says m S)
 
 -- the same as the code has it
 module _ (l : List ℕ) (ws : List ℤ) (s : ℕ) (p d e : ℕ) (x : ℤ) (r : ℕ) (Q : e ≡ getD l (p + 3) 0) (E : Evaluates l ws e d x) (h : SFits w64 x) where
@@ -138,59 +133,17 @@ module _ (l : List ℕ) (ws : List ℤ) (s : ℕ) (p d e : ℕ) (x : ℤ) (r : �
     pub assign-unplaced : (n : ℕ) (ws′ : List ℤ) → ltZ greatest (wire a) ≡ true → n ≡ getD l (p + 1) 0 → Raises (faultIn (wire a)) n ws s ws′ r → Does AssignOrdinal l d p ws s ws′ r
     assign-unplaced n ws′ k N u = ordinal-unplaced l ws s p d x h there g a i spot ws′ r k (at-node (faultIn (wire a)) n (getD l (p + 1) 0) ws s ws′ r N u)
 
-    pub assign-stores : (ws′ : List ℤ) → ltZ greatest (wire a) ≡ false → Ordinates l (wire a) (wire x) p ws s ws′ r → Does AssignOrdinal l d p ws s ws′ r
-    assign-stores ws′ k O = ordinal-stores l ws s p d x h there g a i spot k ws′ r O
+    pub assign-stores : (n : ℕ) (lo hi : ℤ) (ws′ : List ℤ) → ltZ greatest (wire a) ≡ false → n ≡ getD l (p + 1) 0 → lo ≡ integerAt l (p + 4) → SFits w64 lo → hi ≡ integerAt l (p + 5) → SFits w64 hi
+        → StoresOrdinal n (wire lo) (wire hi) (wire a) (wire x) ws s ws′ r → Does AssignOrdinal l d p ws s ws′ r
+    assign-stores n lo hi ws′ k N L u H v O = ordinal-stores l ws s p d x h there g a i spot k ws′ r
+        (subst (λ (c : ℕ). StoresOrdinal c (integerAt l (p + 4)) (integerAt l (p + 5)) (wire a) x ws s ws′ r) N
+        (subst (λ (z : ℤ). StoresOrdinal n z (integerAt l (p + 5)) (wire a) x ws s ws′ r) (toZ-ofZ u ∙ L)
+        (subst (λ (z : ℤ). StoresOrdinal n (wire lo) z (wire a) x ws s ws′ r) (toZ-ofZ v ∙ H)
+        (subst (λ (z : ℤ). StoresOrdinal n (wire lo) (wire hi) (wire a) z ws s ws′ r) (toZ-ofZ h) O))))
 
 pub ruleset assign-laws = (assign-fault, assign-unplaced, assign-stores, sfits-of)
 
--- ---- `store_ordinal`
-module _ (l : List ℕ) (ws : List ℤ) (s : ℕ) (p : ℕ) (w x : ℤ) (r : ℕ) (h : SFits w64 x) (lo hi : ℤ) (o : Bool) (L : lo ≡ integerAt l (p + 4)) (U : hi ≡ integerAt l (p + 5))
-    (u : SFits w64 lo) (v : SFits w64 hi) (I : o ≡ inside (wire lo) (wire hi) (wire x)) where
-  in-bounds : inside (integerAt l (p + 4)) (integerAt l (p + 5)) x ≡ o
-  in-bounds = sym (I ∙ rw (toZ-ofZ u, toZ-ofZ v, toZ-ofZ h, L, U))
-
-  pub ordinal-out : (n : ℕ) (ws′ : List ℤ) → n ≡ getD l (p + 1) 0 → o ≡ false → Raises (negsuc 102) n ws s ws′ r → Ordinates l w x p ws s ws′ r
-  unfolding storeOrdinal InRange inside
-  ordinal-out n ws′ N y R = record {
-    says = λ m a e q S. subst (λ (b : Bool). Ends (branch b (λ (t : State). answer normal (state (stored a (x ∷ []) (t .store)) (t .left))) (raising rangeError (getD l (p + 1) 0)) (state m s)) ws′ r) (sym (in-bounds ∙ y))
-        (raising-ends ws s m S rangeError (getD l (p + 1) 0) ws′ r refl (at-node (negsuc 102) n (getD l (p + 1) 0) ws s ws′ r N R));
-    fewer = raised-fewer (negsuc 102) n ws s ws′ r R;
-  }
-
-  pub ordinal-in : (b : ℕ) (ws′ : List ℤ) → SFits w64 w → o ≡ true → Addresses (wire w) b → Puts ws (cellsIn ws) b (wire x) ws′ → r ≡ s → Ordinates l w x p ws s ws′ r
-  unfolding storeOrdinal
-  ordinal-in b ws′ i y B W z = subst (λ (t : ℕ). Ordinates l w x p ws s ws′ t) (sym z) (record {
-    says = λ m a e q S. subst (λ (b : Bool). Ends (branch b (λ (t : State). answer normal (state (stored a (x ∷ []) (t .store)) (t .left))) (raising rangeError (getD l (p + 1) 0)) (state m s)) ws′ s) (sym (in-bounds ∙ y))
-        (normal-ends ws′ s (stored a (x ∷ []) m)
-        (put-stands ws s m a b x ws′ S q (B .says (min a 4294967295) (omega arith) (toZ-ofZ i ∙ e)) (rw (toZ-ofZ h) at W)));
-    fewer = left-most s;
-  })
-
-pub ruleset ordinal-laws = (ordinal-out, ordinal-in, sfits-of)
-
 -- ---- `raise`
-module _ (ws : List ℤ) (s : ℕ) (m : Store) (x : ℤ) (n : ℕ) (S : Stands ws s m) (R : InRange x) (r : ℕ) (w : r ≡ raisedWord s) (k : n ≤ 4294967295) where
-  new-ends : (z : ℤ) → InRange z → Ends (raising z n (state m s)) (notedIn z n ws) r
-  new-ends z h = raising-ends ws s m S z n (notedIn z n ws) r h (record { word = w; store = refl; small = k })
-
-  pass-ends : Ends (passOn n (state m s)) (pick (isZero (latestIn ws)) (notedIn systemError n ws) ws) r
-  unfolding passOn pick InRange inside
-  pass-ends = go (isZero (m .latest)) (isZero (latestIn ws)) (ap isZero (S .holds .last))
-    where
-      go : (e c : Bool) → e ≡ c → Ends (branch e (raising systemError n) (answer (raised (m .latest) (m .place))) (state m s)) (pick c (notedIn systemError n ws) ws) r
-      go true true g = new-ends systemError refl
-      go false false g = again-ends ws s m S r w
-      go false true g = absurd (subst T (sym g) tt)
-      go true false g = absurd (subst T g tt)
-
-  pub raise-ends : Ends (raiseNumber n x (state m s)) (numberIn x n ws) r
-  unfolding raiseNumber numberIn pick
-  raise-ends = go (isZero x)
-    where
-      go : (b : Bool) → Ends (branch b (passOn n) (raising x n) (state m s)) (pick b (pick (isZero (latestIn ws)) (notedIn systemError n ws) ws) (notedIn x n ws)) r
-      go false = new-ends x R
-      go true = pass-ends
-
 module _ (l : List ℕ) (ws : List ℤ) (s : ℕ) (p d n e : ℕ) (x : ℤ) (ws′ : List ℤ) (r : ℕ) (N : n ≡ getD l (p + 1) 0)
     (Q : e ≡ getD l (p + 2) 0) (E : Evaluates l ws e d x) (h : SFits w64 x) where
   heard : Evaluates l ws (getD l (p + 2) 0) d x
@@ -237,7 +190,7 @@ module _ (l : List ℕ) (ws : List ℤ) (s : ℕ) (p d n : ℕ) (x : ℤ) (r : �
   pub value-fault : (ws′ : List ℤ) → ltZ greatest (wire x) ≡ true → Raises (faultIn (wire x)) n ws s ws′ r → FromValue l x p d ws s ws′ r
   value-fault ws′ g u = record {
     says = λ m v U S. fault-ends ws s m (getD l (p + 1) 0) v (wire x)
-        (λ zs. withResult (getD l (p + 1) 0) (state m s) (placeCode (readPlace d l (getD l (p + 2) 0)) m) λ a. storeWhole a zs (state m s)) ws′ r S
+        (λ zs. withResult (getD l (p + 1) 0) (state m s) (placeCode (readPlace d l (getD l (p + 2) 0)) m) λ a. storeWhole (getD l (p + 1) 0) a zs (state m s)) ws′ r S
         (rw (toZ-ofZ h) (one-fault x v U (rw (toZ-ofZ h) at g))) (at-node (faultIn (wire x)) n (getD l (p + 1) 0) ws s ws′ r N u);
     fewer = raised-fewer (faultIn (wire x)) n ws s ws′ r u;
   }
@@ -247,35 +200,36 @@ module _ (l : List ℕ) (ws : List ℤ) (s : ℕ) (p d n : ℕ) (x : ℤ) (r : �
     target = subst (λ (k : ℕ). Places l ws k d a) C P
 
     one-ends : (ws′ : List ℤ) (q : ℕ) (m : Store) (v : Result (List ℤ)) → Single x v
-        → (InRange x → Ends (withResult (getD l (p + 1) 0) (state m s) (placeCode (readPlace d l (getD l (p + 2) 0)) m) λ a. storeWhole a (x ∷ []) (state m s)) ws′ q)
+        → (InRange x → Ends (withResult (getD l (p + 1) 0) (state m s) (placeCode (readPlace d l (getD l (p + 2) 0)) m) λ a. storeWhole (getD l (p + 1) 0) a (x ∷ []) (state m s)) ws′ q)
         → Ends (assigned l d p v (state m s)) ws′ q
     one-ends ws′ q m v U E =
         let V′ : Value (U .x) x = word-value (U .x) x (U .means) (rw (toZ-ofZ h) at g) in
         is-ends (getD l (p + 1) 0) (state m s) v (x ∷ [])
-        (λ zs. withResult (getD l (p + 1) 0) (state m s) (placeCode (readPlace d l (getD l (p + 2) 0)) m) λ a. storeWhole a zs (state m s)) ws′ q
+        (λ zs. withResult (getD l (p + 1) 0) (state m s) (placeCode (readPlace d l (getD l (p + 2) 0)) m) λ a. storeWhole (getD l (p + 1) 0) a zs (state m s)) ws′ q
         (U .gives ∙ ap (λ (u : Result ℤ). oneCell u) (V′ .gives)) (E (V′ .ranged))
 
     pub value-unplaced : (ws′ : List ℤ) → ltZ greatest (wire a) ≡ true → Raises (faultIn (wire a)) n ws s ws′ r → FromValue l x p d ws s ws′ r
     value-unplaced ws′ k u = record {
       says = λ m v U S. one-ends ws′ r m v U
-          (λ q. fault-ends ws s m (getD l (p + 1) 0) (placeCode (readPlace d l (getD l (p + 2) 0)) m) (wire a) (λ b. storeWhole b (x ∷ []) (state m s)) ws′ r S
+          (λ q. fault-ends ws s m (getD l (p + 1) 0) (placeCode (readPlace d l (getD l (p + 2) 0)) m) (wire a) (λ b. storeWhole (getD l (p + 1) 0) b (x ∷ []) (state m s)) ws′ r S
           (place-fails l ws s m S a i (getD l (p + 2) 0) d target k) (at-node (faultIn (wire a)) n (getD l (p + 1) 0) ws s ws′ r N u));
       fewer = raised-fewer (faultIn (wire a)) n ws s ws′ r u;
     }
 
-    pub value-placed : (b : ℕ) (ws′ : List ℤ) → ltZ greatest (wire a) ≡ false → Addresses (wire a) b → Puts ws (cellsIn ws) b (wire x) ws′ → r ≡ s → FromValue l x p d ws s ws′ r
-    unfolding storeWhole
-    value-placed b ws′ k B W u = subst (λ (t : ℕ). FromValue l x p d ws s ws′ t) (sym u) (record {
-      says = λ m v U S. one-ends ws′ s m v U (λ q. go m S q (place-here l ws s m S a i (getD l (p + 2) 0) d target k));
-      fewer = left-most s;
-    })
+    pub value-placed : (ws′ : List ℤ) → ltZ greatest (wire a) ≡ false → StoresOne n (wire a) (wire x) ws s ws′ r → FromValue l x p d ws s ws′ r
+    value-placed ws′ k O = record {
+      says = λ m v U S. one-ends ws′ r m v U (λ q. go m S q (place-here l ws s m S a i (getD l (p + 2) 0) d target k));
+      fewer = O .fewer;
+    }
       where
+        there′ : StoresOne (getD l (p + 1) 0) (wire a) x ws s ws′ r
+        there′ = subst (λ (c : ℕ). StoresOne c (wire a) x ws s ws′ r) N (subst (λ (z : ℤ). StoresOne n (wire a) z ws s ws′ r) (toZ-ofZ h) O)
+
         go : (m : Store) → Stands ws s m → InRange x → Address (placeCode (readPlace d l (getD l (p + 2) 0)) m) a
-            → Ends (withResult (getD l (p + 1) 0) (state m s) (placeCode (readPlace d l (getD l (p + 2) 0)) m) λ a. storeWhole a (x ∷ []) (state m s)) ws′ s
+            → Ends (withResult (getD l (p + 1) 0) (state m s) (placeCode (readPlace d l (getD l (p + 2) 0)) m) λ a. storeWhole (getD l (p + 1) 0) a (x ∷ []) (state m s)) ws′ r
         go m S q A =
-            is-ends (getD l (p + 1) 0) (state m s) (placeCode (readPlace d l (getD l (p + 2) 0)) m) (A .a) (λ b. storeWhole b (x ∷ []) (state m s)) ws′ s (A .gives)
-            (normal-ends ws′ s (stored (A .a) (x ∷ []) m)
-            (put-stands ws s m (A .a) b x ws′ S q (address-of (placeCode (readPlace d l (getD l (p + 2) 0)) m) a b i A B) (rw (toZ-ofZ h) at W)))
+            is-ends (getD l (p + 1) 0) (state m s) (placeCode (readPlace d l (getD l (p + 2) 0)) m) (A .a) (λ b. storeWhole (getD l (p + 1) 0) b (x ∷ []) (state m s)) ws′ r (A .gives)
+            (there′ .says q (A .a) (toZ-ofZ i ∙ A .word) .says m S)
 
 pub ruleset value-laws = (value-fault, value-unplaced, value-placed, sfits-of)
 
@@ -294,7 +248,7 @@ none-read : (m : Store) (a : ℕ) → readCells a 0 m ≡ is []
 unfolding readCells
 none-read m a = refl
 
-capped-cells : (m : Store) (a k : ℕ) → length (m .marks) ≤ 2048 → readCells a k m ≡ readCells (min a 4294967295) k m
+capped-cells : (m : Store) (a k : ℕ) → length (m .marks) ≤ storeCells → readCells a k m ≡ readCells (min a 4294967295) k m
 capped-cells m a zero h = none-read m a ∙ sym (none-read m (min a 4294967295))
 capped-cells m a (suc k) h = go (le-or-lt a 4294967295)
   where
@@ -306,7 +260,7 @@ module _ (l : List ℕ) (ws : List ℤ) (s : ℕ) (p d n k : ℕ) (w : ℤ) (r :
   pub cells-unplaced : (ws′ : List ℤ) → ltZ greatest (wire w) ≡ true → Raises (faultIn (wire w)) n ws s ws′ r → FromCells l w k p d ws s ws′ r
   cells-unplaced ws′ g u = record {
     says = λ m v U S. fault-ends ws s m (getD l (p + 1) 0) v (wire w)
-        (λ zs. withResult (getD l (p + 1) 0) (state m s) (placeCode (readPlace d l (getD l (p + 2) 0)) m) λ a. storeWhole a zs (state m s)) ws′ r S
+        (λ zs. withResult (getD l (p + 1) 0) (state m s) (placeCode (readPlace d l (getD l (p + 2) 0)) m) λ a. storeWhole (getD l (p + 1) 0) a zs (state m s)) ws′ r S
         (rw (toZ-ofZ h) (placed-fault m w k v U (rw (toZ-ofZ h) at g))) (at-node (faultIn (wire w)) n (getD l (p + 1) 0) ws s ws′ r N u);
     fewer = raised-fewer (faultIn (wire w)) n ws s ws′ r u;
   }
@@ -318,13 +272,13 @@ module _ (l : List ℕ) (ws : List ℤ) (s : ℕ) (p d n k : ℕ) (w : ℤ) (r :
       where
         go : Address (U .at) w → v ≡ readCells b k m
         go A =
-            U .gives ∙ ap (λ (u : Result ℕ). u >>= λ a. readCells a k m) (A .gives) ∙ capped-cells m (A .a) k (omega (arith, S .marks, S .few))
+            U .gives ∙ ap (λ (u : Result ℕ). u >>= λ a. readCells a k m) (A .gives) ∙ capped-cells m (A .a) k (omega (arith, S .marks))
             ∙ ap (λ (c : ℕ). readCells c k m) (sym (address-of (U .at) w b h A B))
 
     pub cells-undefined : (ws′ : List ℤ) → ltZ greatest (wire x) ≡ true → Raises (faultIn (wire x)) n ws s ws′ r → FromCells l w k p d ws s ws′ r
     cells-undefined ws′ y u = record {
       says = λ m v U S. fault-ends ws s m (getD l (p + 1) 0) v (wire x)
-          (λ zs. withResult (getD l (p + 1) 0) (state m s) (placeCode (readPlace d l (getD l (p + 2) 0)) m) λ a. storeWhole a zs (state m s)) ws′ r S
+          (λ zs. withResult (getD l (p + 1) 0) (state m s) (placeCode (readPlace d l (getD l (p + 2) 0)) m) λ a. storeWhole (getD l (p + 1) 0) a zs (state m s)) ws′ r S
           (subst (λ (c : Result (List ℤ)). Faulty c (wire x)) (sym (from-b m v U S)) (rw (toZ-ofZ j) (cells-fault ws m (S .holds) k b x X (rw (toZ-ofZ j) at y))))
           (at-node (faultIn (wire x)) n (getD l (p + 1) 0) ws s ws′ r N u);
       fewer = raised-fewer (faultIn (wire x)) n ws s ws′ r u;
@@ -335,37 +289,33 @@ module _ (l : List ℕ) (ws : List ℤ) (s : ℕ) (p d n k : ℕ) (w : ℤ) (r :
       goal = subst (λ (k : ℕ). Places l ws k d a) C P
 
       all-ends : (ws′ : List ℤ) (q : ℕ) (m : Store) (v : Result (List ℤ)) → Placed m w k v → Stands ws s m
-          → ((R : AllRead ws m b k) → Ends (withResult (getD l (p + 1) 0) (state m s) (placeCode (readPlace d l (getD l (p + 2) 0)) m) λ a. storeWhole a (R .zs) (state m s)) ws′ q)
+          → ((R : AllRead ws m b k) → Ends (withResult (getD l (p + 1) 0) (state m s) (placeCode (readPlace d l (getD l (p + 2) 0)) m) λ a. storeWhole (getD l (p + 1) 0) a (R .zs) (state m s)) ws′ q)
           → Ends (assigned l d p v (state m s)) ws′ q
       all-ends ws′ q m v U S E =
           let R : AllRead ws m b k = cells-value ws m (S .holds) k b x X (rw (toZ-ofZ j) at y) in
           is-ends (getD l (p + 1) 0) (state m s) v (R .zs)
-          (λ zs. withResult (getD l (p + 1) 0) (state m s) (placeCode (readPlace d l (getD l (p + 2) 0)) m) λ a. storeWhole a zs (state m s)) ws′ q
+          (λ zs. withResult (getD l (p + 1) 0) (state m s) (placeCode (readPlace d l (getD l (p + 2) 0)) m) λ a. storeWhole (getD l (p + 1) 0) a zs (state m s)) ws′ q
           (from-b m v U S ∙ R .gives) (E R)
 
       pub cells-nowhere : (ws′ : List ℤ) → ltZ greatest (wire a) ≡ true → Raises (faultIn (wire a)) n ws s ws′ r → FromCells l w k p d ws s ws′ r
       cells-nowhere ws′ o u = record {
         says = λ m v U S. all-ends ws′ r m v U S
-            (λ R. fault-ends ws s m (getD l (p + 1) 0) (placeCode (readPlace d l (getD l (p + 2) 0)) m) (wire a) (λ b. storeWhole b (R .zs) (state m s)) ws′ r S
+            (λ R. fault-ends ws s m (getD l (p + 1) 0) (placeCode (readPlace d l (getD l (p + 2) 0)) m) (wire a) (λ b. storeWhole (getD l (p + 1) 0) b (R .zs) (state m s)) ws′ r S
             (place-fails l ws s m S a i (getD l (p + 2) 0) d goal o) (at-node (faultIn (wire a)) n (getD l (p + 1) 0) ws s ws′ r N u));
         fewer = raised-fewer (faultIn (wire a)) n ws s ws′ r u;
       }
 
-      pub cells-placed : (t : ℕ) (ws′ : List ℤ) → ltZ greatest (wire a) ≡ false → Addresses (wire a) t → Copying ws (cellsIn ws) b t k ws′ → r ≡ s → FromCells l w k p d ws s ws′ r
-      unfolding storeWhole
-      cells-placed t ws′ o A W u = subst (λ (t : ℕ). FromCells l w k p d ws s ws′ t) (sym u) (record {
-        says = λ m v U S. all-ends ws′ s m v U S (λ R. go m S R (place-here l ws s m S a i (getD l (p + 2) 0) d goal o));
-        fewer = left-most s;
-      })
+      pub cells-placed : (ws′ : List ℤ) → ltZ greatest (wire a) ≡ false → StoresCells n b k (wire a) ws s ws′ r → FromCells l w k p d ws s ws′ r
+      cells-placed ws′ o O = record {
+        says = λ m v U S. all-ends ws′ r m v U S (λ R. go m S R (place-here l ws s m S a i (getD l (p + 2) 0) d goal o));
+        fewer = O .fewer;
+      }
         where
           go : (m : Store) → Stands ws s m → (R : AllRead ws m b k) → Address (placeCode (readPlace d l (getD l (p + 2) 0)) m) a
-              → Ends (withResult (getD l (p + 1) 0) (state m s) (placeCode (readPlace d l (getD l (p + 2) 0)) m) λ a. storeWhole a (R .zs) (state m s)) ws′ s
+              → Ends (withResult (getD l (p + 1) 0) (state m s) (placeCode (readPlace d l (getD l (p + 2) 0)) m) λ a. storeWhole (getD l (p + 1) 0) a (R .zs) (state m s)) ws′ r
           go m S R D =
-              is-ends (getD l (p + 1) 0) (state m s) (placeCode (readPlace d l (getD l (p + 2) 0)) m) (D .a) (λ b. storeWhole b (R .zs) (state m s)) ws′ s (D .gives)
-              (normal-ends ws′ s (stored (D .a) (R .zs) m)
-              (written-stands ws s m (D .a) (R .zs) ws′ S (R .ranged)
-              (copy-written ws (cellsIn ws) (D .a) t (R .zs) ws′ (S .few) (address-of (placeCode (readPlace d l (getD l (p + 2) 0)) m) a t i D A) b (R .here)
-              (subst (λ (c : ℕ). Copies ws (cellsIn ws) b t 0 c ws′) (sym (R .count)) (W .says (S .long) (S .few))))))
+              is-ends (getD l (p + 1) 0) (state m s) (placeCode (readPlace d l (getD l (p + 2) 0)) m) (D .a) (λ b. storeWhole (getD l (p + 1) 0) b (R .zs) (state m s)) ws′ r (D .gives)
+              (subst (λ (c : ℕ). StoresCells c b k (wire a) ws s ws′ r) N O .says (R .zs) (R .cells) (D .a) (toZ-ofZ i ∙ D .word) .says m S)
 
 pub ruleset cells-laws = (cells-unplaced, cells-undefined, cells-nowhere, cells-placed, sfits-of)
 

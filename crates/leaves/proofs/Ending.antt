@@ -1,28 +1,28 @@
 -- How the store's array stands for stores, what the word of an end says, and what a value's or a fault's word says.
 use mathlib.Core.Path.{_≡_, refl, sym, ap, subst, _∙_}
 use mathlib.Core.Bool.{Bool, true, false}
-use mathlib.Core.List.{List, [], _∷_}
+use mathlib.Core.List.{List}
 use mathlib.Core.Logic.{_⊎_, inl, inr}
 use Prim.Native.Nat.{ℕ, zero, suc, _+_, _-_, _%_, _<_, _≤_, min}
 use native.Mathlib.Nat.{mod-lt, mod-le, mod-eq-of-lt, mod-eq-sub-mod}
 use native.Mathlib.Omega.{arith}
-use lib.IntN.{ℤ, pos, negsuc, _+ℤ_, _-ℤ_}
-use lib.Signed.{ltZ, leZ}
+use lib.IntN.{ℤ, pos, _+ℤ_}
+use lib.Signed.{ltZ}
 use lib.Dec.{T, ltb}
 use lib.ListN.{length, getD, set, length-set}
 use lib.Seq.{getD-set-same, getD-set-other}
-use borrow.Author.Tests.{ne-eqb, lt-ltb, le-ltb, ltb-true}
-use Rattle.arith.specs.Integers.{inside}
+use borrow.Author.Tests.{ne-eqb, lt-ltb, le-ltb}
+use Rattle.arith.specs.Integers.{inside, isZero}
 use Rattle.arith.proofs.Order.{le-or-lt}
 use Rattle.semantics.specs.Base.{pick}
-use Rattle.semantics.specs.Calculate.{Result, is, fails, stuck, _>>=_, natOf, numericError, rangeError, undefinedError}
-use Rattle.semantics.specs.Machine.{Store, State, state, Answer, answer, Outcome, normal, spent, raised, raising, noting, sole, readCell, withResult}
+use Rattle.semantics.specs.Calculate.{Result, is, fails, stuck, natOf, systemError}
+use Rattle.semantics.specs.Machine.{Store, State, state, Answer, answer, andThen, continued, ended, Outcome, normal, spent, sticks, raised, raising, noting, sole, readCell, storeCells, withResult, branch, passOn, raiseNumber}
 use Rattle.evaluate.specs.Walks.{capped}
-use Rattle.calc.specs.Words.{greatest, faultBase, InRange, Ranged, wordOf, Means, Holds, first, latestIn, storeWord, undefinedWord}
+use Rattle.calc.specs.Words.{greatest, faultBase, InRange, Ranged, wordOf, Means, first, latestAt, latestIn, placeAt, storeWord, storeWords, undefinedWord}
 use Rattle.calc.proofs.Ranging.{range-value, above-fault, small-fault}
 use Rattle.steps.proofs.Noting.{fault-back}
-use Rattle.steps.specs.Ends.{cellsIn, placeIn, leftIn, toldBy, stepWord, raisedWord, faultIn, notedIn, Raises}
-use Rattle.steps.specs.Stands.{Tidy, Stands, Ends, Runs}
+use Rattle.steps.specs.Ends.{placeIn, leftIn, toldBy, stepWord, raisedWord, faultIn, notedIn, numberIn, Raises}
+use Rattle.steps.specs.Stands.{Stands, Ends}
 
 -- ---- the steps left by a word
 pub left-small : (w : ℕ) → leftIn w ≤ 4294967295
@@ -59,6 +59,13 @@ raised-fewer z n ws s ws′ r R = again-fewer s r (R .word)
 raised-high : (s : ℕ) → 8589934592 ≤ raisedWord s
 unfolding raisedWord
 raised-high s = omega arith
+
+-- and below those of sticking
+pub raised-low : (s r : ℕ) → r ≡ raisedWord s → r < 12884901888
+unfolding raisedWord
+raised-low s r e =
+    let h : s % 4294967296 < 4294967296 = mod-lt s (omega arith) in
+    omega (arith, e)
 
 -- ---- how a word says that it ended
 pub told-normal : (w : ℕ) (ws : List ℤ) → w ≤ 4294967295 → toldBy w ws ≡ normal
@@ -120,42 +127,37 @@ step-stands ws s t m e S = record {
   small = S .small;
   values = S .values;
   marks = S .marks;
-  few = S .few;
   tidy = S .tidy;
 }
 
 -- ---- the array after an exception
 module _ (z : ℤ) (n : ℕ) (ws : List ℤ) where
-  noted-other : (i : ℕ) → ((i ≡ 2048) → ⊥) → ((i ≡ 2049) → ⊥) → getD (notedIn z n ws) i (pos 0) ≡ getD ws i (pos 0)
+  noted-other : (i : ℕ) → ((i ≡ latestAt) → ⊥) → ((i ≡ placeAt) → ⊥) → getD (notedIn z n ws) i (pos 0) ≡ getD ws i (pos 0)
   unfolding notedIn
-  noted-other i h g = getD-set-other (set ws 2048 z) 2049 i (pos n) (pos 0) g ∙ getD-set-other ws 2048 i z (pos 0) h
+  noted-other i h g = getD-set-other (set ws latestAt z) placeAt i (pos n) (pos 0) g ∙ getD-set-other ws latestAt i z (pos 0) h
 
   noted-word : (a : ℕ) → storeWord (notedIn z n ws) a ≡ storeWord ws a
   unfolding storeWord pick
-  noted-word a = go (le-or-lt 2048 a)
+  noted-word a = go (le-or-lt storeCells a)
     where
-      go : (2048 ≤ a) ⊎ (a < 2048) → storeWord (notedIn z n ws) a ≡ storeWord ws a
+      go : (storeCells ≤ a) ⊎ (a < storeCells) → storeWord (notedIn z n ws) a ≡ storeWord ws a
       go (inl h) =
-          ap (λ (b : Bool). pick b (getD (notedIn z n ws) a (pos 0)) undefinedWord) (le-ltb a 2048 h) ∙ sym (ap (λ (b : Bool). pick b (getD ws a (pos 0)) undefinedWord) (le-ltb a 2048 h))
+          ap (λ (b : Bool). pick b (getD (notedIn z n ws) a (pos 0)) undefinedWord) (le-ltb a storeCells h) ∙ sym (ap (λ (b : Bool). pick b (getD ws a (pos 0)) undefinedWord) (le-ltb a storeCells h))
       go (inr h) =
-          ap (λ (x : ℤ). pick (ltb a 2048) x undefinedWord) (noted-other a (λ e. absurd (omega (arith, e, h))) (λ e. absurd (omega (arith, e, h))))
+          ap (λ (x : ℤ). pick (ltb a storeCells) x undefinedWord) (noted-other a (λ e. absurd (omega (arith, e, h))) (λ e. absurd (omega (arith, e, h))))
 
-  noted-cells : cellsIn (notedIn z n ws) ≡ cellsIn ws
-  unfolding cellsIn
-  noted-cells = ap natOf (noted-other 2050 (λ e. absurd (omega (arith, e))) (λ e. absurd (omega (arith, e))))
-
-  module _ (l : length ws ≡ 2056) where
-    noted-length : length (notedIn z n ws) ≡ 2056
+  module _ (l : length ws ≡ storeWords) where
+    noted-length : length (notedIn z n ws) ≡ storeWords
     unfolding notedIn
-    noted-length = length-set (set ws 2048 z) 2049 (pos n) ∙ length-set ws 2048 z ∙ l
+    noted-length = length-set (set ws latestAt z) placeAt (pos n) ∙ length-set ws latestAt z ∙ l
 
     noted-latest : latestIn (notedIn z n ws) ≡ z
     unfolding latestIn notedIn
-    noted-latest = getD-set-other (set ws 2048 z) 2049 2048 (pos n) (pos 0) (λ e. absurd (omega (arith, e))) ∙ getD-set-same ws 2048 z (pos 0) (omega (arith, l))
+    noted-latest = getD-set-other (set ws latestAt z) placeAt latestAt (pos n) (pos 0) (λ e. absurd (omega (arith, e))) ∙ getD-set-same ws latestAt z (pos 0) (omega (arith, l))
 
-    noted-place : getD (notedIn z n ws) 2049 (pos 0) ≡ pos n
+    noted-place : getD (notedIn z n ws) placeAt (pos 0) ≡ pos n
     unfolding notedIn
-    noted-place = getD-set-same (set ws 2048 z) 2049 (pos n) (pos 0) (omega (arith, length-set ws 2048 z, l))
+    noted-place = getD-set-same (set ws latestAt z) placeAt (pos n) (pos 0) (omega (arith, length-set ws latestAt z, l))
 
     place-is : placeIn (notedIn z n ws) ≡ n
     unfolding placeIn
@@ -173,13 +175,23 @@ module _ (z : ℤ) (n : ℕ) (ws : List ℤ) where
     };
     place = noted-place (S .long);
     small = k;
-    values = S .values ∙ sym noted-cells;
-    marks = S .marks ∙ sym noted-cells;
-    few = omega (arith, noted-cells, S .few);
+    values = S .values;
+    marks = S .marks;
     tidy = S .tidy;
   }
 
 -- ---- ends
+
+-- after rounds a `for` does no more
+pub ended-same : (a : ℕ) (v : Answer) → andThen v (ended a) ≡ v
+ended-same a v = go (v .outcome)
+  where
+    go : (o : Outcome) → continued o (v .state) (ended a) ≡ answer o (v .state)
+    go normal = refl
+    go spent = refl
+    go sticks = refl
+    go (raised z n) = refl
+
 module _ (ws : List ℤ) (s : ℕ) (m : Store) (S : Stands ws s m) where
   pub normal-ends : Ends (answer normal (state m s)) ws s
   normal-ends = record {
@@ -222,6 +234,29 @@ module _ (ws : List ℤ) (s : ℕ) (m : Store) (S : Stands ws s m) where
         stands = subst (λ (k : ℕ). Stands ws k m) (sym e) S;
         left = sym e;
       }
+
+-- ---- a number raised
+module _ (ws : List ℤ) (s : ℕ) (m : Store) (x : ℤ) (n : ℕ) (S : Stands ws s m) (R : InRange x) (r : ℕ) (w : r ≡ raisedWord s) (k : n ≤ 4294967295) where
+  new-ends : (z : ℤ) → InRange z → Ends (raising z n (state m s)) (notedIn z n ws) r
+  new-ends z h = raising-ends ws s m S z n (notedIn z n ws) r h (record { word = w; store = refl; small = k })
+
+  pass-ends : Ends (passOn n (state m s)) (pick (isZero (latestIn ws)) (notedIn systemError n ws) ws) r
+  unfolding passOn pick InRange inside
+  pass-ends = go (isZero (m .latest)) (isZero (latestIn ws)) (ap isZero (S .holds .last))
+    where
+      go : (e c : Bool) → e ≡ c → Ends (branch e (raising systemError n) (answer (raised (m .latest) (m .place))) (state m s)) (pick c (notedIn systemError n ws) ws) r
+      go true true g = new-ends systemError refl
+      go false false g = again-ends ws s m S r w
+      go false true g = absurd (subst T (sym g) tt)
+      go true false g = absurd (subst T g tt)
+
+  pub raise-ends : Ends (raiseNumber n x (state m s)) (numberIn x n ws) r
+  unfolding raiseNumber numberIn pick
+  raise-ends = go (isZero x)
+    where
+      go : (b : Bool) → Ends (branch b (passOn n) (raising x n) (state m s)) (pick b (pick (isZero (latestIn ws)) (notedIn systemError n ws) ws) (notedIn x n ws)) r
+      go false = new-ends x R
+      go true = pass-ends
 
 -- ---- words of values and faults
 -- an exception's number is in its range

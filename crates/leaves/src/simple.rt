@@ -1,21 +1,22 @@
 // Statements that hold no other: assignments and `raise`.
 use crate::cells::address;
-use crate::cells::copy;
-use crate::cells::put;
+use crate::cells::store_cells;
+use crate::cells::store_one;
+use crate::cells::store_ordinal;
 use calc::cells::cells;
 use calc::words::GREATEST;
+use calc::words::WORDS;
 use calc::words::integer;
 use calc::words::number;
 use evaluate::walk::eval;
 use evaluate::walk::place;
 use steps::ends::failing;
 use steps::ends::raise_number;
-use steps::ends::raising;
 ghost use Prim.Native.Nat.{_+_};
 ghost use Rattle.calc.specs.Words.{codeIn};
 ghost use Rattle.semantics.specs.declared.ActOp.the-variants.{AssignOrdinal, AssignWhole, Raise};
 ghost use Rattle.leaves.specs.Does.{Does};
-ghost use Rattle.leaves.specs.Sources.{Sources, FromCells, FromValue, Ordinates};
+ghost use Rattle.leaves.specs.Sources.{Sources, FromCells, FromValue};
 
 // Where an expression's value comes from: one word, which may be a fault; or so many cells from a place's word on.
 pub enum Source {
@@ -23,27 +24,8 @@ pub enum Source {
     Cells(i64, u32),
 }
 
-// x stored in the cell of the word a, if it lies in the bounds of the statement's node at pc.
-fn store_ordinal(
-    code: &[u32; 16384],
-    store: &mut [i64; 2056],
-    left: u64,
-    a: i64,
-    x: i64,
-    pc: u32,
-) -> u64
-    ensures { λ r. ⌜ Ordinates (codeIn (now (code .entry))) a x pc (now (store .entry)) left (now (store .exit)) r ⌝ }
-{
-    let p = pc as usize;
-    if arith::in_range(x, integer(code, p + 4), integer(code, p + 5)) {
-        put(store, address(a), x);
-        return left;
-    }
-    raising(store, left, -103, number(code, p + 1))
-}
-
 // An ordinal assigned, by the statement's node at pc.
-pub fn assign(code: &[u32; 16384], store: &mut [i64; 2056], left: u64, pc: u32, depth: u32) -> u64
+pub fn assign(code: &[u32; 16384], store: &mut [i64; WORDS], left: u64, pc: u32, depth: u32) -> u64
     ensures { λ r. ⌜ Does AssignOrdinal (codeIn (now (code .entry))) depth pc (now (store .entry)) left (now (store .exit)) r ⌝ }
 {
     if pc > 16376 {
@@ -58,11 +40,19 @@ pub fn assign(code: &[u32; 16384], store: &mut [i64; 2056], left: u64, pc: u32, 
     if a > GREATEST {
         return failing(store, left, a, number(code, p + 1));
     }
-    store_ordinal(code, store, left, a, x, pc)
+    store_ordinal(
+        store,
+        left,
+        number(code, p + 1),
+        integer(code, p + 4),
+        integer(code, p + 5),
+        a,
+        x,
+    )
 }
 
 // The same near the end of the code's array, where a node may reach past it.
-fn assign_form(code: &[u32; 16384], store: &mut [i64; 2056], left: u64, pc: u32, depth: u32) -> u64
+fn assign_form(code: &[u32; 16384], store: &mut [i64; WORDS], left: u64, pc: u32, depth: u32) -> u64
     ensures { λ r. ⌜ Does AssignOrdinal (codeIn (now (code .entry))) depth pc (now (store .entry)) left (now (store .exit)) r ⌝ }
 {
     let p = pc as usize;
@@ -74,11 +64,19 @@ fn assign_form(code: &[u32; 16384], store: &mut [i64; 2056], left: u64, pc: u32,
     if a > GREATEST {
         return failing(store, left, a, number(code, p + 1));
     }
-    store_ordinal(code, store, left, a, x, pc)
+    store_ordinal(
+        store,
+        left,
+        number(code, p + 1),
+        integer(code, p + 4),
+        integer(code, p + 5),
+        a,
+        x,
+    )
 }
 
 // Where the value of the expression at pc comes from.
-pub fn source_of(code: &[u32; 16384], store: &[i64; 2056], pc: u32, depth: u32) -> Source
+pub fn source_of(code: &[u32; 16384], store: &[i64; WORDS], pc: u32, depth: u32) -> Source
     ensures { λ r. ⌜ Sources (codeIn (now (code .entry))) (now (store .entry)) pc depth r ⌝ }
 {
     if depth == 0 {
@@ -122,7 +120,7 @@ pub fn source_of(code: &[u32; 16384], store: &[i64; 2056], pc: u32, depth: u32) 
 // k cells copied from the place that is the word w.
 fn assign_cells(
     code: &[u32; 16384],
-    store: &mut [i64; 2056],
+    store: &mut [i64; WORDS],
     left: u64,
     w: i64,
     k: u32,
@@ -145,14 +143,13 @@ fn assign_cells(
     if a > GREATEST {
         return failing(store, left, a, n);
     }
-    copy(store, from, address(a), k);
-    left
+    store_cells(store, left, n, from, k, a)
 }
 
 // One cell assigned with no range test.
 fn assign_value(
     code: &[u32; 16384],
-    store: &mut [i64; 2056],
+    store: &mut [i64; WORDS],
     left: u64,
     x: i64,
     pc: u32,
@@ -169,14 +166,13 @@ fn assign_value(
     if a > GREATEST {
         return failing(store, left, a, n);
     }
-    put(store, address(a), x);
-    left
+    store_one(store, left, n, a, x)
 }
 
 // A set, an array or a record assigned.
 pub fn assign_whole(
     code: &[u32; 16384],
-    store: &mut [i64; 2056],
+    store: &mut [i64; WORDS],
     left: u64,
     pc: u32,
     depth: u32,
@@ -192,7 +188,7 @@ pub fn assign_whole(
 }
 
 // `raise`.
-pub fn raise(code: &[u32; 16384], store: &mut [i64; 2056], left: u64, pc: u32, depth: u32) -> u64
+pub fn raise(code: &[u32; 16384], store: &mut [i64; WORDS], left: u64, pc: u32, depth: u32) -> u64
     ensures { λ r. ⌜ Does Raise (codeIn (now (code .entry))) depth pc (now (store .entry)) left (now (store .exit)) r ⌝ }
 {
     let p = pc as usize;

@@ -17,7 +17,7 @@ use Rattle.semantics.specs.Machine.{Store, State, state, Answer, sole, raiseNum
 use Rattle.semantics.specs.Marking.{TypedValue, TypedPlace, typedValue, markExpr, markTarget, markStmt, markStore, require, wanted}
 use Rattle.semantics.specs.Names as Names
 use Rattle.semantics.specs.Names.{targetOf}
-use Rattle.semantics.specs.Script.{Expr, assign, raise}
+use Rattle.semantics.specs.Script.{Expr}
 use Rattle.semantics.specs.Syntax as Syntax
 use Rattle.semantics.specs.Trees.{Trees, end, _then_, Run, first, stackAt}
 use Rattle.semantics.specs.Types.{hostOf, ordinal?}
@@ -27,8 +27,7 @@ use Rattle.shapes.proofs.Expressions.{expr-end, target-end}
 use Rattle.skips.specs.Skips.{Skips}
 use Rattle.steps.specs.Ends.{leftIn, numberIn, RaisesNumber}
 use Rattle.steps.specs.Stands.{Stands, after}
-use Rattle.leaves.proofs.Ending.{again-fewer}
-use Rattle.leaves.proofs.Assigning.{raise-ends}
+use Rattle.leaves.proofs.Ending.{again-fewer, raised-low, raise-ends}
 use Rattle.tables.specs.declared.Info.{Info}
 use Rattle.tables.specs.Descriptions.{infoOf}
 use Rattle.carried.specs.declared.values.Carried.{Carried}
@@ -43,7 +42,7 @@ use Rattle.markexprs.specs.Marks.{MarksExpr, MarksTarget}
 use Rattle.markacts.specs.Ends.{MarkEnds, Halts}
 use Rattle.markacts.specs.Storing.{Stores}
 use Rattle.markacts.specs.Acts.{Assigns, Raising, Conditions, Selects}
-use Rattle.markacts.proofs.Ending.{mark-ends, raised-low, halts-ends, goes-on}
+use Rattle.markacts.proofs.Ending.{mark-ends, halts-ends, goes-on}
 use Rattle.calc.specs.Words.{noResult, greatest}
 
 -- where a part is passed, the others stand

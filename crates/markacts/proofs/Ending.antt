@@ -18,9 +18,9 @@ use Rattle.semantics.specs.Machine.{Store, State, state, Answer, answer, normal
 use Rattle.calc.specs.Words.{noResult, InRange}
 use Rattle.calc.proofs.Ranging.{small-fault, not-stuck}
 use Rattle.steps.proofs.Noting.{fault-back}
-use Rattle.steps.specs.Ends.{leftIn, toldBy, raisedWord, faultIn, Raises}
+use Rattle.steps.specs.Ends.{leftIn, toldBy, faultIn, Raises}
 use Rattle.steps.specs.Stands.{Stands, Ends}
-use Rattle.leaves.proofs.Ending.{left-most, left-of, raised-fewer, normal-ends, raising-ends}
+use Rattle.leaves.proofs.Ending.{left-most, left-of, raised-fewer, raised-low, normal-ends, raising-ends}
 use Rattle.carried.specs.Values.{MarkRanged}
 use Rattle.carried.proofs.Carrying.{Broken, by-fault, by-stuck}
 use Rattle.markacts.specs.Ends.{markTold, stuckWord, MarkEnds, Halts}
@@ -57,12 +57,6 @@ sticking-is s = refl
 pub mark-ends : (a : Answer) (ws : List ℤ) (w : ℕ) → w < 12884901888 → Ends a ws w → MarkEnds a ws w
 unfolding markTold pick
 mark-ends a ws w h E = record { outcome = E .outcome ∙ sym (ap (λ (b : Bool). pick b (toldBy w ws) sticks) (lt-ltb w 12884901888 h)); stands = E .stands; left = E .left }
-
-pub raised-low : (s r : ℕ) → r ≡ raisedWord s → r < 12884901888
-unfolding raisedWord
-raised-low s r e =
-    let h : s % 4294967296 < 4294967296 = mod-lt s (omega arith) in
-    omega (arith, e)
 
 module _ (ws : List ℤ) (s : ℕ) (m : Store) (S : Stands ws s m) where
   pub normal-marks : MarkEnds (answer normal (state m s)) ws s

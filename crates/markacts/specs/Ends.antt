@@ -3,7 +3,7 @@ use mathlib.Core.Path.{_≡_}
 use mathlib.Core.List.{List}
 use Prim.Native.Nat.{ℕ, _+_, _%_, _≤_}
 use lib.Dec.{ltb}
-use lib.IntN.{ℤ, pos}
+use lib.IntN.{ℤ}
 use Rattle.semantics.specs.Base.{pick}
 use Rattle.semantics.specs.Machine.{Store, State, state, Answer, Outcome, sticks}
 use Rattle.steps.specs.Ends.{leftIn, toldBy, faultIn, Raises}

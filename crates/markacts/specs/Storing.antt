@@ -3,13 +3,11 @@ use mathlib.Core.Path.{_≡_}
 use mathlib.Core.List.{List}
 use Prim.Native.Nat.{ℕ, min, _≤_}
 use lib.IntN.{ℤ, pos}
-use Rattle.lexis.specs.Numbers.{signed}
 use Rattle.semantics.specs.Calculate.{is}
 use Rattle.semantics.specs.Environment.{Environment}
-use Rattle.semantics.specs.Machine.{Store, state, storeOrdinal, storeWhole, withResult}
+use Rattle.semantics.specs.Machine.{Store, state, storeWhole, withResult}
 use Rattle.semantics.specs.Marking.{TypedValue, TypedPlace, wanted, markStore}
 use Rattle.semantics.specs.Types.{hostOf}
-use Rattle.calc.specs.Words.{InRange}
 use Rattle.steps.specs.Ends.{leftIn}
 use Rattle.steps.specs.Stands.{Stands}
 use Rattle.carried.specs.declared.values.Carried.{Carried}
@@ -17,15 +15,10 @@ use Rattle.carried.specs.declared.places.Reached.{Reached}
 use Rattle.carried.specs.Values.{Carries, Reaches, Known}
 use Rattle.markacts.specs.Ends.{MarkEnds}
 
--- the ordinal z stored in the cell whose word is w, in statement n, within bounds of 32 bits
-pub record Ordinates (low high n : ℕ) (w z : ℤ) (ws : List ℤ) (left : ℕ) (ws′ : List ℤ) (r : ℕ) : Type 0 where
-  pub says : (m : Store) (a : ℕ) → w ≡ pos (min a 4294967295) → InRange z → Stands ws left m → MarkEnds (storeOrdinal n a (signed low) (signed high) z (state m left)) ws′ r
-  pub fewer : leftIn r ≤ left
-
--- all cells of x stored from the cell whose word is w on
-pub record Wholly (l ts : List ℕ) (x : Carried) (w : ℤ) (ws : List ℤ) (left : ℕ) (ws′ : List ℤ) (r : ℕ) : Type 0 where
+-- all cells of x stored from the cell whose word is w on, in statement n
+pub record Wholly (l ts : List ℕ) (n : ℕ) (x : Carried) (w : ℤ) (ws : List ℤ) (left : ℕ) (ws′ : List ℤ) (r : ℕ) : Type 0 where
   pub says : (s : List ℕ) (count newest : ℕ) (σ : Environment) → Known s l ts count newest σ → (m : Store) (v : TypedValue) (a : ℕ) → Carries (σ .types) m (is v) x → w ≡ pos (min a 4294967295)
-      → Stands ws left m → MarkEnds (storeWhole a (v .cells) (state m left)) ws′ r
+      → Stands ws left m → MarkEnds (storeWhole n a (v .cells) (state m left)) ws′ r
   pub fewer : leftIn r ≤ left
 
 -- x stored at g, in statement n

@@ -2,6 +2,7 @@
 use crate::ends::halting;
 use crate::storing::store_value;
 use calc::words::GREATEST;
+use calc::words::WORDS;
 use carried::values::Carried;
 use carried::values::STUCK;
 use carried::values::value;
@@ -20,7 +21,7 @@ pub fn assign(
     types: &[u32],
     count: u32,
     newest: u32,
-    store: &mut [i64; 2056],
+    store: &mut [i64; WORDS],
     left: u64,
     n: u32,
     at: usize,
@@ -47,7 +48,7 @@ pub fn raise(
     types: &[u32],
     count: u32,
     newest: u32,
-    store: &mut [i64; 2056],
+    store: &mut [i64; WORDS],
     left: u64,
     n: u32,
     at: usize,
@@ -71,7 +72,7 @@ pub fn condition(
     types: &[u32],
     count: u32,
     newest: u32,
-    store: &[i64; 2056],
+    store: &[i64; WORDS],
     at: usize,
 ) -> i64
     ensures { λ r. ⌜ Conditions (now (text .entry)) (now (work .entry)) (now (types .entry)) (now (store .entry)) count newest at r ⌝ }
@@ -89,7 +90,7 @@ pub fn selector(
     types: &[u32],
     count: u32,
     newest: u32,
-    store: &[i64; 2056],
+    store: &[i64; WORDS],
     at: usize,
 ) -> Carried
     ensures { λ r. ⌜ Selects (now (text .entry)) (now (work .entry)) (now (types .entry)) (now (store .entry)) count newest at r ⌝ }

@@ -1,5 +1,6 @@
 // The control variable and the bounds of a `for`: they are met after both bounds are worked out.
 use calc::words::GREATEST;
+use calc::words::WORDS;
 use calc::words::signed_of;
 use carried::places::Reached;
 use carried::values::Carried;
@@ -44,7 +45,7 @@ pub fn bounds(
     types: &[u32],
     count: u32,
     newest: u32,
-    store: &[i64; 2056],
+    store: &[i64; WORDS],
     at: usize,
 ) -> Span
     ensures { λ r. ⌜ Bounding (now (text .entry)) (now (work .entry)) (now (types .entry)) (now (store .entry)) count newest at r ⌝ }

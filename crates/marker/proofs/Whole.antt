@@ -14,13 +14,13 @@ use Rattle.arith.proofs.Machine.{wire}
 use Rattle.semantics.specs.Base.{pick}
 use Rattle.semantics.specs.Calculate.{natOf}
 use Rattle.semantics.specs.Environment.{PlacedBody}
-use Rattle.semantics.specs.Machine.{raised, sticks, state}
+use Rattle.semantics.specs.Machine.{raised, sticks, state, storeCells}
 use Rattle.semantics.specs.Whole.{fresh, markBody}
 use Rattle.answers.specs.declared.Marked.{Marked}
 use Rattle.answers.specs.declared.Ending.{Ending}
 use Rattle.answers.specs.declared.Ending.the-variants.{Normal, Raised, Spent, Stuck}
 use Rattle.answers.specs.MarkingReports.{markOutcome}
-use Rattle.calc.specs.Words.{latestIn}
+use Rattle.calc.specs.Words.{latestIn, latestAt, placeAt, storeWords}
 use Rattle.steps.specs.Ends.{leftIn, placeIn, toldBy}
 use Rattle.leaves.specs.Cells.{Addresses}
 use Rattle.leaves.proofs.Ending.{left-small, told-normal, told-spent, told-raised}
@@ -32,7 +32,6 @@ use Rattle.markacts.specs.Ends.{markTold, MarkEnds}
 use Rattle.markstmts.specs.Marks.{MarksBody}
 use Rattle.marker.specs.Answers.{MarkAnswers, MarksLent}
 use Rattle.marker.specs.Lending.{MarkTells, MarksIn}
-use Rattle.marker.proofs.Keeping.{body-keeps}
 
 -- ---- `told`
 module _ (w : ℕ) (ws : List ℤ) where
@@ -52,12 +51,12 @@ module _ (w : ℕ) (ws : List ℤ) where
   unfolding markOutcome
   tells-spent h g = record { says = λ k i e. sym (below (omega arith) ∙ told-spent w ws (omega arith) g) }
 
-  pub tells-raised : (a : ℕ) → 8589934592 ≤ w → w < 12884901888 → SFits w64 (getD ws 2048 (pos 0)) → SFits w64 (getD ws 2049 (pos 0)) → Addresses (wire (getD ws 2049 (pos 0))) a
-      → MarkTells w ws (Raised (wire (getD ws 2048 (pos 0))) a)
+  pub tells-raised : (a : ℕ) → 8589934592 ≤ w → w < 12884901888 → SFits w64 (getD ws latestAt (pos 0)) → SFits w64 (getD ws placeAt (pos 0)) → Addresses (wire (getD ws placeAt (pos 0))) a
+      → MarkTells w ws (Raised (wire (getD ws latestAt (pos 0))) a)
   unfolding markOutcome latestIn placeIn
   tells-raised a h j f g A = record {
     says = λ k i e.
-        ap (λ (z : ℤ). raised z a) (toZ-ofZ f) ∙ ap (raised (getD ws 2048 (pos 0))) (A .says k i (toZ-ofZ g ∙ e) ∙ sym (ap natOf e)) ∙ sym (below j ∙ told-raised w ws h);
+        ap (λ (z : ℤ). raised z a) (toZ-ofZ f) ∙ ap (raised (getD ws latestAt (pos 0))) (A .says k i (toZ-ofZ g ∙ e) ∙ sym (ap natOf e)) ∙ sym (below j ∙ told-raised w ws h);
   }
 
   pub tells-stuck : 12884901888 ≤ w → MarkTells w ws Stuck
@@ -72,18 +71,17 @@ left-fits k r e = record { fits = omega (arith, e, left-small r) }
 
 module _ (s l ts tb : List ℕ) (q : ℕ) (vs : List ℤ) (ms : List ℕ) (budget : ℕ) (ws₀ ws us ws′ : List ℤ) (r k : ℕ) (o : Ending) (vs′ : List ℤ) (ms′ : List ℕ) where
   answered : (pbs : List PlacedBody) (other : PlacedBody) → Lent vs ms → MarkEnds (markBody (getD pbs q other) (procsOf other pbs q) (state (fresh vs ms) budget)) ws′ r → Saves ws′ vs ms vs′ ms′
-      → k ≡ leftIn r → MarkTells r ws′ o → MarkAnswers (markBody (getD pbs q other) (procsOf other pbs q) (state (fresh vs ms) budget)) budget (record { steps = budget - k; ending = o }) vs′ ms′
+      → k ≡ leftIn r → MarkTells r ws′ o → MarkAnswers (markBody (getD pbs q other) (procsOf other pbs q) (state (fresh vs ms) budget)) (length vs) budget (record { steps = budget - k; ending = o }) vs′ ms′
   answered pbs other H E S e t =
       let a = markBody (getD pbs q other) (procsOf other pbs q) (state (fresh vs ms) budget) in
-      let n : length (markBody (getD pbs q other) (procsOf other pbs q) (state (fresh vs ms) budget) .state .store .values) ≡ length vs = body-keeps other pbs q .by (state (fresh vs ms) budget) in
       record {
         outcome = t .says (a .state .store .place) (E .stands .small) (E .stands .place) ∙ sym (E .outcome);
         steps = ap (λ (n : ℕ). budget - n) (e ∙ sym (E .left));
-        values = values-saved ws′ vs ms vs′ ms′ (leftIn r) (a .state .store) S (E .stands) n;
-        marks = marks-saved ws′ vs ms vs′ ms′ (leftIn r) (a .state .store) S (E .stands) (E .stands .marks ∙ sym (E .stands .values) ∙ n ∙ sym (H .even));
+        values = values-saved ws′ vs ms vs′ ms′ (leftIn r) (a .state .store) H S (E .stands);
+        marks = marks-saved ws′ vs ms vs′ ms′ (leftIn r) (a .state .store) H S (E .stands);
       }
 
-  pub mark-is : Fits w32 budget → Loads vs ms ws₀ 2048 ws → Begins ws (length vs) us → MarksBody s l ts tb q q us budget ws′ r → Saves ws′ vs ms vs′ ms′ → k ≡ leftIn r → MarkTells r ws′ o
+  pub mark-is : Fits w32 budget → Loads vs ms ws₀ storeCells ws → Begins ws us → MarksBody s l ts tb q q us budget ws′ r → Saves ws′ vs ms vs′ ms′ → k ≡ leftIn r → MarkTells r ws′ o
       → MarksIn ws₀ s l ts tb q vs ms budget (record { steps = budget - k; ending = o }) vs′ ms′
   mark-is b L N W S e t = record {
     says = λ g. record {
@@ -93,5 +91,5 @@ module _ (s l ts tb : List ℕ) (q : ℕ) (vs : List ℤ) (ms : List ℕ) (budge
 
 -- ---- `mark_lent`: an array of this length
 pub mark-all : (ws₀ : List ℤ) (s l ts tb : List ℕ) (q : ℕ) (vs : List ℤ) (ms : List ℕ) (budget : ℕ) (r : Marked) (vs′ : List ℤ) (ms′ : List ℕ)
-    → MarksIn ws₀ s l ts tb q vs ms budget r vs′ ms′ → length ws₀ ≡ 2056 → MarksLent s l ts tb q vs ms budget r vs′ ms′
+    → MarksIn ws₀ s l ts tb q vs ms budget r vs′ ms′ → length ws₀ ≡ storeWords → MarksLent s l ts tb q vs ms budget r vs′ ms′
 mark-all ws₀ s l ts tb q vs ms budget r vs′ ms′ h e = h .says e

@@ -7,13 +7,14 @@ use lib.ListN.{length, getD}
 use Rattle.answers.specs.declared.Marked.{Marked}
 use Rattle.answers.specs.declared.Ending.{Ending}
 use Rattle.answers.specs.MarkingReports.{markOutcome}
+use Rattle.calc.specs.Words.{placeAt, storeWords}
 use Rattle.markacts.specs.Ends.{markTold}
 use Rattle.marker.specs.Answers.{MarksLent}
 
 -- r is how the word w, with the array ws, says that a run ended
 pub record MarkTells (w : ℕ) (ws : List ℤ) (r : Ending) : Type 0 where
-  pub says : (k : ℕ) → k ≤ 4294967295 → getD ws 2049 (pos 0) ≡ pos k → markOutcome r ≡ markTold w ws
+  pub says : (k : ℕ) → k ≤ 4294967295 → getD ws placeAt (pos 0) ≡ pos k → markOutcome r ≡ markTold w ws
 
 -- a whole run, by an array ws₀ for the words
 pub record MarksIn (ws₀ : List ℤ) (s l ts tb : List ℕ) (q : ℕ) (vs : List ℤ) (ms : List ℕ) (budget : ℕ) (r : Marked) (vs′ : List ℤ) (ms′ : List ℕ) : Type 0 where
-  pub says : length ws₀ ≡ 2056 → MarksLent s l ts tb q vs ms budget r vs′ ms′
+  pub says : length ws₀ ≡ storeWords → MarksLent s l ts tb q vs ms budget r vs′ ms′

@@ -1,6 +1,9 @@
 // The marking machine on a lent store: the store as words, the run of a body, and the store as lists again.
 use answers::Ending;
 use answers::Marked;
+use calc::words::LATEST;
+use calc::words::PLACE;
+use calc::words::WORDS;
 use chair::begin;
 use chair::load_words;
 use chair::save_cells;
@@ -11,7 +14,7 @@ ghost use Rattle.marker.specs.Answers.{MarksLent};
 ghost use Rattle.marker.specs.Lending.{MarkTells, MarksIn};
 
 // How a word, with the store's array, says that a run ended.
-fn told(w: u64, store: &[i64; 2056]) -> Ending
+fn told(w: u64, store: &[i64; WORDS]) -> Ending
     ensures { λ r. ⌜ MarkTells w (now (store .entry)) r ⌝ }
 {
     if w < 4294967296 {
@@ -21,7 +24,7 @@ fn told(w: u64, store: &[i64; 2056]) -> Ending
         return Ending::Spent;
     }
     if w < 12884901888 {
-        return Ending::Raised(store[2048], address(store[2049]));
+        return Ending::Raised(store[LATEST], address(store[PLACE]));
     }
     Ending::Stuck
 }
@@ -36,12 +39,12 @@ fn mark_with(
     values: &mut [i64],
     marks: &mut [u8],
     budget: u32,
-    store: &mut [i64; 2056],
+    store: &mut [i64; WORDS],
 ) -> Marked
     ensures { λ r. ⌜ MarksIn (now (store .entry)) (now (text .entry)) (now (work .entry)) (now (types .entry)) (now (bodies .entry)) q (now (values .entry)) (now (marks .entry)) budget r (now (values .exit)) (now (marks .exit)) ⌝ }
 {
     load_words(values, marks, store);
-    begin(store, values.len());
+    begin(store);
     let r = mark_body(text, work, types, bodies, q, store, budget as u64, q);
     save_cells(store, values, marks);
     Marked {
@@ -63,7 +66,7 @@ pub fn mark_lent(
 ) -> Marked
     ensures { λ r. ⌜ MarksLent (now (text .entry)) (now (work .entry)) (now (types .entry)) (now (bodies .entry)) q (now (values .entry)) (now (marks .entry)) budget r (now (values .exit)) (now (marks .exit)) ⌝ }
 {
-    let mut store = [0i64; 2056];
+    let mut store = [0i64; WORDS];
     mark_with(
         text,
         work,

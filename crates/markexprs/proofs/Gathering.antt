@@ -25,7 +25,7 @@ use Rattle.semantics.specs.Trees.{Trees, end, _then_, Run, first, stackAt}
 use Rattle.semantics.specs.Types.{baseOf}
 use Rattle.semantics.proofs.Inversion.{some-inj, bind-some}
 use Rattle.calc.specs.Words.{greatest, Holds}
-use Rattle.evaluate.proofs.Gathering.{joined-turn, joined-set, bind-id, bind-twice}
+use Rattle.calc.proofs.Joining.{joined-turn, joined-set, bind-id, bind-twice}
 use Rattle.calc.proofs.Ranging.{low-range}
 use Rattle.shapes.specs.Parts.{partOf, rest, exprIn, exprsIn}
 use Rattle.parts.specs.declared.End.{End}

@@ -5,6 +5,7 @@ use crate::words::variable;
 use crate::words::word;
 use atoms::type_name;
 use calc::words::GREATEST;
+use calc::words::WORDS;
 use carried::constants::negative;
 use carried::members::is_set;
 use carried::members::member;
@@ -40,7 +41,7 @@ pub fn mark_expr(
     types: &[u32],
     count: u32,
     newest: u32,
-    store: &[i64; 2056],
+    store: &[i64; WORDS],
     depth: usize,
     at: usize,
 ) -> Carried
@@ -64,7 +65,7 @@ fn inner(
     types: &[u32],
     count: u32,
     newest: u32,
-    store: &[i64; 2056],
+    store: &[i64; WORDS],
     depth: usize,
     at: usize,
 ) -> Carried
@@ -95,7 +96,7 @@ fn headed(
     types: &[u32],
     count: u32,
     newest: u32,
-    store: &[i64; 2056],
+    store: &[i64; WORDS],
     head: ExprHead,
     depth: usize,
     at: usize,
@@ -132,7 +133,7 @@ fn two(
     types: &[u32],
     count: u32,
     newest: u32,
-    store: &[i64; 2056],
+    store: &[i64; WORDS],
     op: usize,
     depth: usize,
     at: usize,
@@ -160,7 +161,7 @@ fn short_form(
     types: &[u32],
     count: u32,
     newest: u32,
-    store: &[i64; 2056],
+    store: &[i64; WORDS],
     every: bool,
     depth: usize,
     at: usize,
@@ -188,7 +189,7 @@ fn one(
     types: &[u32],
     count: u32,
     newest: u32,
-    store: &[i64; 2056],
+    store: &[i64; WORDS],
     f: usize,
     depth: usize,
     at: usize,
@@ -206,7 +207,7 @@ fn minus(
     types: &[u32],
     count: u32,
     newest: u32,
-    store: &[i64; 2056],
+    store: &[i64; WORDS],
     depth: usize,
     at: usize,
 ) -> Carried
@@ -226,7 +227,7 @@ fn minus_parts(
     types: &[u32],
     count: u32,
     newest: u32,
-    store: &[i64; 2056],
+    store: &[i64; WORDS],
     depth: usize,
     at: usize,
 ) -> Carried
@@ -254,7 +255,7 @@ fn set_form(
     types: &[u32],
     count: u32,
     newest: u32,
-    store: &[i64; 2056],
+    store: &[i64; WORDS],
     depth: usize,
     at: usize,
 ) -> Carried
@@ -285,7 +286,7 @@ fn member_list(
     types: &[u32],
     count: u32,
     newest: u32,
-    store: &[i64; 2056],
+    store: &[i64; WORDS],
     t: u32,
     depth: usize,
     at: usize,
@@ -323,7 +324,7 @@ fn load_at(
     types: &[u32],
     count: u32,
     newest: u32,
-    store: &[i64; 2056],
+    store: &[i64; WORDS],
     depth: usize,
     at: usize,
 ) -> Carried
@@ -340,7 +341,7 @@ fn load_dot(
     types: &[u32],
     count: u32,
     newest: u32,
-    store: &[i64; 2056],
+    store: &[i64; WORDS],
     depth: usize,
     at: usize,
 ) -> Carried
@@ -357,7 +358,7 @@ pub fn mark_target(
     types: &[u32],
     count: u32,
     newest: u32,
-    store: &[i64; 2056],
+    store: &[i64; WORDS],
     depth: usize,
     at: usize,
 ) -> Reached
@@ -381,7 +382,7 @@ fn inner_place(
     types: &[u32],
     count: u32,
     newest: u32,
-    store: &[i64; 2056],
+    store: &[i64; WORDS],
     depth: usize,
     at: usize,
 ) -> Reached
@@ -412,7 +413,7 @@ fn place_headed(
     types: &[u32],
     count: u32,
     newest: u32,
-    store: &[i64; 2056],
+    store: &[i64; WORDS],
     head: ExprHead,
     depth: usize,
     at: usize,
@@ -439,7 +440,7 @@ fn element(
     types: &[u32],
     count: u32,
     newest: u32,
-    store: &[i64; 2056],
+    store: &[i64; WORDS],
     depth: usize,
     at: usize,
 ) -> Reached
@@ -466,7 +467,7 @@ fn field(
     types: &[u32],
     count: u32,
     newest: u32,
-    store: &[i64; 2056],
+    store: &[i64; WORDS],
     depth: usize,
     at: usize,
 ) -> Reached

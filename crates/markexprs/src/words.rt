@@ -1,5 +1,6 @@
 // Words as expressions and targets, and `first` and `last` of a type.
 use atoms::type_name;
+use calc::words::WORDS;
 use calc::words::truth_of;
 use carried::constants::constant;
 use carried::constants::end_of;
@@ -28,7 +29,7 @@ fn wide(n: u32) -> i64
 }
 
 // A name as an expression, by its meaning.
-fn named(work: &[u32], types: &[u32], store: &[i64; 2056], m: Meaning) -> Carried
+fn named(work: &[u32], types: &[u32], store: &[i64; WORDS], m: Meaning) -> Carried
     ensures { λ r. ⌜ MarksName (now (work .entry)) (now (types .entry)) (now (store .entry)) m r ⌝ }
 {
     match m {
@@ -60,7 +61,7 @@ pub fn word(
     types: &[u32],
     count: u32,
     newest: u32,
-    store: &[i64; 2056],
+    store: &[i64; WORDS],
     w: Word,
     p: usize,
 ) -> Carried
@@ -99,7 +100,7 @@ pub fn bound(
     types: &[u32],
     count: u32,
     newest: u32,
-    store: &[i64; 2056],
+    store: &[i64; WORDS],
     last: bool,
     depth: usize,
     at: usize,

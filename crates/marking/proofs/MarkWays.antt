@@ -63,11 +63,11 @@ module _ (s l ts tb : List ℕ) (kn : Known) (vs : List ℤ) (ms : List ℕ) (bu
         let many : length (q .known .bodies) ≡ suc n = omega (arith, p, S .holds .procs-are, S .main-there ended) in
         go q (storeFault (q .known .env .types) (q .known .cells) vs ms) refl (F .says s (q .known) (upTo (length (q .known .bodies))) (S .holds) (judged-covered loosely s work q acc)) λ none-is.
         let A = R .says (q .known .bodies) nothing (all-stand (S .bodies) nothing) (omega (arith, many)) (lent-store (q .known .env .types) (S .holds .scene .table) (q .known .cells) vs ms (omega arith) none-is) in
-        subst (λ (x : State → Answer). MarkAnswers (x (state (fresh vs ms) budget)) budget a vs′ ms′) (sym (all-is nothing (q .known .bodies) n many)) A;
+        subst (λ (x : State → Answer). MarkAnswers (x (state (fresh vs ms) budget)) (length vs) budget a vs′ ms′) (sym (all-is nothing (q .known .bodies) n many)) A;
   }
     where
       go : (q : Read) (o : Option ℕ) → storeFault (q .known .env .types) (q .known .cells) vs ms ≡ o → f ≡ rowNumber o
-          → (storeFault (q .known .env .types) (q .known .cells) vs ms ≡ none → MarkAnswers (markAll (q .known .bodies) [] (state (fresh vs ms) budget)) budget a vs′ ms′)
+          → (storeFault (q .known .env .types) (q .known .cells) vs ms ≡ none → MarkAnswers (markAll (q .known .bodies) [] (state (fresh vs ms) budget)) (length vs) budget a vs′ ms′)
           → MarkReports (onStore (q .known) (markAll (q .known .bodies) []) vs ms budget) r vs′ ms′
       go q none h z k =
           let A = k h in

@@ -5,7 +5,7 @@ use mathlib.Core.List.{List}
 use mathlib.Core.Path.{_≡_}
 use Prim.Native.Nat.{ℕ, _-_}
 use lib.Dec.{eqb}
-use lib.IntN.{ℤ, pos}
+use lib.IntN.{ℤ}
 use Rattle.semantics.specs.Calculate.{Result, _>>=_, isTrue, compute, compute1}
 use Rattle.semantics.specs.Environment.{Environment}
 use Rattle.semantics.specs.Machine.{Store, sole, oneCell, shortCircuited}

@@ -29,9 +29,8 @@ use Rattle.counts.proofs.Numbers.{stmts-first, stmts-number, body-first, body-n
 use Rattle.counts.proofs.Passing.{stmts-on, body-on}
 use Rattle.expressions.specs.Members.{many}
 use Rattle.steps.specs.Ends.{leftIn}
-use Rattle.steps.specs.Stands.{Stands}
+use Rattle.steps.specs.Stands.{Goes, Stands}
 use Rattle.leaves.proofs.Ending.{left-most, left-of}
-use Rattle.runner.specs.Loops.{Goes}
 use Rattle.markacts.specs.Ends.{MarkEnds, MarkRuns}
 use Rattle.markacts.proofs.Ending.{normal-marks}
 use Rattle.markstmts.specs.Marks.{Found, FoundAll, Frame, frontIn, machine, machines, MarksStmt, MarksStmts, MarksFront}

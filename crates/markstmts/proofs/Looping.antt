@@ -16,7 +16,7 @@ use Rattle.arith.proofs.Machine.{wire}
 use Rattle.arith.proofs.Order.{le-not, not-le}
 use Rattle.semantics.specs.Base.{Name, pick, _>>=_}
 use Rattle.semantics.specs.Calculate.{Result, is, isTrue, natOf, rangeError}
-use Rattle.semantics.specs.Machine.{Store, State, state, Answer, answer, normal, spent, andThen, branch, countUp, forRounds, raising, stored, whileRounds, withResult}
+use Rattle.semantics.specs.Machine.{Store, State, state, Answer, answer, normal, spent, andThen, branch, countUp, forRounds, raising, stored, whileRounds, withResult, noRound, outside, planned, rounds}
 use Rattle.semantics.specs.Script as Script
 use Rattle.semantics.specs.Syntax.{Expr}
 use Rattle.semantics.specs.Trees.{end, first, stackAt}
@@ -26,13 +26,12 @@ use Rattle.shapes.specs.Parts.{partOf, rest, exprIn, nameIn, stmtIn}
 use Rattle.shapes.proofs.Expressions.{expr-end}
 use Rattle.skips.specs.Skips.{Skips}
 use Rattle.calc.specs.Words.{greatest, InRange}
-use Rattle.steps.specs.Ends.{cellsIn, leftIn, stepWord, Raises}
-use Rattle.steps.specs.Stands.{Stands, after}
+use Rattle.steps.specs.Ends.{leftIn, stepWord, Raises}
+use Rattle.steps.specs.Stands.{Goes, Stands, after}
 use Rattle.steps.specs.Turns.{Increments}
 use Rattle.leaves.specs.Cells.{Puts}
 use Rattle.leaves.proofs.Ending.{left-most, left-of, raised-fewer, step-spent, step-taken, step-fewer, step-stands}
 use Rattle.leaves.proofs.Stored.{put-stands}
-use Rattle.runner.specs.Loops.{Goes}
 use Rattle.carried.proofs.Carrying.{Broken}
 use Rattle.markacts.specs.declared.bounds.Span.{Span}
 use Rattle.markacts.specs.declared.bounds.Span.the-variants as span
@@ -44,7 +43,7 @@ use Rattle.markacts.proofs.Shapes.{for-shape}
 use Rattle.bodies.specs.Procedures.{procsOf}
 use Rattle.markstmts.specs.declared.finding.Plan.{Plan}
 use Rattle.markstmts.specs.declared.finding.Plan.the-variants as plan
-use Rattle.markstmts.specs.Finding.{planOf, planBy}
+use Rattle.markstmts.specs.Finding.{planAs, planOf, planBy}
 use Rattle.markstmts.specs.Marks.{Found, FoundExpr, Frame, machine, testing, MarksStmt, MarksVerb, MarksWhile, MarksRounds}
 use Rattle.markstmts.proofs.Machines.{goes-next, stops-there, ends-there, goes-ends, spent-marks}
 use Rattle.markstmts.proofs.Turning.{onward, rounds-by, onward-spent, onward-round, count-one, count-rest, count-last, next-up, next-ranged, for-spent, for-round, for-none as rounds-none, counts-none, counts-out, counts-in}
@@ -200,7 +199,7 @@ module _ (s l us ts tb : List ℕ) (count newest calls d n a : ℕ) (x y : ℤ) 
               ∙ for-spent a (machine F (X .stmt)) z (natOf (y -ℤ z)) k ∙ ap (λ (w : ℕ). answer spent (state k w)) (sym i)))
               (spent-marks vs t k S u U e)
 
-      module _ (j : u ≤ 4294967295) (qs os : List ℤ) (o : ℕ) (P : Puts vs (cellsIn vs) a z qs) (B : MarksStmt s l us ts tb count newest calls d n b qs u os o) where
+      module _ (j : u ≤ 4294967295) (qs os : List ℤ) (o : ℕ) (P : Puts vs a z qs) (B : MarksStmt s l us ts tb count newest calls d n b qs u os o) where
         turned : t ≡ suc u
         turned = step-taken t u U j
 
@@ -264,7 +263,7 @@ module _ (s l us ts tb : List ℕ) (count newest calls d n a : ℕ) (x y : ℤ) 
     pub rounds-spent : 4294967295 < u → MarksRounds s l us ts tb count newest calls d n a x y b ws left vs u
     rounds-spent e = plainly vs u (turn-spent s l us ts tb count newest calls d n a (wire x) (wire y) b ws left z vs t C u U e)
 
-    module _ (j : u ≤ 4294967295) (qs os : List ℤ) (o : ℕ) (P : Puts vs (cellsIn vs) a z qs) (B : MarksStmt s l us ts tb count newest calls d n b qs u os o) where
+    module _ (j : u ≤ 4294967295) (qs os : List ℤ) (o : ℕ) (P : Puts vs a z qs) (B : MarksStmt s l us ts tb count newest calls d n b qs u os o) where
       pub rounds-stop : 4294967295 < o → MarksRounds s l us ts tb count newest calls d n a x y b ws left os o
       rounds-stop q = plainly os o (turn-stops s l us ts tb count newest calls d n a (wire x) (wire y) b ws left z vs t C u U j qs os o P B q)
 
@@ -291,10 +290,10 @@ PlanFor n body t w v plan.Outside = v ≡ raising rangeError n t
 PlanFor n body t w v (plan.Halted u) = Broken u w
 
 plan-counts : (n a : ℕ) (lo hi x y : ℤ) (body : State → Answer) (t : State) (w : Result Counted) → InRange x → InRange y → PlanFor n body t w (countUp n a lo hi x y body t) (planOf a lo hi x y)
-unfolding planOf pick
+unfolding planOf planned pick
 plan-counts n a lo hi x y body t w R Q = go (leZ x y) (inside lo hi x && inside lo hi y) refl refl
   where
-    go : (q i : Bool) → leZ x y ≡ q → (inside lo hi x && inside lo hi y) ≡ i → PlanFor n body t w (countUp n a lo hi x y body t) (pick q (pick i (plan.Rounds a x y) plan.Outside) plan.Nothing)
+    go : (q i : Bool) → leZ x y ≡ q → (inside lo hi x && inside lo hi y) ≡ i → PlanFor n body t w (countUp n a lo hi x y body t) (planAs a x y (pick q (pick i (rounds (natOf (sucℤ (y -ℤ x)))) outside) noRound))
     go false i h g = counts-none n a lo hi x y body t h
     go true false h g = counts-out n a lo hi x y body t h g
     go true true h g = (h, (R, (Q, counts-in n a lo hi x y body t h g)))

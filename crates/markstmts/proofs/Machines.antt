@@ -13,9 +13,8 @@ use Rattle.semantics.specs.Base.{pick}
 use Rattle.semantics.specs.Machine.{Store, State, state, Answer, answer, Outcome, normal, spent, raised, sticks, andThen, caught, continued, handled}
 use Rattle.calc.specs.Words.{latestIn}
 use Rattle.steps.specs.Ends.{placeIn, leftIn, toldBy, stepWord}
-use Rattle.steps.specs.Stands.{Stands, after}
+use Rattle.steps.specs.Stands.{Goes, Stands, after}
 use Rattle.leaves.proofs.Ending.{left-of, told-normal, told-spent, told-raised, step-spent, step-taken, step-stands, spent-ends}
-use Rattle.runner.specs.Loops.{Goes}
 use Rattle.markacts.specs.Ends.{markTold, MarkEnds, MarkRuns}
 use Rattle.markacts.proofs.Ending.{mark-ends}
 

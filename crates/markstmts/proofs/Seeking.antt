@@ -1,35 +1,31 @@
 -- The ways through what a walk over statements looks up.
 use mathlib.Core.Path.{_≡_, refl, sym, ap, subst, _∙_}
-use mathlib.Core.Bool.{Bool, true, false, _&&_}
+use mathlib.Core.Bool.{false}
 use mathlib.Core.List.{List, map}
-use mathlib.Core.Option.{Option, none, some}
-use Prim.Native.Nat.{ℕ, suc, _+_, _*_, _<_, _≤_}
+use mathlib.Core.Option.{Option, some}
+use Prim.Native.Nat.{ℕ, _+_, _*_, _<_, _≤_}
 use native.Mathlib.Omega.{arith}
 use borrow.Author.Needs.{sfits-of}
 use lib.IntN.{ℤ}
 use lib.ListN.{getD}
-use lib.Signed.{leZ, ltZ}
 use mir.Syntax.{w64}
 use mir.Val.{SFits}
 use mir.Facts.{toZ-ofZ}
-use Rattle.arith.specs.Integers.{inside}
 use Rattle.arith.proofs.Machine.{wire}
-use Rattle.arith.proofs.Order.{lt-not, not-lt}
 use Rattle.spelling.specs.Bytes.{small}
-use Rattle.lexis.specs.Words.{wordOf}
-use Rattle.semantics.specs.Base.{Name, _>>=_, find, given, pick}
+use Rattle.semantics.specs.Base.{Name, _>>=_, find, given}
 use Rattle.semantics.specs.Environment.{Environment, NameSort}
-use Rattle.semantics.specs.Forms.{plainBody}
+use Rattle.semantics.specs.Machine as Machine
+use Rattle.semantics.specs.Machine.{planned}
 use Rattle.semantics.specs.Names.{asProc}
-use Rattle.semantics.specs.Syntax.{Body, Stmt, Stmts, done}
-use Rattle.semantics.specs.Trees.{Tree, word, form, Trees, end, _then_, Run, first, later, wordAt, stackAt}
-use Rattle.semantics.proofs.Inversion.{none-some, some-inj, bind-some}
-use Rattle.shapes.specs.Heads.{isException}
-use Rattle.shapes.specs.Parts.{rest, closed, nameIn, stmtIn, stmtsIn, bodyIn, handlerIn, handling, withFirst}
+use Rattle.semantics.specs.Syntax.{Body, Stmt, Stmts}
+use Rattle.semantics.specs.Trees.{word, form, Trees, end, _then_, Run, first, later, wordAt, stackAt}
+use Rattle.semantics.proofs.Inversion.{none-some, some-inj}
+use Rattle.shapes.specs.Parts.{rest, nameIn, bodyIn, handlerIn}
 use Rattle.symbols.specs.Chain.{entries, placeIn}
 use Rattle.tables.specs.declared.Meaning.{Meaning}
 use Rattle.tables.specs.declared.Meaning.the-variants as meaning
-use Rattle.tables.specs.Scene.{Scene, Told, unknown, known, a-type, a-var, a-proc, a-value, meaningAt}
+use Rattle.tables.specs.Scene.{Told, unknown, known, a-type, a-var, a-proc, a-value, meaningAt}
 use Rattle.tables.proofs.Telling.{meant}
 use Rattle.exprleaves.specs.declared.fields.Sole.{Sole}
 use Rattle.exprleaves.specs.declared.fields.Sole.the-variants as sole
@@ -37,7 +33,6 @@ use Rattle.exprleaves.specs.Fields.{SoleName}
 use Rattle.stmtnodes.specs.declared.last.Next.{Next}
 use Rattle.stmtnodes.specs.declared.last.Next.the-variants as following
 use Rattle.stmtnodes.specs.Handlers.{Comes, HandlerAt, PlainAt}
-use Rattle.parts.specs.Parts.{Before}
 use Rattle.skips.specs.Skips.{Skips}
 use Rattle.counts.specs.Statements.{CountsStatements, verbsIn}
 use Rattle.counts.proofs.Numbers.{body-handler, body-number}
@@ -48,9 +43,12 @@ use Rattle.markacts.specs.declared.bounds.Span.{Span}
 use Rattle.markacts.specs.declared.bounds.Span.the-variants as span
 use Rattle.markstmts.specs.declared.finding.Handler.{Handler}
 use Rattle.markstmts.specs.declared.finding.Handler.the-variants as handler
+use Rattle.steps.specs.declared.turns.Plan as Steps
+use Rattle.steps.specs.declared.turns.Plan.the-variants as steps
+use Rattle.steps.specs.Turns.{Plans, planFrom}
 use Rattle.markstmts.specs.declared.finding.Plan.{Plan}
 use Rattle.markstmts.specs.declared.finding.Plan.the-variants as plan
-use Rattle.markstmts.specs.Finding.{lineOf, procIn, Callee, HandlesBy, Handles, planOf, planBy}
+use Rattle.markstmts.specs.Finding.{lineOf, procIn, Callee, HandlesBy, Handles, planAs, planOf, planBy}
 
 -- ---- `line_of`
 pub line-is : (tb : List ℕ) (q a b c d e : ℕ) → a ≡ getD tb (5 * q) 0 → b ≡ getD tb (5 * q + 1) 0 → c ≡ getD tb (5 * q + 2) 0 → d ≡ getD tb (5 * q + 3) 0 → e ≡ getD tb (5 * q + 4) 0
@@ -144,30 +142,24 @@ handler-falls s p q x C e Q = go (first (stackAt s p)) refl
 
 pub ruleset handler-laws = (handler-past, handler-here)
 
--- ---- `plan`
-module _ (a : ℕ) (lo hi x y : ℤ) (fl : SFits w64 lo) (fh : SFits w64 hi) (fx : SFits w64 x) (fy : SFits w64 y) where
-  pub plan-none : ltZ (wire y) (wire x) ≡ true → plan.Nothing ≡ planOf a lo hi x y
-  unfolding planOf pick
-  plan-none h = rw (lt-not y x (rw (toZ-ofZ fx, toZ-ofZ fy) at h)) refl
+-- ---- `plan_for`
+module _ (a : ℕ) (lo hi x y : ℤ) (fl : SFits w64 lo) (fh : SFits w64 hi) (fx : SFits w64 x) (fy : SFits w64 y) (p : Steps.Plan) (P : Plans (wire lo) (wire hi) (wire x) (wire y) p) where
+  planned-is : planned lo hi x y ≡ planFrom (wire x) (wire y) p
+  planned-is = subst (λ (q : Machine.Plan). q ≡ planFrom (wire x) (wire y) p) (rw (toZ-ofZ fl, toZ-ofZ fh, toZ-ofZ fx, toZ-ofZ fy)) (P .says)
 
-  module _ (h : ltZ (wire y) (wire x) ≡ false) where
-    upward : leZ x y ≡ true
-    upward = not-lt y x (rw (toZ-ofZ fx, toZ-ofZ fy) at h)
+  pub plan-none : p ≡ steps.NoRound → plan.Nothing ≡ planOf a lo hi x y
+  unfolding planOf
+  plan-none e = sym (ap (planAs a x y) (planned-is ∙ ap (planFrom (wire x) (wire y)) e))
 
-    pub plan-left : (i : Bool) → i ≡ inside (wire lo) (wire hi) (wire x) → i ≡ false → plan.Outside ≡ planOf a lo hi x y
-    unfolding planOf pick
-    plan-left i I k = rw (upward, sym (rw (toZ-ofZ fl, toZ-ofZ fh, toZ-ofZ fx) at I) ∙ k) refl
+  pub plan-out : p ≡ steps.Outside → plan.Outside ≡ planOf a lo hi x y
+  unfolding planOf
+  plan-out e = sym (ap (planAs a x y) (planned-is ∙ ap (planFrom (wire x) (wire y)) e))
 
-    module _ (i j : Bool) (I : i ≡ inside (wire lo) (wire hi) (wire x)) (k : i ≡ true) (J : j ≡ inside (wire lo) (wire hi) (wire y)) where
-      pub plan-right : j ≡ false → plan.Outside ≡ planOf a lo hi x y
-      unfolding planOf pick
-      plan-right o = rw (upward, sym (rw (toZ-ofZ fl, toZ-ofZ fh, toZ-ofZ fx) at I) ∙ k, sym (rw (toZ-ofZ fl, toZ-ofZ fh, toZ-ofZ fy) at J) ∙ o) refl
+  pub plan-rounds : p ≡ steps.Rounds → plan.Rounds a (wire x) (wire y) ≡ planOf a lo hi x y
+  unfolding planOf
+  plan-rounds e = rw (toZ-ofZ fx, toZ-ofZ fy) (sym (ap (planAs a x y) (planned-is ∙ ap (planFrom (wire x) (wire y)) e)))
 
-      pub plan-rounds : j ≡ true → plan.Rounds a (wire x) (wire y) ≡ planOf a lo hi x y
-      unfolding planOf pick
-      plan-rounds o = rw (upward, sym (rw (toZ-ofZ fl, toZ-ofZ fh, toZ-ofZ fx) at I) ∙ k, sym (rw (toZ-ofZ fl, toZ-ofZ fh, toZ-ofZ fy) at J) ∙ o, toZ-ofZ fx, toZ-ofZ fy) refl
-
-pub ruleset within-laws = (plan-none, plan-left, plan-right, plan-rounds, sfits-of)
+pub ruleset within-laws = (plan-none, plan-out, plan-rounds, sfits-of)
 
 module _ (s : Span) where
   pub plan-over : (a : ℕ) (lo hi x y : ℤ) (r : Plan) → s ≡ span.Over a lo hi x y → SFits w64 lo → SFits w64 hi → SFits w64 x → SFits w64 y

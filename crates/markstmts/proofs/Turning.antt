@@ -12,9 +12,11 @@ use lib.Signed.{leZ, ltZ, nonNeg}
 use Rattle.arith.specs.Integers.{inside}
 use Rattle.arith.proofs.Order.{leZ-diff, leZ-trans, up-le, add-high}
 use Rattle.arith.proofs.Ranges.{inside-is, inside-both}
+use Rattle.semantics.specs.Base.{pick}
 use Rattle.semantics.specs.Calculate.{natOf, rangeError}
-use Rattle.semantics.specs.Machine.{Store, State, state, Answer, answer, normal, spent, andThen, branch, countUp, forRounds, raising, step, stored, whileRounds}
+use Rattle.semantics.specs.Machine.{Store, State, state, Answer, answer, normal, spent, andThen, branch, countUp, forRounds, raising, step, stored, whileRounds, noRound, opened, outside, planned, rounds}
 use Rattle.calc.specs.Words.{lowest, greatest, InRange}
+use Rattle.leaves.proofs.Ending.{ended-same}
 
 -- ---- `while`
 module _ (test : State → (Bool → Answer) → Answer) (body : State → Answer) where
@@ -90,21 +92,21 @@ module _ (a : ℕ) (body : State → Answer) (z : ℤ) where
 -- what a `for` does by the order of its bounds, and whether both lie in the range
 module _ (n a : ℕ) (lo hi x y : ℤ) (body : State → Answer) (t : State) where
   countBy : Bool → Bool → Answer
-  countBy q i = branch q (branch i (forRounds (natOf (sucℤ (y -ℤ x))) a body x) (raising rangeError n)) (answer normal) t
+  countBy q i = opened (pick q (pick i (rounds (natOf (sucℤ (y -ℤ x)))) outside) noRound) n a x body t
 
   count-by : countUp n a lo hi x y body t ≡ countBy (leZ x y) (inside lo hi x && inside lo hi y)
-  unfolding countUp countBy
+  unfolding countUp planned countBy
   count-by = refl
 
   pub counts-none : leZ x y ≡ false → countUp n a lo hi x y body t ≡ answer normal t
-  unfolding countBy
+  unfolding countBy opened pick
   counts-none h = count-by ∙ ap (λ (b : Bool). countBy b (inside lo hi x && inside lo hi y)) h
 
   module _ (h : leZ x y ≡ true) where
     pub counts-out : (inside lo hi x && inside lo hi y) ≡ false → countUp n a lo hi x y body t ≡ raising rangeError n t
-    unfolding countBy
+    unfolding countBy opened pick
     counts-out g = count-by ∙ ap (λ (b : Bool). countBy b (inside lo hi x && inside lo hi y)) h ∙ ap (λ (b : Bool). countBy true b) g
 
     pub counts-in : (inside lo hi x && inside lo hi y) ≡ true → countUp n a lo hi x y body t ≡ forRounds (natOf (sucℤ (y -ℤ x))) a body x t
-    unfolding countBy
-    counts-in g = count-by ∙ ap (λ (b : Bool). countBy b (inside lo hi x && inside lo hi y)) h ∙ ap (λ (b : Bool). countBy true b) g
+    unfolding countBy opened pick
+    counts-in g = count-by ∙ ap (λ (b : Bool). countBy b (inside lo hi x && inside lo hi y)) h ∙ ap (λ (b : Bool). countBy true b) g ∙ ended-same a (forRounds (natOf (sucℤ (y -ℤ x))) a body x t)

@@ -1,15 +1,15 @@
 -- What a walk over statements looks up.
-use mathlib.Core.Bool.{Bool, true, false, _&&_}
+use mathlib.Core.Bool.{true, false}
 use mathlib.Core.List.{List}
-use mathlib.Core.Option.{Option, some}
+use mathlib.Core.Option.{some}
 use mathlib.Core.Path.{_≡_}
 use Prim.Native.Nat.{ℕ, _≤_}
 use lib.IntN.{ℤ}
 use lib.ListN.{getD}
-use lib.Signed.{leZ}
-use Rattle.arith.specs.Integers.{inside}
-use Rattle.semantics.specs.Base.{Name, _>>=_, find, pick}
+use Rattle.semantics.specs.Base.{Name, _>>=_, find}
 use Rattle.semantics.specs.Environment.{Environment}
+use Rattle.semantics.specs.Machine as Machine
+use Rattle.semantics.specs.Machine.{planned}
 use Rattle.semantics.specs.Names.{asProc}
 use Rattle.semantics.specs.Syntax.{Body}
 use Rattle.semantics.specs.Trees.{first, stackAt}
@@ -56,8 +56,13 @@ pub record Handles (s : List ℕ) (n at : ℕ) (r : Handler) : Type 0 where
 
 -- ---- a `for` after its bounds: its rounds from x to y in cell a, if both lie from lo to hi
 
+abbrev pub planAs : ℕ → ℤ → ℤ → Machine.Plan → Plan
+planAs a x y Machine.noRound = plan.Nothing
+planAs a x y Machine.outside = plan.Outside
+planAs a x y (Machine.rounds k) = plan.Rounds a x y
+
 unfoldable pub planOf : ℕ → ℤ → ℤ → ℤ → ℤ → Plan
-planOf a lo hi x y = pick (leZ x y) (pick (inside lo hi x && inside lo hi y) (plan.Rounds a x y) plan.Outside) plan.Nothing
+planOf a lo hi x y = planAs a x y (planned lo hi x y)
 
 abbrev pub planBy : Span → Plan
 planBy (span.Over a lo hi x y) = planOf a lo hi x y

@@ -1,11 +1,12 @@
 // What a walk over statements looks up: a body's line in the table, the procedure that a call names, a body's handler, the rounds of a `for`.
-use arith::in_range;
 use counts::count_statements;
 use exprleaves::fields::Sole;
 use exprleaves::fields::sole_name;
 use markacts::bounds::Span;
 use markarms::later;
 use skips::skip;
+use steps::turns;
+use steps::turns::planned;
 use stmtnodes::last::Next;
 use stmtnodes::last::next_at;
 use tables::Meaning;
@@ -98,20 +99,16 @@ pub fn handler_of(text: &[u8], n: u32, at: usize) -> Handler
     }
 }
 
-// The rounds from x to y, if both lie in the bounds.
+// The rounds of cell a from x to y, if both lie in the bounds.
 fn within(a: u32, lo: i64, hi: i64, x: i64, y: i64) -> Plan
     ensures { λ r. ⌜ r ≡ planOf a lo hi x y ⌝ }
 {
-    if x > y {
-        return Plan::Nothing;
+    let p = planned(lo, hi, x, y);
+    match p {
+        turns::Plan::NoRound => Plan::Nothing,
+        turns::Plan::Outside => Plan::Outside,
+        turns::Plan::Rounds => Plan::Rounds(a, x, y),
     }
-    if in_range(x, lo, hi) {
-        if in_range(y, lo, hi) {
-            return Plan::Rounds(a, x, y);
-        }
-        return Plan::Outside;
-    }
-    Plan::Outside
 }
 
 // What a `for` does after its bounds are worked out.

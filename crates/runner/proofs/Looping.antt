@@ -19,23 +19,24 @@ use Rattle.arith.proofs.Machine.{wire}
 use Rattle.arith.proofs.Order.{leZ-diff, leZ-trans, up-le, add-high, le-not, not-le, lt-le, not-lt, lt-not}
 use Rattle.arith.proofs.Ranges.{inside-is, inside-both}
 use Rattle.semantics.specs.declared.ActOp.the-variants.{While, For}
+use Rattle.semantics.specs.Base.{pick}
 use Rattle.semantics.specs.Calculate.{Result, is, isTrue, natOf, rangeError}
 use Rattle.semantics.specs.Chair.{condition, evalCode, runAct}
 use Rattle.semantics.specs.Code.{Code}
 use Rattle.semantics.specs.ListMachine.{callable}
-use Rattle.semantics.specs.Machine.{Store, State, state, Answer, answer, normal, spent, Procs, andThen, branch, countUp, forRounds, raising, setControl, sole, step, stepIf, stored, whileRounds, withResult}
+use Rattle.semantics.specs.Machine.{Store, State, state, Answer, answer, normal, spent, Procs, andThen, branch, countUp, forRounds, setControl, sole, step, stepIf, stored, whileRounds, withResult, noRound, opened, outside, planned, rounds}
 use Rattle.semantics.specs.Readback.{actOpAt, integerAt, readAct, readCode}
 use Rattle.evaluate.specs.Walks.{Evaluates}
 use Rattle.calc.specs.Words.{lowest, greatest, InRange, Holds}
-use Rattle.steps.specs.Ends.{cellsIn, leftIn, stepWord, faultIn, Raises}
-use Rattle.steps.specs.Stands.{Stands, Ends, Runs, after}
+use Rattle.steps.specs.Ends.{leftIn, stepWord, faultIn, Raises}
+use Rattle.steps.specs.Stands.{Goes, Stands, Ends, Runs, after}
 use Rattle.steps.specs.Turns.{Increments}
 use Rattle.leaves.specs.Cells.{Puts}
 use Rattle.leaves.proofs.Assigning.{at-node, value-here, fault-here}
-use Rattle.leaves.proofs.Ending.{Cells, Faulty, left-most, left-of, raised-fewer, step-due, step-on, step-fewer, step-stands, normal-ends, spent-ends, raising-ends, fault-ends, is-ends}
+use Rattle.leaves.proofs.Ending.{Cells, Faulty, left-most, left-of, raised-fewer, step-due, step-on, step-fewer, step-stands, normal-ends, spent-ends, raising-ends, fault-ends, is-ends, ended-same}
 use Rattle.leaves.proofs.Stored.{put-stands}
 use Rattle.leaves.proofs.Shapes as Shapes
-use Rattle.runner.specs.Loops.{Goes, Rounds, Repeating, Turns, Counting}
+use Rattle.runner.specs.Loops.{Rounds, Repeating, Turns, Counting}
 use Rattle.runner.specs.Runs.{Executes, Performs, Counts, CountsUp}
 use Rattle.runner.proofs.Walking.{goes-on, ends-there, stops-there}
 
@@ -267,7 +268,7 @@ module _ (l : List ℕ) (calls d p : ℕ) (x y : ℤ) (ws : List ℤ) (s : ℕ) 
               ∙ for-spent (natOf (y -ℤ z)) a (runAct (callable calls l) (readAct d l b)) z m ∙ ap (λ (n : ℕ). answer spent (state m n)) (sym j)))
               (spent-ends us t m S u U (step-due t u U j))
 
-      module _ (j : (t ≡ 0) → ⊥) (vs os : List ℤ) (o : ℕ) (P : Puts us (cellsIn us) a z vs) (X : Executes l calls d b vs u os o) where
+      module _ (j : (t ≡ 0) → ⊥) (vs os : List ℤ) (o : ℕ) (P : Puts us a z vs) (X : Executes l calls d b vs u os o) where
         turned : t ≡ suc u
         turned = step-on t u U j
 
@@ -336,7 +337,7 @@ module _ (l : List ℕ) (calls d p : ℕ) (x y : ℤ) (ws : List ℤ) (s : ℕ) 
     pub rounds-spent : t ≡ 0 → Counts l calls d p x y ws s us u
     rounds-spent e = plain us u (turn-spent l calls d p (wire x) (wire y) ws s a b z us t C u U e)
 
-    module _ (j : (t ≡ 0) → ⊥) (vs os : List ℤ) (o : ℕ) (P : Puts us (cellsIn us) a z vs) (X : Executes l calls d b vs u os o) where
+    module _ (j : (t ≡ 0) → ⊥) (vs os : List ℤ) (o : ℕ) (P : Puts us a z vs) (X : Executes l calls d b vs u os o) where
       pub rounds-stop : 4294967295 < o → Counts l calls d p x y ws s os o
       rounds-stop q = plain os o (turn-stops l calls d p (wire x) (wire y) ws s a b z us t C u U j vs os o P X q)
 
@@ -352,19 +353,16 @@ pub ruleset rounds-laws = (rounds-spent, rounds-stop, rounds-end, sfits-of)
 -- ---- `count_up`
 countBy : List ℕ → ℕ → ℕ → ℕ → ℤ → ℤ → Bool → Bool → State → Answer
 countBy l calls d p x y q i =
-    branch q (branch i (forRounds (natOf (sucℤ (y -ℤ x))) (getD l (p + 2) 0) (runAct (callable calls l) (readAct d l (getD l (p + 7) 0))) x) (raising rangeError (getD l (p + 1) 0))) (answer normal)
+    opened (pick q (pick i (rounds (natOf (sucℤ (y -ℤ x)))) outside) noRound) (getD l (p + 1) 0) (getD l (p + 2) 0) x (runAct (callable calls l) (readAct d l (getD l (p + 7) 0)))
 
 module _ (l : List ℕ) (calls d p : ℕ) (x y : ℤ) (ws : List ℤ) (s : ℕ) (f : SFits w64 x) (g : SFits w64 y) where
   count-by : (q i : Bool) → leZ x y ≡ q → inside (integerAt l (p + 3)) (integerAt l (p + 4)) x && inside (integerAt l (p + 3)) (integerAt l (p + 4)) y ≡ i → (t : State)
       → countUp (getD l (p + 1) 0) (getD l (p + 2) 0) (integerAt l (p + 3)) (integerAt l (p + 4)) x y (runAct (callable calls l) (readAct d l (getD l (p + 7) 0))) t ≡ countBy l calls d p x y q i t
-  unfolding countUp countBy
-  count-by q i e k t =
-      ap (λ (b : Bool). branch b (branch (inside (integerAt l (p + 3)) (integerAt l (p + 4)) x && inside (integerAt l (p + 3)) (integerAt l (p + 4)) y)
-      (forRounds (natOf (sucℤ (y -ℤ x))) (getD l (p + 2) 0) (runAct (callable calls l) (readAct d l (getD l (p + 7) 0))) x) (raising rangeError (getD l (p + 1) 0))) (answer normal) t) e
-      ∙ ap (λ (b : Bool). branch q (branch b (forRounds (natOf (sucℤ (y -ℤ x))) (getD l (p + 2) 0) (runAct (callable calls l) (readAct d l (getD l (p + 7) 0))) x) (raising rangeError (getD l (p + 1) 0))) (answer normal) t) k
+  unfolding countUp planned countBy
+  count-by q i e k t = rw (e, k)
 
   pub count-none : ltZ (wire y) (wire x) ≡ true → CountsUp l calls d p x y ws s ws s
-  unfolding countBy
+  unfolding countBy opened pick
   count-none h = record {
     runs = λ L R Q. record {
       says = λ m S. subst (λ (v : Answer). Ends v ws s)
@@ -380,7 +378,7 @@ module _ (l : List ℕ) (calls d p : ℕ) (x y : ℤ) (ws : List ℤ) (s : ℕ) 
 
     count-out : (ws′ : List ℤ) (r n : ℕ) → inside (integerAt l (p + 3)) (integerAt l (p + 4)) x && inside (integerAt l (p + 3)) (integerAt l (p + 4)) y ≡ false → n ≡ getD l (p + 1) 0
         → Raises (negsuc 102) n ws s ws′ r → CountsUp l calls d p x y ws s ws′ r
-    unfolding countBy InRange inside
+    unfolding countBy opened pick InRange inside
     count-out ws′ r n k N e = record {
       runs = λ L R Q. record {
         says = λ m S. subst (λ (v : Answer). Ends v ws′ r)
@@ -406,10 +404,10 @@ module _ (l : List ℕ) (calls d p : ℕ) (x y : ℤ) (ws : List ℤ) (s : ℕ) 
       count-right ws′ r n o N e = count-out ws′ r n (both-in ∙ o) N e
 
       pub count-rounds : (r : ℕ) (ws′ : List ℤ) → j ≡ true → Counts l calls d p (wire x) (wire y) ws s ws′ r → CountsUp l calls d p x y ws s ws′ r
-      unfolding countBy
+      unfolding countBy opened pick
       count-rounds r ws′ o K = record {
         runs = λ L R Q. record {
-          says = λ m S. subst (λ (v : Answer). Ends v ws′ r) (sym (count-by true true upward (both-in ∙ o) (state m s)))
+          says = λ m S. subst (λ (v : Answer). Ends v ws′ r) (sym (count-by true true upward (both-in ∙ o) (state m s) ∙ ended-same (getD l (p + 2) 0) _))
               (subst (λ (v : ℤ). Counts l calls d p v y ws s ws′ r) (toZ-ofZ f) (subst (λ (v : ℤ). Counts l calls d p (wire x) v ws s ws′ r) (toZ-ofZ g) K) .runs L upward R Q .says m S);
         };
         fewer = K .fewer;

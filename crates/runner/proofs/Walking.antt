@@ -32,7 +32,7 @@ use Rattle.semantics.proofs.ListMachineRuns.{called-none, called-body, callable
 use Rattle.evaluate.specs.Walks.{Evaluates}
 use Rattle.calc.specs.Words.{greatest, InRange, Holds}
 use Rattle.steps.specs.Ends.{leftIn, stepWord, faultIn, toldBy, Raises}
-use Rattle.steps.specs.Stands.{Stands, Ends, Runs, after}
+use Rattle.steps.specs.Stands.{Goes, Stands, Ends, Runs, after}
 use Rattle.leaves.specs.declared.arms.Arm.{Arm}
 use Rattle.leaves.specs.declared.arms.Arm.the-variants.{Taken, Absent}
 use Rattle.leaves.specs.Arms.{Below, Chooses, byArm}
@@ -40,7 +40,7 @@ use Rattle.leaves.specs.Does.{Does}
 use Rattle.leaves.proofs.Assigning.{at-node, value-here, fault-here}
 use Rattle.leaves.proofs.Ending.{Cells, left-most, left-of, raised-fewer, told-normal, told-spent, told-raised, step-due, step-on, step-fewer, step-stands, normal-ends, spent-ends, raising-ends, fault-ends, is-ends}
 use Rattle.leaves.proofs.Shapes as Shapes
-use Rattle.runner.specs.Loops.{Goes, Following, actsAt}
+use Rattle.runner.specs.Loops.{Following, actsAt}
 use Rattle.runner.specs.Runs.{Executes, Performs, Performing, Follows, Calls, Serves}
 
 -- ---- ends that are normal, and others

@@ -12,21 +12,15 @@ use Rattle.semantics.specs.Calculate.{natOf}
 use Rattle.semantics.specs.Chair.{condition, runAct, runActs}
 use Rattle.semantics.specs.Code.{Acts, stop}
 use Rattle.semantics.specs.ListMachine.{callable}
-use Rattle.semantics.specs.Machine.{Answer, State, Store, forRounds, state, whileRounds}
+use Rattle.semantics.specs.Machine.{Answer, Store, forRounds, state, whileRounds}
 use Rattle.semantics.specs.Readback.{actOpAt, actsFrom, readAct, readActs, readCode}
 use Rattle.calc.specs.Words.{InRange}
-use Rattle.steps.specs.Stands.{Stands, after}
+use Rattle.steps.specs.Stands.{Goes, Stands, after}
 
 -- a chain by the place of its first link
 unfoldable pub actsAt : ℕ → List ℕ → ℕ → Acts
 actsAt zero l q = stop
 actsAt (suc d) l q = actsFrom (eqb q 0) l q (λ q. readAct d l q) (λ r. readActs d l r)
-
--- the answer a is that of f from the words ws on, with s steps left
-pub record Goes (a : Answer) (f : State → Answer) (ws : List ℤ) (s : ℕ) : Type 0 where
-  pub store : Store
-  pub stands : Stands ws s store
-  pub rest : a ≡ f (state store s)
 
 -- the statements from the link q on, at depth d, are left
 pub record Following (l : List ℕ) (calls depth slot : ℕ) (ws : List ℤ) (s : ℕ) (d q : ℕ) (us : List ℤ) (t : ℕ) : Type 0 where

@@ -1,5 +1,6 @@
 // The walk over statements and bodies.
 use calc::words::GREATEST;
+use calc::words::WORDS;
 use calc::words::integer;
 use calc::words::number;
 use evaluate::walk::eval;
@@ -26,7 +27,7 @@ ghost use Rattle.runner.specs.Runs.{Executes, Performing, Performs, Foll
 // The statement at pc.
 pub fn exec(
     code: &[u32; 16384],
-    store: &mut [i64; 2056],
+    store: &mut [i64; WORDS],
     left: u64,
     pc: u32,
     depth: u32,
@@ -60,7 +61,7 @@ pub fn exec(
 // The statement of kind op at pc, after its step.
 fn perform(
     code: &[u32; 16384],
-    store: &mut [i64; 2056],
+    store: &mut [i64; WORDS],
     left: u64,
     op: u32,
     pc: u32,
@@ -84,7 +85,7 @@ fn perform(
 // The statements of the chain at a slot.
 pub fn acts(
     code: &[u32; 16384],
-    store: &mut [i64; 2056],
+    store: &mut [i64; WORDS],
     left: u64,
     slot: u32,
     depth: u32,
@@ -113,7 +114,7 @@ pub fn acts(
 // `if`.
 fn branch(
     code: &[u32; 16384],
-    store: &mut [i64; 2056],
+    store: &mut [i64; WORDS],
     left: u64,
     pc: u32,
     depth: u32,
@@ -135,7 +136,7 @@ fn branch(
 // `while`.
 fn repeat(
     code: &[u32; 16384],
-    store: &mut [i64; 2056],
+    store: &mut [i64; WORDS],
     left: u64,
     pc: u32,
     depth: u32,
@@ -171,7 +172,7 @@ fn repeat(
 // `for`: both bounds.
 fn count(
     code: &[u32; 16384],
-    store: &mut [i64; 2056],
+    store: &mut [i64; WORDS],
     left: u64,
     pc: u32,
     depth: u32,
@@ -194,7 +195,7 @@ fn count(
 // The test of both bounds, and the rounds.
 fn count_up(
     code: &[u32; 16384],
-    store: &mut [i64; 2056],
+    store: &mut [i64; WORDS],
     left: u64,
     pc: u32,
     x: i64,
@@ -222,7 +223,7 @@ fn count_up(
 // The rounds of a `for` from x to y.
 fn rounds(
     code: &[u32; 16384],
-    store: &mut [i64; 2056],
+    store: &mut [i64; WORDS],
     left: u64,
     pc: u32,
     x: i64,
@@ -258,7 +259,7 @@ fn rounds(
 // `case`.
 fn choose(
     code: &[u32; 16384],
-    store: &mut [i64; 2056],
+    store: &mut [i64; WORDS],
     left: u64,
     pc: u32,
     depth: u32,
@@ -279,7 +280,7 @@ fn choose(
 }
 
 // A procedure's call, by the place of its body.
-fn call(code: &[u32; 16384], store: &mut [i64; 2056], left: u64, q: u32, calls: u32) -> u64
+fn call(code: &[u32; 16384], store: &mut [i64; WORDS], left: u64, q: u32, calls: u32) -> u64
     ensures { λ r. ⌜ Calls (codeIn (now (code .entry))) calls q (now (store .entry)) left (now (store .exit)) r ⌝ }
 {
     if calls == 0 {
@@ -292,7 +293,7 @@ fn call(code: &[u32; 16384], store: &mut [i64; 2056], left: u64, q: u32, calls: 
 }
 
 // The body at q, and its handler after an exception.
-pub fn body(code: &[u32; 16384], store: &mut [i64; 2056], left: u64, q: u32, calls: u32) -> u64
+pub fn body(code: &[u32; 16384], store: &mut [i64; WORDS], left: u64, q: u32, calls: u32) -> u64
     ensures { λ r. ⌜ Serves (codeIn (now (code .entry))) calls q (now (store .entry)) left (now (store .exit)) r ⌝ }
 {
     let o = acts(code, store, left, next_at(code, q, 1), 16384, calls);

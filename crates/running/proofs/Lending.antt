@@ -1,29 +1,27 @@
 -- A store that rows 10 and 11 let pass is one that the chair's runner takes.
 use mathlib.Core.Path.{_≡_, refl, sym, _∙_}
-use mathlib.Core.Bool.{Bool, true, false, cond, _&&_}
+use mathlib.Core.Bool.{Bool, true, false, cond, not, _&&_}
 use mathlib.Core.Logic.{_⊎_, inl, inr}
 use mathlib.Core.List.{List}
-use mathlib.Core.Option.{Option, none, some}
+use mathlib.Core.Option.{none}
 use Prim.Native.Nat.{ℕ, _<_, _≤_}
 use native.Mathlib.Decide.{decLt}
 use native.Mathlib.Omega.{arith}
 use borrow.Author.Tests.{eqb-true, leb-true}
 use lib.Dec.{eqb, leb}
 use lib.IntN.{ℤ, pos, negsuc}
-use lib.Signed.{leZ}
 use lib.ListN.{length, getD, List·getD-eq-default}
 use Rattle.arith.specs.Integers.{inside, isZero, least, most}
 use Rattle.arith.proofs.Order.{leZ-trans}
 use Rattle.arith.proofs.Ranges.{inside-both, inside-is}
-use Rattle.sets.specs.Sets.{liesIn, allIn, members}
+use Rattle.sets.specs.Sets.{liesIn}
 use Rattle.semantics.specs.Store.{cellFits, storeFault}
 use Rattle.semantics.specs.Types.{Types, infoAt, ordinal?}
-use Rattle.semantics.specs.Whole.{fresh}
-use Rattle.semantics.proofs.BodiesInRange.{store-sound}
+use Rattle.semantics.proofs.BodiesInRange.{Passes, store-passes}
 use Rattle.semantics.proofs.Inversion.{and-true}
-use Rattle.semantics.proofs.LinesKeep.{tests, tests-length, tests-get}
+use Rattle.semantics.proofs.LinesKeep.{tests, tests-get}
 use Rattle.semantics.proofs.TypeTables.{Table}
-use Rattle.semantics.proofs.ValuesInRange.{any, Sound}
+use Rattle.semantics.proofs.ValuesInRange.{any}
 use Rattle.calc.specs.Words.{InRange}
 use Rattle.calc.proofs.Ranging.{wide, low-range}
 use Rattle.chair.specs.Answers.{Lent}
@@ -50,16 +48,18 @@ zero-is (pos n) h = let e : n ≡ 0 = eqb-true n 0 h in rw e refl
 zero-is (negsuc n) h = absurd (let e : _≡_ {A = ℕ} 0 1 = cc in omega arith)
 
 pub lent-store : (Γ : Types) → Table Γ → (ts : List ℕ) (vs : List ℤ) (ms : List ℕ) → length ts ≤ 2048 → storeFault Γ ts vs ms ≡ none → Lent vs ms
-lent-store Γ T ts vs ms few h = record { even = sym (S .long); few = omega (arith, S .enough, tests-length Γ ts); cells = λ a. at a (decLt a (length vs)) }
+lent-store Γ T ts vs ms few h = record { even = P .marks ∙ sym (P .values); few = omega (arith, P .values); cells = λ a. at a (decLt a (length vs)) }
   where
-    S : Sound (tests Γ ts) (fresh vs ms)
-    S = store-sound Γ ts vs ms h
+    P : Passes Γ ts vs ms
+    P = store-passes Γ ts vs ms h
 
     at : (a : ℕ) → Dec (a < length vs) → ((getD ms a 0 ≡ 1) × InRange (getD vs a (pos 0))) ⊎ ((getD ms a 0 ≡ 0) × (getD vs a (pos 0) ≡ pos 0))
-    at a (no g) = inr (List·getD-eq-default ms 0 (omega (arith, S .long)), List·getD-eq-default vs (pos 0) (omega arith))
-    at a (yes g) = go (eqb (getD ms a 0) 1) refl (S .each a)
+    at a (no g) = inr (List·getD-eq-default ms 0 (omega (arith, P .values, P .marks)), List·getD-eq-default vs (pos 0) (omega arith))
+    at a (yes g) = go (eqb (getD ms a 0) 0) refl (P .each a)
       where
-        go : (b : Bool) → eqb (getD ms a 0) 1 ≡ b → cond b (getD (tests Γ ts) a any (getD vs a (pos 0))) (eqb (getD ms a 0) 0 && isZero (getD vs a (pos 0))) ≡ true
+        go : (b : Bool) → eqb (getD ms a 0) 0 ≡ b → cond (not b) (eqb (getD ms a 0) 1 && getD (tests Γ ts) a any (getD vs a (pos 0))) (isZero (getD vs a (pos 0))) ≡ true
             → ((getD ms a 0 ≡ 1) × InRange (getD vs a (pos 0))) ⊎ ((getD ms a 0 ≡ 0) × (getD vs a (pos 0) ≡ pos 0))
-        go true e k = inl (eqb-true (getD ms a 0) 1 e, fits-range Γ T (getD ts a 0) (getD vs a (pos 0)) (sym (tests-get Γ ts a (omega (arith, S .enough, tests-length Γ ts)) (getD vs a (pos 0))) ∙ k))
-        go false e k = let q = and-true (eqb (getD ms a 0) 0) _ k in inr (eqb-true (getD ms a 0) 0 (q .0), zero-is (getD vs a (pos 0)) (q .1))
+        go true e k = inr (eqb-true (getD ms a 0) 0 e, zero-is (getD vs a (pos 0)) k)
+        go false e k =
+            let q = and-true (eqb (getD ms a 0) 1) (getD (tests Γ ts) a any (getD vs a (pos 0))) k in
+            inl (eqb-true (getD ms a 0) 1 (q .0), fits-range Γ T (getD ts a 0) (getD vs a (pos 0)) (sym (tests-get Γ ts a (omega (arith, P .values)) (getD vs a (pos 0))) ∙ q .1))

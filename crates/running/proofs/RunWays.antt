@@ -59,11 +59,11 @@ module _ (l ts : List ℕ) (kn : Known) (vs : List ℤ) (ms : List ℕ) (budget 
         let A = R .says (omega (arith, S .holds .long-list)) (lent-store (q .known .env .types) (S .holds .scene .table) (q .known .cells) vs ms (omega arith) none-is) in
         let m = S .main-is (text-measured s work q acc .1) in
         let runs : called 33 l (kn .main) ≡ runAll (q .codes) [] = ap (called 33 l) m ∙ Demand3.held-runs s work q acc l bs (S .bodies) 33 (Demand3.body-count s work q acc .1) in
-        subst (λ (x : State → Answer). Answers (x (state (fresh vs ms) budget)) budget a vs′ ms′) runs A;
+        subst (λ (x : State → Answer). Answers (x (state (fresh vs ms) budget)) (length vs) budget a vs′ ms′) runs A;
   }
     where
       go : (q : Read) (o : Option ℕ) → storeFault (q .known .env .types) (q .known .cells) vs ms ≡ o → f ≡ rowNumber o
-          → (storeFault (q .known .env .types) (q .known .cells) vs ms ≡ none → Answers (runAll (q .codes) [] (state (fresh vs ms) budget)) budget a vs′ ms′)
+          → (storeFault (q .known .env .types) (q .known .cells) vs ms ≡ none → Answers (runAll (q .codes) [] (state (fresh vs ms) budget)) (length vs) budget a vs′ ms′)
           → Reports (onStore (q .known) (runAll (q .codes) []) vs ms budget) r vs′ ms′
       go q none h z k =
           let A = k h in

@@ -1,17 +1,25 @@
--- The ways through what gives a loop's next value.
-use mathlib.Core.Path.{_≡_, sym, ap, subst, _∙_}
-use mathlib.Core.Bool.{Bool, true, false}
+-- The ways through what plans a loop and gives its next value.
+use mathlib.Core.Path.{_≡_, refl, sym, ap, subst, _∙_}
+use mathlib.Core.Bool.{Bool, true, false, _&&_}
 use Prim.Native.Nat.{ℕ, zero, suc, _<_}
 use native.Mathlib.Omega.{arith}
 use lib.Dec.{T}
-use lib.IntN.{ℤ, pos, negsuc, _+ℤ_, sucℤ, +ℤ-one}
-use lib.Signed.{ltZ}
+use lib.IntN.{ℤ, pos, negsuc, _+ℤ_, _-ℤ_, sucℤ, +ℤ-one}
+use lib.Signed.{leZ, ltZ}
 use mir.Syntax.{w64}
 use mir.Val.{SFits}
 use mir.Facts.{toZ-ofZ}
 use borrow.Author.Tests.{ltb-true}
 use Rattle.arith.proofs.Machine.{wire, fits-mag}
-use Rattle.steps.specs.Turns.{Increments}
+use Rattle.arith.specs.Integers.{inside}
+use Rattle.arith.proofs.Order.{lt-not, not-lt}
+use Rattle.semantics.specs.Base.{pick}
+use Rattle.semantics.specs.Calculate.{natOf}
+use Rattle.semantics.specs.Machine as Machine
+use Rattle.semantics.specs.Machine.{planned}
+use Rattle.steps.specs.declared.turns.Plan.{Plan}
+use Rattle.steps.specs.declared.turns.Plan.the-variants.{NoRound, Outside, Rounds}
+use Rattle.steps.specs.Turns.{Increments, Plans}
 
 module _ (z y : ℤ) (f : SFits w64 z) (g : SFits w64 y) where
   suc-is : wire z +ℤ pos 1 ≡ sucℤ z
@@ -38,3 +46,41 @@ module _ (z y : ℤ) (f : SFits w64 z) (g : SFits w64 y) where
   next-same h = record { says = λ k. absurd (subst T (sym k ∙ (rw (toZ-ofZ f, toZ-ofZ g) at h)) tt) }
 
 pub ruleset next-laws = (next-room, next-more, next-same)
+
+-- ---- `planned`
+
+-- by the three tests
+plan-by : (lo hi x y : ℤ) (p i j : Bool) → leZ x y ≡ p → inside lo hi x ≡ i → inside lo hi y ≡ j
+    → planned lo hi x y ≡ pick p (pick (i && j) (Machine.rounds (natOf (sucℤ (y -ℤ x)))) Machine.outside) Machine.noRound
+unfolding planned
+plan-by lo hi x y p i j e f g = rw (e, f, g)
+
+module _ (lo hi x y : ℤ) (fl : SFits w64 lo) (fh : SFits w64 hi) (fx : SFits w64 x) (fy : SFits w64 y) where
+  pub plan-none : ltZ (wire y) (wire x) ≡ true → Plans lo hi x y NoRound
+  unfolding pick
+  plan-none h = record { says = plan-by lo hi x y false (inside lo hi x) (inside lo hi y) (lt-not y x (rw (toZ-ofZ fx, toZ-ofZ fy) at h)) refl refl; up = λ e. absurd (let z : _≡_ {A = ℕ} 0 1 = cc in omega arith) }
+
+  module _ (h : ltZ (wire y) (wire x) ≡ false) (i : Bool) (I : i ≡ inside (wire lo) (wire hi) (wire x)) where
+    upward : leZ x y ≡ true
+    upward = not-lt y x (rw (toZ-ofZ fx, toZ-ofZ fy) at h)
+
+    first : inside lo hi x ≡ i
+    first = sym (rw (toZ-ofZ fl, toZ-ofZ fh, toZ-ofZ fx) at I)
+
+    pub plan-left : i ≡ false → Plans lo hi x y Outside
+    unfolding pick
+    plan-left e = record { says = plan-by lo hi x y true false (inside lo hi y) upward (first ∙ e) refl; up = λ e. absurd (let z : _≡_ {A = ℕ} 0 1 = cc in omega arith) }
+
+    module _ (e : i ≡ true) (j : Bool) (J : j ≡ inside (wire lo) (wire hi) (wire y)) where
+      second : inside lo hi y ≡ j
+      second = sym (rw (toZ-ofZ fl, toZ-ofZ fh, toZ-ofZ fy) at J)
+
+      pub plan-right : j ≡ false → Plans lo hi x y Outside
+      unfolding pick
+      plan-right k = record { says = plan-by lo hi x y true true false upward (first ∙ e) (second ∙ k); up = λ e. absurd (let z : _≡_ {A = ℕ} 0 1 = cc in omega arith) }
+
+      pub plan-rounds : j ≡ true → Plans lo hi x y Rounds
+      unfolding pick
+      plan-rounds k = record { says = plan-by lo hi x y true true true upward (first ∙ e) (second ∙ k); up = λ e. upward }
+
+pub ruleset plan-laws = (plan-none, plan-left, plan-right, plan-rounds)

@@ -18,7 +18,7 @@ use Rattle.arith.proofs.Machine.{wire, low, high, zero-bits, fits-between}
 use Rattle.arith.proofs.Order.{lt-le, lt-moved, moved-lt}
 use Rattle.semantics.specs.Base.{pick}
 use Rattle.semantics.specs.Calculate.{systemError}
-use Rattle.calc.specs.Words.{greatest, faultBase, latestIn, Exceptional}
+use Rattle.calc.specs.Words.{greatest, faultBase, latestAt, placeAt, latestIn, Exceptional}
 use Rattle.calc.proofs.Ranging.{above-fault, back-fault}
 use Rattle.steps.specs.Ends.{leftIn, stepWord, raisedWord, faultIn, notedIn, numberIn, Raises, RaisesNumber}
 
@@ -39,11 +39,11 @@ pub ruleset step-laws = (step-none, step-one)
 
 -- ---- `raising`
 pub raising-is : (z : ℤ) (n : ℕ) (ws : List ℤ) (left : ℕ) → SFits w64 z → Fits w32 n
-    → Raises z n ws left (set (set ws 2048 (wire z)) 2049 (toZ w64 n)) (8589934592 + left % 4294967296)
+    → Raises z n ws left (set (set ws latestAt (wire z)) placeAt (toZ w64 n)) (8589934592 + left % 4294967296)
 unfolding raisedWord notedIn
 raising-is z n ws left f g = record {
   word = refl;
-  store = ap (λ (y : ℤ). set (set ws 2048 y) 2049 (toZ w64 n)) (toZ-ofZ f) ∙ ap (set (set ws 2048 z) 2049) (toZ-pos w64 {n = n} (omega (arith, g .fits)));
+  store = ap (λ (y : ℤ). set (set ws latestAt y) placeAt (toZ w64 n)) (toZ-ofZ f) ∙ ap (set (set ws latestAt z) placeAt) (toZ-pos w64 {n = n} (omega (arith, g .fits)));
   small = omega (arith, g .fits);
 }
 
@@ -100,20 +100,20 @@ module _ (z : ℤ) (n : ℕ) (ws : List ℤ) (left : ℕ) (ws′ : List ℤ) (r 
     small = R .small;
   }
 
-  pub raise-none : ofZ w64 z ≡ 0 → SFits w64 (getD ws 2048 (pos 0)) → ofZ w64 (getD ws 2048 (pos 0)) ≡ 0 → Raises (negsuc 101) n ws left ws′ r → RaisesNumber z n ws left ws′ r
+  pub raise-none : ofZ w64 z ≡ 0 → SFits w64 (getD ws latestAt (pos 0)) → ofZ w64 (getD ws latestAt (pos 0)) ≡ 0 → Raises (negsuc 101) n ws left ws′ r → RaisesNumber z n ws left ws′ r
   unfolding numberIn latestIn pick
   raise-none h g k R = record {
     word = R .word;
-    store = R .store ∙ rw (zero-is z f h, zero-is (getD ws 2048 (pos 0)) g k);
+    store = R .store ∙ rw (zero-is z f h, zero-is (getD ws latestAt (pos 0)) g k);
     small = R .small;
   }
 
-pub raise-again : (z : ℤ) (n : ℕ) (ws : List ℤ) (left : ℕ) → SFits w64 z → Fits w32 n → ofZ w64 z ≡ 0 → ((ofZ w64 (getD ws 2048 (pos 0)) ≡ 0) → ⊥)
+pub raise-again : (z : ℤ) (n : ℕ) (ws : List ℤ) (left : ℕ) → SFits w64 z → Fits w32 n → ofZ w64 z ≡ 0 → ((ofZ w64 (getD ws latestAt (pos 0)) ≡ 0) → ⊥)
     → RaisesNumber z n ws left ws (8589934592 + left % 4294967296)
 unfolding raisedWord numberIn latestIn pick
 raise-again z n ws left f g h k = record {
   word = refl;
-  store = rw (zero-is z f h, zero-not (getD ws 2048 (pos 0)) k);
+  store = rw (zero-is z f h, zero-not (getD ws latestAt (pos 0)) k);
   small = omega (arith, g .fits);
 }
 

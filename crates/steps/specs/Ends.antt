@@ -10,15 +10,11 @@ use Rattle.arith.specs.Integers.{isZero}
 use Rattle.semantics.specs.Base.{pick}
 use Rattle.semantics.specs.Calculate.{natOf, systemError}
 use Rattle.semantics.specs.Machine.{Outcome, normal, spent, raised}
-use Rattle.calc.specs.Words.{greatest, faultBase, latestIn}
+use Rattle.calc.specs.Words.{greatest, faultBase, latestAt, placeAt, latestIn}
 
 -- the statement of the last exception
 unfoldable pub placeIn : List ℤ → ℕ
-placeIn ws = natOf (getD ws 2049 (pos 0))
-
--- how many cells there are
-unfoldable pub cellsIn : List ℤ → ℕ
-cellsIn ws = natOf (getD ws 2050 (pos 0))
+placeIn ws = natOf (getD ws placeAt (pos 0))
 
 -- ---- the word: the steps left, which are below 4294967296; that is added where a step was due and none was left, and twice that
 -- after an exception, which is the last one
@@ -47,7 +43,7 @@ faultIn w = pick (ltZ greatest w) (w -ℤ faultBase) w
 
 -- the array after exception z at statement n
 unfoldable pub notedIn : ℤ → ℕ → List ℤ → List ℤ
-notedIn z n ws = set (set ws 2048 z) 2049 (pos n)
+notedIn z n ws = set (set ws latestAt z) placeAt (pos n)
 
 -- exception z at statement n
 pub record Raises (z : ℤ) (n : ℕ) (ws : List ℤ) (left : ℕ) (ws′ : List ℤ) (r : ℕ) : Type 0 where

@@ -5,9 +5,9 @@ use mathlib.Core.Logic.{_⊎_}
 use Prim.Native.Nat.{ℕ, suc, _≤_}
 use lib.IntN.{ℤ, pos}
 use lib.ListN.{length, getD}
-use Rattle.semantics.specs.Machine.{Store, State, state, Answer}
-use Rattle.calc.specs.Words.{Holds}
-use Rattle.steps.specs.Ends.{cellsIn, leftIn, toldBy}
+use Rattle.semantics.specs.Machine.{Store, State, state, Answer, storeCells}
+use Rattle.calc.specs.Words.{Holds, placeAt, storeWords}
+use Rattle.steps.specs.Ends.{leftIn, toldBy}
 
 -- a cell is defined, or it is undefined with value 0
 abbrev pub Tidy : ℕ → ℤ → Type 0
@@ -15,14 +15,13 @@ Tidy k v = (k ≡ 1) ⊎ ((k ≡ 0) × (v ≡ pos 0))
 
 -- the words ws stand for the store m, with so many steps left
 pub record Stands (ws : List ℤ) (left : ℕ) (m : Store) : Type 0 where
-  pub long : length ws ≡ 2056
+  pub long : length ws ≡ storeWords
   pub steps : left ≤ 4294967295
   pub holds : Holds ws m
-  pub place : getD ws 2049 (pos 0) ≡ pos (m .place)
+  pub place : getD ws placeAt (pos 0) ≡ pos (m .place)
   pub small : m .place ≤ 4294967295
-  pub values : length (m .values) ≡ cellsIn ws
-  pub marks : length (m .marks) ≡ cellsIn ws
-  pub few : cellsIn ws ≤ 2048
+  pub values : length (m .values) ≡ storeCells
+  pub marks : length (m .marks) ≡ storeCells
   pub tidy : (a : ℕ) → Tidy (getD (m .marks) a 0) (getD (m .values) a (pos 0))
 
 -- the answer a is what the words ws and the word w say
@@ -34,6 +33,12 @@ pub record Ends (a : Answer) (ws : List ℤ) (w : ℕ) : Type 0 where
 -- from ws, with so many steps left, the machine f comes to ws′ and the word r
 pub record Runs (f : State → Answer) (ws : List ℤ) (left : ℕ) (ws′ : List ℤ) (r : ℕ) : Type 0 where
   pub says : (m : Store) → Stands ws left m → Ends (f (state m left)) ws′ r
+
+-- the answer a is that of f from the words ws on, with s steps left
+pub record Goes (a : Answer) (f : State → Answer) (ws : List ℤ) (s : ℕ) : Type 0 where
+  pub store : Store
+  pub stands : Stands ws s store
+  pub rest : a ≡ f (state store s)
 
 -- what a machine does after its first step
 unfoldable pub after : (State → Answer) → State → Answer

@@ -1,7 +1,10 @@
 // How a statement ends, as one word: the steps left; with SPENT, a step was due and none was left; with RAISED, an exception,
-// which is the last one. The store's array tells that: its number is word 2048 and its statement word 2049.
+// which is the last one. The store's array tells that: its number and its statement stand behind the cells' words.
 use calc::words::FAULT;
 use calc::words::GREATEST;
+use calc::words::LATEST;
+use calc::words::PLACE;
+use calc::words::WORDS;
 ghost use mathlib.Core.Path.{_≡_};
 ghost use lib.Dec.{ltb};
 ghost use Rattle.steps.specs.Ends.{leftIn, stepWord, faultIn, Raises, RaisesNumber};
@@ -35,16 +38,16 @@ pub fn stepped(left: u64) -> u64
 }
 
 // Exception z at statement n.
-pub fn raising(store: &mut [i64; 2056], left: u64, z: i64, n: u32) -> u64
+pub fn raising(store: &mut [i64; WORDS], left: u64, z: i64, n: u32) -> u64
     ensures { λ r. ⌜ Raises z n (now (store .entry)) left (now (store .exit)) r ⌝ }
 {
-    store[2048] = z;
-    store[2049] = n as i64;
+    store[LATEST] = z;
+    store[PLACE] = n as i64;
     RAISED + left % 4294967296
 }
 
 // The fault that a word is, at statement n.
-pub fn failing(store: &mut [i64; 2056], left: u64, w: i64, n: u32) -> u64
+pub fn failing(store: &mut [i64; WORDS], left: u64, w: i64, n: u32) -> u64
     ensures { λ r. ⌜ Raises (faultIn w) n (now (store .entry)) left (now (store .exit)) r ⌝ }
 {
     if w > GREATEST {
@@ -54,13 +57,13 @@ pub fn failing(store: &mut [i64; 2056], left: u64, w: i64, n: u32) -> u64
 }
 
 // `raise` with number z at statement n.
-pub fn raise_number(store: &mut [i64; 2056], left: u64, z: i64, n: u32) -> u64
+pub fn raise_number(store: &mut [i64; WORDS], left: u64, z: i64, n: u32) -> u64
     ensures { λ r. ⌜ RaisesNumber z n (now (store .entry)) left (now (store .exit)) r ⌝ }
 {
     if z != 0 {
         return raising(store, left, z, n);
     }
-    if store[2048] == 0 {
+    if store[LATEST] == 0 {
         return raising(store, left, -102, n);
     }
     RAISED + left % 4294967296

@@ -1,7 +1,31 @@
 // The values of a `for`.
+use arith::in_range;
 ghost use mathlib.Core.Path.{_≡_};
 ghost use lib.Signed.{leZ};
-ghost use Rattle.steps.specs.Turns.{Increments};
+ghost use Rattle.steps.specs.Turns.{Increments, Plans};
+
+// What a `for` does after its bounds are worked out: nothing, a Range_Error, or its rounds.
+pub enum Plan {
+    NoRound,
+    Outside,
+    Rounds,
+}
+
+// The plan of a `for` from x to y, whose control variable takes low to high.
+pub fn planned(low: i64, high: i64, x: i64, y: i64) -> Plan
+    ensures { λ r. ⌜ Plans low high x y r ⌝ }
+{
+    if x > y {
+        return Plan::NoRound;
+    }
+    if in_range(x, low, high) {
+        if in_range(y, low, high) {
+            return Plan::Rounds;
+        }
+        return Plan::Outside;
+    }
+    Plan::Outside
+}
 
 // Whether a control variable has come to y.
 pub fn at_last(z: i64, y: i64) -> bool

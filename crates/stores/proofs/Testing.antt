@@ -20,6 +20,7 @@ use Rattle.arith.proofs.Ranges.{inside-both}
 use Rattle.spelling.specs.Bytes.{small}
 use Rattle.semantics.specs.Environment.{Declared}
 use Rattle.semantics.specs.LayoutSize.{IsInteger}
+use Rattle.semantics.specs.Machine.{defined, isDefined}
 use Rattle.semantics.specs.Store.{cellFits, cellOk, cellsOk, faultOf, storeFault}
 use Rattle.semantics.specs.Trees.{wordAt}
 use Rattle.semantics.specs.Types.{Shape, Types, arrayShape, infoAt, isOrdinal, isSet, ordinalShape, recordShape, setShape, sizeOf}
@@ -103,7 +104,7 @@ module _ {s l ts : List ℕ} {st : State} {k : Declared} {bs : List ℕ} (H : Ho
 
   pub passes-is-ok : (v : ℤ) (m : ℕ) → cellPasses l ts (st .count) (st .newest) c v m ≡ cellOk Γk (getD (k .cells) c 0) v m
   unfolding cellPasses markFits
-  passes-is-ok v m = ap (λ (b : Bool). cond (eqb m 1) b (eqb m 0 && isZero v)) (value-is v ∙ cell-fits v)
+  passes-is-ok v m = ap (λ (b : Bool). cond (isDefined m) (eqb m defined && b) (isZero v)) (value-is v ∙ cell-fits v)
 
 -- ---- all cells
 

@@ -202,7 +202,7 @@ zero-only (negsuc n) h = refl
 module _ (x : Info) (v : ℤ) (m : ℕ) (p : SFits w64 v) where
   pub mark-defined : m ≡ 1 → (b : Bool) → b ≡ valueFits x (wire v) → b ≡ markFits x v m
   unfolding markFits
-  mark-defined h b g = g ∙ rw (toZ-ofZ p, eq-eqb m 1 h)
+  mark-defined h b g = g ∙ rw (toZ-ofZ p, h)
 
   pub mark-undefined : m ≡ 0 → ofZ w64 v ≡ 0 → true ≡ markFits x v m
   unfolding markFits isZero
@@ -214,7 +214,7 @@ module _ (x : Info) (v : ℤ) (m : ℕ) (p : SFits w64 v) where
 
   pub mark-other : ((m ≡ 1) → ⊥) → ((m ≡ 0) → ⊥) → false ≡ markFits x v m
   unfolding markFits
-  mark-other h g = rw (ne-eqb m 1 h, ne-eqb m 0 g)
+  mark-other h g = rw (ne-eqb m 0 g, ne-eqb m 1 h)
 
 pub ruleset mark-laws = (mark-defined, mark-undefined, mark-left, mark-other)
 

@@ -12,6 +12,7 @@ use Rattle.sets.specs.Sets.{liesIn}
 use Rattle.spelling.specs.Bytes.{small}
 use Rattle.lexis.specs.Numbers.{signed}
 use Rattle.semantics.specs.Environment.{Declared}
+use Rattle.semantics.specs.Machine.{defined, isDefined}
 use Rattle.semantics.specs.Store.{storeFault}
 use Rattle.semantics.specs.Trees.{wordAt}
 use Rattle.semantics.proofs.LinesCover.{Covered}
@@ -27,7 +28,7 @@ valueFits x v = cond (eqb (x .shape) 0) (inside (signed (x .low)) (signed (x .hi
 
 -- a defined cell with such a value, or an undefined one with value 0
 unfoldable pub markFits : Info → ℤ → ℕ → Bool
-markFits x v m = cond (eqb m 1) (valueFits x v) (eqb m 0 && isZero v)
+markFits x v m = cond (isDefined m) (eqb m defined && valueFits x v) (isZero v)
 
 -- so of cell c of the store
 unfoldable pub cellPasses : List ℕ → List ℕ → ℕ → ℕ → ℕ → ℤ → ℕ → Bool

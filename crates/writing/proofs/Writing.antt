@@ -235,13 +235,13 @@ module _ (l : List ℕ) (p q : ℕ) (k : List ℕ) (r : ℕ) (m : List ℕ) wher
 -- ---- `value`
 
 module _ (v : ℤ) (a : ℕ) (l : List ℕ) (p r : ℕ) (m : List ℕ) where
-  pub value-is : SFits w64 v → a ≡ 1 → Puts (signedOf (wire v)) l p r m → Puts (cellValue v a) l p r m
+  pub value-is : SFits w64 v → ((a ≡ 0) → ⊥) → Puts (signedOf (wire v)) l p r m → Puts (cellValue v a) l p r m
   unfolding cellValue
-  value-is y e f = rw (eq-eqb a 1 e, cellValue) (rw (toZ-ofZ y) at f)
+  value-is y e f = rw (ne-eqb a 0 e, cellValue) (rw (toZ-ofZ y) at f)
 
-  pub value-none : ((a ≡ 1) → ⊥) → Puts (45 ∷ []) l p r m → Puts (cellValue v a) l p r m
+  pub value-none : a ≡ 0 → Puts (45 ∷ []) l p r m → Puts (cellValue v a) l p r m
   unfolding cellValue
-  value-none e f = rw (ne-eqb a 1 e, cellValue) f
+  value-none e f = rw (eq-eqb a 0 e, cellValue) f
 
 pub ruleset value-laws = (value-is, value-none)
 

@@ -96,10 +96,10 @@ pub fn name(out: &mut [u8], at: usize, text: &[u8], offset: usize) -> usize
 fn value(out: &mut [u8], at: usize, v: i64, mark: u8) -> usize
     ensures { λ r. ⌜ Puts (cellValue v mark) (now (out .entry)) at r (now (out .exit)) ⌝ }
 {
-    if mark == 1 {
-        return signed(out, at, v);
+    if mark == 0 {
+        return put(out, at, 45);
     }
-    put(out, at, 45)
+    signed(out, at, v)
 }
 
 // A cell's name and value, and the space between.

@@ -11,47 +11,47 @@ use Rattle.marker.proofs.told.Reads as told-reads
 use Rattle.markstmts.proofs.walk.mark_body.Reads as mark-body-reads
 use Rattle.steps.proofs.ends.left_in.Reads as left-in-reads
 
--- src/lib.rt:55:5
+-- src/lib.rt:46:5
 load-words-requires : tie.Need-load-words-requires
 load-words-requires c κs = search needs
 
--- src/lib.rt:56:5
+-- src/lib.rt:47:5
 begin-requires : tie.Need-begin-requires
 begin-requires c κs = search needs
 
--- src/lib.rt:57:9
+-- src/lib.rt:48:9
 mark-body-requires : tie.Need-mark-body-requires
 mark-body-requires c κs = search needs
 
--- src/lib.rt:58:5
+-- src/lib.rt:49:5
 save-cells-requires : tie.Need-save-cells-requires
 save-cells-requires c κs = search needs
 
--- src/lib.rt:60:25
+-- src/lib.rt:51:25
 left-in-requires : tie.Need-left-in-requires
 left-in-requires c κs = search needs
 
--- src/lib.rt:60:25
-cast-t26 : tie.Need-cast-t26
-cast-t26 c = search needs
+-- src/lib.rt:51:25
+cast-t25 : tie.Need-cast-t25
+cast-t25 c = search needs
 
--- src/lib.rt:60:16
-sub-t27 : tie.Need-sub-t27
-sub-t27 c = search needs
+-- src/lib.rt:51:16
+sub-t26 : tie.Need-sub-t26
+sub-t26 c = search needs
 
--- src/lib.rt:61:17
+-- src/lib.rt:52:17
 told-requires : tie.Need-told-requires
 told-requires c κs = search needs
 
--- src/lib.rt:42:1
+-- src/lib.rt:33:1
 same-length : tie.Need-same-length
 same-length c = search needs
 
--- src/lib.rt:42:1
+-- src/lib.rt:33:1
 same-length-2 : tie.Need-same-length-2
 same-length-2 c = search needs
 
--- src/lib.rt:42:1
+-- src/lib.rt:33:1
 returns : tie.Need-returns
 returns c = search (mark-is, needs)
 
@@ -64,8 +64,8 @@ mark-with-spec =
     mark-body-requires
     save-cells-requires
     left-in-requires
-    cast-t26
-    sub-t27
+    cast-t25
+    sub-t26
     told-requires
     same-length
     same-length-2

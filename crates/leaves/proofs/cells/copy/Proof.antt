@@ -7,19 +7,19 @@ use Rattle.leaves.proofs.cells.copy.Lts as lts
 use Rattle.leaves.proofs.cells.copy_down.Reads as copy-down-reads
 use Rattle.leaves.proofs.cells.copy_up.Reads as copy-up-reads
 
--- src/cells.rt:73:9
+-- src/cells.rt:72:9
 copy-up-requires : tie.Need-copy-up-requires
 copy-up-requires c κs = search needs
 
--- src/cells.rt:75:9
+-- src/cells.rt:74:9
 copy-down-requires : tie.Need-copy-down-requires
 copy-down-requires c κs = search needs
 
--- src/cells.rt:69:1
+-- src/cells.rt:68:1
 returns : tie.Need-returns
 returns c = search copy-laws
 
--- src/cells.rt:69:1
+-- src/cells.rt:68:1
 returns-2 : tie.Need-returns-2
 returns-2 c = search copy-laws
 

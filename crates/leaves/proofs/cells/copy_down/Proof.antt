@@ -1,5 +1,4 @@
 use Rattle.leaves.specs.Cells.{CopyingFrom}
-use Rattle.steps.specs.Ends.{cellsIn}
 use borrow.Author.Needs.{needs}
 use Rattle.leaves.proofs.Storing.{down-end, down-next, down-start}
 use Prim.Native.Nat.{ℕ, _<_, _≤_, _+_, _*_, _-_}
@@ -10,32 +9,32 @@ use Rattle.leaves.proofs.cells.copy_down.Lts as lts
 use Rattle.leaves.proofs.cells.copy_one.Reads as copy-one-reads
 
 abbrev Inv-loop : tie.InvT-loop
-Inv-loop store₀ s a k i₀ store i = (i ≤ k) × CopyingFrom store₀ (cellsIn store₀) s a i k store
+Inv-loop store₀ s a k i₀ store i = (i ≤ k) × CopyingFrom store₀ s a i k store
 
 abbrev μ-loop : tie.MeasureT-loop
 μ-loop store₀ s a k i₀ store i = i
 
--- src/cells.rt:62:5
+-- src/cells.rt:61:5
 loop-holds : tie.Need-loop-holds Inv-loop μ-loop
 loop-holds c = (search needs, search down-start)
 
--- src/cells.rt:63:9
+-- src/cells.rt:62:9
 sub-i : tie.Need-sub-i Inv-loop μ-loop
 sub-i c = search needs
 
--- src/cells.rt:64:9
+-- src/cells.rt:63:9
 copy-one-requires : tie.Need-copy-one-requires Inv-loop μ-loop
 copy-one-requires c κs = search needs
 
--- src/cells.rt:62:5
+-- src/cells.rt:61:5
 loop-less : tie.Need-loop-less Inv-loop μ-loop
 loop-less c = search needs
 
--- src/cells.rt:62:5
+-- src/cells.rt:61:5
 loop-again : tie.Need-loop-again Inv-loop μ-loop
 loop-again c = (search needs, search (down-next, needs))
 
--- src/cells.rt:58:1
+-- src/cells.rt:57:1
 returns : tie.Need-returns Inv-loop μ-loop
 returns c = search down-end
 

@@ -1,5 +1,4 @@
 use Rattle.leaves.specs.Cells.{CopyingUp}
-use Rattle.steps.specs.Ends.{cellsIn}
 use borrow.Author.Needs.{needs}
 use Rattle.leaves.proofs.Storing.{up-end, up-next, up-start}
 use Prim.Native.Nat.{ℕ, _<_, _≤_, _+_, _*_, _-_}
@@ -10,32 +9,32 @@ use Rattle.leaves.proofs.cells.copy_up.Lts as lts
 use Rattle.leaves.proofs.cells.copy_one.Reads as copy-one-reads
 
 abbrev Inv-loop : tie.InvT-loop
-Inv-loop store₀ s a k i₀ store i = (i ≤ k) × CopyingUp store₀ (cellsIn store₀) s a i store
+Inv-loop store₀ s a k i₀ store i = (i ≤ k) × CopyingUp store₀ s a i store
 
 abbrev μ-loop : tie.MeasureT-loop
 μ-loop store₀ s a k i₀ store i = k - i
 
--- src/cells.rt:51:5
+-- src/cells.rt:50:5
 loop-holds : tie.Need-loop-holds Inv-loop μ-loop
 loop-holds c = (search needs, search up-start)
 
--- src/cells.rt:52:9
+-- src/cells.rt:51:9
 copy-one-requires : tie.Need-copy-one-requires Inv-loop μ-loop
 copy-one-requires c κs = search needs
 
--- src/cells.rt:53:9
+-- src/cells.rt:52:9
 add-i : tie.Need-add-i Inv-loop μ-loop
 add-i c = search needs
 
--- src/cells.rt:51:5
+-- src/cells.rt:50:5
 loop-less : tie.Need-loop-less Inv-loop μ-loop
 loop-less c = search needs
 
--- src/cells.rt:51:5
+-- src/cells.rt:50:5
 loop-again : tie.Need-loop-again Inv-loop μ-loop
 loop-again c = (search needs, search up-next)
 
--- src/cells.rt:47:1
+-- src/cells.rt:46:1
 returns : tie.Need-returns Inv-loop μ-loop
 returns c = search up-end
 
