@@ -128,18 +128,18 @@ limits Γ Δ xs 𝓕 h l = record {
 }
 
 -- between two integers
-int-between : (lo hi z : ℤ) → InInt lo → InInt hi → inside lo hi z ≡ true → InInt z
+pub int-between : (lo hi z : ℤ) → InInt lo → InInt hi → inside lo hi z ≡ true → InInt z
 int-between lo hi z a b h =
     let i = inside-is lo hi z h in
     record { ok = inside-both least most z (leZ-trans least lo z (inside-is least most lo (a .ok) .0) (i .0)) (leZ-trans z hi most (i .1) (inside-is least most hi (b .ok) .1)) }
 
-pick-int : (q : Bool) (x y : ℤ) → InInt x → InInt y → InInt (pick q x y)
+pub pick-int : (q : Bool) (x y : ℤ) → InInt x → InInt y → InInt (pick q x y)
 unfolding pick
 pick-int true x y a b = a
 pick-int false x y a b = b
 
 module _ (Γ : Types) (Δ : Vars) (𝓛 : Limits Γ Δ) where
-  operation-sized : (f : Fun) (k : ℕ) {q : Rule1} → functionRule Γ f k ≡ some q → SizedOperation (q .operation)
+  pub operation-sized : (f : Fun) (k : ℕ) {q : Rule1} → functionRule Γ f k ≡ some q → SizedOperation (q .operation)
   unfolding functionRule
   operation-sized negate k h = given-some h λ _ e. rw (← e) intNegate
   operation-sized notOf k h = given-some h λ _ e. rw (← e) boolNot
@@ -179,7 +179,7 @@ module _ (Γ : Types) (Δ : Vars) (𝓛 : Limits Γ Δ) where
   unfolding expects
   expected-sized e k c h = bind-some h λ x hx e′. given-some e′ λ _ v. rw (← v) (sized-e e x hx)
 
-  labels-sized : (k : ℕ) (ls : List X.Const) → allPlain ls ≡ true → (zs : List ℤ) → elabLabels Γ Δ k ls ≡ some zs → SizedLabels zs
+  pub labels-sized : (k : ℕ) (ls : List X.Const) → allPlain ls ≡ true → (zs : List ℤ) → elabLabels Γ Δ k ls ≡ some zs → SizedLabels zs
   unfolding elabLabels allPlain plain
   labels-sized k [] p zs h = rw (← some-inj h) noLabels
   labels-sized k (l ∷ ls) p zs h =
@@ -192,7 +192,7 @@ module _ (Γ : Types) (Δ : Vars) (𝓛 : Limits Γ Δ) where
   assign-sized true n w c o k p s = assignOrdinal k (rw (ord-layout _ (w .type) _ o) at p) (𝓛 .low (w .type)) (𝓛 .high (w .type)) s
   assign-sized false n w c o k p s = assignWhole k p s
 
-  for-cell : (i : ℕ) (v : Var) → variable Δ i ≡ some v → ordinal? Γ (v .type) ≡ true → v .base < 2048
+  pub for-cell : (i : ℕ) (v : Var) → variable Δ i ≡ some v → ordinal? Γ (v .type) ≡ true → v .base < 2048
   for-cell i v h o = let l : v .base + 1 ≤ 2048 = rw (ord-layout _ (v .type) _ o) at (𝓛 .vars i v h) in omega arith
 
   module _ {k : ℕ} where

@@ -3,7 +3,7 @@
 -- Then what the code that reads and runs a text needs: facts about the code of an accepted text, its layout, and one pass over a body.
 use mathlib.Core.Path.{_≡_, refl}
 use mathlib.Core.Bool.{false, true}
-use mathlib.Core.List.{List, [], _∷_}
+use mathlib.Core.List.{List, [], _∷_, map}
 use mathlib.Core.Option.{Option, none, some}
 use Prim.Native.Nat.{ℕ, _+_, _*_, _-_, _<_, _≤_}
 use native.Mathlib.Omega.{arith}
@@ -23,7 +23,7 @@ use Rattle.semantics.specs.Layout.{Laid, layBodies}
 use Rattle.semantics.specs.LayoutSize.{sizeBody, sizeBodies, sizeSymbols}
 use Rattle.semantics.specs.Readback.{readBody, bodyAtPlaces}
 use Rattle.semantics.specs.Stages.{bodyStaged}
-use Rattle.semantics.specs.Machine.{Outcome, spent, state, sticks}
+use Rattle.semantics.specs.Machine.{Outcome, normal, spent, state, sticks}
 use Rattle.semantics.specs.Store.{storeFault}
 use Rattle.semantics.specs.Verdict.{Judged, Read, accepted, judgeLine, strictly}
 use Rattle.semantics.specs.Whole.{Report, fresh, lent, markOf, onStore, ran, report, runAll, runOf, verdictOf}
@@ -35,14 +35,20 @@ use Rattle.semantics.proofs.ValuesInRange.{Sound, Test}
 use Rattle.semantics.proofs.LinesKeep.{AllFormed, body as formed, tests, text-keeps}
 use Rattle.semantics.proofs.BodiesInRange.{store-passes, store-sound, sound-store, text-safely}
 use Rattle.semantics.proofs.Reports.{ended, moved-on, at-most, all-spent, next-taken, same-report}
+use Rattle.semantics.proofs.Programs.{no-procs}
+use Rattle.semantics.proofs.StatementsNoted.{Notes, all-n, answer-n}
 use Rattle.semantics.proofs.Bodies as Numbered
 use Rattle.semantics.proofs.Bodies.{Bodies}
 use Rattle.semantics.proofs.CodeSafe.{SafeBody}
 use Rattle.semantics.proofs.CodeCalls.{CallsBody}
 use Rattle.semantics.proofs.CodeSized.{SizedBody}
+use Rattle.semantics.proofs.CodeReady.{ReadyBody}
 use Rattle.semantics.proofs.ElaboratedSafe.{body-safe}
 use Rattle.semantics.proofs.LinesMeasured.{text-measured}
-use Rattle.semantics.proofs.TextRoom.{text-within, text-room}
+use Rattle.semantics.proofs.TextRoom.{text-within, text-room, total-room}
+use Rattle.semantics.proofs.Measure.{Measure, total}
+use Rattle.semantics.proofs.MeasurePlaces.{throughPlaces, total-places}
+use Rattle.semantics.proofs.ForLoops.{forsBodies, ofFors, total-fors}
 use Rattle.semantics.proofs.LayoutBodies as Held
 use Rattle.semantics.proofs.LayoutBodies.{no-bodies}
 use Rattle.semantics.proofs.LayoutFits.{all-laid, bodies-fit}
@@ -109,8 +115,8 @@ module _ (text : List ℕ) (work : ℕ) (r : Read) (accept : verdictOf text work
   pub larger-budget : (budget k n : ℕ) (o : Outcome) → run budget .ending ≡ ran o n → (o ≡ spent → ⊥) → run (budget + k) ≡ run budget
   larger-budget budget k n o h e = rw (run-is budget, run-is (budget + k)) (same-report (r .codes) (fresh vs ms) (length vs) budget k n o (rw (run-is budget) at h) e)
 
--- ---- the code of an accepted text, for those who lay it down and run it. The predicates are in CodeSafe, CodeCalls and CodeSized; bodies are
--- counted from 0, main's is the last
+-- ---- the code of an accepted text, for those who lay it down and run it. The predicates are in CodeSafe, CodeCalls, CodeSized and CodeReady;
+-- bodies are counted from 0, main's is the last
 
 all-safe : {xs : List Test} {k : ℕ} {bs : List PlacedBody} {cs : List BodyCode} → Paired bs cs → AllFormed xs bs → Bodies (λ _. SafeBody xs) k cs
 all-safe empty a = Numbered.none
@@ -137,6 +143,14 @@ module _ (text : List ℕ) (work : ℕ) (r : Read) (accept : verdictOf text work
   pub code-sized : Bodies (λ _. SizedBody) 0 (r .codes)
   code-sized = text-measured text work r accept .0 .sized
 
+  -- what an engine needs: the numbers, one-cell expressions, the reach of places, and at most 32 brackets in an expression
+  pub code-ready : Bodies (λ _. ReadyBody 31) 0 (r .codes)
+  code-ready = text-measured text work r accept .0 .ready
+
+  -- the statement of the last exception is one of the script's
+  pub statement-noted : Notes (runAll (r .codes) [])
+  statement-noted = all-n code-sized [] (no-procs Notes (answer-n normal))
+
   -- how many cells, and how many bodies
   pub cell-count : length (r .known .cells) ≤ 2048
   cell-count = text-measured text work r accept .0 .cells
@@ -153,6 +167,21 @@ module _ (text : List ℕ) (work : ℕ) (r : Read) (accept : verdictOf text work
   -- so the 16,384 that the working list must have are
   pub room-enough : 1 + sizeSymbols (r .known .env) + sizeBodies (r .codes) ≤ 16384
   room-enough = text-room text work r accept
+
+  -- the code alone, by any measure of it (Measure)
+  pub any-room : (M : Measure) → total M (r .codes) ≤ 16384
+  any-room M = total-room M text work r accept
+
+  -- and as it is read back, with places for the bodies that it calls
+  pub any-room-at : (places : List ℕ) (M : Measure) → total M (map (bodyAtPlaces places) (r .codes)) ≤ 16384
+  any-room-at places M = rw (← total-places places M (r .codes)) (any-room (throughPlaces places M))
+
+  -- so there are at most 1,024 `for` loops, in all bodies together
+  pub for-room : 16 * forsBodies (r .codes) ≤ 16384
+  for-room = omega (arith, any-room ofFors, total-fors (r .codes))
+
+  pub for-room-at : (places : List ℕ) → 16 * forsBodies (map (bodyAtPlaces places) (r .codes)) ≤ 16384
+  for-room-at places = omega (arith, any-room-at places ofFors, total-fors (map (bodyAtPlaces places) (r .codes)))
 
   bodies-laid : (t : ℕ) (l : List ℕ) → 1 ≤ t → t + sizeBodies (r .codes) ≤ 16384 → 16384 ≤ length l → (other : BodyCode)
       → Held.Bodies other t (layBodies [] (r .codes) t l .top) (layBodies [] (r .codes) t l .list) (layBodies [] (r .codes) t l .places) (r .codes)

@@ -23,7 +23,7 @@ use Rattle.semantics.proofs.CodeSafe.{Kind, ordinals, sets, integers, b
 use Rattle.semantics.proofs.Inversion.{and-true, some-inj, both-some, bind-some, given-some, either-some}
 
 -- the shapes of types of one cell
-data Single : Shape → Type 0 where
+pub data Single : Shape → Type 0 where
   an-ordinal : Single ordinalShape
   a-set : Single setShape
 
@@ -39,7 +39,7 @@ single-set setShape h = a-set
 single-set arrayShape h = wrong h
 single-set recordShape h = wrong h
 
-single-cells : (s : Shape) → Single s → (t : ℕ) (cs : List ℕ) → cellsBy s t cs ≡ t ∷ []
+pub single-cells : (s : Shape) → Single s → (t : ℕ) (cs : List ℕ) → cellsBy s t cs ≡ t ∷ []
 single-cells ordinalShape an-ordinal t cs = refl
 single-cells setShape a-set t cs = refl
 
@@ -84,19 +84,19 @@ module _ (Γ : Types) (Δ : Vars) (xs : List Test) (𝓕 : Formed Γ Δ xs) wher
 
   -- ---- operands and results are of one cell
 
-  abbrev One : ℕ → Type 0
+  abbrev pub One : ℕ → Type 0
   One k = Single (infoAt Γ k .shape)
 
-  one-ordinal : (k : ℕ) → ordinal? Γ k ≡ true → One k
+  pub one-ordinal : (k : ℕ) → ordinal? Γ k ≡ true → One k
   one-ordinal k h = single-ordinal (infoAt Γ k .shape) h
 
-  one-set : (k : ℕ) → set? Γ k ≡ true → One k
+  pub one-set : (k : ℕ) → set? Γ k ≡ true → One k
   one-set k h = single-set (infoAt Γ k .shape) h
 
-  one-integer : One 0
+  pub one-integer : One 0
   one-integer = one-ordinal 0 (𝓕 .integers .0)
 
-  one-boolean : One 1
+  pub one-boolean : One 1
   one-boolean = one-ordinal 1 (𝓕 .booleans .0)
 
   one-base : (k : ℕ) → set? Γ k ≡ true → One (baseOf Γ k)
@@ -128,10 +128,10 @@ module _ (Γ : Types) (Δ : Vars) (xs : List Test) (𝓕 : Formed Γ Δ xs) wher
   of-boolean = of-ordinal 1 (𝓕 .booleans .0) ∙ rw (𝓕 .booleans .1, 𝓕 .booleans .2)
 
   -- the operands and the result of an operation: of one cell, and of kinds that it works on
-  record Operands (c : Operation) (l r k : ℕ) : Type 0 where
-    left : One l
-    right : One r
-    result : One k
+  pub record Operands (c : Operation) (l r k : ℕ) : Type 0 where
+    pub left : One l
+    pub right : One r
+    pub result : One k
     works : Works c (kind l) (kind r) (kind k)
 
   -- an entry of the table, by its test and its result
@@ -171,7 +171,7 @@ module _ (Γ : Types) (Δ : Vars) (xs : List Test) (𝓕 : Formed Γ Δ xs) wher
         let b : ordinal? Γ (baseOf Γ r) ≡ true = 𝓕 .hosts (infoAt Γ r .element) (𝓕 .bases r (p .0)) in
         record { left = o .0; right = o .1; result = one-boolean; works = rw (eqb-true l (baseOf Γ r) (p .1), of-ordinal (baseOf Γ r) b, of-set r (p .0), of-boolean) memberOf }
 
-    operands : (op : Op) {q : Rule} → operatorRule Γ op l r ≡ some q → Operands (q .operation) l r (q .kind)
+    pub operands : (op : Op) {q : Rule} → operatorRule Γ op l r ≡ some q → Operands (q .operation) l r (q .kind)
     unfolding operatorRule
     operands plus h = either-some h (on-integers _ intAdd) (on-sets _ (λ _ _. setUnion))
     operands minus h = either-some h (on-integers _ intSub) (on-sets _ (λ _ _. setDifference))
@@ -189,9 +189,9 @@ module _ (Γ : Types) (Δ : Vars) (xs : List Test) (𝓕 : Formed Γ Δ xs) wher
     operands andBoth h = on-booleans _ boolAnd h
     operands orBoth h = on-booleans _ boolOr h
 
-  record Argument (c : Operation1) (k l : ℕ) : Type 0 where
-    only : One k
-    result : One l
+  pub record Argument (c : Operation1) (k l : ℕ) : Type 0 where
+    pub only : One k
+    pub result : One l
     works : Works1 c (kind k) (kind l)
 
   entry1 : (k l : ℕ) (c : Operation1) {t : Bool} {q : Rule1} → given t (rule1 c l) ≡ some q → (t ≡ true → Argument c k l) → Argument (q .operation) k (q .kind)
@@ -200,7 +200,7 @@ module _ (Γ : Types) (Δ : Vars) (xs : List Test) (𝓕 : Formed Γ Δ xs) wher
   of-integers : (k : ℕ) (c : Operation1) {q : Rule1} → Works1 c integers integers → given (eqb k 0) (rule1 c 0) ≡ some q → Argument (q .operation) k (q .kind)
   of-integers k c w h = entry1 k 0 c h λ t. rw (eqb-true k 0 t) (record { only = one-integer; result = one-integer; works = rw of-integer w })
 
-  argument : (f : Fun) (k : ℕ) {q : Rule1} → functionRule Γ f k ≡ some q → Argument (q .operation) k (q .kind)
+  pub argument : (f : Fun) (k : ℕ) {q : Rule1} → functionRule Γ f k ≡ some q → Argument (q .operation) k (q .kind)
   unfolding functionRule
   argument negate k h = of-integers k _ intNegate h
   argument notOf k h = entry1 k 1 _ h λ t. rw (eqb-true k 1 t) (record { only = one-boolean; result = one-boolean; works = rw of-boolean boolNot })

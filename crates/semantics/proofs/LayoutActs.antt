@@ -67,8 +67,11 @@ module _ (bodies : List ℕ) where
   pub record CasesAt (l : List ℕ) (s : ℕ) (cs : Cases) : Type 0 where
     pub read : CasesFit (length bodies) cs → (places : List ℕ) → Begins bodies places → (d : ℕ) → sizeCases cs ≤ d → readCases d l s ≡ casesAtPlaces places cs
 
-  pub record BodyAt (l : List ℕ) (p : ℕ) (b : BodyCode) : Type 0 where
+  -- body number k; its node begins with that number
+  pub record BodyAt (k : ℕ) (l : List ℕ) (p : ℕ) (b : BodyCode) : Type 0 where
+    pub later : 1 ≤ p
     pub inside : p < length l
+    pub number : getD l p 0 ≡ k
     pub read : BodyFits (length bodies) b → (places : List ℕ) → Begins bodies places → (d : ℕ) → sizeBody b ≤ d → readBody d l p ≡ bodyAtPlaces places b
 
   module _ {l : List ℕ} {p : ℕ} where
@@ -233,13 +236,18 @@ module _ (bodies : List ℕ) where
   read-body b n A H f places N d e =
       rw (n .at 1 (omega arith), n .at 2 (omega arith), n .at 3 (omega arith), flag-back (b .handles), A .read (f .acts-fit) places N d (omega arith), H .read (f .handler-fits) places N d (omega arith))
 
-  pub laid-body : (k : ℕ) (b : BodyCode) (t : ℕ) (l : List ℕ) → Lays (sizeBody b) t l (layBody bodies k b t l) (λ l′. BodyAt l′ (layBody bodies k b t l .pos) b)
+  pub laid-body : (k : ℕ) (b : BodyCode) (t : ℕ) (l : List ℕ) → Lays (sizeBody b) t l (layBody bodies k b t l) (λ l′. BodyAt k l′ (layBody bodies k b t l .pos) b)
   unfolding layBody sizeBody lay link
   laid-body k b t l =
       let s = lay (0 ∷ []) t l in
       let m = layActs bodies (b .acts) t (s .top) (s .list) in
       map-l (slot-l (laid-acts (b .acts) t _ _) next slot-l (laid-acts (b .handler) _ _ _) next lay-l (k ∷ t ∷ flag (b .handles) ∷ m .top ∷ []) _ _)
-      (λ l′ h. record { inside = has-inside (h .1) (h .0 .0 .0); read = read-body b (h .1) (h .0 .0 .1) (h .0 .1 .1) })
+      (λ l′ h. record {
+        later = h .1 .later;
+        inside = has-inside (h .1) (h .0 .0 .0);
+        number = first _ _ _ _ (h .1);
+        read = read-body b (h .1) (h .0 .0 .1) (h .0 .1 .1);
+      })
 
   -- ---- where it stands: at or below the free place
 

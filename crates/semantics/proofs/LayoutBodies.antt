@@ -36,7 +36,10 @@ begun places p all N = record {
 module _ (other : BodyCode) where
   -- the list holds these bodies at these places; the places of all, also of later ones, are `all`
   pub record BodiesAt (l places : List ℕ) (bs : List BodyCode) : Type 0 where
+    pub later : (k : ℕ) → k < length places → 1 ≤ getD places k 0
     pub inside : (k : ℕ) → k < length places → getD places k 0 < length l
+    -- a body's node begins with its number
+    pub number : (k : ℕ) → k < length places → getD l (getD places k 0) 0 ≡ k
     pub read : (all : List ℕ) → Begins places all → (k : ℕ) → k < length bs → (d : ℕ) → sizeBody (getD bs k other) ≤ d
         → readBody d l (getD places k 0) ≡ bodyAtPlaces all (getD bs k other)
 
@@ -48,7 +51,12 @@ module _ (other : BodyCode) where
   pub no-bodies : (a t : ℕ) (l : List ℕ) → Bodies a t l [] []
   no-bodies a t l = record {
     count = refl;
-    held = λ l′ e. record { inside = λ k h. absurd (omega arith); read = λ all N k h d g. absurd (omega arith) };
+    held = λ l′ e. record {
+      later = λ k h. absurd (omega arith);
+      inside = λ k h. absurd (omega arith);
+      number = λ k h. absurd (omega arith);
+      read = λ all N k h d g. absurd (omega arith);
+    };
   }
 
   -- the next body is laid at the free place
@@ -58,14 +66,16 @@ module _ (other : BodyCode) where
       (bs ++ b ∷ [])
   body-next a t l places bs b i r f B =
       let o = layBody places (length places) b t l in
-      let L : Lays (sizeBody b) t l o (λ l′. BodyAt places l′ (o .pos) b) = laid-body places (length places) b t l in
+      let L : Lays (sizeBody b) t l o (λ l′. BodyAt places (length places) l′ (o .pos) b) = laid-body places (length places) b t l in
       record {
         count = omega (arith, length-append places (o .pos ∷ []), length-append bs (b ∷ []), B .count);
         held = λ l′ e.
             let old : BodiesAt l′ places bs = B .held l′ (record { at = λ j h k. e .at j h (omega (arith, L .grows .up)) ∙ L .grows .below j k }) in
-            let new : BodyAt places l′ (o .pos) b = L .held r l′ (record { at = λ j h k. e .at j (omega arith) k }) in
+            let new : BodyAt places (length places) l′ (o .pos) b = L .held r l′ (record { at = λ j h k. e .at j (omega arith) k }) in
             record {
+              later = one-more places (o .pos) 0 (λ _ q. 1 ≤ q) (old .later) (new .later);
               inside = one-more places (o .pos) 0 (λ _ q. q < length l′) (old .inside) (new .inside);
+              number = one-more places (o .pos) 0 (λ k q. getD l′ q 0 ≡ k) (old .number) (new .number);
               read = λ all N.
                   let M : Begins places all = begun places (o .pos) all N in
                   one-more bs b other (λ k c. (d : ℕ) → sizeBody c ≤ d → readBody d l′ (getD (places ++ o .pos ∷ []) k 0) ≡ bodyAtPlaces all c)

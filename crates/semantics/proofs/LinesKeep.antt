@@ -82,6 +82,7 @@ formed-more ys f = record {
   wider = f .wider;
   small = f .small;
   filled = f .filled;
+  nonempty = f .nonempty;
   integers = f .integers;
   booleans = f .booleans;
   bases = f .bases;

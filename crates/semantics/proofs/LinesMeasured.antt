@@ -1,4 +1,4 @@
--- What accepted lines keep of the ceilings, and of the code of their bodies: its calls and the sizes of its numbers.
+-- What accepted lines keep of the ceilings, and of the code of their bodies: its calls, the sizes of its numbers, and what an engine needs.
 use mathlib.Core.Path.{_≡_, refl, sym, ap, _∙_}
 use mathlib.Core.Bool.{Bool, true, false, not}
 use mathlib.Core.List.{List, [], _∷_, _++_, append-nil}
@@ -31,10 +31,14 @@ use Rattle.semantics.proofs.ValuesInRange.{wrong}
 use Rattle.semantics.proofs.TypeSizes.{SmallTypes, small-declared, small-start}
 use Rattle.semantics.proofs.LinesKeep.{Keeps, keeps-formed, keeps-start, line-keeps, tests, tests-length}
 use Rattle.semantics.proofs.StatementNumbers.{CountedBody, CountedLine, line-counts}
+use Rattle.semantics.proofs.TreeDepth.{Shallow, worded-shallow}
+use Rattle.semantics.proofs.Balance.{form-depth}
 use Rattle.semantics.proofs.Weights.{worded-nodes}
 use Rattle.semantics.proofs.ScriptNumbers.{WithinBody, body-within}
 use Rattle.semantics.proofs.CodeCalls.{CallsBody, body-calls}
-use Rattle.semantics.proofs.CodeSized.{SizedBody, body-sized, limits}
+use Rattle.semantics.proofs.CodeSized.{Limits, SizedBody, body-sized, limits}
+use Rattle.semantics.proofs.CodeReady.{ReadyBody}
+use Rattle.semantics.proofs.ElaboratedReady.{body-ready}
 use Rattle.semantics.proofs.Bodies.{Bodies, none, bodies-last}
 
 -- ---- what the lines so far gave
@@ -51,6 +55,7 @@ pub record Measured (k : Declared) (cs : List BodyCode) : Type 0 where
   pub main : k .ended ≡ true → 1 ≤ length cs
   pub calls : Bodies CallsBody 0 cs
   pub sized : Bodies (λ _. SizedBody) 0 cs
+  pub ready : Bodies (λ _. ReadyBody 31) 0 cs
 
 pub measured-start : Measured nothingDeclared []
 measured-start = record {
@@ -65,6 +70,7 @@ measured-start = record {
   main = λ h. wrong h;
   calls = none;
   sized = none;
+  ready = none;
 }
 
 open? : (b : Bool) → not b ≡ true → b ≡ false
@@ -78,13 +84,13 @@ must-good n false h = bad-good h
 
 -- the stages of a line that was judged good
 line-parts : {P : Type 0} (k : Declared) (l : Line) (p : Declared × List BodyCode) → judgeLine strictly k l ≡ good p
-    → ((v : Item) (f : S.LineForm × ℕ) (e : Entry) (n : ℕ) → k .ended ≡ false → lineForm (k .stmts) v ≡ some f → entryOf (k .env) (f .0) ≡ some e → keepsRules (k .env .types) e ≡ true
+    → ((v : Item) (f : S.LineForm × ℕ) (e : Entry) (n : ℕ) → Shallow 32 v → k .ended ≡ false → lineForm (k .stmts) v ≡ some f → entryOf (k .env) (f .0) ≡ some e → keepsRules (k .env .types) e ≡ true
     → strictly (k .env) e ≡ some (p .1) → lineBounded k e ≡ true → n ≡ k .nodes + nodes v → n ≤ 4096 → declareLine k e (f .1) n ≡ p .0 → P) → P
 unfolding judgeLine
 line-parts k l p h c =
     stage 4 h λ t h₄ h. stage 5 h λ v h₅ h. musted 6 (not (k .ended)) h λ h₆ _ h. stage 6 h λ f f₆ h. stage 7 h λ e h₇ h.
     musted 8 (keepsRules (k .env .types) e) h λ h₈ _ h. stage 8 h λ cs f₈ h. musted 9 _ h λ h₉ _ h.
-    c v f e (k .nodes + nodes t) (open? (k .ended) h₆) f₆ h₇ h₈ (f₈ ∙ ap (λ (q : Declared × List BodyCode). some (q .1)) (good-inj h)) (and-true (lineBounded k e) _ h₉ .0) (rw (worded-nodes t v h₅)) (leb-true _ _ (and-true (lineBounded k e) _ h₉ .1))
+    c v f e (k .nodes + nodes t) (worded-shallow (form-depth l t h₄) v h₅) (open? (k .ended) h₆) f₆ h₇ h₈ (f₈ ∙ ap (λ (q : Declared × List BodyCode). some (q .1)) (good-inj h)) (and-true (lineBounded k e) _ h₉ .0) (rw (worded-nodes t v h₅)) (leb-true _ _ (and-true (lineBounded k e) _ h₉ .1))
     (ap (λ (q : Declared × List BodyCode). q .0) (good-inj h))
 
 -- ---- a line more
@@ -108,6 +114,7 @@ module _ (k : Declared) (cs : List BodyCode) (h : Measured k cs) (going : k .end
     main = λ e. wrong e;
     calls = h .calls;
     sized = h .sized;
+    ready = h .ready;
   }
 
   var-measured : (w : Name) (t : ℕ) → Keeps (declareLine k (newVar w t) s n) → length (k .cells) + sizeOf (k .env .types) t ≤ 2048 → Measured (declareLine k (newVar w t) s n) cs
@@ -124,6 +131,7 @@ module _ (k : Declared) (cs : List BodyCode) (h : Measured k cs) (going : k .end
     main = λ e. wrong e;
     calls = h .calls;
     sized = h .sized;
+    ready = h .ready;
   }
 
   -- the code of a body on this line
@@ -134,10 +142,14 @@ module _ (k : Declared) (cs : List BodyCode) (h : Measured k cs) (going : k .end
     now-calls : Bodies CallsBody 0 (cs ++ (c ∷ []))
     now-calls = bodies-last c (h .calls) (rw (zero-add, h .long) (body-calls (k .env .types) (k .env .vars) within c coded))
 
+    now-limits : Limits (k .env .types) (k .env .vars)
+    now-limits = limits (k .env .types) (k .env .vars) (tests (k .env .types) (k .cells)) (keeps-formed k (h .keeps)) (h .small) (rw (tests-length (k .env .types) (k .cells)) (h .cells))
+
     now-sized : Bodies (λ _. SizedBody) 0 (cs ++ (c ∷ []))
-    now-sized =
-        let l = limits (k .env .types) (k .env .vars) (tests (k .env .types) (k .cells)) (keeps-formed k (h .keeps)) (h .small) (rw (tests-length (k .env .types) (k .cells)) (h .cells)) in
-        bodies-last c (h .sized) (body-sized (k .env .types) (k .env .vars) l within kept c coded)
+    now-sized = bodies-last c (h .sized) (body-sized (k .env .types) (k .env .vars) now-limits within kept c coded)
+
+    now-ready : Bodies (λ _. ReadyBody 31) 0 (cs ++ (c ∷ []))
+    now-ready = bodies-last c (h .ready) (body-ready (k .env) (tests (k .env .types) (k .cells)) (keeps-formed k (h .keeps)) now-limits counted x c names kept coded)
 
     now-long : (d : PlacedBody) → length (cs ++ (c ∷ [])) ≡ length (k .bodies ++ (d ∷ []))
     now-long d = rw (length-append, length-append, h .long)
@@ -156,6 +168,7 @@ module _ (k : Declared) (cs : List BodyCode) (h : Measured k cs) (going : k .end
       main = λ e. wrong e;
       calls = now-calls;
       sized = now-sized;
+      ready = now-ready;
     }
 
     main-measured : Keeps (declareLine k (newMain x) s n) → Measured (declareLine k (newMain x) s n) (cs ++ (c ∷ []))
@@ -172,6 +185,7 @@ module _ (k : Declared) (cs : List BodyCode) (h : Measured k cs) (going : k .end
       main = λ _. rw length-append (omega arith);
       calls = now-calls;
       sized = now-sized;
+      ready = now-ready;
     }
 
   -- what is shown of a line
@@ -190,10 +204,10 @@ module _ (k : Declared) (cs : List BodyCode) (h : Measured k cs) (going : k .end
       bind-some c λ d hd y. rw (← some-inj y) (main-measured f x hx u r d hd q)
 
 pub measured-line : (k : Declared) (cs : List BodyCode) (l : Line) (q : Declared × List BodyCode) → judgeLine strictly k l ≡ good q → Measured k cs → Measured (q .0) (cs ++ q .1)
-measured-line k cs l q hq p = line-parts k l q hq λ v f e m going h₆ h₇ h₈ c b em lm d.
+measured-line k cs l q hq p = line-parts k l q hq λ v f e m flat going h₆ h₇ h₈ c b em lm d.
     let i = line-counts (k .stmts) v f h₆ in
     let low : f .1 ≤ m = omega (arith, i .most, p .stmts) in
-    rw (← d) (line-measured k cs p going (f .1) m low lm (i .each 4096 (omega arith)) e h₇ (q .1) h₈ b c (line-keeps k (p .keeps) (f .0) e h₇ h₈ b (f .1) m))
+    rw (← d) (line-measured k cs p going (f .1) m low lm (i .each 4096 (omega arith) flat) e h₇ (q .1) h₈ b c (line-keeps k (p .keeps) (f .0) e h₇ h₈ b (f .1) m))
 
 -- ---- all lines
 

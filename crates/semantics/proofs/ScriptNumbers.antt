@@ -44,14 +44,14 @@ module _ (σ : Environment) {l k : ℕ} (ns : AllFair (σ .types) k (σ .names))
     unfolding stmtOf
 
     stmt-within : {s : S.Stmt} → Counted l s → (x : X.Stmt) → stmtOf σ s ≡ some x → Within l k x
-    stmt-within (Counted.assign n) x h = bind-some h λ r hr h. bind-some h λ y hy e. rw (← some-inj e) (assign n)
+    stmt-within (Counted.assign n g d) x h = bind-some h λ r hr h. bind-some h λ y hy e. rw (← some-inj e) (assign n)
     stmt-within (Counted.begin n ss) x h = bind-some h λ y hy e. rw (← some-inj e) (begin n (stmts-within ss y hy))
-    stmt-within (Counted.ifElse n a b) x h = bind-some h λ c hc h. bind-some h λ y hy h. bind-some h λ z hz e. rw (← some-inj e) (ifElse n (stmt-within a y hy) (stmt-within b z hz))
-    stmt-within (Counted.while n a) x h = bind-some h λ c hc h. bind-some h λ y hy e. rw (← some-inj e) (while n (stmt-within a y hy))
-    stmt-within (Counted.for n s) x h = bind-some h λ i hi h. bind-some h λ a ha h. bind-some h λ b hb h. bind-some h λ y hy e. rw (← some-inj e) (for n (stmt-within s y hy))
-    stmt-within (Counted.case n bs) x h = bind-some h λ c hc h. bind-some h λ y hy e. rw (← some-inj e) (case n (arms-within bs y hy))
+    stmt-within (Counted.ifElse n d a b) x h = bind-some h λ c hc h. bind-some h λ y hy h. bind-some h λ z hz e. rw (← some-inj e) (ifElse n (stmt-within a y hy) (stmt-within b z hz))
+    stmt-within (Counted.while n d a) x h = bind-some h λ c hc h. bind-some h λ y hy e. rw (← some-inj e) (while n (stmt-within a y hy))
+    stmt-within (Counted.for n d d′ s) x h = bind-some h λ i hi h. bind-some h λ a ha h. bind-some h λ b hb h. bind-some h λ y hy e. rw (← some-inj e) (for n (stmt-within s y hy))
+    stmt-within (Counted.case n d bs) x h = bind-some h λ c hc h. bind-some h λ y hy e. rw (← some-inj e) (case n (arms-within bs y hy))
     stmt-within (Counted.call {w = w} n) x h = bind-some h λ p hp e. rw (← some-inj e) (call n (proc-in σ ns w p hp))
-    stmt-within (Counted.raise n) x h = bind-some h λ y hy e. rw (← some-inj e) (raise n)
+    stmt-within (Counted.raise n d) x h = bind-some h λ y hy e. rw (← some-inj e) (raise n)
     stmt-within Counted.skip x h = rw (← some-inj h) skip
 
     stmts-within : {ss : S.Stmts} → CountedAll l ss → (x : X.Stmts) → stmtsOf σ ss ≡ some x → WithinAll l k x

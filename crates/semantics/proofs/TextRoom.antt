@@ -1,5 +1,6 @@
--- An accepted text takes at most 4 numbers for each of its brackets and words, symbol entries included: 16,384 are enough.
-use mathlib.Core.Path.{_≡_, refl, ap}
+-- An accepted text takes at most 4 numbers for each of its brackets and words, symbol entries included: 16,384 are enough. So does its code by
+-- any measure (Measure), where nothing but code is laid.
+use mathlib.Core.Path.{_≡_, refl, ap, _∙_}
 use mathlib.Core.Bool.{Bool, true, false, not}
 use mathlib.Core.List.{List, [], _∷_, _++_}
 use mathlib.Core.Option.{Option, some}
@@ -25,7 +26,8 @@ use Rattle.semantics.specs.Whole.{verdictOf}
 use Rattle.semantics.proofs.Inversion.{some-inj, bind-some, given-some, and-true}
 use Rattle.semantics.proofs.TextsAgree.{bad-good, accepted-inj, good-inj, musted, onward-is, opening-is, refused-accepted, stage}
 use Rattle.semantics.proofs.Weights.{line-weighs, weightD, weightL, worded-nodes}
-use Rattle.semantics.proofs.CodeRoom.{body-room}
+use Rattle.semantics.proofs.Measure.{Measure, total}
+use Rattle.semantics.proofs.CodeRoom.{body-room, body-takes}
 
 -- ---- rows 7 and 8: what a line takes
 
@@ -128,16 +130,19 @@ bodies-append (b ∷ bs) cs = rw (bodies-append bs cs) (omega arith)
 
 -- ---- a line judged good: what it declares, what it takes, and the ceiling of row 9
 
-pub line-room : {P : Type 0} (k : Declared) (l : Line) (p : Declared × List BodyCode) → judgeLine strictly k l ≡ good p
-    → ((e : Entry) (s n : ℕ) → declareLine k e s (k .nodes + n) ≡ p .0 → symbolSize e + sizeBodies (p .1) + 2 ≤ 4 * n → k .nodes + n ≤ 4096 → P) → P
+line-weight : {P : Type 0} (k : Declared) (l : Line) (p : Declared × List BodyCode) → judgeLine strictly k l ≡ good p
+    → ((f : Syntax.LineForm) (e : Entry) (s n : ℕ) → entryOf (k .env) f ≡ some e → strictly (k .env) e ≡ some (p .1) → declareLine k e s (k .nodes + n) ≡ p .0 → weightL f ≤ n → k .nodes + n ≤ 4096 → P) → P
 unfolding judgeLine
-line-room k l p h c =
+line-weight k l p h c =
     stage 4 h λ t h₄ h. stage 5 h λ v h₅ h. musted 6 (not (k .ended)) h λ _ _ h. stage 6 h λ f h₆ h. stage 7 h λ e h₇ h.
     musted 8 (keepsRules (k .env .types) e) h λ _ _ h. stage 8 h λ cs h₈ h. musted 9 _ h λ h₉ _ h.
-    c e (f .1) (nodes t) (ap (λ (q : Declared × List BodyCode). q .0) (good-inj h))
-    (rw (← ap (λ (q : Declared × List BodyCode). q .1) (good-inj h))
-    (let a = worded-nodes t v h₅ in let b = line-weighs (k .stmts) v f h₆ in let d = entry-room (k .env) (f .0) e cs h₇ h₈ in omega arith))
+    c (f .0) e (f .1) (nodes t) h₇ (h₈ ∙ ap (λ (q : Declared × List BodyCode). some (q .1)) (good-inj h)) (ap (λ (q : Declared × List BodyCode). q .0) (good-inj h))
+    (let a = worded-nodes t v h₅ in let b = line-weighs (k .stmts) v f h₆ in omega arith)
     (leb-true _ _ (and-true (lineBounded k e) (leb (k .nodes + nodes t) 4096) h₉ .1))
+
+pub line-room : {P : Type 0} (k : Declared) (l : Line) (p : Declared × List BodyCode) → judgeLine strictly k l ≡ good p
+    → ((e : Entry) (s n : ℕ) → declareLine k e s (k .nodes + n) ≡ p .0 → symbolSize e + sizeBodies (p .1) + 2 ≤ 4 * n → k .nodes + n ≤ 4096 → P) → P
+line-room k l p h c = line-weight k l p h λ f e s n h₇ h₈ hp w hn. c e s n hp (let d = entry-room (k .env) f e (p .1) h₇ h₈ in omega arith) hn
 
 -- ---- lines and texts
 
@@ -207,3 +212,38 @@ long-enough false c o f ls h = refused-accepted h
 pub text-fits : (text : List ℕ) (work : ℕ) (r : Read) → verdictOf text work ≡ accepted r → 1 + sizeSymbols (r .known .env) + sizeBodies (r .codes) ≤ work
 unfolding verdictOf judge
 text-fits text work r h = let l = leb-true 16384 work (long-enough _ _ _ _ _ h) in let m = text-room text work r h in omega arith
+
+-- ---- any measure of the code
+
+module _ (M : Measure) where
+  total-append : (bs cs : List BodyCode) → total M (bs ++ cs) ≡ total M bs + total M cs
+  unfolding total
+  total-append [] cs = omega arith
+  total-append (b ∷ bs) cs = rw (total-append bs cs) (omega arith)
+
+  -- a line's body
+  entry-total : (σ : Environment) (f : Syntax.LineForm) (e : Entry) (cs : List BodyCode) → entryOf σ f ≡ some e → strictly σ e ≡ some cs → total M cs ≤ 4 * weightL f
+  unfolding entryOf strictly total weightL
+  entry-total σ (Syntax.typeLine w t) e cs h k = bind-some h λ d hd h. rw (← some-inj (rw (← some-inj h) at k)) (omega arith)
+  entry-total σ (Syntax.varLine w t) e cs h k = bind-some h λ n _ h. given-some h λ _ h. rw (← some-inj (rw (← h) at k)) (omega arith)
+  entry-total σ (Syntax.procLine w b) e cs h k = bind-some h λ x hx h. given-some h λ _ h. bind-some (rw (← h) at k) λ c hc k.
+      rw (← some-inj k) (let l = body-takes M σ (σ .types) (σ .vars) b x c hx hc in omega arith)
+  entry-total σ (Syntax.mainLine b) e cs h k = bind-some h λ x hx h. bind-some (rw (← some-inj h) at k) λ c hc k.
+      rw (← some-inj k) (let l = body-takes M σ (σ .types) (σ .vars) b x c hx hc in omega arith)
+
+  line-total : (k : Declared) (cs : List BodyCode) (l : Line) (p : Declared × List BodyCode) → judgeLine strictly k l ≡ good p → total M cs ≤ 4 * k .nodes → total M (cs ++ p .1) ≤ 4 * p .0 .nodes
+  line-total k cs l p h t = line-weight k l p h λ f e s n h₇ h₈ hp w hn.
+      rw (← hp, total-append cs (p .1), declared-nodes) (let d = entry-total (k .env) f e (p .1) h₇ h₈ in omega arith)
+
+  lines-total : (n : ℕ) (ls : List Line) (k : Declared) (cs : List BodyCode) (r : Read) → judgeLines strictly n ls (has k cs) ≡ accepted r → total M cs ≤ 4 * k .nodes → total M (r .codes) ≤ 4 * r .known .nodes
+  unfolding judgeLines
+  lines-total n [] k cs r h t = onward-is n h λ _ _ e. rw (← accepted-inj e) t
+  lines-total n (l ∷ ls) k cs r h t = onward-is n h λ p hp h. lines-total (suc n) ls (p .0) (cs ++ p .1) r h (line-total k cs l p hp t)
+
+  -- 4 numbers for each bracket and word are enough, with 8 beside the statements of each body
+  pub total-within : (text : List ℕ) (work : ℕ) (r : Read) → verdictOf text work ≡ accepted r → total M (r .codes) ≤ 4 * r .known .nodes
+  unfolding verdictOf judge total
+  total-within text work r h = opening-is _ _ _ _ _ h λ h _. lines-total 1 (linesOf text) nothingDeclared [] r h (omega arith)
+
+  pub total-room : (text : List ℕ) (work : ℕ) (r : Read) → verdictOf text work ≡ accepted r → total M (r .codes) ≤ 16384
+  total-room text work r h = omega (arith, total-within text work r h, room-text text work r h .bounded)

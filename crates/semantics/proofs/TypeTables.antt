@@ -112,6 +112,7 @@ pub record Sane (Γ : Types) (t : ℕ) (j : TypeInfo) : Type 0 where
   pub wider : isOrdinal (j .shape) ≡ true → (leZ (infoAt Γ (j .host) .low) (j .low) ≡ true) × (leZ (j .high) (infoAt Γ (j .host) .high) ≡ true)
   pub small : isOrdinal (j .shape) ≡ true → (leZ least (j .low) ≡ true) × (leZ (j .high) most ≡ true)
   pub filled : isOrdinal (j .shape) ≡ true → leZ (j .low) (j .high) ≡ true
+  pub nonempty : isArray (j .shape) ≡ true → leZ (j .low) (j .high) ≡ true
   pub inner : t < length Γ → AllIn (length Γ) (cellsBy (j .shape) t (j .cells))
   pub fieldTypes : (n : Name) (f : Field) → fieldOf (j .fields) n ≡ some f → f .type < length Γ
   pub elements : isArray (j .shape) ≡ true → (z : ℤ) → inside (j .low) (j .high) z ≡ true
@@ -129,7 +130,7 @@ unfolding fieldOf
 no-field n f h = absurd (none-some h)
 
 none-entry : (Γ : Types) (t : ℕ) → Sane Γ t undeclared
-none-entry Γ t = record { inner = λ _. empty; element = λ h. wrong h; index = λ h. wrong h; base = λ h. wrong h; host = λ h. wrong h; bounds = λ h. wrong h; lowest = λ h. wrong h; wider = λ h. wrong h; small = λ h. wrong h; filled = λ h. wrong h; fieldTypes = λ m g k. no-field m g k; elements = λ h. wrong h; places = λ m g k. no-field m g k }
+none-entry Γ t = record { inner = λ _. empty; element = λ h. wrong h; index = λ h. wrong h; base = λ h. wrong h; host = λ h. wrong h; bounds = λ h. wrong h; lowest = λ h. wrong h; wider = λ h. wrong h; small = λ h. wrong h; filled = λ h. wrong h; nonempty = λ h. wrong h; fieldTypes = λ m g k. no-field m g k; elements = λ h. wrong h; places = λ m g k. no-field m g k }
 
 module _ (Γ : Types) (i : TypeInfo) where
   abbrev Γ′ : Types
@@ -156,6 +157,7 @@ module _ (Γ : Types) (i : TypeInfo) where
   extend : (t : ℕ) (j : TypeInfo) → t < length Γ → Sane Γ t j → Sane Γ′ t j
   extend t j l k = record {
     filled = k .filled;
+    nonempty = k .nonempty;
     inner = λ _. all-more (rw length-append (omega arith)) (k .inner l);
     element = λ p. longer (j .element) (k .element p);
     index = λ p. (longer (j .index) (k .index p .0), ord-old (j .index) (k .index p .0) (k .index p .1));
@@ -211,6 +213,7 @@ enum-declared Γ v vs p 𝓣 = extended Γ _ 𝓣 (record {
   wider = λ h. rw new (refl, leZ-refl (pos (length vs)));
   small = λ h. (refl, p);
   filled = λ h. le-leb 0 (length vs) (omega arith);
+  nonempty = λ h. wrong h;
   inner = λ l. more l empty;
   fieldTypes = λ m g k. no-field m g k;
   elements = λ h. wrong h;
@@ -229,6 +232,7 @@ range-declared Γ a b v 𝓣 = extended Γ _ 𝓣 (record {
   wider = λ p. rw (old Γ _ (a .kind) (v .0)) (v .2, v .3);
   small = λ p. (v .4, v .5);
   filled = λ p. v .6;
+  nonempty = λ h. wrong h;
   inner = λ l. more l empty;
   fieldTypes = λ m g k. no-field m g k;
   elements = λ h. wrong h;
@@ -247,6 +251,7 @@ array-declared Γ i e v 𝓣 = extended Γ _ 𝓣 (record {
   wider = λ h. wrong h;
   small = λ h. wrong h;
   filled = λ h. wrong h;
+  nonempty = λ p. 𝓣 .each i .filled (v .2);
   inner = λ l. all-copies _ (all-more (rw length-append (omega arith)) (𝓣 .each e .inner (v .0)));
   fieldTypes = λ m g k. no-field m g k;
   elements = λ p z q. rw (cells-old Γ _ e (v .0)) (copies-at _ _ (cellsOf Γ e) (inside-span _ _ z q));
@@ -265,6 +270,7 @@ record-declared Γ fs v 𝓣 = extended Γ _ 𝓣 (record {
   wider = λ h. wrong h;
   small = λ h. wrong h;
   filled = λ h. wrong h;
+  nonempty = λ h. wrong h;
   inner = λ l. all-more (rw length-append (omega arith)) (all-fields Γ 𝓣 fs v);
   fieldTypes = λ n f h. longer Γ _ (f .type) (placed-type (λ t. t < length Γ) Γ fs 0 n f h v);
   elements = λ h. wrong h;
@@ -283,6 +289,7 @@ set-declared Γ b v 𝓣 = extended Γ _ 𝓣 (record {
   wider = λ h. wrong h;
   small = λ h. wrong h;
   filled = λ h. wrong h;
+  nonempty = λ h. wrong h;
   inner = λ l. more l empty;
   fieldTypes = λ m g k. no-field m g k;
   elements = λ h. wrong h;
@@ -304,6 +311,7 @@ started = record { each = go; integers = (refl, refl, refl); booleans = (refl, r
     simple : (t : ℕ) (lo hi : ℤ) → t < 2 → (isOrdinal ordinalShape ≡ true → (leZ (infoAt builtIn t .low) lo ≡ true) × (leZ hi (infoAt builtIn t .high) ≡ true)) → ordinal? builtIn t ≡ true → leZ least lo ≡ true → leZ hi most ≡ true → leZ lo hi ≡ true → Sane builtIn t (ordinalInfo t lo hi)
     simple t lo hi l w o p q r = record {
       filled = λ _. r;
+      nonempty = λ h. wrong h;
       inner = λ k. more k empty;
       element = λ h. wrong h;
       index = λ h. wrong h;
@@ -346,6 +354,7 @@ formed Γ Δ tests 𝓣 𝓛 = record {
   wider = λ t p. rw (host-is _ t _ p) (𝓣 .each t .wider p);
   small = λ t p. 𝓣 .each t .small p;
   filled = λ t p. 𝓣 .each t .filled p;
+  nonempty = λ t p. 𝓣 .each t .nonempty p;
   integers = 𝓣 .integers;
   booleans = 𝓣 .booleans;
   bases = λ t p. 𝓣 .each t .base p .1;

@@ -215,6 +215,7 @@ pub record Formed (Γ : Types) (Δ : Vars) (tests : List Test) : Type 0 where
   pub wider : (t : ℕ) → ordinal? Γ t ≡ true → (leZ (infoAt Γ (hostOf Γ t) .low) (infoAt Γ t .low) ≡ true) × (leZ (infoAt Γ t .high) (infoAt Γ (hostOf Γ t) .high) ≡ true)
   pub small : (t : ℕ) → ordinal? Γ t ≡ true → (leZ least (infoAt Γ t .low) ≡ true) × (leZ (infoAt Γ t .high) most ≡ true)
   pub filled : (t : ℕ) → ordinal? Γ t ≡ true → leZ (infoAt Γ t .low) (infoAt Γ t .high) ≡ true
+  pub nonempty : (t : ℕ) → array? Γ t ≡ true → leZ (infoAt Γ t .low) (infoAt Γ t .high) ≡ true
   pub integers : (ordinal? Γ 0 ≡ true) × (infoAt Γ 0 .low ≡ least) × (infoAt Γ 0 .high ≡ most)
   pub booleans : (ordinal? Γ 1 ≡ true) × (infoAt Γ 1 .low ≡ pos 0) × (infoAt Γ 1 .high ≡ pos 1)
   pub bases : (t : ℕ) → set? Γ t ≡ true → ordinal? Γ (infoAt Γ t .element) ≡ true

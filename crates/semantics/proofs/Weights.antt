@@ -137,7 +137,7 @@ either-some (some b) h k l = k h
 either-some none h k l = l h
 
 -- the only word of a table
-among-one : {A : Type 0} (s : String) (a : A) (w : Name) {b : A} → among ((s, a) ∷ []) w ≡ some b → a ≡ b
+pub among-one : {A : Type 0} (s : String) (a : A) (w : Name) {b : A} → among ((s, a) ∷ []) w ≡ some b → a ≡ b
 unfolding among
 among-one s a w {b} h = go (same (bytes s) w) h
   where
