@@ -1,0 +1,104 @@
+-- Code that is ready for an engine (semantics, CodeReady) is code that the emitter has nodes and instructions for (run_nodes, run_emit).
+use mathlib.Core.Path.{_≡_, refl}
+use mathlib.Core.Bool.{true}
+use mathlib.Core.List.{List}
+use Prim.Native.Nat.{ℕ, _+_, _<_, _≤_}
+use native.Mathlib.Omega.{arith}
+use borrow.Author.Tests.{leb-true}
+use lib.IntN.{ℤ, pos, negsuc}
+use lib.ListN.{getD}
+use Rattle.arith.specs.Integers.{inside}
+use Rattle.arith.proofs.Ranges.{inside-is}
+use Rattle.semantics.specs.Code as C
+use Rattle.semantics.specs.Readback.{allAtPlaces, atPlaces, bodyAtPlaces, casesAtPlaces}
+use Rattle.semantics.proofs.CodeCalls as Calls
+use Rattle.semantics.proofs.CodeCalls.{Calls, CallsAll, CallsCases, CallsBody}
+use Rattle.semantics.proofs.CodeReady as R
+use Rattle.semantics.proofs.CodeReady.{ReadyCode, ReadyPlace, ReadyCodes, ReadyAct, ReadyActs, ReadyCases, ReadyBody}
+use Rattle.semantics.proofs.CodeSized.{InSet}
+use Rattle.semantics.proofs.ValuesInRange.{wrong}
+use Rattle.run_nodes.specs.Emitted.{Plain, PlainCodes, PlainPlace, Small, SmallFor, baseOf}
+use Rattle.run_emit.specs.Plainly.{Callable, PlainAct, PlainActs, PlainBody, PlainCases, PlainWhole}
+
+-- ---- expressions and places
+
+small-is : (z : ℤ) → inside (pos 0) (pos 31) z ≡ true → Small z
+small-is (pos n) h = let k = leb-true n 31 (inside-is (pos 0) (pos 31) (pos n) h .1) in record { digit = n; same = refl; low = omega (arith, k) }
+small-is (negsuc n) h = wrong (inside-is (pos 0) (pos 31) (negsuc n) h .0)
+
+small-for : (cs : C.Codes) {lo hi : ℤ} → InSet lo → InSet hi → SmallFor cs lo hi
+unfolding SmallFor
+small-for C.noCodes i j = tt
+small-for (C._with_ c cs) {lo} {hi} i j = (small-is lo (i .ok), small-is hi (j .ok))
+
+-- the cells of a place, and those that its indices skip, are in the store
+base-within : {d n : ℕ} {h : C.Place} → ReadyPlace d h n → baseOf h + n ≤ 2048
+unfolding baseOf
+base-within (R.cell l) = l
+base-within (R.index r c i j e) = omega (arith, base-within r, e .fits)
+base-within (R.shift r l) = omega (arith, base-within r, l)
+
+mutual
+  unfolding Plain
+
+  pub plain-code : {d : ℕ} {c : C.Code} → ReadyCode d c → Plain c
+  plain-code (R.literal i) = tt
+  plain-code (R.variable l) = (refl, omega (arith, l))
+  plain-code (R.at r) = (refl, plain-place r)
+  plain-code R.lastNumber = tt
+  plain-code (R.makeSet {cs = cs} i j r) = (small-for cs i j, plain-codes r)
+  plain-code (R.calculate a b) = (plain-code a, plain-code b)
+  plain-code (R.shortCut a b) = (plain-code a, plain-code b)
+  plain-code (R.calculate1 o a) = plain-code a
+
+  pub plain-place : {d n : ℕ} {h : C.Place} → ReadyPlace d h n → PlainPlace h
+  plain-place (R.cell l) = omega (arith, l)
+  plain-place (R.index r c i j e) = (plain-place r, plain-code c)
+  plain-place (R.shift r l) = (plain-place r, omega (arith, base-within r, l))
+
+  plain-codes : {d : ℕ} {cs : C.Codes} → ReadyCodes d cs → PlainCodes cs
+  plain-codes R.noCodes = tt
+  plain-codes (R._with_ c cs) = (plain-code c, plain-codes cs)
+
+plain-whole : {d : ℕ} {c : C.Code} → ReadyCode d c → PlainWhole c
+unfolding PlainWhole
+plain-whole (R.literal i) = plain-code (R.literal {d = 0} i)
+plain-whole (R.variable l) = plain-place (R.cell {d = 0} {n = 1} (omega (arith, l)))
+plain-whole (R.at r) = plain-place r
+plain-whole R.lastNumber = plain-code (R.lastNumber {d = 0})
+plain-whole (R.makeSet i j cs) = plain-code (R.makeSet i j cs)
+plain-whole (R.calculate a b) = plain-code (R.calculate a b)
+plain-whole (R.shortCut a b) = plain-code (R.shortCut a b)
+plain-whole (R.calculate1 o a) = plain-code (R.calculate1 o a)
+
+-- ---- statements, as they are read back: their calls are to places
+
+module _ (l places : List ℕ) (m : ℕ) (known : (j : ℕ) → j < m → Callable l places m (getD places j 0)) {d : ℕ} where
+  mutual
+    unfolding PlainAct PlainWhole atPlaces
+
+    plain-act : {a : C.Act} → ReadyAct d a → Calls m a → PlainAct l places m (atPlaces places a)
+    plain-act (R.assignOrdinal n p i j c) k = (plain-place p, plain-code c)
+    plain-act (R.assignSet n p c) k = (plain-place p, plain-whole c)
+    plain-act (R.copyCells n p q) k = (plain-place p, plain-place q)
+    plain-act (R.sequence n bs) (Calls.sequence k) = plain-acts bs k
+    plain-act (R.branchOn n c a b) (Calls.branchOn k h) = (plain-code c, plain-act a k, plain-act b h)
+    plain-act (R.whileLoop n c a) (Calls.whileLoop k) = (plain-code c, plain-act a k)
+    plain-act (R.forLoop n i lo hi x y a) (Calls.forLoop k) = (plain-code x, plain-code y, plain-act a k)
+    plain-act (R.caseOf n c bs) (Calls.caseOf k) = (plain-code c, plain-cases bs k)
+    plain-act (R.callTo n) (Calls.callTo {p} k) = known p k
+    plain-act (R.raiseWith n c) k = plain-code c
+    plain-act R.noAct k = tt
+
+    plain-acts : {bs : C.Acts} → ReadyActs d bs → CallsAll m bs → PlainActs l places m (allAtPlaces places bs)
+    plain-acts R.stop k = tt
+    plain-acts (R._also_ a bs) (Calls._also_ k h) = (plain-act a k, plain-acts bs h)
+
+    plain-cases : {bs : C.Cases} → ReadyCases d bs → CallsCases m bs → PlainCases l places m (casesAtPlaces places bs)
+    plain-cases (R.elseCase a) (Calls.elseCase k) = plain-act a k
+    plain-cases R.noCase k = tt
+    plain-cases (R.oneCase ls a bs) (Calls.oneCase k h) = (plain-act a k, plain-cases bs h)
+
+  pub plain-body : {b : C.BodyCode} → ReadyBody d b → CallsBody m b → PlainBody l places m (bodyAtPlaces places b)
+  unfolding bodyAtPlaces
+  plain-body r k = record { acts = plain-acts (r .acts) (k .acts); handler = λ _. plain-acts (r .handler) (k .handler) }
