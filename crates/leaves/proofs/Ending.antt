@@ -3,7 +3,7 @@ use mathlib.Core.Path.{_≡_, refl, sym, ap, subst, _∙_}
 use mathlib.Core.Bool.{Bool, true, false}
 use mathlib.Core.List.{List}
 use mathlib.Core.Logic.{_⊎_, inl, inr}
-use Prim.Native.Nat.{ℕ, zero, suc, _+_, _-_, _%_, _<_, _≤_, min}
+use Prim.Native.Nat.{ℕ, zero, suc, _+_, _-_, _%_, _<_, _≤_}
 use native.Mathlib.Nat.{mod-lt, mod-le, mod-eq-of-lt, mod-eq-sub-mod}
 use native.Mathlib.Omega.{arith}
 use lib.IntN.{ℤ, pos, _+ℤ_}
@@ -16,9 +16,8 @@ use Rattle.arith.specs.Integers.{inside, isZero}
 use Rattle.arith.proofs.Order.{le-or-lt}
 use Rattle.semantics.specs.Base.{pick}
 use Rattle.semantics.specs.Calculate.{Result, is, fails, stuck, natOf, systemError}
-use Rattle.semantics.specs.Machine.{Store, State, state, Answer, answer, andThen, continued, ended, Outcome, normal, spent, sticks, raised, raising, noting, sole, readCell, storeCells, withResult, branch, passOn, raiseNumber}
-use Rattle.evaluate.specs.Walks.{capped}
-use Rattle.calc.specs.Words.{greatest, faultBase, InRange, Ranged, wordOf, Means, first, latestAt, latestIn, placeAt, storeWord, storeWords, undefinedWord}
+use Rattle.semantics.specs.Machine.{Store, state, Answer, answer, andThen, continued, ended, Outcome, normal, spent, sticks, raised, raising, noting, readCell, storeCells, branch, passOn, raiseNumber}
+use Rattle.calc.specs.Words.{greatest, faultBase, InRange, Ranged, wordOf, Means, latestAt, latestIn, placeAt, storeWord, storeWords, undefinedWord}
 use Rattle.calc.proofs.Ranging.{range-value, above-fault, small-fault}
 use Rattle.steps.proofs.Noting.{fault-back}
 use Rattle.steps.specs.Ends.{placeIn, leftIn, toldBy, stepWord, raisedWord, faultIn, notedIn, numberIn, Raises}
@@ -298,54 +297,3 @@ word-fault (fails e) x M h =
     let f : faultIn x ≡ e = ap faultIn (M .word) ∙ fault-word e (M .ranged) .1 in
     record { gives = ap (λ (y : ℤ). fails y) (sym f); ranged = subst InRange (sym f) (fault-ranged e (M .ranged)) }
 word-fault stuck x M h = absurd (M .ranged)
-
--- the same of a value's first cell
-pub record Cells (v : Result (List ℤ)) (x : ℤ) : Type 0 where
-  pub zs : List ℤ
-  pub gives : v ≡ is zs
-  pub first-is : sole zs ≡ x
-  pub ranged : InRange x
-
-pub first-value : (v : Result (List ℤ)) (x : ℤ) → Means x (first v) → ltZ greatest x ≡ false → Cells v x
-unfolding wordOf Ranged
-first-value (is zs) x M h = record { zs = zs; gives = refl; first-is = sym (M .word); ranged = subst InRange (sym (M .word)) (M .ranged) }
-first-value (fails e) x M h = clash (sym (fault-word e (M .ranged) .0) ∙ ap (ltZ greatest) (sym (M .word)) ∙ h)
-first-value stuck x M h = absurd (M .ranged)
-
-pub first-fault : (v : Result (List ℤ)) (x : ℤ) → Means x (first v) → ltZ greatest x ≡ true → Faulty v x
-unfolding wordOf Ranged
-first-fault (is zs) x M h = clash (sym h ∙ ap (ltZ greatest) (M .word) ∙ range-value (sole zs) (M .ranged))
-first-fault (fails e) x M h =
-    let f : faultIn x ≡ e = ap faultIn (M .word) ∙ fault-word e (M .ranged) .1 in
-    record { gives = ap (λ (y : ℤ). fails y) (sym f); ranged = subst InRange (sym f) (fault-ranged e (M .ranged)) }
-first-fault stuck x M h = absurd (M .ranged)
-
--- a place, capped
-pub record Address (v : Result ℕ) (x : ℤ) : Type 0 where
-  pub a : ℕ
-  pub gives : v ≡ is a
-  pub word : x ≡ pos (min a 4294967295)
-
-pub place-value : (v : Result ℕ) (x : ℤ) → Means x (capped v) → ltZ greatest x ≡ false → Address v x
-unfolding wordOf Ranged
-place-value (is a) x M h = record { a = a; gives = refl; word = M .word }
-place-value (fails e) x M h = clash (sym (fault-word e (M .ranged) .0) ∙ ap (ltZ greatest) (sym (M .word)) ∙ h)
-place-value stuck x M h = absurd (M .ranged)
-
-pub place-fault : (v : Result ℕ) (x : ℤ) → Means x (capped v) → ltZ greatest x ≡ true → Faulty v x
-unfolding wordOf Ranged
-place-fault (is a) x M h = clash (sym h ∙ ap (ltZ greatest) (M .word) ∙ range-value (pos (min a 4294967295)) (M .ranged))
-place-fault (fails e) x M h =
-    let f : faultIn x ≡ e = ap faultIn (M .word) ∙ fault-word e (M .ranged) .1 in
-    record { gives = ap (λ (y : ℤ). fails y) (sym f); ranged = subst InRange (sym f) (fault-ranged e (M .ranged)) }
-place-fault stuck x M h = absurd (M .ranged)
-
--- ---- what goes wrong in statement n
-pub fault-ends : {A : Type 0} (ws : List ℤ) (s : ℕ) (m : Store) (n : ℕ) (v : Result A) (x : ℤ) (f : A → Answer) (ws′ : List ℤ) (r : ℕ) → Stands ws s m → Faulty v x
-    → Raises (faultIn x) n ws s ws′ r → Ends (withResult n (state m s) v f) ws′ r
-fault-ends {A} ws s m n v x f ws′ r S F R =
-    subst (λ (u : Result A). Ends (withResult n (state m s) u f) ws′ r) (sym (F .gives)) (raising-ends ws s m S (faultIn x) n ws′ r (F .ranged) R)
-
--- what goes on with a value
-pub is-ends : {A : Type 0} (n : ℕ) (t : State) (v : Result A) (z : A) (f : A → Answer) (ws : List ℤ) (r : ℕ) → v ≡ is z → Ends (f z) ws r → Ends (withResult n t v f) ws r
-is-ends {A} n t v z f ws r e E = subst (λ (u : Result A). Ends (withResult n t u f) ws r) (sym e) E

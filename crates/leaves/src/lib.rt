@@ -1,4 +1,2 @@
-// What the runner's walk does at its leaves: it stores into cells, assigns, raises, and takes the arm of a `case`.
-pub mod arms;
+// Storing into the marking machine's array of cells.
 pub mod cells;
-pub mod simple;

@@ -1,6 +1,7 @@
 -- A whole run of the marking machine: what its word tells, and the lists that are saved are the store that the run leaves.
-use mathlib.Core.Path.{_≡_, sym, ap, _∙_}
+use mathlib.Core.Path.{_≡_, refl, sym, ap, subst, _∙_}
 use mathlib.Core.List.{List}
+use mathlib.Core.Logic.{_⊎_, inl, inr}
 use Prim.Native.Nat.{ℕ, _-_, _<_, _≤_}
 use native.Mathlib.Omega.{arith}
 use borrow.Author.Needs.{sfits-of}
@@ -9,24 +10,28 @@ use mir.Syntax.{w32, w64}
 use mir.Val.{Fits, SFits}
 use mir.Facts.{toZ-ofZ}
 use lib.IntN.{ℤ, pos}
-use lib.ListN.{length, getD}
+use lib.ListN.{length, getD, List·getD-eq-default}
+use Rattle.arith.specs.Integers.{inside}
 use Rattle.arith.proofs.Machine.{wire}
+use Rattle.arith.proofs.Order.{le-or-lt}
 use Rattle.semantics.specs.Base.{pick}
 use Rattle.semantics.specs.Calculate.{natOf}
 use Rattle.semantics.specs.Environment.{PlacedBody}
-use Rattle.semantics.specs.Machine.{raised, sticks, state, storeCells}
+use Rattle.semantics.specs.Machine.{Store, raised, readCell, sticks, state, storeCells}
 use Rattle.semantics.specs.Whole.{fresh, markBody}
+use Rattle.semantics.proofs.BodiesInRange.{filled-get, filled-length}
 use Rattle.answers.specs.declared.Marked.{Marked}
 use Rattle.answers.specs.declared.Ending.{Ending}
 use Rattle.answers.specs.declared.Ending.the-variants.{Normal, Raised, Spent, Stuck}
 use Rattle.answers.specs.MarkingReports.{markOutcome}
-use Rattle.calc.specs.Words.{latestIn, latestAt, placeAt, storeWords}
+use Rattle.calc.specs.Words.{Exceptional, InRange, Means, Ranged, latestIn, latestAt, placeAt, storeWord, storeWords, wordOf}
 use Rattle.steps.specs.Ends.{leftIn, placeIn, toldBy}
+use Rattle.steps.specs.Stands.{Stands}
 use Rattle.leaves.specs.Cells.{Addresses}
 use Rattle.leaves.proofs.Ending.{left-small, told-normal, told-spent, told-raised}
-use Rattle.chair.specs.Answers.{Lent}
-use Rattle.chair.specs.Lending.{Loads, Saves, Begins}
-use Rattle.chair.proofs.Whole.{fresh-stands, values-saved, marks-saved}
+use Rattle.run_lending.specs.Answers.{Lent}
+use Rattle.run_lending.specs.Lending.{Loads, Saves, Begins}
+use Rattle.run_lending.proofs.Cells.{Left, begun-means, cell-left, lent-tidy, marks-saved, values-saved, zero-ranged}
 use Rattle.bodies.specs.Procedures.{procsOf}
 use Rattle.markacts.specs.Ends.{markTold, MarkEnds}
 use Rattle.markstmts.specs.Marks.{MarksBody}
@@ -65,7 +70,36 @@ module _ (w : ℕ) (ws : List ℤ) where
 
 pub ruleset tells-laws = (tells-normal, tells-spent, tells-raised, tells-stuck, sfits-of)
 
--- ---- `mark_with`
+-- ---- `mark_with`: the array at the start, and what it leaves
+module _ (vs : List ℤ) (ms : List ℕ) (ws₀ ws us : List ℤ) (H : Lent vs ms) (L : Loads vs ms ws₀ storeCells ws) (N : Begins ws us) (e : length ws₀ ≡ storeWords) where
+  -- past the last cell a word and a store have no value
+  word-means : (a : ℕ) → Means (storeWord us a) (readCell a (fresh vs ms))
+  unfolding storeWord readCell wordOf Ranged Exceptional inside pick
+  word-means a = go (le-or-lt storeCells a)
+    where
+      go : (storeCells ≤ a) ⊎ (a < storeCells) → Means (storeWord us a) (readCell a (fresh vs ms))
+      go (inl h) = rw (le-ltb a storeCells h, filled-get 0 ms a, List·getD-eq-default ms 0 {n = a} (omega (arith, H .even, H .few, h))) (record { word = refl; ranged = refl })
+      go (inr h) = rw (lt-ltb a storeCells h) (begun-means vs ms H L N (omega (arith, e)) a h)
+
+  begun-latest : latestIn us ≡ pos 0
+  unfolding latestIn
+  begun-latest = N .latest (omega (arith, L .long, e))
+
+  fresh-stands : (budget : ℕ) → budget ≤ 4294967295 → Stands us budget (fresh vs ms)
+  fresh-stands budget b = record {
+    long = N .long ∙ L .long ∙ e;
+    steps = b;
+    holds = record { cells = word-means; last = sym begun-latest; last-ranged = subst InRange (sym begun-latest) zero-ranged };
+    place = N .place (omega (arith, L .long, e));
+    small = omega arith;
+    values = omega (arith, filled-length (pos 0) vs, H .few);
+    marks = omega (arith, filled-length 0 ms, H .even, H .few);
+    tidy = λ a. lent-tidy vs ms a (H .cells a);
+  }
+
+leaves : (ws : List ℤ) (s : ℕ) (m : Store) → Stands ws s m → (a : ℕ) → a < storeCells → Left m a (storeWord ws a)
+leaves ws s m T a h = cell-left m a (storeWord ws a) (T .holds .cells a) (T .tidy a)
+
 pub left-fits : (k r : ℕ) → k ≡ leftIn r → Fits w32 k
 left-fits k r e = record { fits = omega (arith, e, left-small r) }
 
@@ -77,8 +111,8 @@ module _ (s l ts tb : List ℕ) (q : ℕ) (vs : List ℤ) (ms : List ℕ) (budge
       record {
         outcome = t .says (a .state .store .place) (E .stands .small) (E .stands .place) ∙ sym (E .outcome);
         steps = ap (λ (n : ℕ). budget - n) (e ∙ sym (E .left));
-        values = values-saved ws′ vs ms vs′ ms′ (leftIn r) (a .state .store) H S (E .stands);
-        marks = marks-saved ws′ vs ms vs′ ms′ (leftIn r) (a .state .store) H S (E .stands);
+        values = values-saved ws′ vs ms vs′ ms′ (a .state .store) H S (leaves ws′ (leftIn r) (a .state .store) (E .stands)) (omega (arith, E .stands .values));
+        marks = marks-saved ws′ vs ms vs′ ms′ (a .state .store) H S (leaves ws′ (leftIn r) (a .state .store) (E .stands)) (omega (arith, E .stands .marks));
       }
 
   pub mark-is : Fits w32 budget → Loads vs ms ws₀ storeCells ws → Begins ws us → MarksBody s l ts tb q q us budget ws′ r → Saves ws′ vs ms vs′ ms′ → k ≡ leftIn r → MarkTells r ws′ o

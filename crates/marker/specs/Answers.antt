@@ -12,7 +12,7 @@ use Rattle.answers.specs.declared.Marked.{Marked}
 use Rattle.answers.specs.MarkingReports.{markOutcome}
 use Rattle.bodies.specs.Procedures.{procsOf}
 use Rattle.bodies.specs.Table.{AllStand}
-use Rattle.chair.specs.Answers.{Lent}
+use Rattle.run_lending.specs.Answers.{Lent}
 
 -- the answer z of a machine that was given n cells and so many steps
 pub record MarkAnswers (z : Machine.Answer) (n budget : ℕ) (r : Marked) (vs′ : List ℤ) (ms′ : List ℕ) : Type 0 where

@@ -24,7 +24,7 @@ use Rattle.semantics.proofs.TypeTables.{Table}
 use Rattle.semantics.proofs.ValuesInRange.{any}
 use Rattle.calc.specs.Words.{InRange}
 use Rattle.calc.proofs.Ranging.{wide, low-range}
-use Rattle.chair.specs.Answers.{Lent}
+use Rattle.run_lending.specs.Answers.{Lent}
 
 -- a value of a cell's type is an ordinal or a set
 fits-range : (Γ : Types) → Table Γ → (t : ℕ) (z : ℤ) → cellFits Γ t z ≡ true → InRange z

@@ -16,6 +16,7 @@ use Rattle.semantics.specs.Verdict.{Read, accepted, refused}
 use Rattle.semantics.specs.Whole as Whole
 use Rattle.semantics.specs.Whole.{refusal, ran, reported, report, fresh, lent, onStore, unless, runAll, runOf, verdictOf}
 use Rattle.semantics.proofs.Demand3 as Demand3
+use Rattle.semantics.proofs.StatementsNoted.{Notes}
 use Rattle.semantics.proofs.LinesCover.{text-covered}
 use Rattle.semantics.proofs.LinesMeasured.{text-measured}
 use Rattle.answers.specs.declared.Answer.{Answer as Told}
@@ -25,7 +26,9 @@ use Rattle.answers.specs.RunReports.{outcomeOf, endingOf, Reports}
 use Rattle.stores.specs.Stores.{StoreFault, rowNumber}
 use Rattle.judgements.specs.declared.Known.{Known}
 use Rattle.judge.specs.Judging.{Standing}
-use Rattle.chair.specs.Answers.{Answers, Running}
+use Rattle.run_lending.specs.Answers.{Answers}
+use Rattle.run_fit.proofs.Texts.{text-fits}
+use Rattle.chair.specs.Answers.{Running}
 use Rattle.texts.specs.declared.Checked.{Checked}
 use Rattle.texts.specs.Answers.{CheckedBy, Checks}
 use Rattle.running.specs.Running.{RunsLoaded, RunsChecked}
@@ -56,9 +59,11 @@ module _ (l ts : List ℕ) (kn : Known) (vs : List ℤ) (ms : List ℕ) (budget 
     says = λ s work q bs long acc S.
         let c = S .holds .cells-are in let d = S .holds .few-cells in
         go q (storeFault (q .known .env .types) (q .known .cells) vs ms) refl (F .says s (q .known) bs (S .holds) (text-covered s work q acc)) λ none-is.
-        let A = R .says (omega (arith, S .holds .long-list)) (lent-store (q .known .env .types) (S .holds .scene .table) (q .known .cells) vs ms (omega arith) none-is) in
         let m = S .main-is (text-measured s work q acc .1) in
+        let long : length l ≡ 16384 = omega (arith, S .holds .long-list) in
         let runs : called 33 l (kn .main) ≡ runAll (q .codes) [] = ap (called 33 l) m ∙ Demand3.held-runs s work q acc l bs (S .bodies) 33 (Demand3.body-count s work q acc .1) in
+        let A = R .says long bs (text-fits s work q acc l bs long (S .bodies) (kn .main) m) (subst Notes (sym runs) (Demand3.statement-noted s work q acc))
+        (lent-store (q .known .env .types) (S .holds .scene .table) (q .known .cells) vs ms (omega arith) none-is) in
         subst (λ (x : State → Answer). Answers (x (state (fresh vs ms) budget)) (length vs) budget a vs′ ms′) runs A;
   }
     where

@@ -4,11 +4,11 @@ use Rattle.marker.proofs.mark_with.Statement.{statement}
 use Rattle.marker.proofs.mark_with.Tie as tie
 use Rattle.marker.proofs.mark_with.Reads as reads
 use Rattle.marker.proofs.mark_with.Lts as lts
-use Rattle.chair.proofs.begin.Reads as begin-reads
-use Rattle.chair.proofs.load_words.Reads as load-words-reads
-use Rattle.chair.proofs.save_cells.Reads as save-cells-reads
 use Rattle.marker.proofs.told.Reads as told-reads
 use Rattle.markstmts.proofs.walk.mark_body.Reads as mark-body-reads
+use Rattle.run_lending.proofs.begin.Reads as begin-reads
+use Rattle.run_lending.proofs.load_words.Reads as load-words-reads
+use Rattle.run_lending.proofs.save_cells.Reads as save-cells-reads
 use Rattle.steps.proofs.ends.left_in.Reads as left-in-reads
 
 -- src/lib.rt:46:5
@@ -32,12 +32,12 @@ left-in-requires : tie.Need-left-in-requires
 left-in-requires c κs = search needs
 
 -- src/lib.rt:51:25
-cast-t25 : tie.Need-cast-t25
-cast-t25 c = search needs
+cast-t28 : tie.Need-cast-t28
+cast-t28 c = search needs
 
 -- src/lib.rt:51:16
-sub-t26 : tie.Need-sub-t26
-sub-t26 c = search needs
+sub-t29 : tie.Need-sub-t29
+sub-t29 c = search needs
 
 -- src/lib.rt:52:17
 told-requires : tie.Need-told-requires
@@ -64,8 +64,8 @@ mark-with-spec =
     mark-body-requires
     save-cells-requires
     left-in-requires
-    cast-t25
-    sub-t26
+    cast-t28
+    sub-t29
     told-requires
     same-length
     same-length-2

@@ -1,2 +1,0 @@
-// The chair's runner: statements and bodies, walked over the laid code.
-pub mod walk;
