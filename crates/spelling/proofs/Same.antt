@@ -53,26 +53,3 @@ module _ (w v : List ℕ) where
   all-bytes e h =
       sym (equal-same (map small w) v (ext-getD 0 (map small w) v (length-map w small ∙ e)
       (λ i l. small-at w i ∙ h i (subst (λ (n : ℕ). i < n) (length-map w small) l))))
-
--- ---- `same_name`: both in small letters
-
--- the bytes before place i agree, case ignored
-abbrev pub Agree : List ℕ → List ℕ → ℕ → Type 0
-Agree a b i = (j : ℕ) → j < i → small (getD a j 0) ≡ small (getD b j 0)
-
-module _ (a b : List ℕ) where
-  pub names-length : ((length a ≡ length b) → ⊥) → false ≡ same (map small a) (map small b)
-  names-length n = other-length a (map small b) (λ e. n (e ∙ length-map b small))
-
-  pub names-byte : (i x y : ℕ) → x ≡ small (getD a i 0) → y ≡ small (getD b i 0) → ((x ≡ y) → ⊥) → false ≡ same (map small a) (map small b)
-  names-byte i x y f g n = other-byte a (map small b) i (λ e. n (f ∙ e ∙ small-at b i ∙ sym g))
-
-  pub names-all : (i : ℕ) → length a ≡ length b → length a ≤ i → Agree a b i → true ≡ same (map small a) (map small b)
-  names-all i e l h = all-bytes a (map small b) (e ∙ sym (length-map b small)) (λ j m. h j (omega arith) ∙ sym (small-at b j))
-
-  -- written out, as `search` looks for it: Agree a b (i + 1)
-  pub names-more : (i x y : ℕ) → x ≡ small (getD a i 0) → y ≡ small (getD b i 0) → x ≡ y → Agree a b i
-      → (j : ℕ) → j < i + 1 → small (getD a j 0) ≡ small (getD b j 0)
-  names-more i x y f g e h = below-more _ i h (sym f ∙ e ∙ g)
-
-pub ruleset names-laws = (names-length, names-byte, names-all, names-more)

@@ -1,12 +1,9 @@
-// The shape of a name, and names compared.
+// The shape of a name.
 use crate::bytes::is_alnum;
 use crate::bytes::is_letter;
-use crate::bytes::small_of;
 ghost use mathlib.Core.Path.{_≡_};
-ghost use mathlib.Core.List.{map};
 ghost use Prim.Native.Nat.{_<_};
 ghost use lib.ListN.{length, drop};
-ghost use Rattle.spelling.specs.Bytes.{small, same};
 ghost use Rattle.spelling.specs.Names.{isName, goesOn, partOk};
 
 // Whether the byte at i may stand in a name after its first: a letter, a digit, or an underscore before one of these.
@@ -57,21 +54,4 @@ pub fn is_name(w: &[u8]) -> bool
         return goes_on(w);
     }
     false
-}
-
-// Whether two names are the same, case ignored.
-pub fn same_name(a: &[u8], b: &[u8]) -> bool
-    ensures { λ r. ⌜ r ≡ same (map small (now (a .entry))) (map small (now (b .entry))) ⌝ }
-{
-    if a.len() != b.len() {
-        return false;
-    }
-    let mut i = 0;
-    while i < a.len() {
-        if small_of(a[i]) != small_of(b[i]) {
-            return false;
-        }
-        i += 1;
-    }
-    true
 }

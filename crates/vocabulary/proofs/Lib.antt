@@ -1,2 +1,4 @@
+pub mod Arms
 pub mod Rows
+pub mod Guesses
 pub mod Places

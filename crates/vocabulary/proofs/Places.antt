@@ -6,10 +6,15 @@ use Prim.Native.Nat.{ℕ, zero, suc, _+_, _<_, _≤_}
 use native.Mathlib.Nat.{le-of-suc-le-suc, not-suc-le-zero}
 use native.Mathlib.Omega.{arith}
 use borrow.Author.Count.{below-more}
-use lib.ListN.{length, getD, List·getD-map}
+use borrow.Author.Tests.{eqb-true, eqb-false}
+use lib.Dec.{eqb}
+use lib.ListN.{length, getD}
 use Rattle.spelling.specs.Bytes.{bytes, small, same}
-use Rattle.vocabulary.specs.Table.{reserved, operators, fixed, letter, letters, position, isFixed, placeOf}
-use Rattle.vocabulary.proofs.Rows.{letters-short}
+use Rattle.vocabulary.specs.Table.{reserved, operators, fixed, letter, letters, rows, position, isFixed, placeOf}
+use Rattle.vocabulary.specs.Slots.{slotOf, guess, hasLetters}
+use Rattle.vocabulary.proofs.Arms.{count}
+use Rattle.vocabulary.proofs.Rows.{letters-short, row-letter, row-letters}
+use Rattle.vocabulary.proofs.Guesses.{guess-is, guess-most, numbered}
 use Rattle.spelling.proofs.Same.{other-length, other-byte, all-bytes}
 
 pub fixed-count : length fixed ≡ 57
@@ -23,27 +28,28 @@ abbrev pub Spells : List ℕ → ℕ → ℕ → Type 0
 Spells w k i = (j : ℕ) → j < i → small (getD w j 0) ≡ letter k j
 
 module _ (w : List ℕ) (k : ℕ) where
-  pub fixed-length : (n : ℕ) → n ≡ letters k → ((length w ≡ n) → ⊥) → false ≡ isFixed w k
+  fixed-other : ((length w ≡ letters k) → ⊥) → false ≡ isFixed w k
   unfolding isFixed letters
-  fixed-length n e d = other-length w (getD fixed k []) (λ f. d (f ∙ sym e))
+  fixed-other d = other-length w (getD fixed k []) d
 
-  pub fixed-byte : (i x y : ℕ) → x ≡ small (getD w i 0) → y ≡ letter k i → ((x ≡ y) → ⊥) → false ≡ isFixed w k
-  unfolding isFixed letter
-  fixed-byte i x y f g d = other-byte w (getD fixed k []) i (λ e. d (f ∙ e ∙ sym g))
+  module _ (row : List ℕ) (e : row ≡ getD rows k []) where
+    pub fixed-length : (t : Bool) → 0 < length w → t ≡ hasLetters row (length w) → t ≡ false → false ≡ isFixed w k
+    fixed-length t l f g = fixed-other (λ d. eqb-false _ _ (sym (row-letters k (length w) row l e) ∙ sym f ∙ g) (sym d))
 
-  pub fixed-all : (n i : ℕ) → n ≡ letters k → length w ≡ n → n ≤ i → Spells w k i → true ≡ isFixed w k
-  unfolding isFixed letters letter
-  fixed-all n i e f l h = all-bytes w (getD fixed k []) (f ∙ e) (λ j m. h j (omega arith))
+    pub fixed-byte : (i x : ℕ) → x ≡ small (getD w i 0) → ((x ≡ getD row i 0) → ⊥) → false ≡ isFixed w k
+    unfolding isFixed letter
+    fixed-byte i x f d = other-byte w (getD fixed k []) i (λ h. d (f ∙ h ∙ sym (ap (λ (r : List ℕ). getD r i 0) e ∙ row-letter k i)))
 
-  -- written out, as `search` looks for it: Spells w k (i + 1)
-  pub fixed-more : (i x y : ℕ) → x ≡ small (getD w i 0) → y ≡ letter k i → x ≡ y → Spells w k i
-      → (j : ℕ) → j < i + 1 → small (getD w j 0) ≡ letter k j
-  fixed-more i x y f g e h = below-more _ i h (sym f ∙ e ∙ g)
+    pub fixed-all : (t : Bool) (i : ℕ) → 0 < length w → t ≡ hasLetters row (length w) → t ≡ true → length w ≤ i → Spells w k i → true ≡ isFixed w k
+    unfolding isFixed letters letter
+    fixed-all t i l f g m h =
+        all-bytes w (getD fixed k []) (sym (eqb-true _ _ (sym (row-letters k (length w) row l e) ∙ sym f ∙ g))) (λ j o. h j (omega arith))
 
-  pub fixed-room : (n i : ℕ) → n ≡ letters k → i < n → i < 12
-  fixed-room n i e l = omega (arith, letters-short k)
+    -- written out, as `search` looks for it: Spells w k (i + 1)
+    pub fixed-more : (i x : ℕ) → x ≡ small (getD w i 0) → x ≡ getD row i 0 → Spells w k i → (j : ℕ) → j < i + 1 → small (getD w j 0) ≡ letter k j
+    fixed-more i x f g h = below-more _ i h (sym f ∙ g ∙ ap (λ (r : List ℕ). getD r i 0) e ∙ row-letter k i)
 
-pub ruleset fixed-laws = (fixed-length, fixed-byte, fixed-all, fixed-more, fixed-room)
+pub ruleset fixed-laws = (fixed-length, fixed-byte, fixed-all, fixed-more)
 
 -- ---- `place_of`
 first-is : (w : List ℕ) (vs : List (List ℕ)) (k : ℕ) → ((j : ℕ) → j < k → same w (getD vs j []) ≡ false) → k < length vs
@@ -59,34 +65,55 @@ unfolding position
 none-is w [] off = refl
 none-is w (v ∷ vs) off = rw (off 0 (omega arith)) (ap suc (none-is w vs (λ j h. off (suc j) (omega arith))))
 
-module _ (w : List ℕ) (k : ℕ) (off : (j : ℕ) → j < k → isFixed w j ≡ false) where
-  pub place-found : (t : Bool) → k < 57 → t ≡ isFixed w k → t ≡ true → k ≡ placeOf w
+fails : (t : Bool) → ((t ≡ true) → ⊥) → t ≡ false
+fails true h = absurd (h refl)
+fails false h = refl
+
+pub place-empty : (w : List ℕ) → length w ≡ 0 → 57 ≡ placeOf w
+unfolding placeOf position same fixed reserved operators bytes
+place-empty [] e = refl
+place-empty (b ∷ w) e = absurd (omega arith)
+
+module _ (w : List ℕ) where
+  -- no word of the table is w
+  place-none : ((j : ℕ) → j < 57 → isFixed w j ≡ false) → 57 ≡ placeOf w
   unfolding isFixed placeOf
-  place-found t l e f = first-is (map small w) fixed k off (subst (λ (n : ℕ). k < n) (sym fixed-count) l) (sym e ∙ f)
+  place-none off = sym fixed-count ∙ none-is (map small w) fixed (λ j h. off j (omega (arith, fixed-count)))
 
-  pub place-none : 57 ≤ k → 57 ≡ placeOf w
-  unfolding isFixed placeOf
-  place-none l = sym fixed-count ∙ none-is (map small w) fixed (λ j h. off j (omega (arith, fixed-count)))
+  -- it has more bytes than any word
+  pub place-long : 12 < length w → 57 ≡ placeOf w
+  place-long l = place-none (λ j h. sym (fixed-other w j (λ e. omega (arith, letters-short j))))
 
-  pub place-more : (t : Bool) → t ≡ isFixed w k → t ≡ false → (j : ℕ) → j < k + 1 → isFixed w j ≡ false
-  place-more t e f = below-more _ k off (sym e ∙ f)
+  -- by the guess k
+  module _ (h k : ℕ) (e : h ≡ slotOf w) (f : k ≡ guess h) where
+    other : (j : ℕ) → j < 57 → ((j ≡ k) → ⊥) → isFixed w j ≡ false
+    other j l d = fails (isFixed w j) (λ t. d (sym (f ∙ ap guess e ∙ guess-is w j l t)))
 
-pub ruleset place-laws = (place-found, place-none, place-more)
+    pub place-missed : k ≡ 57 → 57 ≡ placeOf w
+    place-missed g = place-none (λ j l. other j l (λ d. omega arith))
+
+    pub place-room : ((k ≡ 57) → ⊥) → k < 57
+    place-room d = omega (arith, guess-most h, fixed-count)
+
+    pub place-found : (t : Bool) → ((k ≡ 57) → ⊥) → t ≡ isFixed w k → t ≡ true → k ≡ placeOf w
+    unfolding isFixed placeOf
+    place-found t d g i =
+        first-is (map small w) fixed k (λ j l. other j (omega (arith, place-room d)) (λ o. omega arith))
+        (subst (λ (n : ℕ). k < n) (sym fixed-count) (place-room d)) (sym g ∙ i)
+
+    pub place-other : (t : Bool) → ((k ≡ 57) → ⊥) → t ≡ isFixed w k → t ≡ false → 57 ≡ placeOf w
+    place-other t d g i = place-none (λ j l. go j l (eqb j k) refl)
+      where
+        go : (j : ℕ) → j < 57 → (b : Bool) → eqb j k ≡ b → isFixed w j ≡ false
+        go j l true b = subst (λ (n : ℕ). isFixed w n ≡ false) (sym (eqb-true j k b)) (sym g ∙ i)
+        go j l false b = other j l (eqb-false j k b)
+
+pub ruleset place-laws = (place-empty, place-long, place-missed, place-room, place-found, place-other)
 
 -- ---- no word stands twice: each word's place is where it stands
-abbrev count : ℕ → ℕ → List ℕ
-count from zero = []
-count from (suc n) = from ∷ count (suc from) n
-
-count-at : (from n k : ℕ) → k < n → getD (count from n) k 57 ≡ from + k
-count-at from zero k l = absurd (not-suc-le-zero l)
-count-at from (suc n) zero l = omega arith
-count-at from (suc n) (suc k) l = count-at (suc from) n k (le-of-suc-le-suc l) ∙ omega arith
-
 places : map placeOf fixed ≡ count 0 57
 unfolding placeOf position same small fixed reserved operators bytes
 places = refl
 
 pub place-at : (k : ℕ) → k < 57 → placeOf (getD fixed k []) ≡ k
-unfolding placeOf position same small fixed reserved operators bytes
-place-at k l = sym (List·getD-map placeOf fixed k []) ∙ ap (λ (p : List ℕ). getD p k 57) places ∙ count-at 0 57 k l ∙ omega arith
+place-at k l = numbered placeOf places k l

@@ -29,12 +29,9 @@ letter k i = getD (getD fixed k []) i 0
 unfoldable pub letters : ℕ → ℕ
 letters k = length (getD fixed k [])
 
--- the table as the code holds it: each word filled up with zeros to twelve bytes, and how many bytes each has
+-- the table as the code holds it: each word filled up with zeros to twelve bytes
 unfoldable pub rows : List (List ℕ)
 rows = map (λ (w : List ℕ). w ++ replicate (12 - length w) 0) fixed
-
-unfoldable pub lengths : List ℕ
-lengths = map (λ (w : List ℕ). length w) fixed
 
 -- the place of the first list that is the same as w, or how many lists there are
 unfoldable pub position : List ℕ → List (List ℕ) → ℕ

@@ -1,13 +1,21 @@
 // The fixed table of reserved words and operators, and the place of a word in it.
+use crate::slots::guess_at;
+use crate::slots::slot_of;
 use spelling::bytes::small_of;
 ghost use mathlib.Core.Path.{_≡_};
-ghost use Prim.Native.Nat.{_<_};
-ghost use Rattle.vocabulary.specs.Table.{letter, letters, rows, lengths, isFixed, placeOf};
+ghost use mathlib.Core.List.{[]};
+ghost use Prim.Native.Nat.{_<_, _≤_};
+ghost use lib.ListN.{length, getD};
+ghost use Rattle.vocabulary.specs.Table.{rows, isFixed, placeOf};
+ghost use Rattle.vocabulary.specs.Slots.{hasLetters};
 
 // How many reserved words there are, and how many words in the table.
 pub const RESERVED: usize = 46;
 
 pub const FIXED: usize = 57;
+
+// How many letters a row has room for.
+const LONGEST: usize = 12;
 
 // The reserved words in small letters, then the operators, each filled up with zeros.
 const TABLE: [[u8; 12]; 57] = [
@@ -70,120 +78,124 @@ const TABLE: [[u8; 12]; 57] = [
     [62, 61, 0, 0, 0, 0, 0, 0, 0, 0, 0, 0], // >=
 ];
 
-// How many bytes each of them has.
-const LENGTHS: [usize; 57] = [
-    4, // type
-    3, // var
-    4, // proc
-    4, // main
-    9, // exception
-    4, // enum
-    5, // range
-    5, // array
-    6, // record
-    5, // setof
-    5, // begin
-    2, // if
-    5, // while
-    3, // for
-    4, // case
-    3, // arm
-    4, // else
-    4, // call
-    5, // raise
-    2, // at
-    3, // dot
-    7, // members
-    3, // not
-    3, // abs
-    3, // sqr
-    3, // odd
-    3, // ord
-    4, // pred
-    4, // succ
-    4, // card
-    6, // setmin
-    6, // setmax
-    5, // first
-    4, // last
-    3, // div
-    3, // mod
-    2, // in
-    3, // and
-    2, // or
-    8, // and_then
-    7, // or_else
-    7, // integer
-    7, // boolean
-    4, // true
-    5, // false
-    12, // error_number
-    2, // :=
-    1, // +
-    1, // -
-    1, // *
-    2, // **
-    1, // =
-    2, // <>
-    1, // <
-    2, // <=
-    1, // >
-    2, // >=
-];
-
-// The byte at place i of the word k of the table. `is_fixed` passes an i below that word's length.
-fn letter_at(table: &[[u8; 12]; 57], k: usize, i: usize) -> u8
-    requires { ⌜ (k < 57) × (i < 12) × (now table ≡ rows) ⌝ }
-    ensures { λ r. ⌜ r ≡ letter k i ⌝ }
+// The row k of the table, for `is_fixed`. Each row is named by its number: the compiler knows it then, and lays that row alone
+// on the stack. For a number that it does not know it would lay the whole table there for each word.
+fn row_of(k: usize) -> [u8; 12]
+    requires { ⌜ k < 57 ⌝ }
+    ensures { λ r. ⌜ r ≡ getD rows k [] ⌝ }
 {
-    table[k][i]
+    let table = TABLE;
+    match k {
+        0 => table[0],
+        1 => table[1],
+        2 => table[2],
+        3 => table[3],
+        4 => table[4],
+        5 => table[5],
+        6 => table[6],
+        7 => table[7],
+        8 => table[8],
+        9 => table[9],
+        10 => table[10],
+        11 => table[11],
+        12 => table[12],
+        13 => table[13],
+        14 => table[14],
+        15 => table[15],
+        16 => table[16],
+        17 => table[17],
+        18 => table[18],
+        19 => table[19],
+        20 => table[20],
+        21 => table[21],
+        22 => table[22],
+        23 => table[23],
+        24 => table[24],
+        25 => table[25],
+        26 => table[26],
+        27 => table[27],
+        28 => table[28],
+        29 => table[29],
+        30 => table[30],
+        31 => table[31],
+        32 => table[32],
+        33 => table[33],
+        34 => table[34],
+        35 => table[35],
+        36 => table[36],
+        37 => table[37],
+        38 => table[38],
+        39 => table[39],
+        40 => table[40],
+        41 => table[41],
+        42 => table[42],
+        43 => table[43],
+        44 => table[44],
+        45 => table[45],
+        46 => table[46],
+        47 => table[47],
+        48 => table[48],
+        49 => table[49],
+        50 => table[50],
+        51 => table[51],
+        52 => table[52],
+        53 => table[53],
+        54 => table[54],
+        55 => table[55],
+        _ => table[56],
+    }
 }
 
-// How many bytes the word k of the table has. `is_fixed` passes its own k.
-fn length_at(sizes: &[usize; 57], k: usize) -> usize
-    requires { ⌜ (k < 57) × (now sizes ≡ lengths) ⌝ }
-    ensures { λ r. ⌜ r ≡ letters k ⌝ }
+// Whether a row has n letters and then zeros. `is_fixed` passes the length of a word that a row has room for.
+fn has_letters(row: &[u8; 12], n: usize) -> bool
+    requires { ⌜ (0 < n) × (n ≤ 12) ⌝ }
+    ensures { λ r. ⌜ r ≡ hasLetters (now (row .entry)) n ⌝ }
 {
-    sizes[k]
-}
-
-// Whether w is the word k of the table, case ignored. `place_in` counts k up to 57.
-fn is_fixed(w: &[u8], table: &[[u8; 12]; 57], sizes: &[usize; 57], k: usize) -> bool
-    requires { ⌜ (k < 57) × (now table ≡ rows) × (now sizes ≡ lengths) ⌝ }
-    ensures { λ r. ⌜ r ≡ isFixed (now (w .entry)) k ⌝ }
-{
-    let n = length_at(sizes, k);
-    if w.len() != n {
+    if row[n - 1] == 0 {
         return false;
     }
-    let mut i = 0;
-    while i < n {
-        if small_of(w[i]) != letter_at(table, k, i) {
-            return false;
-        }
-        i += 1;
+    if n == LONGEST {
+        return true;
     }
-    true
+    row[n] == 0
 }
 
-// The place of w in the table, case ignored, or 57. `place_of` lends both constants once: a constant read in a loop is copied at each step.
-fn place_in(w: &[u8], table: &[[u8; 12]; 57], sizes: &[usize; 57]) -> usize
-    requires { ⌜ (now table ≡ rows) × (now sizes ≡ lengths) ⌝ }
-    ensures { λ r. ⌜ r ≡ placeOf (now (w .entry)) ⌝ }
+// Whether w is the word k of the table, case ignored. `place_of` has a k below 57 and a word that a row has room for.
+fn is_fixed(w: &[u8], k: usize) -> bool
+    requires { ⌜ (k < 57) × (0 < length (now w)) × (length (now w) ≤ 12) ⌝ }
+    ensures { λ r. ⌜ r ≡ isFixed (now (w .entry)) k ⌝ }
 {
-    let mut k = 0;
-    while k < FIXED {
-        if is_fixed(w, table, sizes, k) {
-            return k;
+    let n = w.len();
+    let row = row_of(k);
+    if has_letters(&row, n) {
+        let mut i = 0;
+        while i < n {
+            if small_of(w[i]) != row[i] {
+                return false;
+            }
+            i += 1;
         }
-        k += 1;
+        return true;
     }
-    FIXED
+    false
 }
 
-// The place of w in the table, case ignored, or 57.
+// The place of w in the table, case ignored, or 57: at most one row is compared with it, that of its slot.
 pub fn place_of(w: &[u8]) -> usize
     ensures { λ r. ⌜ r ≡ placeOf (now (w .entry)) ⌝ }
 {
-    place_in(w, &TABLE, &LENGTHS)
+    if w.len() == 0 {
+        return FIXED;
+    }
+    if w.len() > LONGEST {
+        return FIXED;
+    }
+    let k = guess_at(slot_of(w));
+    if k == FIXED {
+        return FIXED;
+    }
+    if is_fixed(w, k) {
+        return k;
+    }
+    FIXED
 }

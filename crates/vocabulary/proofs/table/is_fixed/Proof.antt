@@ -2,21 +2,22 @@
 use Prim.Native.Nat.{_≤_, _-_}
 use borrow.Author.Count.{below-none}
 use borrow.Author.Needs.{needs}
+use lib.ListN.{length}
 use Rattle.vocabulary.proofs.Places.{Spells, fixed-laws}
 use Rattle.vocabulary.proofs.table.is_fixed.Statement.{statement}
 use Rattle.vocabulary.proofs.table.is_fixed.Tie as tie
 
 abbrev Inv-loop : tie.InvT-loop
-Inv-loop w table sizes k n i₀ i = (i ≤ n) × Spells w k i
+Inv-loop w k n row i₀ i = (i ≤ length w) × Spells w k i
 
 abbrev μ-loop : tie.MeasureT-loop
-μ-loop w table sizes k n i₀ i = n - i
+μ-loop w k n row i₀ i = length w - i
 
-length-at-requires : tie.Need-length-at-requires Inv-loop μ-loop
-length-at-requires c κs = search needs
+row-of-requires : tie.Need-row-of-requires Inv-loop μ-loop
+row-of-requires c κs = search needs
 
-returns : tie.Need-returns Inv-loop μ-loop
-returns c = search fixed-laws
+has-letters-requires : tie.Need-has-letters-requires Inv-loop μ-loop
+has-letters-requires c κs = search needs
 
 loop-holds : tie.Need-loop-holds Inv-loop μ-loop
 loop-holds c = (search needs, below-none _)
@@ -27,11 +28,11 @@ shared-slice-read-small-of c = search needs
 small-of-requires : tie.Need-small-of-requires Inv-loop μ-loop
 small-of-requires c κs = search needs
 
-letter-at-requires : tie.Need-letter-at-requires Inv-loop μ-loop
-letter-at-requires c κs = search (fixed-laws, needs)
+array-read-if2 : tie.Need-array-read-if2 Inv-loop μ-loop
+array-read-if2 c = search needs
 
-returns-2 : tie.Need-returns-2 Inv-loop μ-loop
-returns-2 c = search fixed-laws
+returns : tie.Need-returns Inv-loop μ-loop
+returns c = search fixed-laws
 
 add-i : tie.Need-add-i Inv-loop μ-loop
 add-i c = search needs
@@ -42,6 +43,9 @@ loop-less c = search needs
 loop-again : tie.Need-loop-again Inv-loop μ-loop
 loop-again c = search (fixed-laws, needs)
 
+returns-2 : tie.Need-returns-2 Inv-loop μ-loop
+returns-2 c = search fixed-laws
+
 returns-3 : tie.Need-returns-3 Inv-loop μ-loop
 returns-3 c = search fixed-laws
 
@@ -51,14 +55,15 @@ is-fixed-spec =
     (tie.spec
     Inv-loop
     μ-loop
-    length-at-requires
-    returns
+    row-of-requires
+    has-letters-requires
     loop-holds
     shared-slice-read-small-of
     small-of-requires
-    letter-at-requires
-    returns-2
+    array-read-if2
+    returns
     add-i
     loop-less
     loop-again
+    returns-2
     returns-3)

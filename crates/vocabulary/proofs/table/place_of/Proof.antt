@@ -1,17 +1,42 @@
--- `crate::table::place_of` meets its contract. The constants are `rows` and `lengths` by computation. Assumes nothing.
-use mathlib.Core.Path.{refl}
+-- `crate::table::place_of` meets its contract. Assumes nothing.
 use borrow.Author.Needs.{needs}
-use Rattle.spelling.specs.Bytes.{bytes}
-use Rattle.vocabulary.specs.Table.{reserved, operators, fixed, rows, lengths}
+use Rattle.vocabulary.proofs.Places.{place-laws}
 use Rattle.vocabulary.proofs.table.place_of.Statement.{statement}
 use Rattle.vocabulary.proofs.table.place_of.Tie as tie
 
-place-in-requires : tie.Need-place-in-requires
-unfolding rows lengths fixed reserved operators bytes
-place-in-requires c κs = (refl, refl)
-
 returns : tie.Need-returns
-returns c = search needs
+returns c = search place-laws
+
+returns-2 : tie.Need-returns-2
+returns-2 c = search place-laws
+
+slot-of-requires : tie.Need-slot-of-requires
+slot-of-requires c κs = search needs
+
+guess-at-requires : tie.Need-guess-at-requires
+guess-at-requires c κs = search needs
+
+returns-3 : tie.Need-returns-3
+returns-3 c = search place-laws
+
+is-fixed-requires : tie.Need-is-fixed-requires
+is-fixed-requires c κs = search (place-laws, needs)
+
+returns-4 : tie.Need-returns-4
+returns-4 c = search place-laws
+
+returns-5 : tie.Need-returns-5
+returns-5 c = search place-laws
 
 pub place-of-spec : {M : Type 1} → statement M
-place-of-spec = tie.close (tie.spec place-in-requires returns)
+place-of-spec =
+    tie.close
+    (tie.spec
+    returns
+    returns-2
+    slot-of-requires
+    guess-at-requires
+    returns-3
+    is-fixed-requires
+    returns-4
+    returns-5)
