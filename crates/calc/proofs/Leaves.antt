@@ -1,4 +1,4 @@
--- The ways through what reads numbers and cells.
+-- The ways through what reads cells and makes words.
 use mathlib.Core.Path.{_≡_, refl, sym, ap, _∙_}
 use mathlib.Core.Bool.{Bool, true, false, cond, _&&_, true≢false}
 use mathlib.Core.List.{List, [], _∷_}
@@ -12,8 +12,7 @@ use lib.Signed.{leZ, ltZ}
 use Rattle.arith.specs.Integers.{least, most, inside}
 use Rattle.arith.proofs.Order.{not-lt, lt-not}
 use Rattle.arith.proofs.Ranges.{inside-both}
-use lib.ListN.{length, getD, take, length-take, List·getD-eq-default}
-use lib.Seq.{getD-take}
+use lib.ListN.{getD}
 use lib.IntN.{ℤ, pos, negsuc, natAbs, _-ℤ_}
 use mir.Syntax.{w32, w64}
 use mir.Val.{SFits, Fits, toZ, ofZ}
@@ -23,22 +22,10 @@ use Rattle.lexis.specs.Numbers.{signed}
 use Rattle.lexis.proofs.DecimalHex.{below}
 use Rattle.semantics.specs.Calculate.{truth, natOf}
 use Rattle.semantics.specs.Base.{pick}
-use Rattle.semantics.specs.Readback.{integerAt}
 use Rattle.semantics.specs.Machine.{storeCells}
-use Rattle.calc.specs.Words.{greatest, latestAt, codeIn, storeWord, latestIn, undefinedWord, allValues, cellsWord, cellsAt, Integral}
+use Rattle.calc.specs.Words.{greatest, latestAt, storeWord, latestIn, undefinedWord, allValues, cellsWord, cellsAt}
 
--- ---- `number`, `cell`, `latest`
-past-take : {A : Type 0} (n : ℕ) (l : List A) (i : ℕ) (d : A) → n ≤ i → getD (take n l) i d ≡ d
-past-take n l i d h = List·getD-eq-default (take n l) d (omega (arith, length-take n l))
-
-pub number-here : (l : List ℕ) (p : ℕ) → p < 16384 → getD l p 0 ≡ getD (codeIn l) p 0
-unfolding codeIn
-number-here l p h = sym (getD-take 16384 l p 0 h)
-
-pub number-past : (l : List ℕ) (p : ℕ) → 16384 ≤ p → 0 ≡ getD (codeIn l) p 0
-unfolding codeIn
-number-past l p h = sym (past-take 16384 l p 0 h)
-
+-- ---- `cell`, `latest`
 pub cell-here : (l : List ℤ) (a : ℕ) → a < storeCells → SFits w64 (getD l a (pos 0)) → wire (getD l a (pos 0)) ≡ storeWord l a
 unfolding storeWord pick
 cell-here l a h f = toZ-ofZ f ∙ rw (lt-ltb a storeCells h)
@@ -51,7 +38,7 @@ pub latest-here : (l : List ℤ) → SFits w64 (getD l latestAt (pos 0)) → wir
 unfolding latestIn
 latest-here l f = toZ-ofZ f
 
--- ---- `signed_of`, `integer`, `truth_of`
+-- ---- `signed_of`, `truth_of`
 module _ (n k : ℕ) (f : Fits w32 n) (e : k ≡ (n + 2147483648) % 2 ^ 32) where
   turned-low : n ≤ 2147483647 → k ≡ n + 2147483648
   turned-low l = omega (arith, e)
@@ -101,13 +88,6 @@ small-signed n f = go (leb n 2147483647) refl
         rw (below n (omega (arith, f .fits)) (omega (arith, leb-false n 2147483647 e)))
         (inside-both least most (negsuc (4294967295 - n)) (le-leb (4294967295 - n) 2147483647 (omega (arith, leb-false n 2147483647 e))) refl)
 
-pub integral-is : (l : List ℕ) (p n : ℕ) (z : ℤ) → n ≡ getD l p 0 → Fits w32 n → z ≡ signed n → SFits w64 z → Integral l p (wire z)
-unfolding integerAt
-integral-is l p n z e g f s = rw (toZ-ofZ s) (record { value = f ∙ ap signed e; small = rw f (small-signed n g) })
-
-pub integer-is : (l : List ℕ) (p : ℕ) (z : ℤ) → Integral l p z → SFits w64 z → wire z ≡ integerAt l p
-integer-is l p z h s = toZ-ofZ s ∙ h .value
-
 pub truth-yes : (b : Bool) → b ≡ true → pos 1 ≡ truth b
 unfolding truth
 truth-yes b e = rw e
@@ -116,7 +96,7 @@ pub truth-not : (b : Bool) → b ≡ false → pos 0 ≡ truth b
 unfolding truth
 truth-not b e = rw e
 
--- ---- `reach`, `capped`
+-- ---- `natural`, `reach`, `capped`
 negative : (z : ℤ) → ltZ z (pos 0) ≡ true → 0 ≡ natOf z
 negative (pos n) h = absurd (true≢false (sym h ∙ le-ltb n 0 (omega arith)))
 negative (negsuc n) h = refl
@@ -126,11 +106,13 @@ natural-abs (pos n) h = refl
 natural-abs (negsuc n) h = absurd (true≢false h)
 
 module _ (z : ℤ) (f : SFits w64 z) where
-  natural-none : ltZ (wire z) (pos 0) ≡ true → 0 ≡ natOf z
+  pub natural-none : ltZ (wire z) (pos 0) ≡ true → 0 ≡ natOf z
   natural-none h = negative z (rw (toZ-ofZ f) at h)
 
-  natural-is : ltZ (wire z) (pos 0) ≡ false → natAbs (wire z) ≡ natOf z
+  pub natural-is : ltZ (wire z) (pos 0) ≡ false → natAbs (wire z) ≡ natOf z
   natural-is h = rw (toZ-ofZ f) (natural-abs z (rw (toZ-ofZ f) at h))
+
+pub ruleset natural-laws = (natural-none, natural-is)
 
 past-cap : (z : ℤ) → ltZ (pos 4294967295) z ≡ true → 4294967295 ≡ min (natOf z) 4294967295
 past-cap (pos n) h = let k : 4294967295 < n = ltb-true 4294967295 n h in omega arith

@@ -235,7 +235,6 @@ unary-means c x z v b h e =
     subst (λ (u : Result ℤ). Means z u) (join1 (λ a. compute1 c a) v)
     (record { word = e ∙ rw (decoded x (first v) h); ranged = bind-ranged (first v) (λ a. compute1 c a) (h .ranged) (λ a p. compute1-ranged c a b p) })
 
-
 -- a fault is passed on
 pub fault-means : (x : ℤ) (v : Result (List ℤ)) (f : List ℤ → Result (List ℤ)) → ltZ greatest x ≡ true → Means x (first v) → Means x (first (v >>= f))
 unfolding Ranged wordOf

@@ -1,22 +1,17 @@
--- Results as words, and what is read in one step of the walk over laid code.
+-- Results as words, and the store as words.
 use mathlib.Core.Bool.{Bool, true, false, _&&_}
 use mathlib.Core.List.{List, [], _∷_}
 use mathlib.Core.Path.{_≡_}
 use Prim.Native.Nat.{ℕ, zero, suc, _+_, _*_, min}
 use lib.Dec.{eqb, ltb}
 use lib.IntN.{ℤ, pos, negsuc, _+ℤ_, _-ℤ_}
-use lib.ListN.{getD, take}
+use lib.ListN.{getD}
 use lib.Signed.{leZ, ltZ}
-use Rattle.arith.specs.Integers.{inside, least, most}
+use Rattle.arith.specs.Integers.{inside}
 use Rattle.semantics.specs.Base.{pick}
 use Rattle.semantics.specs.Calculate.{Result, is, fails, stuck, _>>=_, natOf, tested, rangeError, compute, compute1}
 use Rattle.semantics.specs.Operators.{Operation, Operation1}
 use Rattle.semantics.specs.Machine.{Store, defined, readCell, sole, storeCells, undefined}
-use Rattle.semantics.specs.Readback.{integerAt}
-
--- the code that an array of 16,384 numbers holds
-unfoldable pub codeIn : List ℕ → List ℕ
-codeIn l = take 16384 l
 
 -- ---- a value is its own word; a fault's is above every value
 
@@ -131,13 +126,6 @@ cellsWord ws a (suc n) = pick (allValues ws a (suc n)) (storeWord ws a) undefine
 -- the same by the word of a place; one cell is its word
 unfoldable pub cellsAt : List ℤ → ℤ → ℕ → ℤ
 cellsAt ws w n = pick (ltZ greatest w) w (pick (eqb n 1) (storeWord ws (min (natOf w) 4294967295)) (cellsWord ws (min (natOf w) 4294967295) n))
-
--- ---- a number of the code
-
--- r is the integer at a place, which has 32 bits
-pub record Integral (l : List ℕ) (p : ℕ) (r : ℤ) : Type 0 where
-  pub value : r ≡ integerAt l p
-  pub small : inside least most r ≡ true
 
 -- ---- places: no store has a cell past 4294967295
 

@@ -2,14 +2,14 @@
 use crate::words::CELLS;
 use crate::words::GREATEST;
 use crate::words::LATEST;
+use crate::words::Store;
 use crate::words::UNDEFINED;
-use crate::words::WORDS;
 use crate::words::reach;
 ghost use mathlib.Core.Path.{_≡_};
 ghost use Rattle.calc.specs.Words.{storeWord, latestIn, cellsWord, cellsAt};
 
 // The word of a cell.
-pub fn cell(store: &[i64; WORDS], a: usize) -> i64
+pub fn cell(store: &Store, a: usize) -> i64
     ensures { λ r. ⌜ r ≡ storeWord (now (store .entry)) a ⌝ }
 {
     if a < CELLS {
@@ -19,14 +19,14 @@ pub fn cell(store: &[i64; WORDS], a: usize) -> i64
 }
 
 // The last exception's number, 0 before any.
-pub fn latest(store: &[i64; WORDS]) -> i64
+pub fn latest(store: &Store) -> i64
     ensures { λ r. ⌜ r ≡ latestIn (now (store .entry)) ⌝ }
 {
     store[LATEST]
 }
 
 // The first of n cells from a on, all of which must be defined; 0 for no cell.
-pub fn cells(store: &[i64; WORDS], a: u32, n: u32) -> i64
+pub fn cells(store: &Store, a: u32, n: u32) -> i64
     ensures { λ r. ⌜ r ≡ cellsWord (now (store .entry)) a n ⌝ }
 {
     if n == 0 {
@@ -44,7 +44,7 @@ pub fn cells(store: &[i64; WORDS], a: u32, n: u32) -> i64
 }
 
 // The same by the word of a place.
-pub fn cells_at(store: &[i64; WORDS], place: i64, n: u32) -> i64
+pub fn cells_at(store: &Store, place: i64, n: u32) -> i64
     ensures { λ r. ⌜ r ≡ cellsAt (now (store .entry)) place n ⌝ }
 {
     if place > GREATEST {

@@ -1,10 +1,7 @@
-// Words, which are values or faults, and the numbers of the laid code.
+// Words, which are values or faults, and numbers as such.
 ghost use mathlib.Core.Path.{_≡_};
-ghost use lib.ListN.{getD};
 ghost use Rattle.lexis.specs.Numbers.{signed};
 ghost use Rattle.semantics.specs.Calculate.{truth};
-ghost use Rattle.semantics.specs.Readback.{integerAt};
-ghost use Rattle.calc.specs.Words.{codeIn, Integral};
 ghost use Rattle.semantics.specs.Calculate.{natOf};
 ghost use Prim.Native.Nat.{min};
 ghost use lib.IntN.{pos};
@@ -22,6 +19,8 @@ pub const RANGE: i64 = 9223372036854775704;
 pub const UNDEFINED: i64 = 9223372036854775703;
 
 // The store's array: the cells' words, then the last exception's number and its statement; the rest is not used.
+pub type Store = [i64; WORDS];
+
 pub const WORDS: usize = 2184;
 
 pub const CELLS: usize = 2176;
@@ -30,36 +29,12 @@ pub const LATEST: usize = 2176;
 
 pub const PLACE: usize = 2177;
 
-// The number at a place, 0 outside the list.
-pub fn number(code: &[u32; 16384], p: usize) -> u32
-    ensures { λ r. ⌜ r ≡ getD (codeIn (now (code .entry))) p 0 ⌝ }
-{
-    if p < 16384 {
-        return code[p];
-    }
-    0
-}
-
 // A number as an integer of 32 bits: with its top bit turned, less what that bit counts, for which the compiler has one instruction.
 pub fn signed_of(n: u32) -> i64
     ensures { λ r. ⌜ r ≡ signed n ⌝ }
 {
     let turned = std::num::wrapping_add_u32(n, 2147483648);
     turned as i64 - 2147483648
-}
-
-// The number at a place as an integer, which has 32 bits.
-pub fn integral(code: &[u32; 16384], p: usize) -> i64
-    ensures { λ r. ⌜ Integral (codeIn (now (code .entry))) p r ⌝ }
-{
-    signed_of(number(code, p))
-}
-
-// The number at a place as an integer.
-pub fn integer(code: &[u32; 16384], p: usize) -> i64
-    ensures { λ r. ⌜ r ≡ integerAt (codeIn (now (code .entry))) p ⌝ }
-{
-    integral(code, p)
 }
 
 // A truth value's word.
@@ -70,6 +45,23 @@ pub fn truth_of(b: bool) -> i64
         return 1;
     }
     0
+}
+
+// A number as a long one.
+pub fn wide(n: u32) -> u64
+    ensures { λ r. ⌜ r ≡ n ⌝ }
+{
+    n as u64
+}
+
+// The natural number that a word is, 0 of a negative one.
+pub fn natural(w: i64) -> u64
+    ensures { λ r. ⌜ r ≡ natOf w ⌝ }
+{
+    if w < 0 {
+        return 0;
+    }
+    w as u64
 }
 
 // The place that a word is: 0 of a negative one, and none past the greatest place.

@@ -67,9 +67,9 @@ fn short_node(every: bool) -> u32
     ensures { λ r. ⌜ r ≡ both every ⌝ }
 {
     if every {
-        return 7;
+        return ops::expr::AND_THEN;
     }
-    8
+    ops::expr::OR_ELSE
 }
 
 // `and_then` or `or_else`.
@@ -89,7 +89,7 @@ pub fn short_pair(work: &mut [u32], every: bool, a: Got, b: Got) -> Got
 fn node_one(work: &mut [u32], i: Info, n: u32, kind: u32, a: Got) -> Got
     ensures { λ r. ⌜ Makes (ruledNode1 (Fits n kind) i (a .place) (a .next) (a .top) (now (work .entry))) r (now (work .exit)) ⌝ }
 {
-    if n < 38 {
+    if n < ops::expr::PRED {
         let ns = [n, a.place];
         return node(work, kind, a.next, a.top, &ns);
     }

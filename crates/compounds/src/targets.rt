@@ -26,7 +26,7 @@ pub fn load(work: &mut [u32], types: &[u32], g: Got) -> Got
     if is_clear(c) {
         let i = describe(work, types, g.kind);
         let kind = host_of(work, types, g.kind);
-        let ns = [4, g.place, i.size];
+        let ns = [ops::expr::LOAD_AT, g.place, i.size];
         return node(work, kind, g.next, g.top, &ns);
     }
     failed(c, 0, g.next, g.top)
@@ -54,7 +54,7 @@ fn element_of(work: &mut [u32], types: &[u32], i: Info, g: Got, e: Got) -> Got
         return failed(Fault::Kind, element_kind(i), e.next, e.top);
     }
     let j = describe(work, types, i.element);
-    let ns = [41, g.place, e.place, i.low, i.high, j.size];
+    let ns = [ops::place::INDEX, g.place, e.place, i.low, i.high, j.size];
     node(work, i.element, e.next, e.top, &ns)
 }
 
@@ -84,7 +84,7 @@ fn field_at(work: &mut [u32], p: u32, next: usize, g: Got) -> Got
     let kind = at(work, q + 1);
     let offset = at(work, q + 2);
     if is_clear(c) {
-        let ns = [42, g.place, offset];
+        let ns = [ops::place::SHIFT, g.place, offset];
         return node(work, kind, next, g.top, &ns);
     }
     failed(c, kind, next, g.top)

@@ -48,7 +48,7 @@ fn set_node(work: &mut [u32], i: Info, t: u32, chain: u32, m: Got) -> Got
     ensures { λ r. ⌜ Makes (setNode i t chain m (now (work .entry))) r (now (work .exit)) ⌝ }
 {
     if i.shape == 1 {
-        let ns = [6, i.low, i.high, chain];
+        let ns = [ops::expr::MAKE_SET, i.low, i.high, chain];
         return node(work, t, m.next, m.top, &ns);
     }
     failed(Fault::Kind, 0, m.next, m.top)

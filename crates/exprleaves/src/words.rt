@@ -59,7 +59,7 @@ pub fn named(work: &mut [u32], types: &[u32], m: Meaning, next: usize, top: u32)
         Meaning::Var(_, k, base) => whole(work, types, k, base, next, top),
         Meaning::Proc(_) => failed(Fault::Name, 0, next, top),
         Meaning::Value(k, n) => {
-            let ns = [1, n];
+            let ns = [ops::expr::LITERAL, n];
             node(work, k, next, top, &ns)
         }
     }
@@ -73,7 +73,7 @@ pub fn place(work: &mut [u32], m: Meaning, next: usize, top: u32) -> Got
         Meaning::Unknown => failed(Fault::Name, 0, next, top),
         Meaning::Type(_) => failed(Fault::Name, 0, next, top),
         Meaning::Var(_, k, base) => {
-            let ns = [40, base];
+            let ns = [ops::place::CELL, base];
             node(work, k, next, top, &ns)
         }
         Meaning::Proc(_) => failed(Fault::Name, 0, next, top),
@@ -88,7 +88,7 @@ fn end_of(work: &mut [u32], types: &[u32], last: bool, k: u32, next: usize, top:
     let i = describe(work, types, k);
     if i.shape == 0 {
         let kind = host_of(work, types, k);
-        let ns = [1, end_bits(last, i)];
+        let ns = [ops::expr::LITERAL, end_bits(last, i)];
         return node(work, kind, next, top, &ns);
     }
     failed(Fault::Kind, 0, next, top)

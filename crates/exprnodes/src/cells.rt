@@ -16,7 +16,7 @@ fn span(base: u32, size: u32) -> u32
     if size >= 65536 {
         return 0;
     }
-    base + 4096 * size
+    base + ops::expr::CELLS_TIMES * size
 }
 
 // So many cells of a kind, from a base on.
@@ -24,10 +24,10 @@ pub fn cells(work: &mut [u32], size: u32, kind: u32, base: u32, next: usize, top
     ensures { λ r. ⌜ Makes (cellsMade size kind base next top (now (work .entry))) r (now (work .exit)) ⌝ }
 {
     if size == 1 {
-        let ns = [2, base];
+        let ns = [ops::expr::LOAD_CELL, base];
         return node(work, kind, next, top, &ns);
     }
-    let ns = [3, span(base, size)];
+    let ns = [ops::expr::LOAD_CELLS, span(base, size)];
     node(work, kind, next, top, &ns)
 }
 

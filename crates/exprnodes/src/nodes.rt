@@ -37,7 +37,7 @@ pub fn literal(work: &mut [u32], kind: u32, z: i64, next: usize, top: u32) -> Go
     ensures { λ r. ⌜ Makes (literalMade kind z next top (now (work .entry))) r (now (work .exit)) ⌝ }
 {
     if in_range(z, -2147483648, 2147483647) {
-        let ns = [1, bits_of(z)];
+        let ns = [ops::expr::LITERAL, bits_of(z)];
         return node(work, kind, next, top, &ns);
     }
     failed(Fault::Kind, 0, next, top)

@@ -32,31 +32,31 @@ const MEMBER: usize = 12;
 const TWO_SIDED: [[[u32; 5]; 5]; 15] = [
     // +
     [
-        [9, 0, 0, 0, 0],
+        [ops::expr::ADD, 0, 0, 0, 0],
         [0, 0, 0, 0, 0],
         [0, 0, 0, 0, 0],
-        [0, 0, 0, 15, 0],
+        [0, 0, 0, ops::expr::UNION, 0],
         [0, 0, 0, 0, 0],
     ],
     // -
     [
-        [10, 0, 0, 0, 0],
+        [ops::expr::SUB, 0, 0, 0, 0],
         [0, 0, 0, 0, 0],
         [0, 0, 0, 0, 0],
-        [0, 0, 0, 16, 0],
+        [0, 0, 0, ops::expr::DIFFERENCE, 0],
         [0, 0, 0, 0, 0],
     ],
     // *
     [
-        [11, 0, 0, 0, 0],
+        [ops::expr::MUL, 0, 0, 0, 0],
         [0, 0, 0, 0, 0],
         [0, 0, 0, 0, 0],
-        [0, 0, 0, 17, 0],
+        [0, 0, 0, ops::expr::INTERSECTION, 0],
         [0, 0, 0, 0, 0],
     ],
     // **
     [
-        [12, 0, 0, 0, 0],
+        [ops::expr::POWER, 0, 0, 0, 0],
         [0, 0, 0, 0, 0],
         [0, 0, 0, 0, 0],
         [0, 0, 0, 0, 0],
@@ -64,7 +64,7 @@ const TWO_SIDED: [[[u32; 5]; 5]; 15] = [
     ],
     // div
     [
-        [13, 0, 0, 0, 0],
+        [ops::expr::DIV, 0, 0, 0, 0],
         [0, 0, 0, 0, 0],
         [0, 0, 0, 0, 0],
         [0, 0, 0, 0, 0],
@@ -72,7 +72,7 @@ const TWO_SIDED: [[[u32; 5]; 5]; 15] = [
     ],
     // mod
     [
-        [14, 0, 0, 0, 0],
+        [ops::expr::MOD, 0, 0, 0, 0],
         [0, 0, 0, 0, 0],
         [0, 0, 0, 0, 0],
         [0, 0, 0, 0, 0],
@@ -80,64 +80,64 @@ const TWO_SIDED: [[[u32; 5]; 5]; 15] = [
     ],
     // =
     [
-        [18, 0, 0, 0, 0],
-        [0, 18, 0, 0, 0],
-        [0, 0, 18, 0, 0],
-        [0, 0, 0, 18, 0],
+        [ops::expr::EQUAL, 0, 0, 0, 0],
+        [0, ops::expr::EQUAL, 0, 0, 0],
+        [0, 0, ops::expr::EQUAL, 0, 0],
+        [0, 0, 0, ops::expr::EQUAL, 0],
         [0, 0, 0, 0, 0],
     ],
     // <>
     [
-        [19, 0, 0, 0, 0],
-        [0, 19, 0, 0, 0],
-        [0, 0, 19, 0, 0],
-        [0, 0, 0, 19, 0],
+        [ops::expr::UNEQUAL, 0, 0, 0, 0],
+        [0, ops::expr::UNEQUAL, 0, 0, 0],
+        [0, 0, ops::expr::UNEQUAL, 0, 0],
+        [0, 0, 0, ops::expr::UNEQUAL, 0],
         [0, 0, 0, 0, 0],
     ],
     // <
     [
-        [20, 0, 0, 0, 0],
-        [0, 20, 0, 0, 0],
-        [0, 0, 20, 0, 0],
+        [ops::expr::LESS, 0, 0, 0, 0],
+        [0, ops::expr::LESS, 0, 0, 0],
+        [0, 0, ops::expr::LESS, 0, 0],
         [0, 0, 0, 0, 0],
         [0, 0, 0, 0, 0],
     ],
     // <=
     [
-        [21, 0, 0, 0, 0],
-        [0, 21, 0, 0, 0],
-        [0, 0, 21, 0, 0],
-        [0, 0, 0, 24, 0],
+        [ops::expr::AT_MOST, 0, 0, 0, 0],
+        [0, ops::expr::AT_MOST, 0, 0, 0],
+        [0, 0, ops::expr::AT_MOST, 0, 0],
+        [0, 0, 0, ops::expr::WITHIN, 0],
         [0, 0, 0, 0, 0],
     ],
     // >
     [
-        [22, 0, 0, 0, 0],
-        [0, 22, 0, 0, 0],
-        [0, 0, 22, 0, 0],
+        [ops::expr::GREATER, 0, 0, 0, 0],
+        [0, ops::expr::GREATER, 0, 0, 0],
+        [0, 0, ops::expr::GREATER, 0, 0],
         [0, 0, 0, 0, 0],
         [0, 0, 0, 0, 0],
     ],
     // >=
     [
-        [23, 0, 0, 0, 0],
-        [0, 23, 0, 0, 0],
-        [0, 0, 23, 0, 0],
-        [0, 0, 0, 25, 0],
+        [ops::expr::AT_LEAST, 0, 0, 0, 0],
+        [0, ops::expr::AT_LEAST, 0, 0, 0],
+        [0, 0, ops::expr::AT_LEAST, 0, 0],
+        [0, 0, 0, ops::expr::HOLDS, 0],
         [0, 0, 0, 0, 0],
     ],
     // in
     [
-        [0, 0, 0, 26, 0],
-        [0, 0, 0, 26, 0],
-        [0, 0, 0, 26, 0],
+        [0, 0, 0, ops::expr::MEMBER, 0],
+        [0, 0, 0, ops::expr::MEMBER, 0],
+        [0, 0, 0, ops::expr::MEMBER, 0],
         [0, 0, 0, 0, 0],
         [0, 0, 0, 0, 0],
     ],
     // and
     [
         [0, 0, 0, 0, 0],
-        [0, 27, 0, 0, 0],
+        [0, ops::expr::AND, 0, 0, 0],
         [0, 0, 0, 0, 0],
         [0, 0, 0, 0, 0],
         [0, 0, 0, 0, 0],
@@ -145,7 +145,7 @@ const TWO_SIDED: [[[u32; 5]; 5]; 15] = [
     // or
     [
         [0, 0, 0, 0, 0],
-        [0, 28, 0, 0, 0],
+        [0, ops::expr::OR, 0, 0, 0],
         [0, 0, 0, 0, 0],
         [0, 0, 0, 0, 0],
         [0, 0, 0, 0, 0],
@@ -154,17 +154,17 @@ const TWO_SIDED: [[[u32; 5]; 5]; 15] = [
 
 // By function and class: the number of the node, or 0 for a misfit.
 const ONE_SIDED: [[u32; 5]; 11] = [
-    [29, 0, 0, 0, 0], // - of one side
-    [0, 30, 0, 0, 0], // not
-    [31, 0, 0, 0, 0], // abs
-    [32, 0, 0, 0, 0], // sqr
-    [33, 0, 0, 0, 0], // odd
-    [34, 34, 34, 0, 0], // ord
-    [38, 38, 38, 0, 0], // pred
-    [39, 39, 39, 0, 0], // succ
-    [0, 0, 0, 35, 0], // card
-    [0, 0, 0, 36, 0], // setmin
-    [0, 0, 0, 37, 0], // setmax
+    [ops::expr::NEGATE, 0, 0, 0, 0], // - of one side
+    [0, ops::expr::NOT, 0, 0, 0], // not
+    [ops::expr::ABS, 0, 0, 0, 0], // abs
+    [ops::expr::SQR, 0, 0, 0, 0], // sqr
+    [ops::expr::ODD, 0, 0, 0, 0], // odd
+    [ops::expr::ORD, ops::expr::ORD, ops::expr::ORD, 0, 0], // ord
+    [ops::expr::PRED, ops::expr::PRED, ops::expr::PRED, 0, 0], // pred
+    [ops::expr::SUCC, ops::expr::SUCC, ops::expr::SUCC, 0, 0], // succ
+    [0, 0, 0, ops::expr::CARD, 0], // card
+    [0, 0, 0, ops::expr::SETMIN, 0], // setmin
+    [0, 0, 0, ops::expr::SETMAX, 0], // setmax
 ];
 
 // The place of a class in the tables.
@@ -210,10 +210,10 @@ fn partner(op: usize, right: u32, base: u32) -> u32
 fn result_of(n: u32, kind: u32) -> u32
     ensures { λ r. ⌜ r ≡ resultOf n kind ⌝ }
 {
-    if n < 15 {
+    if n < ops::expr::UNION {
         return 0;
     }
-    if n < 18 {
+    if n < ops::expr::EQUAL {
         return kind;
     }
     1
@@ -255,12 +255,12 @@ fn result_of_one(n: u32, kind: u32, base: u32) -> u32
     ensures { λ r. ⌜ r ≡ resultOf1 n kind base ⌝ }
 {
     match n {
-        30 => 1,
-        33 => 1,
-        36 => base,
-        37 => base,
-        38 => kind,
-        39 => kind,
+        ops::expr::NOT => 1,
+        ops::expr::ODD => 1,
+        ops::expr::SETMIN => base,
+        ops::expr::SETMAX => base,
+        ops::expr::PRED => kind,
+        ops::expr::SUCC => kind,
         _ => 0,
     }
 }

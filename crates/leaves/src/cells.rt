@@ -2,7 +2,7 @@
 use arith::in_range;
 use calc::cells::cell;
 use calc::words::CELLS;
-use calc::words::WORDS;
+use calc::words::Store;
 use steps::ends::raising;
 ghost use Prim.Native.Nat.{_+_};
 ghost use Rattle.leaves.specs.Cells.{Puts, Copying, CopyingUp, CopyingDown, Addresses, StoresOrdinal, StoresOne, StoresCells};
@@ -22,7 +22,7 @@ pub fn address(w: i64) -> u32
 }
 
 // z in cell a.
-pub fn put(store: &mut [i64; WORDS], a: u32, z: i64)
+pub fn put(store: &mut Store, a: u32, z: i64)
     ensures { λ r. ⌜ Puts (now (store .entry)) a z (now (store .exit)) ⌝ }
 {
     let i = a as usize;
@@ -32,7 +32,7 @@ pub fn put(store: &mut [i64; WORDS], a: u32, z: i64)
 }
 
 // One cell copied: that at s + i into that at a + i.
-fn copy_one(store: &mut [i64; WORDS], s: u32, a: u32, i: u32)
+fn copy_one(store: &mut Store, s: u32, a: u32, i: u32)
     ensures { λ r. ⌜ Puts (now (store .entry)) (a + i) (storeWord (now (store .entry)) (s + i)) (now (store .exit)) ⌝ }
 {
     let z = cell(store, s as usize + i as usize);
@@ -43,7 +43,7 @@ fn copy_one(store: &mut [i64; WORDS], s: u32, a: u32, i: u32)
 }
 
 // k cells from s on to a on, the first first.
-fn copy_up(store: &mut [i64; WORDS], s: u32, a: u32, k: u32)
+fn copy_up(store: &mut Store, s: u32, a: u32, k: u32)
     ensures { λ r. ⌜ CopyingUp (now (store .entry)) s a k (now (store .exit)) ⌝ }
 {
     let mut i = 0;
@@ -54,7 +54,7 @@ fn copy_up(store: &mut [i64; WORDS], s: u32, a: u32, k: u32)
 }
 
 // The same, the last first.
-fn copy_down(store: &mut [i64; WORDS], s: u32, a: u32, k: u32)
+fn copy_down(store: &mut Store, s: u32, a: u32, k: u32)
     ensures { λ r. ⌜ CopyingDown (now (store .entry)) s a k (now (store .exit)) ⌝ }
 {
     let mut i = k;
@@ -65,7 +65,7 @@ fn copy_down(store: &mut [i64; WORDS], s: u32, a: u32, k: u32)
 }
 
 // k cells from s on to a on; the two may overlap.
-pub fn copy(store: &mut [i64; WORDS], s: u32, a: u32, k: u32)
+pub fn copy(store: &mut Store, s: u32, a: u32, k: u32)
     ensures { λ r. ⌜ Copying (now (store .entry)) s a k (now (store .exit)) ⌝ }
 {
     if a <= s {
@@ -77,7 +77,7 @@ pub fn copy(store: &mut [i64; WORDS], s: u32, a: u32, k: u32)
 
 // The ordinal x stored in the cell of the word a, if it lies in the bounds, by statement n.
 pub fn store_ordinal(
-    store: &mut [i64; WORDS],
+    store: &mut Store,
     left: u64,
     n: u32,
     low: i64,
@@ -95,7 +95,7 @@ pub fn store_ordinal(
 }
 
 // One cell x stored with no range test in the cell of the word a, by statement n.
-pub fn store_one(store: &mut [i64; WORDS], left: u64, n: u32, a: i64, x: i64) -> u64
+pub fn store_one(store: &mut Store, left: u64, n: u32, a: i64, x: i64) -> u64
     ensures { λ r. ⌜ StoresOne n a x (now (store .entry)) left (now (store .exit)) r ⌝ }
 {
     put(store, address(a), x);
@@ -103,7 +103,7 @@ pub fn store_one(store: &mut [i64; WORDS], left: u64, n: u32, a: i64, x: i64) ->
 }
 
 // The k cells from `from` on stored from the cell of the word a on, by statement n; the two may overlap.
-pub fn store_cells(store: &mut [i64; WORDS], left: u64, n: u32, from: u32, k: u32, a: i64) -> u64
+pub fn store_cells(store: &mut Store, left: u64, n: u32, from: u32, k: u32, a: i64) -> u64
     ensures { λ r. ⌜ StoresCells n from k a (now (store .entry)) left (now (store .exit)) r ⌝ }
 {
     copy(store, from, address(a), k);

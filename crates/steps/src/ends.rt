@@ -4,7 +4,7 @@ use calc::words::FAULT;
 use calc::words::GREATEST;
 use calc::words::LATEST;
 use calc::words::PLACE;
-use calc::words::WORDS;
+use calc::words::Store;
 ghost use mathlib.Core.Path.{_≡_};
 ghost use lib.Dec.{ltb};
 ghost use Rattle.steps.specs.Ends.{leftIn, stepWord, faultIn, Raises, RaisesNumber};
@@ -38,7 +38,7 @@ pub fn stepped(left: u64) -> u64
 }
 
 // Exception z at statement n.
-pub fn raising(store: &mut [i64; WORDS], left: u64, z: i64, n: u32) -> u64
+pub fn raising(store: &mut Store, left: u64, z: i64, n: u32) -> u64
     ensures { λ r. ⌜ Raises z n (now (store .entry)) left (now (store .exit)) r ⌝ }
 {
     store[LATEST] = z;
@@ -47,7 +47,7 @@ pub fn raising(store: &mut [i64; WORDS], left: u64, z: i64, n: u32) -> u64
 }
 
 // The fault that a word is, at statement n.
-pub fn failing(store: &mut [i64; WORDS], left: u64, w: i64, n: u32) -> u64
+pub fn failing(store: &mut Store, left: u64, w: i64, n: u32) -> u64
     ensures { λ r. ⌜ Raises (faultIn w) n (now (store .entry)) left (now (store .exit)) r ⌝ }
 {
     if w > GREATEST {
@@ -57,7 +57,7 @@ pub fn failing(store: &mut [i64; WORDS], left: u64, w: i64, n: u32) -> u64
 }
 
 // `raise` with number z at statement n.
-pub fn raise_number(store: &mut [i64; WORDS], left: u64, z: i64, n: u32) -> u64
+pub fn raise_number(store: &mut Store, left: u64, z: i64, n: u32) -> u64
     ensures { λ r. ⌜ RaisesNumber z n (now (store .entry)) left (now (store .exit)) r ⌝ }
 {
     if z != 0 {

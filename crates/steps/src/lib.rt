@@ -1,4 +1,3 @@
-// The runner's small parts: how a statement ends, the links of a chain, the values of a loop.
+// The marking machine's small parts: how a statement ends, the values of a loop.
 pub mod ends;
-pub mod links;
 pub mod turns;

@@ -1,20 +1,20 @@
 use Rattle.powers.proofs.Powers.{raise-cast}
 use borrow.Author.Needs.{needs}
-use Rattle.run_acts.proofs.Ending.{natural-laws}
-use Rattle.run_acts.proofs.ends.natural.Statement.{statement}
-use Rattle.run_acts.proofs.ends.natural.Tie as tie
-use Rattle.run_acts.proofs.ends.natural.Reads as reads
-use Rattle.run_acts.proofs.ends.natural.Lts as lts
+use Rattle.calc.proofs.Leaves.{natural-laws}
+use Rattle.calc.proofs.words.natural.Statement.{statement}
+use Rattle.calc.proofs.words.natural.Tie as tie
+use Rattle.calc.proofs.words.natural.Reads as reads
+use Rattle.calc.proofs.words.natural.Lts as lts
 
--- src/ends.rt:46:9
+-- src/words.rt:46:9
 returns : tie.Need-returns
 returns c = search (natural-laws, needs)
 
--- src/ends.rt:48:5
+-- src/words.rt:48:5
 cast-result : tie.Need-cast-result
 cast-result c = raise-cast (c .before .args .w) (c .before .fits .w) (c .if1 .left)
 
--- src/ends.rt:42:1
+-- src/words.rt:42:1
 returns-2 : tie.Need-returns-2
 returns-2 c = search (natural-laws, needs)
 
