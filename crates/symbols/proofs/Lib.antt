@@ -1,2 +1,4 @@
+pub mod Spelled
+pub mod Keying
 pub mod Names
 pub mod Chained

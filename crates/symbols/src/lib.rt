@@ -1,58 +1,112 @@
 // The names that a script has declared, as entries in the working list that point into the text.
-use reader::sight::word_end;
-use spelling::names::same_name;
+pub mod keys;
+pub mod letters;
+
+use crate::keys::key_of;
+use crate::letters::Meeting;
+use crate::letters::meet;
 use worklist::at;
 use worklist::lay;
 ghost use mathlib.Core.Path.{_≡_};
 ghost use mathlib.Core.List.{[], _∷_, map};
-ghost use Prim.Native.Nat.{_≤_};
-ghost use lib.ListN.{length};
 ghost use Rattle.spelling.specs.Bytes.{small, same};
 ghost use Rattle.semantics.specs.Trees.{wordAt};
 ghost use Rattle.semantics.specs.Layout.{lay as laid};
 ghost use Rattle.worklist.specs.Laid.{Laid};
-ghost use Rattle.symbols.specs.Chain.{entries, placeIn};
-
-// The offset, or the text's end where it is past that: the word there is the same.
-fn inside(text: &[u8], offset: usize) -> usize
-    ensures { λ r. ⌜ (r ≤ length (now (text .entry))) × (wordAt (now (text .entry)) r ≡ wordAt (now (text .entry)) offset) ⌝ }
-{
-    if offset < text.len() {
-        return offset;
-    }
-    text.len()
-}
+ghost use Rattle.symbols.specs.Chain.{entries, placeIn, linkAt, Seeks};
 
 // Whether the words at two offsets are the same, case ignored.
 pub fn same_word(text: &[u8], a: usize, b: usize) -> bool
     ensures { λ r. ⌜ r ≡ same (map small (wordAt (now (text .entry)) a)) (map small (wordAt (now (text .entry)) b)) ⌝ }
 {
-    let p = inside(text, a);
-    let q = inside(text, b);
-    let e = word_end(text, p);
-    let f = word_end(text, q);
-    same_name(&text[p..e], &text[q..f])
+    let mut p = a;
+    let mut q = b;
+    loop {
+        let m = meet(text, p, q);
+        match m {
+            Meeting::Same => {
+                p += 1;
+                q += 1;
+            }
+            Meeting::End => {
+                return true;
+            }
+            Meeting::Differ => {
+                return false;
+            }
+        }
+    }
+}
+
+// What is read of an entry: its first number, and the place of the entry before.
+pub struct Link {
+    pub first: u32,
+    pub next: u32,
+}
+
+// The entry at a place: mostly the list holds all of it, which is seen at once.
+fn link_at(work: &[u32], p: u32) -> Link
+    ensures { λ r. ⌜ r ≡ linkAt (now (work .entry)) p ⌝ }
+{
+    let i = p as usize;
+    if i + 3 < work.len() {
+        return Link {
+            first: work[i],
+            next: work[i + 3],
+        };
+    }
+    Link {
+        first: at(work, i),
+        next: at(work, i + 3),
+    }
+}
+
+// How many entries stand from one of them on, and its place.
+pub struct Spot {
+    pub left: u32,
+    pub place: u32,
+}
+
+// The first of so many entries from the newest on that has a key.
+fn seek(work: &[u32], count: u32, newest: u32, key: u32) -> Spot
+    ensures { λ r. ⌜ Seeks (now (work .entry)) key count newest r ⌝ }
+{
+    let mut n = count;
+    let mut p = newest;
+    while n > 0 {
+        let e = link_at(work, p);
+        if e.first / 32768 == key {
+            return Spot { left: n, place: p };
+        }
+        p = e.next;
+        n -= 1;
+    }
+    Spot { left: 0, place: 0 }
 }
 
 // The place of the entry that the word at an offset names, among so many from the newest on; 0 if none does.
 pub fn lookup(text: &[u8], work: &[u32], count: u32, newest: u32, offset: usize) -> u32
     ensures { λ r. ⌜ r ≡ placeIn (now (text .entry)) (now (work .entry)) (entries count (now (work .entry)) newest) (map small (wordAt (now (text .entry)) offset)) ⌝ }
 {
+    let key = key_of(text, offset);
     let mut n = count;
     let mut p = newest;
-    while n > 0 {
-        let i = p as usize;
-        let name = at(work, i) as usize;
-        if same_word(text, name, offset) {
-            return p;
+    loop {
+        let s = seek(work, n, p, key);
+        if s.left == 0 {
+            return 0;
         }
-        p = at(work, i + 3);
-        n -= 1;
+        let e = link_at(work, s.place);
+        let name = (e.first % 32768) as usize;
+        if same_word(text, name, offset) {
+            return s.place;
+        }
+        p = e.next;
+        n = s.left - 1;
     }
-    0
 }
 
-// A new entry at the free place: its name's offset, two numbers that say what it is, and the entry before it; the free place then.
+// A new entry at the free place: its name's number, two numbers that say what it is, and the entry before it; the free place then.
 pub fn declare(work: &mut [u32], top: u32, name: u32, sort: u32, more: u32, newest: u32) -> u32
     ensures { λ r. ⌜ Laid (laid (name ∷ sort ∷ more ∷ newest ∷ []) top (now (work .entry))) r (now (work .exit)) ⌝ }
 {

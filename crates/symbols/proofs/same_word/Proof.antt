@@ -1,75 +1,78 @@
-use Rattle.reader.proofs.Looking.{end-short, end-after}
-use Rattle.symbols.proofs.Names.{same-word-is}
+use lib.ListN.{length}
+use Prim.Native.Nat.{_-_}
+use Rattle.symbols.proofs.Names.{Comparing}
 use borrow.Author.Needs.{needs}
+use Rattle.symbols.proofs.Names.{compare-falls, compare-laws, compare-left, compare-right, compare-start}
 use Rattle.symbols.proofs.same_word.Statement.{statement}
 use Rattle.symbols.proofs.same_word.Tie as tie
 use Rattle.symbols.proofs.same_word.Reads as reads
 use Rattle.symbols.proofs.same_word.Lts as lts
-use Rattle.spelling.proofs.names.same_name.Reads as same-name-reads
-use Rattle.reader.proofs.sight.word_end.Reads as word-end-reads
-use Rattle.symbols.proofs.inside.Reads as inside-reads
+use Rattle.symbols.proofs.letters.meet.Reads as meet-reads
 
--- src/lib.rt:30:9
-inside-requires : tie.Need-inside-requires
-inside-requires c κs = search needs
+abbrev Inv-loop : tie.InvT-loop
+Inv-loop text a b p₀ q₀ p q = Comparing text a b p q
 
--- src/lib.rt:31:9
-inside-requires-2 : tie.Need-inside-requires-2
-inside-requires-2 c κs = search needs
+abbrev μ-loop : tie.MeasureT-loop
+μ-loop text a b p₀ q₀ p q = length text - p
 
--- src/lib.rt:32:9
-word-end-requires : tie.Need-word-end-requires
-word-end-requires c κs = search needs
+-- src/lib.rt:24:5
+loop-holds : tie.Need-loop-holds Inv-loop μ-loop
+loop-holds c = compare-start _ _ _
 
--- src/lib.rt:33:9
-word-end-requires-2 : tie.Need-word-end-requires-2
-word-end-requires-2 c κs = search needs
+-- src/lib.rt:25:13
+meet-requires : tie.Need-meet-requires Inv-loop μ-loop
+meet-requires c κs = search needs
 
--- src/lib.rt:34:15
-sub-same-name : tie.Need-sub-same-name
-sub-same-name c = search needs
+-- src/lib.rt:28:17
+enum-told : tie.Need-enum-told Inv-loop μ-loop
+enum-told c = search needs
 
--- src/lib.rt:34:15
-part-same-name-start : tie.Need-part-same-name-start
-part-same-name-start c = search needs
+-- src/lib.rt:28:17
+add-p : tie.Need-add-p Inv-loop μ-loop
+add-p c = search (compare-left, needs)
 
--- src/lib.rt:34:15
-part-same-name-end : tie.Need-part-same-name-end
-part-same-name-end c = search (end-short, end-after, needs)
+-- src/lib.rt:29:17
+add-q : tie.Need-add-q Inv-loop μ-loop
+add-q c = search (compare-right, needs)
 
--- src/lib.rt:34:28
-sub-same-name-2 : tie.Need-sub-same-name-2
-sub-same-name-2 c = search needs
+-- src/lib.rt:24:5
+loop-less : tie.Need-loop-less Inv-loop μ-loop
+loop-less c = search compare-falls
 
--- src/lib.rt:34:28
-part-same-name-start-2 : tie.Need-part-same-name-start-2
-part-same-name-start-2 c = search needs
+-- src/lib.rt:24:5
+loop-again : tie.Need-loop-again Inv-loop μ-loop
+loop-again c = search compare-laws
 
--- src/lib.rt:34:28
-part-same-name-end-2 : tie.Need-part-same-name-end-2
-part-same-name-end-2 c = search (end-short, end-after, needs)
+-- src/lib.rt:32:17
+enum-told-2 : tie.Need-enum-told-2 Inv-loop μ-loop
+enum-told-2 c = search needs
 
--- src/lib.rt:34:5
-same-name-requires : tie.Need-same-name-requires
-same-name-requires c κs = search needs
+-- src/lib.rt:32:17
+returns : tie.Need-returns Inv-loop μ-loop
+returns c = search compare-laws
 
--- src/lib.rt:27:1
-returns : tie.Need-returns
-returns c = search same-word-is
+-- src/lib.rt:35:17
+enum-told-3 : tie.Need-enum-told-3 Inv-loop μ-loop
+enum-told-3 c = search needs
+
+-- src/lib.rt:35:17
+returns-2 : tie.Need-returns-2 Inv-loop μ-loop
+returns-2 c = search compare-laws
 
 pub same-word-spec : {M : Type 1} → statement M
 same-word-spec =
     tie.close
     (tie.spec
-    inside-requires
-    inside-requires-2
-    word-end-requires
-    word-end-requires-2
-    sub-same-name
-    part-same-name-start
-    part-same-name-end
-    sub-same-name-2
-    part-same-name-start-2
-    part-same-name-end-2
-    same-name-requires
-    returns)
+    Inv-loop
+    μ-loop
+    loop-holds
+    meet-requires
+    enum-told
+    add-p
+    add-q
+    loop-less
+    loop-again
+    enum-told-2
+    returns
+    enum-told-3
+    returns-2)

@@ -1,0 +1,32 @@
+// The key of a name: names are compared only where their keys agree.
+use crate::letters::byte_at;
+use crate::letters::letter_of;
+ghost use mathlib.Core.Path.{_≡_};
+ghost use mathlib.Core.List.{map};
+ghost use Rattle.spelling.specs.Bytes.{small};
+ghost use Rattle.semantics.specs.Trees.{wordAt};
+ghost use Rattle.symbols.specs.Keys.{keyOf, keyed};
+
+// The key of the word at an offset, case ignored.
+pub fn key_of(text: &[u8], offset: usize) -> u32
+    ensures { λ r. ⌜ r ≡ keyOf (map small (wordAt (now (text .entry)) offset)) ⌝ }
+{
+    let mut p = offset;
+    let mut k = 0;
+    loop {
+        let x = letter_of(byte_at(text, p));
+        if x == 0 {
+            return k;
+        }
+        k = (k * 39 + x as u32) % 131072;
+        p += 1;
+    }
+}
+
+// The first number of the entry of the name at p: its offset, and its key.
+pub fn name_number(text: &[u8], p: usize) -> u32
+    ensures { λ r. ⌜ r ≡ keyed (now (text .entry)) p ⌝ }
+{
+    let key = key_of(text, p);
+    (p % 32768) as u32 + 32768 * key
+}
