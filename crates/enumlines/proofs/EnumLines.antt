@@ -26,7 +26,8 @@ use Rattle.semantics.specs.Trees.{Trees, Run, first, later, wordAt, stackAt}
 use Rattle.semantics.specs.Types.{Types, infoAt, cellsBy, isRecord}
 use Rattle.semantics.proofs.Inversion.{and-true}
 use Rattle.semantics.proofs.LayoutRegions.{Same, Room, Has, lay-g, lay-l}
-use Rattle.symbols.specs.Chain.{nameAt}
+use Rattle.symbols.specs.Keys.{keyed}
+use Rattle.symbols.proofs.Chained.{called-keyed}
 use Rattle.tables.proofs.Cells.{keeps-cells}
 use Rattle.tables.specs.declared.Fault.{Fault}
 use Rattle.tables.specs.declared.Fault.the-variants.{Clear, Form}
@@ -36,7 +37,7 @@ use Rattle.tables.specs.Scene.{Scene}
 use Rattle.parts.specs.Got.{isForm, isClear, faultOf}
 use Rattle.shapes.specs.Parts.{closed}
 use Rattle.atoms.proofs.Telling.{fits-inj}
-use Rattle.declarations.specs.State.{Holds}
+use Rattle.declarations.specs.State.{scoped, Holds}
 use Rattle.enumlines.specs.Enums.{enumIn, namesIn, fresh, GivesFresh, counted, NamesTold, names-wrong, names-read}
 use Rattle.declarations.specs.Lines.{entryStaged, linedBy, LineTold}
 use Rattle.typelines.specs.TypeLines.{madeAfter, linesFit, infoNumbers, typeState, Describes, GivesMade, EndFault, was-form, at-end, before-end}
@@ -71,16 +72,16 @@ module _ {s l ts : List ℕ} {st : State} {k : Declared} {bs : List ℕ} (H : Ho
   n = suc (length vs)
 
   abbrev t₁ : ℕ
-  t₁ = enumNamed st p l .top
+  t₁ = enumNamed st (keyed s p) l .top
 
   abbrev l₁ : List ℕ
-  l₁ = enumNamed st p l .list
+  l₁ = enumNamed st (keyed s p) l .list
 
   abbrev t₂ : ℕ
-  t₂ = enumDescribed st p n l .top
+  t₂ = enumDescribed st (keyed s p) n l .top
 
   abbrev l₂ : List ℕ
-  l₂ = enumDescribed st p n l .list
+  l₂ = enumDescribed st (keyed s p) n l .list
 
   abbrev ks : Declared
   ks = declareLine k (newType w (enum v vs)) sn nn
@@ -92,17 +93,16 @@ module _ {s l ts : List ℕ} {st : State} {k : Declared} {bs : List ℕ} (H : Ho
   number-low : st .types < 66
   number-low = omega (arith, H .few-types, lines-low H w (enum v vs) f e g b sn nn)
 
-  entry-is : enumEntry st p ≡ p ∷ (4 * st .types) ∷ 0 ∷ (st .top + 12) ∷ []
+  entry-is : enumEntry st (keyed s p) ≡ keyed s p ∷ (4 * st .types) ∷ 0 ∷ (st .top + 12) ∷ []
   unfolding enumEntry
   entry-is =
-      let x : p % 32768 ≡ p = mod-eq-of-lt (omega (arith, H .short-text)) in
       let y : st .types % 128 ≡ st .types = mod-eq-of-lt (omega (arith, number-low)) in
       let z : st .top % 32768 ≡ st .top = mod-eq-of-lt (omega (arith, H .low)) in
-      rw (x, y, z) refl
+      rw (y, z) refl
 
   top₁ : t₁ ≡ st .top + 4
   unfolding enumEntry
-  top₁ = lay-l (enumEntry st p) (st .top) l .top-is (omega arith)
+  top₁ = lay-l (enumEntry st (keyed s p)) (st .top) l .top-is (omega arith)
 
   top₂ : t₂ ≡ st .top + 12
   unfolding infoNumbers
@@ -111,9 +111,9 @@ module _ {s l ts : List ℕ} {st : State} {k : Declared} {bs : List ℕ} (H : Ho
       lay-l (infoNumbers (enumInfo (st .types) n)) t₁ l₁ .top-is (rw z (omega arith)) ∙ z
 
   long₂ : length l₂ ≡ length l
-  long₂ = lay-g (infoNumbers (enumInfo (st .types) n)) t₁ l₁ .long ∙ lay-g (enumEntry st p) (st .top) l .long
+  long₂ = lay-g (infoNumbers (enumInfo (st .types) n)) t₁ l₁ .long ∙ lay-g (enumEntry st (keyed s p)) (st .top) l .long
 
-  values : Values s l′ (st .types) (st .newest) t₂ 0 (v ∷ vs) × (A .free ≡ t₂ + 4 * n)
+  values : Values s l′ (st .types) (st .scope .newest) t₂ 0 (v ∷ vs) × (A .free ≡ t₂ + 4 * n)
   values = A .values .values (v ∷ vs) hn refl (omega (arith, number-low)) (H .short-text)
       (record { start = rw top₂ (omega arith); fits = rw top₂ (omega arith); long = rw long₂ (H .long-list) })
 
@@ -126,15 +126,15 @@ module _ {s l ts : List ℕ} {st : State} {k : Declared} {bs : List ℕ} (H : Ho
   }
 
   same₀ : Same 0 (st .top) l′ l
-  same₀ = record { at = λ i a c. same₁ .at i a (rw top₁ (omega arith)) ∙ lay-g (enumEntry st p) (st .top) l .below i c }
+  same₀ = record { at = λ i a c. same₁ .at i a (rw top₁ (omega arith)) ∙ lay-g (enumEntry st (keyed s p)) (st .top) l .below i c }
 
   -- the entry of the type's name
-  entry-held : Has (p ∷ (4 * st .types) ∷ 0 ∷ (st .top + 12) ∷ []) (st .top) l′
+  entry-held : Has (keyed s p ∷ (4 * st .types) ∷ 0 ∷ (st .top + 12) ∷ []) (st .top) l′
   unfolding enumEntry
-  entry-held = rw (← entry-is) (lay-l (enumEntry st p) (st .top) l .held (record { start = H .start; fits = omega arith; long = H .long-list }) l′ (record { at = λ i a c. same₁ .at i (omega arith) c }))
+  entry-held = rw (← entry-is) (lay-l (enumEntry st (keyed s p)) (st .top) l .held (record { start = H .start; fits = omega arith; long = H .long-list }) l′ (record { at = λ i a c. same₁ .at i (omega arith) c }))
 
   info-room : Room 8 t₁ l₁
-  info-room = record { start = rw top₁ (omega arith); fits = rw top₁ (omega arith); long = rw (lay-g (enumEntry st p) (st .top) l .long) (H .long-list) }
+  info-room = record { start = rw top₁ (omega arith); fits = rw top₁ (omega arith); long = rw (lay-g (enumEntry st (keyed s p)) (st .top) l .long) (H .long-list) }
 
   info-held : Has (infoNumbers (enumInfo (st .types) n)) t₁ l′
   unfolding infoNumbers
@@ -154,24 +154,24 @@ module _ {s l ts : List ℕ} {st : State} {k : Declared} {bs : List ℕ} (H : Ho
     no-fields = refl;
   }
 
-  enum-chained : Chained s l′ (suc (n + st .count)) (st .top) (A .free) (ks .env) bs ((w, aType (length Γ)) ∷ (enumNames (length Γ) 0 (v ∷ vs) ++ k .env .names))
-  unfolding declareLine nameAt startOf
+  enum-chained : Chained s l′ (scoped (suc (n + st .scope .count)) (st .top)) (A .free) (ks .env) bs ((w, aType (length Γ)) ∷ (enumNames (length Γ) 0 (v ∷ vs) ++ k .env .names))
+  unfolding declareLine startOf
   enum-chained =
       let z : st .top + 0 ≡ st .top = omega arith in
-      let old : Chained s l′ (st .count) (st .newest) (A .free) (ks .env) bs (k .env .names) = chained-kept same₀ (rw free-is (omega arith)) (chained-env {σ′ = ks .env} (means-same refl) (scene-chained (H .scene))) in
-      let c : Chained s l′ (n + st .count) t₂ (A .free) (ks .env) bs (enumNames (st .types) 0 (v ∷ vs) ++ k .env .names) =
+      let old : Chained s l′ (st .scope) (A .free) (ks .env) bs (k .env .names) = chained-kept same₀ (rw free-is (omega arith)) (chained-env {σ′ = ks .env} (means-same refl) (scene-chained (H .scene))) in
+      let c : Chained s l′ (scoped (n + st .scope .count) t₂) (A .free) (ks .env) bs (enumNames (st .types) 0 (v ∷ vs) ++ k .env .names) =
       chained-values (st .types) t₂ 0 (v ∷ vs) (values .0) (rw top₂ (omega arith)) (rw (free-is, top₂) (omega arith)) old in
-      let m : getD l′ (st .top) 0 ≡ p = ap (λ (j : ℕ). getD l′ j 0) (sym z) ∙ entry-held .at 0 (omega arith) in
-      rw (← H .types-are) (chained-one (st .top) w (aType (st .types)) (H .start) (rw free-is (omega arith)) (ap (λ (j : ℕ). map small (wordAt s j)) m)
+      let m : getD l′ (st .top) 0 ≡ keyed s p = ap (λ (j : ℕ). getD l′ j 0) (sym z) ∙ entry-held .at 0 (omega arith) in
+      rw (← H .types-are) (chained-one (st .top) w (aType (st .types)) (H .start) (rw free-is (omega arith)) (called-keyed s l′ (st .top) p (omega (arith, H .short-text)) m)
       (rw (entry-held .at 1 (omega arith), entry-held .at 2 (omega arith)) (type-means (ks .env) bs (st .types) 0)) (entry-held .at 3 (omega arith) ∙ sym top₂) c)
 
   told-types : (t : ℕ) → Tells s l′ (infoOf l′ (set ts (length Γ) t₁) t) (infoAt (Γ ++ (typeInfoOf Γ (enum v vs) ∷ [])) t) × EndsBelow (A .free) (infoOf l′ (set ts (length Γ) t₁) t)
   unfolding enumInfo
-  told-types = types-more (H .scene) same₀ (A .free) t₁ (rw free-is (omega arith)) (info-room .start) (omega (arith, H .types-are, number-low, H .long-types)) (typeInfoOf Γ (enum v vs))
+  told-types = types-more (H .scene) same₀ (A .free) t₁ (rw free-is (omega arith)) (info-room .start) (omega (arith, H .types-are, number-low, H .long-notes)) (typeInfoOf Γ (enum v vs))
       (describes-tells s l′ (enumInfo (st .types) n) t₁ (typeInfoOf Γ (enum v vs)) described info-held)
       (rw (read-numbers (enumInfo (st .types) n) t₁ l′ info-held, top₁, free-is) (record { end-below = λ _. omega arith; within = omega arith }))
 
-  enum-scene : Scene s l′ (set ts (length Γ) t₁) (suc (n + st .count)) (st .top) (A .free) (ks .env) bs
+  enum-scene : Scene s l′ (set ts (length Γ) t₁) (scoped (suc (n + st .scope .count)) (st .top)) (A .free) (ks .env) bs
   unfolding declareLine declNames extendTypes typeInfoOf
   enum-scene =
       let K = type-keeps H w (enum v vs) f e g b sn nn in
@@ -194,12 +194,12 @@ module _ {s l ts : List ℕ} {st : State} {k : Declared} {bs : List ℕ} (H : Ho
   pub enum-holds : Holds s l′ ts′ (typeState st (counted n) (st .top) 1 (A .free)) ks bs
   unfolding extendTypes typeInfoOf
   enum-holds =
-      let c : suc (n + st .count) ≡ st .count + (n + 1) = omega arith in
+      let c : suc (n + st .scope .count) ≡ st .scope .count + (n + 1) = omega arith in
       let m : length (Γ ++ (typeInfoOf Γ (enum v vs) ∷ [])) ≡ length Γ + 1 = length-append Γ (typeInfoOf Γ (enum v vs) ∷ []) in
       let d : n + 1 ≡ counted n = counted-more n (omega (arith, few)) in
       rw (A .places, ← d) (subst (λ (m : ℕ). Holds s l′ (set ts m t₁) (typeState st (n + 1) (st .top) 1 (A .free)) ks bs) (sym (H .types-are)) (type-holds H w (enum v vs) f e g b sn nn (n + 1) (st .top) 1 (A .free) l′ (set ts (length Γ) t₁) (omega arith) m (rw c at enum-scene)
       (by-number Γ (typeInfoOf Γ (enum v vs)) (λ t j. length (cellsBy (j .shape) t (j .cells)) ≤ 2048) (λ t _. H .small-types t) (omega arith) (λ t _. omega arith))
-      (rw free-is (omega (arith, H .few-names))) (rw free-is (omega arith)) (rw free-is room) (rw (A .values .long, long₂) (H .long-list)) (rw (length-set ts (length Γ) t₁) (H .long-types))))
+      (rw free-is (omega (arith, H .few-names))) (rw free-is (omega arith)) (rw free-is room) (rw (A .values .long, long₂) (H .long-list)) (rw (length-set ts (length Γ) t₁) (H .long-notes))))
 
   pub enum-top : A .free ≡ st .top + (12 + 4 * n)
   enum-top = free-is
@@ -233,7 +233,7 @@ form-end s e q f h (was-form _) = refl
 form-end s e q f h (at-end _ _) = h
 form-end s e q f h (before-end _ _) = refl
 
-module _ (s l ts : List ℕ) (st : State) (p at : ℕ) (own : Bool) (O : GivesFresh s l (st .count) (st .newest) p at own) (k : Declared) (bs : List ℕ) (H : Holds s l ts st k bs) where
+module _ (s l ts : List ℕ) (st : State) (p at : ℕ) (own : Bool) (O : GivesFresh s l (st .scope) p at own) (k : Declared) (bs : List ℕ) (H : Holds s l ts st k bs) where
   abbrev us : Trees Run
   us = first (stackAt s at)
 
@@ -296,7 +296,7 @@ module _ (s l ts : List ℕ) (st : State) (p at : ℕ) (own : Bool) (O : GivesFr
       go true y x = comes-fits v vs y h (λ c. few (omega arith)) (count-bounded n (suc (length vs)) few full) x
       go false y x = comes-old y x
 
-  comes : (c : Counted) → NamesTold s l (st .count) (st .newest) at c → (e f : Fault) → e ≡ enumFault (c .fault) (c .names) own → EndFault s e (c .next) f → Comes k us we after (c .names) f
+  comes : (c : Counted) → NamesTold s l (st .scope) at c → (e f : Fault) → e ≡ enumFault (c .fault) (c .names) own → EndFault s e (c .next) f → Comes k us we after (c .names) f
   unfolding enumFault
   comes c (names-wrong h) e f q E = comes-wrong (form-end s e _ f q E) (none-after (no-names h))
   comes c (names-read {f = g} {n} {q = q′} [] h a few full F) e f q E = comes-wrong (form-end s e _ f (q ∙ empty-fault g n (few (omega arith))) E) (none-after (empty-names h))
@@ -305,8 +305,8 @@ module _ (s l ts : List ℕ) (st : State) (p at : ℕ) (own : Bool) (O : GivesFr
 
 -- ---- the ways
 
-module _ (s l ts : List ℕ) (st : State) (p at : ℕ) (c : Counted) (N : NamesTold s l (st .count) (st .newest) at c) (h : Fault) (hc : h ≡ c .fault)
-    (own : Bool) (O : GivesFresh s l (st .count) (st .newest) p at own) (e : Fault) (he : e ≡ enumFault h (c .names) own) (f : Fault) (E : EndFault s e (c .next) f)
+module _ (s l ts : List ℕ) (st : State) (p at : ℕ) (c : Counted) (N : NamesTold s l (st .scope) at c) (h : Fault) (hc : h ≡ c .fault)
+    (own : Bool) (O : GivesFresh s l (st .scope) p at own) (e : Fault) (he : e ≡ enumFault h (c .names) own) (f : Fault) (E : EndFault s e (c .next) f)
     (b : Bool) (i : b ≡ isClear f) where
   abbrev line : Option LineForm
   line = madeAfter (map small (wordAt s p)) (enumIn (first (stackAt s at))) (first (later (stackAt s at)))
@@ -362,13 +362,13 @@ module _ (s l ts : List ℕ) (st : State) (p at : ℕ) (c : Counted) (N : NamesT
 
     added-same : (n : ℕ) (r : Lined) (l′ ts′ : List ℕ) → AddsEnum s l ts st p at n r l′ ts′ → Same 0 (st .top) l′ l
     added-same n r l′ ts′ A =
-        let t₁ = enumNamed st p l .top in
-        let l₁ = enumNamed st p l .list in
+        let t₁ = enumNamed st (keyed s p) l .top in
+        let l₁ = enumNamed st (keyed s p) l .list in
         record {
           at = λ z a d.
-              A .values .below .at z a (omega (arith, lay-g (enumEntry st p) (st .top) l .up, lay-g (infoNumbers (enumInfo (st .types) n)) t₁ l₁ .up))
-              ∙ lay-g (infoNumbers (enumInfo (st .types) n)) t₁ l₁ .below z (omega (arith, lay-g (enumEntry st p) (st .top) l .up))
-              ∙ lay-g (enumEntry st p) (st .top) l .below z d;
+              A .values .below .at z a (omega (arith, lay-g (enumEntry st (keyed s p)) (st .top) l .up, lay-g (infoNumbers (enumInfo (st .types) n)) t₁ l₁ .up))
+              ∙ lay-g (infoNumbers (enumInfo (st .types) n)) t₁ l₁ .below z (omega (arith, lay-g (enumEntry st (keyed s p)) (st .top) l .up))
+              ∙ lay-g (enumEntry st (keyed s p)) (st .top) l .below z d;
         }
 
     pub enum-fits : u ≡ true → (r : Lined) (l′ ts′ : List ℕ) → AddsEnum s l ts st p at (c .names) r l′ ts′ → GivesMade s l ts st p at (enumIn (first (stackAt s at))) r l′ ts′

@@ -10,12 +10,11 @@ use Rattle.spelling.specs.Bytes.{small, same}
 use Rattle.semantics.specs.Base.{Name, _>>=_, each, find}
 use Rattle.semantics.specs.Environment.{Environment, NameSort}
 use Rattle.semantics.specs.Forms.{Item, free, some?, madeType}
-use Rattle.semantics.specs.Names.{listedIn, isKnown}
+use Rattle.semantics.specs.Names.{listedIn, isKnown, distinct, noneKnown, newNames}
 use Rattle.semantics.specs.Syntax.{enum}
 use Rattle.semantics.specs.Trees.{Trees, end, _then_, Run, first, later, wordAt, stackAt, list}
 use Rattle.semantics.specs.Words.{Word, worded, wordedAll}
 use Rattle.semantics.proofs.Inversion.{none-some, some-inj, bind-some}
-use Rattle.symbols.specs.Chain.{entries, placeIn}
 use mir.Syntax.{w32}
 use mir.Val.{Fits}
 use lib.Dec.{ltb}
@@ -24,15 +23,20 @@ use native.Mathlib.Decide.{decLt}
 use Rattle.parts.specs.Parts.{ShutAt, Shuts}
 use Rattle.parts.specs.declared.End.{End}
 use Rattle.parts.specs.declared.End.the-variants as ending
+use Rattle.tables.specs.declared.Scope.{Scope}
 use Rattle.tables.specs.declared.Fault.{Fault}
 use Rattle.tables.specs.declared.Fault.the-variants as fault
 use Rattle.tables.specs.declared.Meaning.{Meaning}
-use Rattle.tables.specs.Scene.{Scene, meaningAt, Told, unknown, known, a-type, a-var, a-proc, a-value}
+use Rattle.tables.specs.Scene.{Scene, Told, unknown, known, a-type, a-var, a-proc, a-value, meaningHere}
 use Rattle.tables.proofs.Telling.{meant}
 use Rattle.shapes.specs.Parts.{partOf, nameIn}
 use Rattle.shapes.proofs.Walks.{bind-cong, bind-assoc, first-part}
 use Rattle.declarations.specs.Names.{GivesName}
-use Rattle.enumlines.specs.Enums.{enumIn, namesIn, many, Listed, freshOne, fresh, GivesFresh, counted, countedBy, isUnknown, NamesTold, names-wrong, names-read, EndsNames, ends-wrong, ends-read}
+use Rattle.repeats.specs.Leads.{leads, leadsAt}
+use Rattle.repeats.specs.Blocks.{apart}
+use Rattle.repeats.proofs.LeadParts.{lead-free}
+use Rattle.repeats.proofs.NamesApart.{distinct-apart}
+use Rattle.enumlines.specs.Enums.{enumIn, namesIn, many, Listed, freshOne, fresh, GivesNew, GivesFresh, counted, countedBy, isUnknown, NamesTold, names-wrong, names-read, EndsNames, ends-wrong, ends-read}
 use Rattle.enumlines.specs.declared.enums.Counted.{Counted}
 use Rattle.declarations.specs.declared.Naming.{Naming}
 use Rattle.declarations.specs.declared.Naming.the-variants as naming
@@ -132,17 +136,21 @@ unknown-told {σ} {bs} w m T = go (find (σ .names) w) m T
     go _ _ (known a-proc) = refl
     go _ _ (known a-value) = refl
 
-module _ (s l : List ℕ) (count newest y q : ℕ) (b : Bool) (L : Listed s y q b) where
-  pub fresh-listed : b ≡ true → GivesFresh s l count newest y q false
-  unfolding freshOne
-  fresh-listed i = record { says = λ ts top σ bs S ms h. rw (sym (L .says σ ms h) ∙ i) refl }
-
-  pub fresh-other : b ≡ false → (m : Meaning) → m ≡ meaningAt l (placeIn s l (entries count l newest) (map small (wordAt s y))) → (r : Bool) → r ≡ isUnknown m → GivesFresh s l count newest y q r
-  unfolding freshOne
-  fresh-other i m e r g = record {
-    says = λ ts top σ bs S ms h.
-        rw (sym (L .says σ ms h) ∙ i) (g ∙ ap isUnknown e ∙ unknown-told (map small (wordAt s y)) (meaningAt l (placeIn s l (entries count l newest) (map small (wordAt s y)))) (meant S (map small (wordAt s y))));
+module _ (s l : List ℕ) (scope : Scope) (y : ℕ) where
+  pub new-told : (m : Meaning) → m ≡ meaningHere s l scope y → (r : Bool) → r ≡ isUnknown m → GivesNew s l scope y r
+  new-told m e r g = record {
+    says = λ ts top σ bs S.
+        g ∙ ap isUnknown e ∙ unknown-told (map small (wordAt s y)) (meaningHere s l scope y) (meant S (map small (wordAt s y)));
   }
+
+  module _ (q : ℕ) (b : Bool) (L : Listed s y q b) where
+    pub fresh-listed : b ≡ true → GivesFresh s l scope y q false
+    unfolding freshOne
+    fresh-listed i = record { says = λ ts top σ bs S ms h. rw (sym (L .says σ ms h) ∙ i) refl }
+
+    pub fresh-other : b ≡ false → (r : Bool) → GivesNew s l scope y r → GivesFresh s l scope y q r
+    unfolding freshOne
+    fresh-other i r N = record { says = λ ts top σ bs S ms h. rw (sym (L .says σ ms h) ∙ i) (N .says ts top σ bs S) }
 
 pub ruleset fresh-laws = (fresh-listed, fresh-other)
 
@@ -173,18 +181,52 @@ both-none a b e = rw e refl
 pub ruleset both-laws = (both-first, both-none)
 
 module _ (s : List ℕ) (p n : ℕ) (ok : Bool) (e : End) (E : Shuts s p e) (r : Counted) where
-  pub end-past : (q : ℕ) → e ≡ ending.Past q → (f : Fault) → f ≡ cond ok fault.Clear fault.Name → r ≡ countedBy f n q → EndsNames s p n ok r
-  end-past q g f h i = let m : ShutAt s p q = rw g at (E .says) in rw (i, h) (ends-read q (m .here) (m .around))
+  pub end-past : (q : ℕ) → e ≡ ending.Past q → (o : Bool) → o ≡ ok → (f : Fault) → f ≡ cond o fault.Clear fault.Name → r ≡ countedBy f n q → EndsNames s p n ok r
+  end-past q g o k f h i = let m : ShutAt s p q = rw g at (E .says) in rw (i, h, k) (ends-read q (m .here) (m .around))
 
   pub end-more : e ≡ ending.More → r ≡ countedBy fault.Form 0 p → EndsNames s p n ok r
   end-more g i = rw i (ends-wrong (rw g at (E .says)))
 
 pub ruleset end-laws = (end-past, end-more)
 
+-- ---- names that differ
+
+-- all parts begin with their names
+pub names-lead : (us : Trees Run) (ns : List Name) → namesIn us ≡ some ns → leads us ≡ ns
+unfolding namesIn leads
+names-lead end ns h = some-inj h
+names-lead (t then ts) ns h =
+    bind-some h λ n hn g. bind-some g λ ms hm e.
+    ap (λ (v : Name). v ∷ leads ts) (lead-free t n hn) ∙ ap (λ (vs : List Name). n ∷ vs) (names-lead ts ms hm) ∙ some-inj e
+
+-- names that are new, one by one or all at once
+pub new-fresh : (σ : Environment) (ns : List Name) → newNames σ ns ≡ fresh σ ns
+unfolding newNames distinct noneKnown fresh freshOne
+new-fresh σ [] = refl
+new-fresh σ (w ∷ ws) = go (not (listedIn σ w ws)) (distinct σ ws) (not (isKnown σ w)) (noneKnown σ ws) ∙ ap (λ (b : Bool). (not (listedIn σ w ws) && not (isKnown σ w)) && b) (new-fresh σ ws)
+  where
+    go : (a b c d : Bool) → ((a && b) && (c && d)) ≡ ((a && c) && (b && d))
+    go true true c d = refl
+    go true false true d = refl
+    go true false false d = refl
+    go false b c d = refl
+
+and-turned : (a b : Bool) → (a && b) ≡ (b && a)
+and-turned true true = refl
+and-turned true false = refl
+and-turned false true = refl
+and-turned false false = refl
+
+fresh-apart : (σ : Environment) (us : Trees Run) (ns : List Name) → namesIn us ≡ some ns → (noneKnown σ ns && apart (leads us)) ≡ fresh σ ns
+unfolding newNames
+fresh-apart σ us ns h =
+    ap (λ (ms : List Name). noneKnown σ ns && apart ms) (names-lead us ns h) ∙ and-turned (noneKnown σ ns) (apart ns)
+    ∙ ap (λ (b : Bool). b && noneKnown σ ns) (sym (distinct-apart σ ns)) ∙ new-fresh σ ns
+
 -- ---- `enum_names`
 
 -- the names up to p are read: c of them
-pub record Counting (s l : List ℕ) (count newest at p n : ℕ) (ok : Bool) : Type 0 where
+pub record Counting (s l : List ℕ) (scope : Scope) (at p n : ℕ) (ok : Bool) : Type 0 where
   pub c : ℕ
   pub few : c ≤ 1000 → n ≡ c
   pub full : 1000 < c → n ≡ 1000
@@ -192,7 +234,7 @@ pub record Counting (s l : List ℕ) (count newest at p n : ℕ) (ok : Bool) : T
   pub back : namesIn (first (stackAt s p)) ≡ none → namesIn (first (stackAt s at)) ≡ none
   pub around : later (stackAt s at) ≡ later (stackAt s p)
   pub left : (ms : List Name) → namesIn (first (stackAt s p)) ≡ some ms → (ns : List Name) × (namesIn (first (stackAt s at)) ≡ some ns) × (length ns ≡ c + length ms)
-      × ((ts : List ℕ) (top : ℕ) (σ : Environment) (bs : List ℕ) → Scene s l ts count newest top σ bs → fresh σ ns ≡ (ok && fresh σ ms))
+      × ((ts : List ℕ) (top : ℕ) (σ : Environment) (bs : List ℕ) → Scene s l ts scope top σ bs → noneKnown σ ns ≡ (ok && noneKnown σ ms))
 
 pub and-assoc : (a b c : Bool) → (a && (b && c)) ≡ ((a && b) && c)
 and-assoc true b c = refl
@@ -214,8 +256,8 @@ counted-few n c h g = (
     go i (yes l) = let e : n ≡ 1000 = g l in rw (le-ltb n 1000 (omega arith)) (omega arith)
     go i (no l) = let e : n ≡ c = h (omega arith) in rw (le-ltb n 1000 (omega arith)) (omega arith)
 
-module _ (s l : List ℕ) (count newest at : ℕ) where
-  pub count-start : Counting s l count newest at at 0 true
+module _ (s l : List ℕ) (scope : Scope) (at : ℕ) where
+  pub count-start : Counting s l scope at at 0 true
   count-start = record {
     c = 0;
     few = λ _. refl;
@@ -226,14 +268,14 @@ module _ (s l : List ℕ) (count newest at : ℕ) where
     left = λ ms h. (ms, h, omega arith, λ _ _ _ _ _. refl);
   }
 
-  module _ (p n : ℕ) (ok : Bool) (S : Counting s l count newest at p n ok) where
+  module _ (p n : ℕ) (ok : Bool) (S : Counting s l scope at p n ok) where
     pub count-small : Fits w32 n
     count-small = S .small
 
     module _ (x : Naming) (N : GivesName s p x) where
-      pub count-on : (y q : ℕ) → x ≡ naming.Called y q → (b : Bool) → GivesFresh s l count newest y q b → (ok′ : Bool) → ok′ ≡ (ok && b) → (n′ : ℕ) → Fits w32 n′ → n′ ≡ counted n
-          → Counting s l count newest at q n′ ok′
-      unfolding fresh _>>=_
+      pub count-on : (y q : ℕ) → x ≡ naming.Called y q → (b : Bool) → GivesNew s l scope y b → (ok′ : Bool) → ok′ ≡ (ok && b) → (n′ : ℕ) → Fits w32 n′ → n′ ≡ counted n
+          → Counting s l scope at q n′ ok′
+      unfolding noneKnown _>>=_
       count-on y q e b G ok′ ho n′ hf hn = record {
         c = suc (S .c);
         few = λ h. hn ∙ counted-few n (S .c) (S .few) (S .full) .0 h;
@@ -247,7 +289,7 @@ module _ (s l : List ℕ) (count newest at : ℕ) where
               m .1,
               m .2 ∙ omega arith,
               λ ts top σ bs C.
-                  m .3 ts top σ bs C ∙ ap (λ (z : Bool). ok && (z && fresh σ ms)) (sym (G .says ts top σ bs C ms h)) ∙ and-assoc ok b (fresh σ ms) ∙ ap (λ (z : Bool). z && fresh σ ms) (sym ho),
+                  m .3 ts top σ bs C ∙ ap (λ (z : Bool). ok && (z && noneKnown σ ms)) (sym (G .says ts top σ bs C)) ∙ and-assoc ok b (noneKnown σ ms) ∙ ap (λ (z : Bool). z && noneKnown σ ms) (sym ho),
             );
       }
 
@@ -260,13 +302,15 @@ module _ (s l : List ℕ) (count newest at : ℕ) where
       unfolding namesIn
       end-names us h = rw h refl
 
-      pub count-end : x ≡ naming.Nothing → (r : Counted) → EndsNames s p n ok r → NamesTold s l count newest at r
-      unfolding fresh
+      pub count-end : x ≡ naming.Nothing → (r : Counted) → EndsNames s p n (ok && apart (leadsAt s at)) r → NamesTold s l scope at r
+      unfolding noneKnown
       count-end e r (ends-wrong h) = names-wrong (S .back (none-names (first (stackAt s p)) (rw e at (N .says)) h))
       count-end e r (ends-read q h a) =
           let m = S .left [] (end-names (first (stackAt s p)) h) in
           let z : length (m .0) ≡ S .c = m .2 ∙ omega arith in
           names-read (m .0) (m .1) (S .around ∙ a) (λ i. S .few (rw z at i) ∙ sym z) (λ i. S .full (rw z at i))
-          (λ ts top σ bs C. ap (λ (b : Bool). cond b fault.Clear fault.Name) (sym (m .3 ts top σ bs C ∙ and-true-right ok)))
+          (λ ts top σ bs C.
+          ap (λ (b : Bool). cond b fault.Clear fault.Name)
+          (ap (λ (b : Bool). b && apart (leadsAt s at)) (sym (m .3 ts top σ bs C ∙ and-true-right ok)) ∙ fresh-apart σ (first (stackAt s at)) (m .0) (m .1)))
 
 pub ruleset count-laws = (count-on, count-end)

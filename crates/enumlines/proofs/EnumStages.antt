@@ -1,12 +1,12 @@
 -- The stages of a line that makes an enumeration.
 use mathlib.Core.Path.{_≡_, refl, ap, _∙_}
-use mathlib.Core.Bool.{Bool, true, false, cond, not, _&&_}
+use mathlib.Core.Bool.{Bool, true, false, cond}
 use mathlib.Core.List.{List, [], _∷_}
 use mathlib.Core.Option.{Option, none, some}
 use Rattle.semantics.specs.Base.{Name, _>>=_, given}
-use Rattle.semantics.specs.Environment.{Declared, Environment}
+use Rattle.semantics.specs.Environment.{Declared}
 use Rattle.semantics.specs.Forms.{some?}
-use Rattle.semantics.specs.Names.{listedIn, isKnown, distinct, noneKnown, newNames, declOf, entryOf}
+use Rattle.semantics.specs.Names.{declOf, entryOf}
 use Rattle.semantics.specs.Rules.{keepsRules, keptDecl}
 use Rattle.semantics.specs.Script as Script
 use Rattle.semantics.specs.Script.{newType}
@@ -15,20 +15,8 @@ use Rattle.semantics.specs.Stages.{wrong, unnamed, fits, ruled, staged}
 use Rattle.semantics.specs.Syntax.{LineForm, TypeForm, typeLine, enum}
 use Rattle.semantics.specs.Trees.{Trees, Run}
 use Rattle.declarations.specs.Lines.{entryStaged}
-use Rattle.enumlines.specs.Enums.{enumIn, namesIn, freshOne, fresh}
-use Rattle.enumlines.proofs.EnumNames.{enum-parts}
-
--- names that are new, one by one or all at once
-pub new-fresh : (σ : Environment) (ns : List Name) → newNames σ ns ≡ fresh σ ns
-unfolding newNames distinct noneKnown fresh freshOne
-new-fresh σ [] = refl
-new-fresh σ (w ∷ ws) = go (not (listedIn σ w ws)) (distinct σ ws) (not (isKnown σ w)) (noneKnown σ ws) ∙ ap (λ (b : Bool). (not (listedIn σ w ws) && not (isKnown σ w)) && b) (new-fresh σ ws)
-  where
-    go : (a b c d : Bool) → ((a && b) && (c && d)) ≡ ((a && c) && (b && d))
-    go true true c d = refl
-    go true false true d = refl
-    go true false false d = refl
-    go false b c d = refl
+use Rattle.enumlines.specs.Enums.{enumIn, namesIn, fresh}
+use Rattle.enumlines.proofs.EnumNames.{enum-parts, new-fresh}
 
 module _ (k : Declared) (w : Name) (us : Trees Run) where
   abbrev line : Option LineForm

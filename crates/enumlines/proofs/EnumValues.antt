@@ -23,14 +23,18 @@ use Rattle.semantics.proofs.Inversion.{some-inj, bind-some}
 use Rattle.semantics.proofs.LayoutRegions.{Same, Room, Has, lay-g, lay-l}
 use Rattle.semantics.proofs.LinesKeep.{AllFair, Fair, value, find-fair}
 use Rattle.worklist.specs.Laid.{Laid}
-use Rattle.symbols.specs.Chain.{entries, nameAt}
-use Rattle.symbols.proofs.Chained.{one-name, one-entry}
+use Rattle.symbols.specs.Keys.{keyed}
+use Rattle.symbols.specs.Chain.{entries, Called}
+use Rattle.symbols.proofs.Chained.{one-name, one-entry, called-keyed}
+use Rattle.tables.specs.declared.Scope.{Scope}
 use Rattle.tables.specs.declared.Fault.{Fault}
 use Rattle.tables.specs.declared.Fault.the-variants as fault
 use Rattle.tables.specs.declared.Info.{Info}
 use Rattle.tables.specs.Scene.{Means, a-value, meaningBy, meaningAt}
+use Rattle.tables.specs.Descriptions.{ordinalInfo}
 use Rattle.parts.specs.Got.{isForm}
 use Rattle.enumlines.specs.Enums.{namesIn, counted}
+use Rattle.declarations.specs.State.{scoped}
 use Rattle.declarations.specs.Lines.{linedBy}
 use Rattle.declarations.specs.Names.{GivesName}
 use Rattle.typelines.specs.TypeLines.{infoNumbers, typeState}
@@ -55,19 +59,19 @@ link-last i n place newest m e h = rw (le-ltb i (n - 1) (omega arith)) refl
 
 pub ruleset link-laws = (link-next, link-last)
 
-pub value-laid : (kind newest n y i place name link : ℕ) → name ≡ y % 32768 → link ≡ linkOf i n place newest → (l : List ℕ) (r : ℕ) (l′ : List ℕ)
-    → Laid (lay (name ∷ (3 + 4 * (kind % 128)) ∷ i ∷ link ∷ []) place l) r l′ → Laid (lay (valueEntry kind newest n y i place) place l) r l′
+pub value-laid : (kind newest n name i place link : ℕ) → link ≡ linkOf i n place newest → (l : List ℕ) (r : ℕ) (l′ : List ℕ)
+    → Laid (lay (name ∷ (3 + 4 * (kind % 128)) ∷ i ∷ link ∷ []) place l) r l′ → Laid (lay (valueEntry kind newest n name i place) place l) r l′
 unfolding valueEntry
-value-laid kind newest n y i place name link e g l r l′ L = rw (← e, ← g) L
+value-laid kind newest n name i place link g l r l′ L = rw (← g) L
 
-pub enum-name-laid : (st : State) (p name : ℕ) → name ≡ p % 32768 → (l : List ℕ) (r : ℕ) (l′ : List ℕ)
-    → Laid (lay (name ∷ (4 * (st .types % 128)) ∷ 0 ∷ (st .top % 32768 + 12) ∷ []) (st .top) l) r l′ → Laid (lay (enumEntry st p) (st .top) l) r l′
+pub enum-name-laid : (st : State) (name : ℕ) (l : List ℕ) (r : ℕ) (l′ : List ℕ)
+    → Laid (lay (name ∷ (4 * (st .types % 128)) ∷ 0 ∷ (st .top % 32768 + 12) ∷ []) (st .top) l) r l′ → Laid (lay (enumEntry st name) (st .top) l) r l′
 unfolding enumEntry
-enum-name-laid st p name e l r l′ L = rw (← e) L
+enum-name-laid st name l r l′ L = L
 
-pub enum-info-is : (kind n high : ℕ) → high ≡ n - 1 → record { shape = 0; host = kind; low = 0; high = high; size = 1; index = 0; element = 0; fields = 0; place = 0 } ≡ enumInfo kind n
+pub enum-info-is : (kind n high : ℕ) (x : Info) → high ≡ n - 1 → x ≡ ordinalInfo kind 0 high → x ≡ enumInfo kind n
 unfolding enumInfo
-enum-info-is kind n high e = rw e refl
+enum-info-is kind n high x e f = f ∙ rw e refl
 
 module _ (f : Fault) (n : ℕ) (own b : Bool) (i : b ≡ isForm f) where
   pub enum-fault-form : b ≡ true → fault.Form ≡ enumFault f n own
@@ -152,9 +156,9 @@ module _ (s l₀ : List ℕ) (kind newest n top at : ℕ) where
             absurd (omega (arith, y .2));
       }
 
-      module _ (h : i < n) (y q : ℕ) (e : x ≡ naming.Called y q) (r : ℕ) (l′ : List ℕ) (L : Laid (lay (valueEntry kind newest n y i place) place l) r l′) (small-r : Fits w32 r) where
+      module _ (h : i < n) (y q : ℕ) (e : x ≡ naming.Called y q) (name : ℕ) (keyed-is : name ≡ keyed s y) (r : ℕ) (l′ : List ℕ) (L : Laid (lay (valueEntry kind newest n name i place) place l) r l′) (small-r : Fits w32 r) where
         abbrev entry : List ℕ
-        entry = valueEntry kind newest n y i place
+        entry = valueEntry kind newest n name i place
 
         value-same : Same 0 place l′ l
         value-same = laid-same entry place l l′ (L .left)
@@ -173,15 +177,14 @@ module _ (s l₀ : List ℕ) (kind newest n top at : ℕ) where
         -- one value more, in a list that agrees up to its end
         value-held : (ms : List Name) → i + suc (length ms) ≡ n → kind < 128 → length s ≤ 32768 → Room 4 place l → (m : List ℕ) → Same 0 (place + 4) m l′
             → Values s m kind newest (place + 4) (i + 1) ms → Values s m kind newest place i (map small (wordAt s y) ∷ ms)
-        unfolding valueEntry nameAt
+        unfolding valueEntry
         value-held ms c k hs R m E W =
             let g = rw e at (N .says) in
             let H : Has entry place l′ = lay-l entry place l .held R l′ (record { at = λ j _ _. ap (λ (z : List ℕ). getD z j 0) (L .left) }) in
             let z : place + 0 ≡ place = omega arith in
-            let a : y % 32768 ≡ y = mod-eq-of-lt (omega (arith, g .1)) in
             let b : kind % 128 ≡ kind = mod-eq-of-lt k in
-            let v : getD m place 0 ≡ y = E .at place (omega arith) (omega arith) ∙ ap (λ (j : ℕ). getD l′ j 0) (sym z) ∙ H .at 0 (omega arith) ∙ a in
-            one-value (ap (λ (j : ℕ). map small (wordAt s j)) v)
+            let v : getD m place 0 ≡ keyed s y = E .at place (omega arith) (omega arith) ∙ ap (λ (j : ℕ). getD l′ j 0) (sym z) ∙ H .at 0 (omega arith) ∙ keyed-is in
+            one-value (called-keyed s m place y (omega (arith, g .1)) v)
             (E .at (place + 1) (omega arith) (omega arith) ∙ H .at 1 (omega arith) ∙ ap (λ (j : ℕ). 3 + 4 * j) b)
             (E .at (place + 2) (omega arith) (omega arith) ∙ H .at 2 (omega arith))
             (E .at (place + 3) (omega arith) (omega arith) ∙ H .at 3 (omega arith) ∙ link-is ms c (omega (arith, R .fits))) W
@@ -214,24 +217,24 @@ module _ (s l₀ : List ℕ) (kind newest n top at : ℕ) where
               ));
         }
           where
-            top-more : (place : ℕ) (l : List ℕ) → place + 4 ≤ 16384 → lay (valueEntry kind newest n y i place) place l .top ≡ place + 4
-            top-more place l f = lay-l (valueEntry kind newest n y i place) place l .top-is f
+            top-more : (place : ℕ) (l : List ℕ) → place + 4 ≤ 16384 → lay (valueEntry kind newest n name i place) place l .top ≡ place + 4
+            top-more place l f = lay-l (valueEntry kind newest n name i place) place l .top-is f
 
 pub ruleset values-laws = (values-done, values-short, values-on)
 
 -- ---- `add_enum`
 
-pub lays-described : (l : List ℕ) (st : State) (p n q : ℕ) (m : List ℕ) → Laid (lay (enumEntry st p) (st .top) l) q m → (x : Info) → x ≡ enumInfo (st .types) n
-    → (t : ℕ) (m′ : List ℕ) → Laid (lay (infoNumbers x) q m) t m′ → LaysDescribed l st p n (record { place = q; top = t }) m′
-lays-described l st p n q m L x hx t m′ M = record {
+pub lays-described : (l : List ℕ) (st : State) (name n q : ℕ) (m : List ℕ) → Laid (lay (enumEntry st name) (st .top) l) q m → (x : Info) → x ≡ enumInfo (st .types) n
+    → (t : ℕ) (m′ : List ℕ) → Laid (lay (infoNumbers x) q m) t m′ → LaysDescribed l st name n (record { place = q; top = t }) m′
+lays-described l st name n q m L x hx t m′ M = record {
   place-is = L .free;
   top-is = M .free ∙ rw (hx, L .free, L .left) refl;
   list-is = M .left ∙ rw (hx, L .free, L .left) refl;
 }
 
-pub lays-enum : (s l : List ℕ) (st : State) (p at n : ℕ) (q : Placed) (m : List ℕ) → LaysDescribed l st p n q m → (free : ℕ) (l′ : List ℕ)
-    → LaysValues s m (st .types) (st .newest) n (q .top) at free l′ → LaysEnum s l st p at n (record { place = q .place; top = free }) l′
-lays-enum s l st p at n q m L free l′ W = record { values = rw (← L .top-is, ← L .list-is) W; place-is = L .place-is }
+pub lays-enum : (s l : List ℕ) (st : State) (p at n name : ℕ) → name ≡ keyed s p → (q : Placed) (m : List ℕ) → LaysDescribed l st name n q m → (free : ℕ) (l′ : List ℕ)
+    → LaysValues s m (st .types) (st .scope .newest) n (q .top) at free l′ → LaysEnum s l st p at n (record { place = q .place; top = free }) l′
+lays-enum s l st p at n name e q m L free l′ W = record { values = rw (← e, ← L .top-is, ← L .list-is) W; place-is = rw (← e) (L .place-is) }
 
 pub adds-enum : (s l ts : List ℕ) (st : State) (p at n : ℕ) (q : Placed) (l′ : List ℕ) → LaysEnum s l st p at n q l′ → (ts′ : List ℕ) → ts′ ≡ set ts (st .types) (q .place)
     → (c : ℕ) → c ≡ counted n → (st′ : State) → st′ ≡ typeState st c (st .top) 1 (q .top) → (r : Lined) → r ≡ linedBy fault.Clear true st′ → AddsEnum s l ts st p at n r l′ ts′
@@ -245,13 +248,13 @@ adds-enum s l ts st p at n q l′ L ts′ e c hc st′ hs r hr = record {
 -- ---- what the entries add to the names
 
 -- an entry that stands below the free place, before those that it links to
-pub chained-one : {s l : List ℕ} {count next top : ℕ} {σ : Environment} {bs : List ℕ} {ns : List (Name × NameSort)} (place : ℕ) (w : Name) (m : NameSort)
-    → 1 ≤ place → place + 4 ≤ top → nameAt s l place ≡ w → Means σ bs (meaningBy (getD l (place + 1) 0) (getD l (place + 2) 0)) m → getD l (place + 3) 0 ≡ next
-    → Chained s l count next top σ bs ns → Chained s l (suc count) place top σ bs ((w, m) ∷ ns)
+pub chained-one : {s l : List ℕ} {scope : Scope} {top : ℕ} {σ : Environment} {bs : List ℕ} {ns : List (Name × NameSort)} (place : ℕ) (w : Name) (m : NameSort)
+    → 1 ≤ place → place + 4 ≤ top → Called s l place w → Means σ bs (meaningBy (getD l (place + 1) 0) (getD l (place + 2) 0)) m → getD l (place + 3) 0 ≡ scope .newest
+    → Chained s l scope top σ bs ns → Chained s l (scoped (suc (scope .count)) place) top σ bs ((w, m) ∷ ns)
 unfolding entries meaningAt
-chained-one {l = l} {count = count} place w m h g e M k C = record {
+chained-one {l = l} {scope = scope} place w m h g e M k C = record {
   names = rw k (one-name {w = w} {a = m} h e (record { means = rw (ne-eqb place 0 (λ z. omega arith)) M }) (C .names));
-  below = one-entry {n = count} {p = place} g (rw k (C .below));
+  below = one-entry {n = scope .count} {p = place} g (rw k (C .below));
 }
 
 pub value-means : (σ : Environment) (bs : List ℕ) (t n : ℕ) → Means σ bs (meaningBy (3 + 4 * t) n) (aValue (record { kind = t; value = pos n }))
@@ -261,16 +264,17 @@ value-means σ bs t n =
     let b : (3 + 4 * t) / 4 ≡ t = omega arith in
     rw (a, b) a-value
 
-pub chained-values : {s l : List ℕ} {count newest top : ℕ} {σ : Environment} {bs : List ℕ} {ns : List (Name × NameSort)} (kind place n : ℕ) (ws : List Name)
-    → Values s l kind newest place n ws → 1 ≤ place → place + 4 * length ws ≤ top → Chained s l count newest top σ bs ns
-    → Chained s l (length ws + count) (startOf ws place newest) top σ bs (enumNames kind n ws ++ ns)
+pub chained-values : {s l : List ℕ} {scope : Scope} {top : ℕ} {σ : Environment} {bs : List ℕ} {ns : List (Name × NameSort)} (kind place n : ℕ) (ws : List Name)
+    → Values s l kind (scope .newest) place n ws → 1 ≤ place → place + 4 * length ws ≤ top → Chained s l scope top σ bs ns
+    → Chained s l (scoped (length ws + scope .count) (startOf ws place (scope .newest))) top σ bs (enumNames kind n ws ++ ns)
 unfolding startOf enumNames
-chained-values {s} {l} {count} {newest} {top} {σ} {bs} {ns} kind place n [] W h g C = let c : count ≡ 0 + count = omega arith in rw c at C
-chained-values {s} {l} {count} {newest} {top} {σ} {bs} {ns} kind place n (w ∷ ws) (one-value e a b k W) h g C =
-    let c : suc (length ws + count) ≡ suc (length ws) + count = omega arith in
+chained-values {s} {l} {scope} {top} {σ} {bs} {ns} kind place n [] W h g C = let c : scope .count ≡ 0 + scope .count = omega arith in record { names = rw (← c) (C .names); below = rw (← c) (C .below) }
+chained-values {s} {l} {scope} {top} {σ} {bs} {ns} kind place n (w ∷ ws) (one-value e a b k W) h g C =
+    let c : suc (length ws + scope .count) ≡ suc (length ws) + scope .count = omega arith in
     let d : n + 1 ≡ suc n = omega arith in
-    let K : Chained s l (length ws + count) (startOf ws (place + 4) newest) top σ bs (enumNames kind (suc n) ws ++ ns) = rw d at (chained-values kind (place + 4) (n + 1) ws W (omega arith) (omega arith) C) in
-    rw c at (chained-one place w (aValue (record { kind = kind; value = pos n })) h (omega arith) e (rw (a, b) (value-means σ bs kind n)) k K)
+    let K : Chained s l (scoped (length ws + scope .count) (startOf ws (place + 4) (scope .newest))) top σ bs (enumNames kind (suc n) ws ++ ns) = rw d at (chained-values kind (place + 4) (n + 1) ws W (omega arith) (omega arith) C) in
+    let one = chained-one place w (aValue (record { kind = kind; value = pos n })) h (omega arith) e (rw (a, b) (value-means σ bs kind n)) k K in
+    record { names = rw (← c) (one .names); below = rw (← c) (one .below) }
 
 -- ---- an enum value has one name
 

@@ -14,6 +14,7 @@ use Rattle.semantics.specs.Names.{listedIn, isKnown}
 use Rattle.semantics.specs.Syntax.{TypeForm}
 use Rattle.semantics.specs.Trees.{Trees, list, end, _then_, Run, first, later, wordAt, stackAt}
 use Rattle.semantics.specs.Words.{worded, wordedAll}
+use Rattle.tables.specs.declared.Scope.{Scope}
 use Rattle.tables.specs.declared.Fault.{Fault}
 use Rattle.tables.specs.declared.Fault.the-variants as fault
 use Rattle.tables.specs.declared.Meaning.{Meaning}
@@ -47,8 +48,12 @@ unfoldable pub fresh : Environment → List Name → Bool
 fresh σ [] = true
 fresh σ (w ∷ ws) = freshOne σ w ws && fresh σ ws
 
-pub record GivesFresh (s l : List ℕ) (count newest y q : ℕ) (r : Bool) : Type 0 where
-  pub says : (ts : List ℕ) (top : ℕ) (σ : Environment) (bs : List ℕ) → Scene s l ts count newest top σ bs
+-- a name has no meaning yet
+pub record GivesNew (s l : List ℕ) (scope : Scope) (y : ℕ) (r : Bool) : Type 0 where
+  pub says : (ts : List ℕ) (top : ℕ) (σ : Environment) (bs : List ℕ) → Scene s l ts scope top σ bs → r ≡ not (isKnown σ (map small (wordAt s y)))
+
+pub record GivesFresh (s l : List ℕ) (scope : Scope) (y q : ℕ) (r : Bool) : Type 0 where
+  pub says : (ts : List ℕ) (top : ℕ) (σ : Environment) (bs : List ℕ) → Scene s l ts scope top σ bs
       → (ms : List Name) → namesIn (first (stackAt s q)) ≡ some ms → r ≡ freshOne σ (map small (wordAt s y)) ms
 
 abbrev pub countedBy : Fault → ℕ → ℕ → Counted
@@ -66,12 +71,12 @@ isUnknown (meaning.Proc p) = false
 isUnknown (meaning.Value k n) = false
 
 -- the names from `at` on: row 6 where a part is no name, row 7 where a name is not new; how many, up to 1,000
-pub data NamesTold (s l : List ℕ) (count newest at : ℕ) : Counted → Type 0 where
-  names-wrong : {n q : ℕ} → namesIn (first (stackAt s at)) ≡ none → NamesTold s l count newest at (record { fault = fault.Form; names = n; next = q })
+pub data NamesTold (s l : List ℕ) (scope : Scope) (at : ℕ) : Counted → Type 0 where
+  names-wrong : {n q : ℕ} → namesIn (first (stackAt s at)) ≡ none → NamesTold s l scope at (record { fault = fault.Form; names = n; next = q })
   names-read : {f : Fault} {n q : ℕ} (ns : List Name) → namesIn (first (stackAt s at)) ≡ some ns → later (stackAt s at) ≡ stackAt s q
       → (length ns ≤ 1000 → n ≡ length ns) → (1000 < length ns → n ≡ 1000)
-      → ((ts : List ℕ) (top : ℕ) (σ : Environment) (bs : List ℕ) → Scene s l ts count newest top σ bs → f ≡ cond (fresh σ ns) fault.Clear fault.Name)
-      → NamesTold s l count newest at (record { fault = f; names = n; next = q })
+      → ((ts : List ℕ) (top : ℕ) (σ : Environment) (bs : List ℕ) → Scene s l ts scope top σ bs → f ≡ cond (fresh σ ns) fault.Clear fault.Name)
+      → NamesTold s l scope at (record { fault = f; names = n; next = q })
 
 -- the names end at p: n of them, up to 1,000, all new or not
 pub data EndsNames (s : List ℕ) (p n : ℕ) (ok : Bool) : Counted → Type 0 where

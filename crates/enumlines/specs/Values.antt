@@ -11,10 +11,12 @@ use Rattle.semantics.specs.Base.{Name}
 use Rattle.semantics.specs.Layout.{Out, lay}
 use Rattle.semantics.specs.Trees.{first, stackAt}
 use Rattle.semantics.proofs.LayoutRegions.{Same, Room}
-use Rattle.symbols.specs.Chain.{nameAt}
+use Rattle.symbols.specs.Keys.{keyed}
+use Rattle.symbols.specs.Chain.{Called}
 use Rattle.tables.specs.declared.Fault.{Fault}
 use Rattle.tables.specs.declared.Fault.the-variants as fault
 use Rattle.tables.specs.declared.Info.{Info}
+use Rattle.tables.specs.Descriptions.{ordinalInfo}
 use Rattle.parts.specs.Got.{isForm}
 use Rattle.enumlines.specs.Enums.{namesIn, counted}
 use Rattle.declarations.specs.Lines.{linedBy}
@@ -31,15 +33,16 @@ startOf (w ∷ ws) place newest = place
 -- the entries of the values of type `kind`, from a place and an ordinal on
 pub data Values (s l : List ℕ) (kind newest : ℕ) : ℕ → ℕ → List Name → Type 0 where
   no-value : {place n : ℕ} → Values s l kind newest place n []
-  one-value : {place n : ℕ} {w : Name} {ws : List Name} → nameAt s l place ≡ w → getD l (place + 1) 0 ≡ 3 + 4 * kind → getD l (place + 2) 0 ≡ n
+  one-value : {place n : ℕ} {w : Name} {ws : List Name} → Called s l place w → getD l (place + 1) 0 ≡ 3 + 4 * kind → getD l (place + 2) 0 ≡ n
       → getD l (place + 3) 0 ≡ startOf ws (place + 4) newest → Values s l kind newest (place + 4) (n + 1) ws → Values s l kind newest place n (w ∷ ws)
 
 -- the link of value i of n, whose entry is at `place`
 unfoldable pub linkOf : ℕ → ℕ → ℕ → ℕ → ℕ
 linkOf i n place newest = cond (ltb i (n - 1)) (place % 32768 + 4) newest
 
+-- by its name's number (symbols, Keys)
 unfoldable pub valueEntry : ℕ → ℕ → ℕ → ℕ → ℕ → ℕ → List ℕ
-valueEntry kind newest n y i place = (y % 32768) ∷ (3 + 4 * (kind % 128)) ∷ i ∷ linkOf i n place newest ∷ []
+valueEntry kind newest n name i place = name ∷ (3 + 4 * (kind % 128)) ∷ i ∷ linkOf i n place newest ∷ []
 
 -- the n names from `at` on, laid from `top` on
 pub record LaysValues (s l : List ℕ) (kind newest n top at : ℕ) (r : ℕ) (l′ : List ℕ) : Type 0 where
@@ -48,33 +51,33 @@ pub record LaysValues (s l : List ℕ) (kind newest n top at : ℕ) (r : ℕ) (l
   pub values : (ns : List Name) → namesIn (first (stackAt s at)) ≡ some ns → length ns ≡ n → kind < 128 → length s ≤ 32768 → Room (4 * n) top l
       → Values s l′ kind newest top 0 ns × (r ≡ top + 4 * n)
 
--- the entry of the type's name at p
+-- the entry of the type, by its name's number
 unfoldable pub enumEntry : State → ℕ → List ℕ
-enumEntry st p = (p % 32768) ∷ (4 * (st .types % 128)) ∷ 0 ∷ (st .top % 32768 + 12) ∷ []
+enumEntry st name = name ∷ (4 * (st .types % 128)) ∷ 0 ∷ (st .top % 32768 + 12) ∷ []
 
 -- the description of enumeration `kind` of n values
 unfoldable pub enumInfo : ℕ → ℕ → Info
-enumInfo kind n = record { shape = 0; host = kind; low = 0; high = n - 1; size = 1; index = 0; element = 0; fields = 0; place = 0 }
+enumInfo kind n = ordinalInfo kind 0 (n - 1)
 
 abbrev pub enumNamed : State → ℕ → List ℕ → Out
-enumNamed st p l = lay (enumEntry st p) (st .top) l
+enumNamed st name l = lay (enumEntry st name) (st .top) l
 
 abbrev pub enumDescribed : State → ℕ → ℕ → List ℕ → Out
-enumDescribed st p n l = lay (infoNumbers (enumInfo (st .types) n)) (enumNamed st p l .top) (enumNamed st p l .list)
+enumDescribed st name n l = lay (infoNumbers (enumInfo (st .types) n)) (enumNamed st name l .top) (enumNamed st name l .list)
 
-pub record LaysDescribed (l : List ℕ) (st : State) (p n : ℕ) (r : Placed) (l′ : List ℕ) : Type 0 where
-  pub place-is : r .place ≡ enumNamed st p l .top
-  pub top-is : r .top ≡ enumDescribed st p n l .top
-  pub list-is : l′ ≡ enumDescribed st p n l .list
+pub record LaysDescribed (l : List ℕ) (st : State) (name n : ℕ) (r : Placed) (l′ : List ℕ) : Type 0 where
+  pub place-is : r .place ≡ enumNamed st name l .top
+  pub top-is : r .top ≡ enumDescribed st name n l .top
+  pub list-is : l′ ≡ enumDescribed st name n l .list
 
 pub record LaysEnum (s l : List ℕ) (st : State) (p at n : ℕ) (r : Placed) (l′ : List ℕ) : Type 0 where
-  pub values : LaysValues s (enumDescribed st p n l .list) (st .types) (st .newest) n (enumDescribed st p n l .top) at (r .top) l′
-  pub place-is : r .place ≡ enumNamed st p l .top
+  pub values : LaysValues s (enumDescribed st (keyed s p) n l .list) (st .types) (st .scope .newest) n (enumDescribed st (keyed s p) n l .top) at (r .top) l′
+  pub place-is : r .place ≡ enumNamed st (keyed s p) l .top
 
 pub record AddsEnum (s l ts : List ℕ) (st : State) (p at n : ℕ) (r : Lined) (l′ ts′ : List ℕ) : Type 0 where
   pub free : ℕ
-  pub values : LaysValues s (enumDescribed st p n l .list) (st .types) (st .newest) n (enumDescribed st p n l .top) at free l′
-  pub places : ts′ ≡ set ts (st .types) (enumNamed st p l .top)
+  pub values : LaysValues s (enumDescribed st (keyed s p) n l .list) (st .types) (st .scope .newest) n (enumDescribed st (keyed s p) n l .top) at free l′
+  pub places : ts′ ≡ set ts (st .types) (enumNamed st (keyed s p) l .top)
   pub answer : r ≡ linedBy fault.Clear true (typeState st (counted n) (st .top) 1 free)
 
 -- the fault of an enumeration: that of its names, row 6 where there is none, row 7 where the type's own name is not new

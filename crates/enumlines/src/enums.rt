@@ -3,13 +3,17 @@ use declarations::Naming;
 use declarations::name_at;
 use parts::End;
 use parts::end_at;
+use repeats::blocks::differ_too;
 use symbols::same_word;
 use tables::Fault;
 use tables::Meaning;
+use tables::Scope;
 use tables::meaning_of;
 ghost use mathlib.Core.Path.{_≡_};
-ghost use Rattle.enumlines.specs.Enums.{Listed, isUnknown, GivesFresh, counted, countedBy, EndsNames, NamesTold};
+ghost use Rattle.enumlines.specs.Enums.{Listed, isUnknown, GivesNew, GivesFresh, counted, countedBy, EndsNames, NamesTold};
 ghost use Rattle.tables.specs.declared.Fault.the-variants.{Clear, Name};
+ghost use Rattle.repeats.specs.Leads.{leadsAt};
+ghost use Rattle.repeats.specs.Blocks.{apart};
 ghost use mathlib.Core.Bool.{cond, _&&_};
 
 // Whether the word at x is among the free names from an offset on; the text is read again, since a line may have any number of names.
@@ -53,15 +57,22 @@ fn is_unknown(m: Meaning) -> bool
     }
 }
 
+// Whether the name at y has no meaning yet.
+fn is_new(text: &[u8], work: &[u32], scope: Scope, y: usize) -> bool
+    ensures { λ r. ⌜ GivesNew (now (text .entry)) (now (work .entry)) scope y r ⌝ }
+{
+    let m = meaning_of(text, work, scope, y);
+    is_unknown(m)
+}
+
 // Whether the name at y is new, and none of those from q on.
-pub fn is_fresh(text: &[u8], work: &[u32], count: u32, newest: u32, y: usize, q: usize) -> bool
-    ensures { λ r. ⌜ GivesFresh (now (text .entry)) (now (work .entry)) count newest y q r ⌝ }
+pub fn is_fresh(text: &[u8], work: &[u32], scope: Scope, y: usize, q: usize) -> bool
+    ensures { λ r. ⌜ GivesFresh (now (text .entry)) (now (work .entry)) scope y q r ⌝ }
 {
     if listed(text, y, q) {
         return false;
     }
-    let m = meaning_of(text, work, count, newest, y);
-    is_unknown(m)
+    is_new(text, work, scope, y)
 }
 
 // One more, up to 1,000.
@@ -105,20 +116,20 @@ fn names_answer(fault: Fault, names: u32, next: usize) -> Counted
     }
 }
 
-// The answer for names that end at p: row 6 where another part comes.
-fn names_end(text: &[u8], p: usize, n: u32, ok: bool) -> Counted
-    ensures { λ r. ⌜ EndsNames (now (text .entry)) p n ok r ⌝ }
+// The answer for the names from an offset on, which end at p: row 6 where another part comes.
+fn names_end(text: &[u8], at: usize, p: usize, n: u32, ok: bool) -> Counted
+    ensures { λ r. ⌜ EndsNames (now (text .entry)) p n (ok && apart (leadsAt (now (text .entry)) at)) r ⌝ }
 {
     let e = end_at(text, p);
     match e {
-        End::Past(q) => names_answer(fresh_fault(ok), n, q),
+        End::Past(q) => names_answer(fresh_fault(differ_too(text, at, ok)), n, q),
         End::More => names_answer(Fault::Form, 0, p),
     }
 }
 
 // The names of an enumeration from an offset on.
-pub fn enum_names(text: &[u8], work: &[u32], count: u32, newest: u32, at: usize) -> Counted
-    ensures { λ r. ⌜ NamesTold (now (text .entry)) (now (work .entry)) count newest at r ⌝ }
+pub fn enum_names(text: &[u8], work: &[u32], scope: Scope, at: usize) -> Counted
+    ensures { λ r. ⌜ NamesTold (now (text .entry)) (now (work .entry)) scope at r ⌝ }
 {
     let mut p = at;
     let mut n = 0;
@@ -127,13 +138,12 @@ pub fn enum_names(text: &[u8], work: &[u32], count: u32, newest: u32, at: usize)
         let name = name_at(text, p);
         match name {
             Naming::Called(y, q) => {
-                let new = is_fresh(text, work, count, newest, y, q);
-                ok = both(ok, new);
+                ok = both(ok, is_new(text, work, scope, y));
                 n = one_more(n);
                 p = q;
             }
             Naming::Nothing => {
-                return names_end(text, p, n, ok);
+                return names_end(text, at, p, n, ok);
             }
         }
     }

@@ -7,12 +7,13 @@ use declarations::Naming;
 use declarations::State;
 use declarations::answered;
 use declarations::name_at;
-use declarations::narrow;
 use parts::is_clear;
 use parts::is_form;
 use symbols::declare;
+use symbols::keys::name_number;
 use tables::Fault;
 use tables::Info;
+use tables::ordinal_info;
 use typelines::Placed;
 use typelines::end_fault;
 use typelines::lay_info;
@@ -48,11 +49,10 @@ fn link_of(i: u32, n: u32, place: u32, newest: u32) -> u32
     newest
 }
 
-// Lays the entry of value i of n, whose name is at y; the free place then.
-fn lay_value(work: &mut [u32], kind: u32, newest: u32, n: u32, y: usize, i: u32, place: u32) -> u32
-    ensures { λ r. ⌜ Laid (laid (valueEntry kind newest n y i place) place (now (work .entry))) r (now (work .exit)) ⌝ }
+// Lays the entry of value i of n, by its name's number; the free place then.
+fn lay_value(work: &mut [u32], kind: u32, newest: u32, n: u32, name: u32, i: u32, place: u32) -> u32
+    ensures { λ r. ⌜ Laid (laid (valueEntry kind newest n name i place) place (now (work .entry))) r (now (work .exit)) ⌝ }
 {
-    let name = narrow(y);
     let sort = 3 + 4 * (kind % 128);
     let link = link_of(i, n, place, newest);
     declare(work, place, name, sort, i, link)
@@ -77,7 +77,8 @@ fn lay_values(
         let name = name_at(text, p);
         match name {
             Naming::Called(y, q) => {
-                place = lay_value(work, kind, newest, n, y, i, place);
+                let number = name_number(text, y);
+                place = lay_value(work, kind, newest, n, number, i, place);
                 p = q;
                 i += 1;
             }
@@ -89,11 +90,10 @@ fn lay_values(
     place
 }
 
-// Lays the entry of the type's name at p; the free place then.
-fn lay_enum_name(work: &mut [u32], st: State, p: usize) -> u32
-    ensures { λ r. ⌜ Laid (laid (enumEntry st p) (st .top) (now (work .entry))) r (now (work .exit)) ⌝ }
+// Lays the entry of the type, by its name's number; the free place then.
+fn lay_enum_name(work: &mut [u32], st: State, name: u32) -> u32
+    ensures { λ r. ⌜ Laid (laid (enumEntry st name) (st .top) (now (work .entry))) r (now (work .exit)) ⌝ }
 {
-    let name = narrow(p);
     let sort = 4 * (st.types % 128);
     let link = st.top % 32768 + 12;
     declare(work, st.top, name, sort, 0, link)
@@ -103,25 +103,14 @@ fn lay_enum_name(work: &mut [u32], st: State, p: usize) -> u32
 fn enum_info(kind: u32, n: u32) -> Info
     ensures { λ r. ⌜ r ≡ enumInfo kind n ⌝ }
 {
-    let high = one_less(n);
-    Info {
-        shape: 0,
-        host: kind,
-        low: 0,
-        high: high,
-        size: 1,
-        index: 0,
-        element: 0,
-        fields: 0,
-        place: 0,
-    }
+    ordinal_info(kind, 0, one_less(n))
 }
 
-// Lays the entry of the type's name at p, and the description of an enumeration of n values.
-fn lay_described(work: &mut [u32], st: State, p: usize, n: u32) -> Placed
-    ensures { λ r. ⌜ LaysDescribed (now (work .entry)) st p n r (now (work .exit)) ⌝ }
+// Lays the entry of the type, by its name's number, and the description of an enumeration of n values.
+fn lay_described(work: &mut [u32], st: State, name: u32, n: u32) -> Placed
+    ensures { λ r. ⌜ LaysDescribed (now (work .entry)) st name n r (now (work .exit)) ⌝ }
 {
-    let place = lay_enum_name(work, st, p);
+    let place = lay_enum_name(work, st, name);
     let x = enum_info(st.types, n);
     let top = lay_info(work, place, x);
     Placed {
@@ -130,12 +119,13 @@ fn lay_described(work: &mut [u32], st: State, p: usize, n: u32) -> Placed
     }
 }
 
-// Lays the same, and then the entries of the n names from an offset on.
+// Lays the same for the type's name at p, and then the entries of the n names from an offset on.
 fn lay_enum(text: &[u8], work: &mut [u32], st: State, p: usize, at: usize, n: u32) -> Placed
     ensures { λ r. ⌜ LaysEnum (now (text .entry)) (now (work .entry)) st p at n r (now (work .exit)) ⌝ }
 {
-    let first = lay_described(work, st, p, n);
-    let free = lay_values(text, work, st.types, st.newest, n, first.top, at);
+    let name = name_number(text, p);
+    let first = lay_described(work, st, name, n);
+    let free = lay_values(text, work, st.types, st.scope.newest, n, first.top, at);
     Placed {
         place: first.place,
         top: free,
@@ -187,9 +177,9 @@ pub fn enum_line(
 ) -> Lined
     ensures { λ r. ⌜ GivesMade (now (text .entry)) (now (work .entry)) (now (types .entry)) st p at (enumIn (first (stackAt (now (text .entry)) at))) r (now (work .exit)) (now (types .exit)) ⌝ }
 {
-    let c = enum_names(text, work, st.count, st.newest, at);
+    let c = enum_names(text, work, st.scope, at);
     let g = c.fault;
-    let own = is_fresh(text, work, st.count, st.newest, p, at);
+    let own = is_fresh(text, work, st.scope, p, at);
     let e = enum_fault(g, c.names, own);
     let f = end_fault(text, e, c.next);
     if is_clear(f) {

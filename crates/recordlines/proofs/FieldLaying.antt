@@ -23,6 +23,8 @@ use Rattle.semantics.specs.Types.{sizeOf}
 use Rattle.semantics.proofs.Inversion.{none-some, some-inj, bind-some}
 use Rattle.semantics.proofs.LayoutRegions.{Same, Room, Has, lay-g, lay-l}
 use Rattle.worklist.specs.Laid.{Laid}
+use Rattle.symbols.specs.Keys.{keyed}
+use Rattle.tables.specs.declared.Scope.{Scope}
 use Rattle.tables.specs.declared.Fault.the-variants as fault
 use Rattle.tables.specs.declared.Info.{Info}
 use Rattle.tables.specs.Descriptions.{infoOf, fieldsAt}
@@ -32,13 +34,14 @@ use Rattle.tables.proofs.Telling.{size-told}
 use Rattle.parts.specs.Got.{isForm}
 use Rattle.declarations.specs.Lines.{linedBy}
 use Rattle.typelines.specs.TypeLines.{typeState, LaysType}
-use Rattle.recordlines.specs.Records.{fieldsIn, resolve, addSize, GivesField, fieldEntry, LaysFields, recordInfo, LaysRecord, AddsRecord, recordFits}
+use Rattle.pairs.specs.Pairs.{pairsIn, resolve, addSize, GivesPair}
+use Rattle.recordlines.specs.Records.{fieldEntry, LaysFields, recordInfo, LaysRecord, AddsRecord, recordFits}
 use Rattle.declarations.specs.declared.State.{State}
 use Rattle.declarations.specs.declared.Lined.{Lined}
 use Rattle.typelines.specs.declared.Placed.{Placed}
-use Rattle.recordlines.specs.declared.fields.Fielded.{Fielded}
+use Rattle.pairs.specs.declared.Pair.{Pair}
 use Rattle.declarations.proofs.Growing.{laid-same}
-use Rattle.recordlines.proofs.FieldParts.{fields-nothing, fields-more, size-more}
+use Rattle.pairs.proofs.PairParts.{pairs-nothing, pairs-more, size-more}
 
 -- ---- small functions
 
@@ -61,9 +64,9 @@ fits-many n size h = rw (lt-leb n 16 h) refl
 
 pub ruleset record-fits-laws = (fits-few, fits-many)
 
-pub lays-record : (s l ts : List ℕ) (st : State) (p at n size : ℕ) (x : Info) → x ≡ recordInfo n size → (q : Placed) (m : List ℕ) → LaysType l st p x q m → (free : ℕ) (l′ : List ℕ)
-    → LaysFields s m ts (st .count) (st .newest) n (q .top) at free l′ → LaysRecord s l ts st p at n size (record { place = q .place; top = free }) l′
-lays-record s l ts st p at n size x hx q m L free l′ F = record { fields = rw (← hx, ← L .top-is, ← L .list-is) F; place-is = L .place-is }
+pub lays-record : (s l ts : List ℕ) (st : State) (p at n size : ℕ) (x : Info) → x ≡ recordInfo n size → (name : ℕ) → name ≡ keyed s p → (q : Placed) (m : List ℕ) → LaysType l st name x q m → (free : ℕ) (l′ : List ℕ)
+    → LaysFields s m ts (st .scope) n (q .top) at free l′ → LaysRecord s l ts st p at n size (record { place = q .place; top = free }) l′
+lays-record s l ts st p at n size x hx name e q m L free l′ F = record { fields = rw (← e, ← hx, ← L .top-is, ← L .list-is) F; place-is = rw (← e) (L .place-is) }
 
 pub adds-record : (s l ts : List ℕ) (st : State) (p at n size : ℕ) (q : Placed) (l′ : List ℕ) → LaysRecord s l ts st p at n size q l′ → (ts′ : List ℕ) → ts′ ≡ set ts (st .types) (q .place)
     → (st′ : State) → st′ ≡ typeState st 1 (st .top) 1 (q .top) → (r : Lined) → r ≡ linedBy fault.Clear true st′ → AddsRecord s l ts st p at n size r l′ ts′
@@ -90,7 +93,7 @@ resolve-inv σ w t ms hs h = go (typeOf σ t) (resolve σ ms) refl refl h
     go (some k) (some hs′) a b c = (k, hs′, a, b, sym (some-inj c))
 
 -- i fields are laid; p is past them, and their cells are `offset`
-pub record LayingFields (s l₀ ts : List ℕ) (count newest n top at p i place offset : ℕ) (l : List ℕ) : Type 0 where
+pub record LayingFields (s l₀ ts : List ℕ) (scope : Scope) (n top at p i place offset : ℕ) (l : List ℕ) : Type 0 where
   pub below : Same 0 top l l₀
   pub long : length l ≡ length l₀
   pub up : top ≤ place
@@ -98,13 +101,13 @@ pub record LayingFields (s l₀ ts : List ℕ) (count newest n top at p i place 
   pub small-n : Fits w32 n
   pub small-place : Fits w32 place
   pub small-offset : Fits w32 offset
-  pub left : (low : ℕ) (σ : Environment) (bs : List ℕ) → Scene s l₀ ts count newest low σ bs → low ≤ top → (fs : List (Name × TypeName)) → fieldsIn (first (stackAt s at)) ≡ some fs
+  pub left : (low : ℕ) (σ : Environment) (bs : List ℕ) → Scene s l₀ ts scope low σ bs → low ≤ top → (fs : List (Name × TypeName)) → pairsIn (first (stackAt s at)) ≡ some fs
       → (gs : List (Name × ℕ)) → resolve σ fs ≡ some gs → length gs ≡ n → fieldSizes (σ .types) gs ≤ 2048 → length s ≤ 32768 → Room (4 * n) top l₀
-      → (ms : List (Name × TypeName)) × (hs : List (Name × ℕ)) × (fieldsIn (first (stackAt s p)) ≡ some ms) × (resolve σ ms ≡ some hs) × (i + length hs ≡ n) × (place ≡ top + 4 * i)
+      → (ms : List (Name × TypeName)) × (hs : List (Name × ℕ)) × (pairsIn (first (stackAt s p)) ≡ some ms) × (resolve σ ms ≡ some hs) × (i + length hs ≡ n) × (place ≡ top + 4 * i)
       × (offset + fieldSizes (σ .types) hs ≤ 2048) × ((l′ : List ℕ) → Same 0 place l′ l → fieldsAt s l′ place (length hs) ≡ layFields (σ .types) offset hs → fieldsAt s l′ top n ≡ layFields (σ .types) 0 gs)
 
-module _ (s l₀ ts : List ℕ) (count newest n top at : ℕ) where
-  pub fields-start : Fits w32 n → Fits w32 top → LayingFields s l₀ ts count newest n top at at 0 top 0 l₀
+module _ (s l₀ ts : List ℕ) (scope : Scope) (n top at : ℕ) where
+  pub fields-start : Fits w32 n → Fits w32 top → LayingFields s l₀ ts scope n top at at 0 top 0 l₀
   fields-start f g = record {
     below = record { at = λ _ _ _. refl };
     long = refl;
@@ -116,7 +119,7 @@ module _ (s l₀ ts : List ℕ) (count newest n top at : ℕ) where
     left = λ low σ bs S h fs e gs r m z hs R. (fs, gs, e, r, omega arith, omega arith, omega arith, λ l′ _ d. rw m at d);
   }
 
-  module _ (p i place offset : ℕ) (l : List ℕ) (G : LayingFields s l₀ ts count newest n top at p i place offset l) where
+  module _ (p i place offset : ℕ) (l : List ℕ) (G : LayingFields s l₀ ts scope n top at p i place offset l) where
     pub laying-place : Fits w32 place
     laying-place = G .small-place
 
@@ -127,7 +130,7 @@ module _ (s l₀ ts : List ℕ) (count newest n top at : ℕ) where
     no-more [] e h = refl
     no-more (w ∷ ws) e h = absurd (omega arith)
 
-    pub fields-done : n ≤ i → LaysFields s l₀ ts count newest n top at place l
+    pub fields-done : n ≤ i → LaysFields s l₀ ts scope n top at place l
     unfolding fieldsAt layFields
     fields-done h = record {
       below = G .below;
@@ -139,7 +142,7 @@ module _ (s l₀ ts : List ℕ) (count newest n top at : ℕ) where
           (x .7 l (record { at = λ _ _ _. refl }) (rw y refl), rw (← j) (x .5));
     }
 
-    module _ (h : i < n) (f : Fielded) (F : GivesField s l count newest p f) (offset′ : ℕ) (ho : offset′ ≡ addSize offset (infoOf l ts (f .kind) .size)) (small-offset′ : Fits w32 offset′)
+    module _ (h : i < n) (f : Pair) (F : GivesPair s l scope p f) (offset′ : ℕ) (ho : offset′ ≡ addSize offset (infoOf l ts (f .kind) .size)) (small-offset′ : Fits w32 offset′)
         (r : ℕ) (l′ : List ℕ) (L : Laid (lay (fieldEntry (f .name) (f .kind) offset) place l) r l′) (small-r : Fits w32 r) where
       abbrev entry : List ℕ
       entry = fieldEntry (f .name) (f .kind) offset
@@ -169,17 +172,17 @@ module _ (s l₀ ts : List ℕ) (count newest n top at : ℕ) where
           rw (v, x, y, d, hw) refl
 
       -- a part that is no field has no place here
-      not-form : (b : Bool) → isForm (f .fault) ≡ b → (low : ℕ) (σ : Environment) (bs : List ℕ) → Scene s l ts count newest low σ bs → (ms : List (Name × TypeName)) (hs : List (Name × ℕ))
-          → fieldsIn (first (stackAt s p)) ≡ some ms → resolve σ ms ≡ some hs → i + length hs ≡ n → isForm (f .fault) ≡ false
+      not-form : (b : Bool) → isForm (f .fault) ≡ b → (low : ℕ) (σ : Environment) (bs : List ℕ) → Scene s l ts scope low σ bs → (ms : List (Name × TypeName)) (hs : List (Name × ℕ))
+          → pairsIn (first (stackAt s p)) ≡ some ms → resolve σ ms ≡ some hs → i + length hs ≡ n → isForm (f .fault) ≡ false
       unfolding resolve each
       not-form false e low σ bs S ms hs a c d = e
       not-form true e low σ bs S ms hs a c d =
-          let z : ms ≡ [] = fields-nothing s l count newest p f F (f .fault) refl true (sym e) refl ts low σ bs S ms a in
+          let z : ms ≡ [] = pairs-nothing s l scope p f F (f .fault) refl true (sym e) refl ts low σ bs S ms a in
           let y : [] ≡ hs = some-inj (rw z at c) in
           let x : i + 0 ≡ n = ap (λ (q : List (Name × ℕ)). i + length q) y ∙ d in
           absurd (omega arith)
 
-      pub fields-on : LayingFields s l₀ ts count newest n top at (f .next) (i + 1) r offset′ l′
+      pub fields-on : LayingFields s l₀ ts scope n top at (f .next) (i + 1) r offset′ l′
       unfolding fieldSizes
       fields-on = record {
         below = record { at = λ j a b. field-same .at j a (omega (arith, G .up)) ∙ G .below .at j a b };
@@ -191,9 +194,9 @@ module _ (s l₀ ts : List ℕ) (count newest n top at : ℕ) where
         small-offset = small-offset′;
         left = λ low σ bs S g fs e gs q m z hl R.
             let u = G .left low σ bs S g fs e gs q m z hl R in
-            let C : Scene s l ts count newest top σ bs = scene-kept S (record { at = λ j a b. G .below .at j a (omega arith) }) g in
+            let C : Scene s l ts scope top σ bs = scene-kept S (record { at = λ j a b. G .below .at j a (omega arith) }) g in
             let nf : isForm (f .fault) ≡ false = not-form (isForm (f .fault)) refl top σ bs C (u .0) (u .1) (u .2) (u .3) (u .4) in
-            let x = fields-more s l count newest p f F (f .fault) refl false (sym nf) refl ts top σ bs C in
+            let x = pairs-more s l scope p f F (f .fault) refl false (sym nf) refl ts top σ bs C in
             bind-some (sym (x .1) ∙ u .2) (λ ms a b.
             let w = map small (wordAt s (f .name)) in
             let c : (w, x .0) ∷ ms ≡ u .0 = some-inj b in

@@ -1,3 +1,2 @@
-pub mod FieldParts
 pub mod FieldLaying
 pub mod RecordLines

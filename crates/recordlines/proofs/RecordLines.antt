@@ -13,20 +13,22 @@ use Rattle.spelling.specs.Bytes.{small}
 use Rattle.semantics.specs.Base.{Name, _>>=_, each, given, find}
 use Rattle.semantics.specs.Ceilings.{lineBounded, typeBounded, fieldSizes}
 use Rattle.semantics.specs.Environment.{Declared, Environment, aType, declareLine, extendTypes, declNames, typeInfoOf, layFields, fieldCells}
-use Rattle.semantics.specs.Forms.{some?}
+use Rattle.semantics.specs.Forms.{field, some?, madeType}
 use Rattle.semantics.specs.Layout.{bits, lay}
 use Rattle.semantics.specs.LayoutSize.{symbolSize, sizeDecl}
-use Rattle.semantics.specs.Names.{typeOf, isKnown, listedIn, distinct, fieldNames, declOf, entryOf}
+use Rattle.semantics.specs.Names.{typeOf, isKnown, distinct, fieldNames, declOf, entryOf}
 use Rattle.semantics.specs.Rules.{keepsRules, keptDecl}
 use Rattle.semantics.specs.Script.{Entry, newType, Decl, recordOf}
 use Rattle.semantics.specs.Stages as Stages
 use Rattle.semantics.specs.Stages.{Staged, unnamed, fits, ruled, staged, onFits, unknown}
 use Rattle.semantics.specs.Syntax as Syntax
 use Rattle.semantics.specs.Syntax.{LineForm, TypeForm, TypeName, typeLine}
-use Rattle.semantics.specs.Trees.{Trees, Run, end, first, later, wordAt, stackAt}
+use Rattle.semantics.specs.Trees.{Trees, Run, end, list, first, later, wordAt, stackAt}
 use Rattle.semantics.specs.Types.{Types, infoAt, cellsBy, isRecord, sizeOf, cellsOf}
+use Rattle.semantics.specs.Words.{Word, wordedAll}
 use Rattle.semantics.proofs.Inversion.{and-true}
 use Rattle.semantics.proofs.LayoutRegions.{Same, Room, Has, lay-g, lay-l}
+use Rattle.symbols.specs.Keys.{keyed}
 use Rattle.tables.proofs.Cells.{keeps-cells}
 use Rattle.tables.proofs.Kept.{scene-kept}
 use Rattle.tables.proofs.Telling.{meant}
@@ -35,19 +37,20 @@ use Rattle.tables.specs.declared.Fault.the-variants.{Clear, Form}
 use Rattle.tables.specs.declared.Fault.the-variants as fault
 use Rattle.tables.specs.declared.Meaning.{Meaning}
 use Rattle.tables.specs.Descriptions.{infoOf, readInfo, shapeNumber, fieldsAt, Tells, EndsBelow}
-use Rattle.tables.specs.Scene.{Scene, Told}
+use Rattle.tables.specs.Scene.{Scene, Told, meaningHere}
 use Rattle.parts.specs.Got.{isClear, faultOf}
 use Rattle.shapes.specs.Parts.{closed}
-use Rattle.atoms.specs.Answers.{meaningHere}
+use Rattle.shapes.proofs.Walks.{bind-cong, bind-assoc}
 use Rattle.atoms.proofs.Telling.{fits-inj, unnamed-fits}
-use Rattle.declarations.specs.State.{Holds}
+use Rattle.declarations.specs.State.{scoped, Holds}
 use Rattle.declarations.specs.Names.{newFault}
 use Rattle.declarations.specs.Lines.{entryStaged, newly, linedBy, LineTold}
 use Rattle.typelines.specs.TypeLines.{madeAfter, linesFit, typeEntry, infoNumbers, typeState, GivesMade, EndFault, was-form, at-end, before-end}
-use Rattle.recordlines.specs.Records.{recordIn, fieldsIn, firsts, resolve, knownType, fieldsGood, Tracks, FieldsTold, fields-wrong, fields-empty, fields-read, GivesFields, recordInfo, recordNamed, recordDescribed, AddsRecord, recordFits}
+use Rattle.pairs.specs.Pairs.{pairsIn, firsts, resolve, knownType, typesKnown, pairsGood, Tracks, PairsTold, pairs-wrong, pairs-empty, pairs-read, GivesPairs}
+use Rattle.recordlines.specs.Records.{recordIn, recordInfo, recordNamed, recordDescribed, AddsRecord, recordFits}
 use Rattle.declarations.specs.declared.State.{State}
 use Rattle.declarations.specs.declared.Lined.{Lined}
-use Rattle.recordlines.specs.declared.fields.Fields.{Fields}
+use Rattle.pairs.specs.declared.Pairs.{Pairs}
 use Rattle.declarations.proofs.Growing.{Chained, scene-chained, chained-env, chained-more, chained-kept}
 use Rattle.declarations.proofs.FreeNames.{more-closed, bound-none, bound-nones}
 use Rattle.declarations.proofs.VarLines.{clear-is, entry-fits, failed-told, value-find, new-one}
@@ -55,7 +58,16 @@ use Rattle.typelines.proofs.TypeScenes.{by-number, types-more, means-same, type
 use Rattle.typelines.proofs.Aliases.{entry-is, lines-bounded}
 use Rattle.typelines.proofs.SimpleLines.{read-numbers, decl-fault, decl-clear, form-new, form-clear}
 use Rattle.enumlines.proofs.EnumLines.{form-end}
-use Rattle.recordlines.proofs.FieldParts.{record-parts}
+use Rattle.pairs.proofs.PairParts.{pairs-each}
+
+-- ---- the form
+
+record-parts : (us : Trees Run) → recordIn us ≡ (pairsIn us >>= λ (fs : List (Name × TypeName)). some? fs >>= λ (p : (Name × TypeName) × List (Name × TypeName)). some (Syntax.recordOf (p .0 ∷ p .1)))
+unfolding recordIn madeType
+record-parts us =
+    bind-cong (wordedAll us) (λ (vs : Trees Word). bind-assoc (each field (list vs)) some? (λ (p : (Name × TypeName) × List (Name × TypeName)). some (Syntax.recordOf (p .0 ∷ p .1))))
+    ∙ sym (bind-assoc (wordedAll us) (λ (vs : Trees Word). each field (list vs)) (λ (fs : List (Name × TypeName)). some? fs >>= λ (p : (Name × TypeName) × List (Name × TypeName)). some (Syntax.recordOf (p .0 ∷ p .1))))
+    ∙ ap (λ (o : Option (List (Name × TypeName))). o >>= λ (fs : List (Name × TypeName)). some? fs >>= λ (p : (Name × TypeName) × List (Name × TypeName)). some (Syntax.recordOf (p .0 ∷ p .1))) (pairs-each us)
 
 -- ---- fields that keep row 7
 
@@ -65,27 +77,23 @@ cells-length Γ [] = refl
 cells-length Γ (g ∷ gs) = length-append (cellsOf Γ (g .1)) (fieldCells Γ gs) ∙ ap (λ (n : ℕ). sizeOf Γ (g .1) + n) (cells-length Γ gs)
 
 data Good (σ : Environment) (fs : List (Name × TypeName)) : Type 0 where
-  good-yes : (gs : List (Name × ℕ)) → resolve σ fs ≡ some gs → fieldNames σ gs ≡ firsts fs → length gs ≡ length fs → fieldsGood σ fs ≡ distinct σ (firsts fs) → Good σ fs
-  good-no : resolve σ fs ≡ none → fieldsGood σ fs ≡ false → Good σ fs
+  good-yes : (gs : List (Name × ℕ)) → resolve σ fs ≡ some gs → fieldNames σ gs ≡ firsts fs → length gs ≡ length fs → typesKnown σ fs ≡ true → Good σ fs
+  good-no : resolve σ fs ≡ none → typesKnown σ fs ≡ false → Good σ fs
 
 good-told : (σ : Environment) (fs : List (Name × TypeName)) → Good σ fs
-unfolding resolve each fieldNames firsts fieldsGood distinct _>>=_ knownType
+unfolding resolve each fieldNames firsts typesKnown _>>=_ knownType
 good-told σ [] = good-yes [] refl refl refl refl
 good-told σ (f ∷ fs) = go (typeOf σ (f .1)) refl (good-told σ fs)
   where
-    no-more : (a : Bool) → ((true && a) && false) ≡ false
-    no-more true = refl
-    no-more false = refl
-
     go : (o : Option ℕ) → typeOf σ (f .1) ≡ o → Good σ fs → Good σ (f ∷ fs)
     go none e G = good-no (rw e refl) (rw e refl)
     go (some t) e (good-yes gs a b c d) = good-yes ((f .0, t) ∷ gs) (rw (e, a) refl) (ap (λ (zs : List Name). f .0 ∷ zs) b) (ap suc c) (rw (e, d) refl)
-    go (some t) e (good-no a b) = good-no (rw (e, a) refl) (rw (e, b) (no-more (not (listedIn σ (f .0) (firsts fs)))))
+    go (some t) e (good-no a b) = good-no (rw (e, a) refl) (rw (e, b) refl)
 
 -- the stage of a record beside its own name
 data Stage (k : Declared) (w : Name) (fs : List (Name × TypeName)) : Type 0 where
-  stage-old : fieldsGood (k .env) fs ≡ false → entryStaged k (some (typeLine w (Syntax.recordOf fs))) ≡ newly (isKnown (k .env) w) unnamed (λ (d : Decl). fits (newType w d)) → Stage k w fs
-  stage-fits : (gs : List (Name × ℕ)) → resolve (k .env) fs ≡ some gs → length gs ≡ length fs → fieldsGood (k .env) fs ≡ true
+  stage-old : pairsGood (k .env) fs ≡ false → entryStaged k (some (typeLine w (Syntax.recordOf fs))) ≡ newly (isKnown (k .env) w) unnamed (λ (d : Decl). fits (newType w d)) → Stage k w fs
+  stage-fits : (gs : List (Name × ℕ)) → resolve (k .env) fs ≡ some gs → length gs ≡ length fs → pairsGood (k .env) fs ≡ true
       → entryStaged k (some (typeLine w (Syntax.recordOf fs))) ≡ newly (isKnown (k .env) w) (fits (recordOf gs)) (λ (d : Decl). fits (newType w d)) → Stage k w fs
 
 module _ (k : Declared) (w : Name) (fs : List (Name × TypeName)) where
@@ -108,10 +116,13 @@ module _ (k : Declared) (w : Name) (fs : List (Name × TypeName)) where
   stage-some false false gs = refl
 
   stage-told : Good (k .env) fs → Stage k w fs
-  unfolding Stages.named _>>=_
-  stage-told (good-no a b) = stage-old b (stage-by none a ∙ stage-none (isKnown (k .env) w))
-  stage-told (good-yes gs a b c d) = go (distinct (k .env) (firsts fs)) refl
+  unfolding Stages.named _>>=_ pairsGood
+  stage-told (good-no a b) = stage-old (ap (λ (t : Bool). t && distinct (k .env) (firsts fs)) b) (stage-by none a ∙ stage-none (isKnown (k .env) w))
+  stage-told (good-yes gs a b c h) = go (distinct (k .env) (firsts fs)) refl
     where
+      d : pairsGood (k .env) fs ≡ distinct (k .env) (firsts fs)
+      d = ap (λ (t : Bool). t && distinct (k .env) (firsts fs)) h
+
       at : entryStaged k (some (typeLine w (Syntax.recordOf fs))) ≡ newly (isKnown (k .env) w) (cond (distinct (k .env) (firsts fs)) (fits (recordOf gs)) unnamed) (λ (d : Decl). fits (newType w d))
       at = stage-by (some gs) a ∙ stage-some (isKnown (k .env) w) (distinct (k .env) (fieldNames (k .env) gs)) gs
           ∙ ap (λ (z : List Name). newly (isKnown (k .env) w) (cond (distinct (k .env) z) (fits (recordOf gs)) unnamed) (λ (d : Decl). fits (newType w d))) b
@@ -123,7 +134,7 @@ module _ (k : Declared) (w : Name) (fs : List (Name × TypeName)) where
 -- ---- what is held
 
 module _ {s l ts : List ℕ} {st : State} {k : Declared} {bs : List ℕ} (H : Holds s l ts st k bs) (p at : ℕ) (hp : p < length s) (fs : List (Name × TypeName)) (gs : List (Name × ℕ))
-    (hf : fieldsIn (first (stackAt s at)) ≡ some fs) (hg : resolve (k .env) fs ≡ some gs) (r : Lined) (l′ ts′ : List ℕ) (A : AddsRecord s l ts st p at (length gs) (fieldSizes (k .env .types) gs) r l′ ts′)
+    (hf : pairsIn (first (stackAt s at)) ≡ some fs) (hg : resolve (k .env) fs ≡ some gs) (r : Lined) (l′ ts′ : List ℕ) (A : AddsRecord s l ts st p at (length gs) (fieldSizes (k .env .types) gs) r l′ ts′)
     (f : LineForm) (e : entryOf (k .env) f ≡ some (newType (map small (wordAt s p)) (recordOf gs)))
     (g : keepsRules (k .env .types) (newType (map small (wordAt s p)) (recordOf gs)) ≡ true) (b : lineBounded k (newType (map small (wordAt s p)) (recordOf gs)) ≡ true)
     (room : st .top + (12 + 4 * length gs) ≤ 16384) (sn nn : ℕ) where
@@ -140,16 +151,16 @@ module _ {s l ts : List ℕ} {st : State} {k : Declared} {bs : List ℕ} (H : Ho
   size = fieldSizes (k .env .types) gs
 
   abbrev t₁ : ℕ
-  t₁ = recordNamed st p l .top
+  t₁ = recordNamed st (keyed s p) l .top
 
   abbrev l₁ : List ℕ
-  l₁ = recordNamed st p l .list
+  l₁ = recordNamed st (keyed s p) l .list
 
   abbrev t₂ : ℕ
-  t₂ = recordDescribed st p n size l .top
+  t₂ = recordDescribed st (keyed s p) n size l .top
 
   abbrev l₂ : List ℕ
-  l₂ = recordDescribed st p n size l .list
+  l₂ = recordDescribed st (keyed s p) n size l .list
 
   abbrev ks : Declared
   ks = declareLine k (newType w (recordOf gs)) sn nn
@@ -163,7 +174,7 @@ module _ {s l ts : List ℕ} {st : State} {k : Declared} {bs : List ℕ} (H : Ho
 
   top₁ : t₁ ≡ st .top + 4
   unfolding typeEntry
-  top₁ = lay-l (typeEntry st p (st .types)) (st .top) l .top-is (omega arith)
+  top₁ = lay-l (typeEntry st (keyed s p) (st .types)) (st .top) l .top-is (omega arith)
 
   top₂ : t₂ ≡ st .top + 12
   unfolding infoNumbers
@@ -172,14 +183,14 @@ module _ {s l ts : List ℕ} {st : State} {k : Declared} {bs : List ℕ} (H : Ho
       lay-l (infoNumbers (recordInfo n size)) t₁ l₁ .top-is (rw z (omega arith)) ∙ z
 
   long₁ : length l₁ ≡ length l
-  long₁ = lay-g (typeEntry st p (st .types)) (st .top) l .long
+  long₁ = lay-g (typeEntry st (keyed s p) (st .types)) (st .top) l .long
 
   long₂ : length l₂ ≡ length l
   long₂ = lay-g (infoNumbers (recordInfo n size)) t₁ l₁ .long ∙ long₁
 
   same₂ : Same 0 (st .top) l₂ l
   same₂ = record {
-    at = λ i a c. lay-g (infoNumbers (recordInfo n size)) t₁ l₁ .below i (rw top₁ (omega arith)) ∙ lay-g (typeEntry st p (st .types)) (st .top) l .below i c;
+    at = λ i a c. lay-g (infoNumbers (recordInfo n size)) t₁ l₁ .below i (rw top₁ (omega arith)) ∙ lay-g (typeEntry st (keyed s p) (st .types)) (st .top) l .below i c;
   }
 
   laid-fields : (fieldsAt s l′ t₂ n ≡ layFields Γ 0 gs) × (A .free ≡ t₂ + 4 * n)
@@ -195,7 +206,7 @@ module _ {s l ts : List ℕ} {st : State} {k : Declared} {bs : List ℕ} (H : Ho
   }
 
   same₀ : Same 0 (st .top) l′ l
-  same₀ = record { at = λ i a c. same₁ .at i a (omega arith) ∙ lay-g (typeEntry st p (st .types)) (st .top) l .below i c }
+  same₀ = record { at = λ i a c. same₁ .at i a (omega arith) ∙ lay-g (typeEntry st (keyed s p) (st .types)) (st .top) l .below i c }
 
   info-room : Room 8 t₁ l₁
   info-room = record { start = rw top₁ (omega arith); fits = rw top₁ (omega arith); long = rw long₁ (H .long-list) }
@@ -217,20 +228,20 @@ module _ {s l ts : List ℕ} {st : State} {k : Declared} {bs : List ℕ} (H : Ho
     fields-are = let z : t₁ + 8 ≡ t₂ = rw (top₁, top₂) (omega arith) in rw z (laid-fields .0);
   })
 
-  record-chained : Chained s l′ (suc (st .count)) (st .top) (A .free) (ks .env) bs ((w, aType (length Γ)) ∷ k .env .names)
+  record-chained : Chained s l′ (scoped (suc (st .scope .count)) (st .top)) (A .free) (ks .env) bs ((w, aType (length Γ)) ∷ k .env .names)
   unfolding declareLine
   record-chained = chained-kept same₁ (rw free-is (omega arith))
-      (rw (← H .types-are) (subst (λ (ns : List ℕ). Chained s (lay ns (st .top) l .list) (suc (st .count)) (st .top) (st .top + 4) (ks .env) bs ((w, aType (st .types)) ∷ k .env .names))
-      (sym (entry-is H p (st .types) hp (omega (arith, number-low))))
-      (chained-more p (4 * st .types) 0 (aType (st .types)) (record { start = H .start; fits = omega arith; long = H .long-list }) (type-means (ks .env) bs (st .types) 0)
+      (rw (← H .types-are) (subst (λ (ns : List ℕ). Chained s (lay ns (st .top) l .list) (scoped (suc (st .scope .count)) (st .top)) (st .top + 4) (ks .env) bs ((w, aType (st .types)) ∷ k .env .names))
+      (sym (entry-is st (keyed s p) (st .types) (omega (arith, number-low))))
+      (chained-more p (4 * st .types) 0 (aType (st .types)) (omega (arith, H .short-text)) (record { start = H .start; fits = omega arith; long = H .long-list }) (type-means (ks .env) bs (st .types) 0)
       (chained-env {σ′ = ks .env} (means-same refl) (scene-chained (H .scene))))))
 
   told-types : (t : ℕ) → Tells s l′ (infoOf l′ (set ts (length Γ) t₁) t) (infoAt (Γ ++ (typeInfoOf Γ (recordOf gs) ∷ [])) t) × EndsBelow (A .free) (infoOf l′ (set ts (length Γ) t₁) t)
   unfolding recordInfo
-  told-types = types-more (H .scene) same₀ (A .free) t₁ (rw free-is (omega arith)) (info-room .start) (omega (arith, H .types-are, number-low, H .long-types)) (typeInfoOf Γ (recordOf gs))
+  told-types = types-more (H .scene) same₀ (A .free) t₁ (rw free-is (omega arith)) (info-room .start) (omega (arith, H .types-are, number-low, H .long-notes)) (typeInfoOf Γ (recordOf gs))
       record-tells (rw (read-numbers (recordInfo n size) t₁ l′ info-held, top₁, free-is) (record { end-below = λ _. omega arith; within = omega arith }))
 
-  record-scene : Scene s l′ (set ts (length Γ) t₁) (suc (st .count)) (st .top) (A .free) (ks .env) bs
+  record-scene : Scene s l′ (set ts (length Γ) t₁) (scoped (suc (st .scope .count)) (st .top)) (A .free) (ks .env) bs
   unfolding declareLine declNames extendTypes typeInfoOf
   record-scene =
       let K = type-keeps H w (recordOf gs) f e g b sn nn in
@@ -250,12 +261,12 @@ module _ {s l ts : List ℕ} {st : State} {k : Declared} {bs : List ℕ} (H : Ho
   pub record-holds : Holds s l′ ts′ (typeState st 1 (st .top) 1 (A .free)) ks bs
   unfolding extendTypes typeInfoOf
   record-holds =
-      let c : suc (st .count) ≡ st .count + 1 = omega arith in
+      let c : suc (st .scope .count) ≡ st .scope .count + 1 = omega arith in
       let m : length (Γ ++ (typeInfoOf Γ (recordOf gs) ∷ [])) ≡ length Γ + 1 = length-append Γ (typeInfoOf Γ (recordOf gs) ∷ []) in
       rw (A .places) (subst (λ (z : ℕ). Holds s l′ (set ts z t₁) (typeState st 1 (st .top) 1 (A .free)) ks bs) (sym (H .types-are))
       (type-holds H w (recordOf gs) f e g b sn nn 1 (st .top) 1 (A .free) l′ (set ts (length Γ) t₁) (omega arith) m (rw c at record-scene)
       (by-number Γ (typeInfoOf Γ (recordOf gs)) (λ t j. length (cellsBy (j .shape) t (j .cells)) ≤ 2048) (λ t _. H .small-types t) (rw (cells-length Γ gs) few-cells) (λ t _. omega arith))
-      (rw free-is (omega (arith, H .few-names))) (rw free-is (omega arith)) (rw free-is room) (rw (A .fields .long, long₂) (H .long-list)) (rw (length-set ts (length Γ) t₁) (H .long-types))))
+      (rw free-is (omega (arith, H .few-names))) (rw free-is (omega arith)) (rw free-is room) (rw (A .fields .long, long₂) (H .long-list)) (rw (length-set ts (length Γ) t₁) (H .long-notes))))
 
   pub record-top : A .free ≡ st .top + (12 + 4 * n)
   record-top = free-is
@@ -263,11 +274,11 @@ module _ {s l ts : List ℕ} {st : State} {k : Declared} {bs : List ℕ} (H : Ho
 -- ---- the line's stages
 
 -- what a line of a record says, with the fault of its type and what is known of its fields
-data Comes (k : Declared) (us : Trees Run) (w : Name) (o : Option LineForm) (c : Fields) (e : Fault) : Type 0 where
+data Comes (k : Declared) (us : Trees Run) (w : Name) (o : Option LineForm) (c : Pairs) (e : Fault) : Type 0 where
   comes-none : o ≡ none → e ≡ Form → Comes k us w o c e
-  comes-made : (fs : List (Name × TypeName)) → fieldsIn us ≡ some fs → o ≡ some (typeLine w (Syntax.recordOf fs)) → e ≡ cond (fieldsGood (k .env) fs) Clear fault.Name
+  comes-made : (fs : List (Name × TypeName)) → pairsIn us ≡ some fs → o ≡ some (typeLine w (Syntax.recordOf fs)) → e ≡ cond (pairsGood (k .env) fs) Clear fault.Name
       → (length fs ≤ 1000 → c .names ≡ length fs) → (1000 < length fs → c .names ≡ 1000)
-      → (fieldsGood (k .env) fs ≡ true → (gs : List (Name × ℕ)) → resolve (k .env) fs ≡ some gs → Tracks (c .size) (fieldSizes (k .env .types) gs)) → Comes k us w o c e
+      → (pairsGood (k .env) fs ≡ true → (gs : List (Name × ℕ)) → resolve (k .env) fs ≡ some gs → Tracks (c .size) (fieldSizes (k .env .types) gs)) → Comes k us w o c e
 
 no-form : {X : Type 0} (b : Bool) → cond b Clear fault.Name ≡ Form → X
 no-form true e = absurd (let z : _≡_ {A = ℕ} 0 1 = cc in omega arith)
@@ -301,26 +312,26 @@ module _ (s : List ℕ) (p at : ℕ) (k : Declared) where
   unfolding madeAfter
   none-after h = bound-none (recordIn us) (λ (t : TypeForm). closed (first (later (stackAt s at))) (typeLine we t)) h
 
-  no-fields : fieldsIn us ≡ none → recordIn us ≡ none
+  no-fields : pairsIn us ≡ none → recordIn us ≡ none
   unfolding _>>=_
   no-fields h = record-parts us ∙ rw h refl
 
-  empty-fields : fieldsIn us ≡ some [] → recordIn us ≡ none
+  empty-fields : pairsIn us ≡ some [] → recordIn us ≡ none
   unfolding _>>=_ some?
   empty-fields h = record-parts us ∙ rw h refl
 
-  some-fields : (f : Name × TypeName) (fs : List (Name × TypeName)) → fieldsIn us ≡ some (f ∷ fs) → recordIn us ≡ some (Syntax.recordOf (f ∷ fs))
+  some-fields : (f : Name × TypeName) (fs : List (Name × TypeName)) → pairsIn us ≡ some (f ∷ fs) → recordIn us ≡ some (Syntax.recordOf (f ∷ fs))
   unfolding _>>=_ some?
   some-fields f fs h = record-parts us ∙ rw h refl
 
-  comes : (c : Fields) → FieldsTold s (k .env) at c → (h : Fault) → h ≡ c .fault → (e : Fault) → EndFault s h (c .next) e → Comes k us we after c e
+  comes : (c : Pairs) → PairsTold s (k .env) at c → (h : Fault) → h ≡ c .fault → (e : Fault) → EndFault s h (c .next) e → Comes k us we after c e
   unfolding madeAfter closed _>>=_
-  comes c (fields-wrong a x) h q e E = comes-none (none-after (no-fields x)) (form-end s h (c .next) e (q ∙ a) E)
-  comes c (fields-empty a x) h q e E = comes-none (none-after (empty-fields x)) (form-end s h (c .next) e (q ∙ a) E)
-  comes c (fields-read f fs x a few full g tr) h q e (was-form i) = no-form (fieldsGood (k .env) (f ∷ fs)) (sym g ∙ sym q ∙ i)
-  comes c (fields-read f fs x a few full g tr) h q e (before-end i d) =
+  comes c (pairs-wrong a x) h q e E = comes-none (none-after (no-fields x)) (form-end s h (c .next) e (q ∙ a) E)
+  comes c (pairs-empty a x) h q e E = comes-none (none-after (empty-fields x)) (form-end s h (c .next) e (q ∙ a) E)
+  comes c (pairs-read f fs x a few full g tr) h q e (was-form i) = no-form (pairsGood (k .env) (f ∷ fs)) (sym g ∙ sym q ∙ i)
+  comes c (pairs-read f fs x a few full g tr) h q e (before-end i d) =
       comes-none (bound-nones (recordIn us) (λ (t : TypeForm). closed (first (later (stackAt s at))) (typeLine we t)) (λ (t : TypeForm). more-closed (first (later (stackAt s at))) (typeLine we t) (λ y. d (sym (ap first a) ∙ y)))) refl
-  comes c (fields-read f fs x a few full g tr) h q e (at-end i d) =
+  comes c (pairs-read f fs x a few full g tr) h q e (at-end i d) =
       let z : first (later (stackAt s at)) ≡ end = ap first a ∙ d in
       comes-made (f ∷ fs) x (rw (some-fields f fs x, z) refl) (q ∙ g) few full tr
 
@@ -329,8 +340,8 @@ adds-same e h A = rw (← e, ← h) A
 
 -- ---- the ways
 
-module _ (s l ts : List ℕ) (st : State) (p at : ℕ) (c : Fields) (N : GivesFields s l ts (st .count) (st .newest) at c) (h : Fault) (hc : h ≡ c .fault) (e : Fault) (E : EndFault s h (c .next) e)
-    (f : Fault) (n : f ≡ newFault e (meaningHere s l (st .count) (st .newest) p)) (b : Bool) (i : b ≡ isClear f) where
+module _ (s l ts : List ℕ) (st : State) (p at : ℕ) (c : Pairs) (N : GivesPairs s l ts (st .scope) at c) (h : Fault) (hc : h ≡ c .fault) (e : Fault) (E : EndFault s h (c .next) e)
+    (f : Fault) (n : f ≡ newFault e (meaningHere s l (st .scope) p)) (b : Bool) (i : b ≡ isClear f) where
   abbrev line : Option LineForm
   line = madeAfter (map small (wordAt s p)) (recordIn (first (stackAt s at))) (first (later (stackAt s at)))
 
@@ -338,11 +349,10 @@ module _ (s l ts : List ℕ) (st : State) (p at : ℕ) (c : Fields) (N : GivesFi
   wl = map small (wordAt s p)
 
   abbrev here : Meaning
-  here = meaningHere s l (st .count) (st .newest) p
+  here = meaningHere s l (st .scope) p
 
   module _ (k : Declared) (bs : List ℕ) (H : Holds s l ts st k bs) where
     meaning-told : Told (k .env) bs here (find (k .env .names) wl)
-    unfolding meaningHere
     meaning-told = meant (H .scene) wl
 
     come : Comes k (first (stackAt s at)) wl line c e
@@ -355,7 +365,7 @@ module _ (s l ts : List ℕ) (st : State) (p at : ℕ) (c : Fields) (N : GivesFi
     unfolding entryStaged staged
     line-fault = go come
       where
-        made : (fs : List (Name × TypeName)) → line ≡ some (typeLine wl (Syntax.recordOf fs)) → e ≡ cond (fieldsGood (k .env) fs) Clear fault.Name → Stage k wl fs → f ≡ faultOf (entryStaged k line)
+        made : (fs : List (Name × TypeName)) → line ≡ some (typeLine wl (Syntax.recordOf fs)) → e ≡ cond (pairsGood (k .env) fs) Clear fault.Name → Stage k wl fs → f ≡ faultOf (entryStaged k line)
         made fs a q (stage-old x y) = stage-fault unnamed (q ∙ ap (λ (z : Bool). cond z Clear fault.Name) x) ∙ sym (ap faultOf (ap (entryStaged k) a ∙ y))
         made fs a q (stage-fits gs _ _ x y) = stage-fault (fits (recordOf gs)) (q ∙ ap (λ (z : Bool). cond z Clear fault.Name) x) ∙ sym (ap faultOf (ap (entryStaged k) a ∙ y))
 
@@ -363,7 +373,7 @@ module _ (s l ts : List ℕ) (st : State) (p at : ℕ) (c : Fields) (N : GivesFi
         go (comes-none a q) = rw a (n ∙ ap (λ (x : Fault). newFault x here) q ∙ form-new here)
         go (comes-made fs x a q _ _ _) = made fs a q (stage-told k wl fs (good-told (k .env) fs))
 
-    line-clear : b ≡ true → (fs : List (Name × TypeName)) × (gs : List (Name × ℕ)) × (fieldsIn (first (stackAt s at)) ≡ some fs) × (resolve (k .env) fs ≡ some gs)
+    line-clear : b ≡ true → (fs : List (Name × TypeName)) × (gs : List (Name × ℕ)) × (pairsIn (first (stackAt s at)) ≡ some fs) × (resolve (k .env) fs ≡ some gs)
         × (length gs ≤ 1000 → c .names ≡ length gs) × (1000 < length gs → c .names ≡ 1000) × Tracks (c .size) (fieldSizes (k .env .types) gs) × (entryStaged k line ≡ fits (newType wl (recordOf gs)))
     unfolding newly onFits
     line-clear j = go come
@@ -371,10 +381,10 @@ module _ (s l ts : List ℕ) (st : State) (p at : ℕ) (c : Fields) (N : GivesFi
         clear : newFault e here ≡ Clear
         clear = sym n ∙ clear-is f (sym i ∙ j)
 
-        made : (fs : List (Name × TypeName)) → fieldsIn (first (stackAt s at)) ≡ some fs → line ≡ some (typeLine wl (Syntax.recordOf fs)) → e ≡ cond (fieldsGood (k .env) fs) Clear fault.Name
+        made : (fs : List (Name × TypeName)) → pairsIn (first (stackAt s at)) ≡ some fs → line ≡ some (typeLine wl (Syntax.recordOf fs)) → e ≡ cond (pairsGood (k .env) fs) Clear fault.Name
             → (length fs ≤ 1000 → c .names ≡ length fs) → (1000 < length fs → c .names ≡ 1000)
-            → (fieldsGood (k .env) fs ≡ true → (gs : List (Name × ℕ)) → resolve (k .env) fs ≡ some gs → Tracks (c .size) (fieldSizes (k .env .types) gs)) → Stage k wl fs
-            → (fs : List (Name × TypeName)) × (gs : List (Name × ℕ)) × (fieldsIn (first (stackAt s at)) ≡ some fs) × (resolve (k .env) fs ≡ some gs)
+            → (pairsGood (k .env) fs ≡ true → (gs : List (Name × ℕ)) → resolve (k .env) fs ≡ some gs → Tracks (c .size) (fieldSizes (k .env .types) gs)) → Stage k wl fs
+            → (fs : List (Name × TypeName)) × (gs : List (Name × ℕ)) × (pairsIn (first (stackAt s at)) ≡ some fs) × (resolve (k .env) fs ≡ some gs)
             × (length gs ≤ 1000 → c .names ≡ length gs) × (1000 < length gs → c .names ≡ 1000) × Tracks (c .size) (fieldSizes (k .env .types) gs) × (entryStaged k line ≡ fits (newType wl (recordOf gs)))
         made fs x a q few full tr (stage-old g y) =
             let z = decl-clear wl here meaning-told unnamed (sym (ap (λ (v : Fault). newFault v here) (q ∙ ap (λ (v : Bool). cond v Clear fault.Name) g)) ∙ clear) in
@@ -391,7 +401,7 @@ module _ (s l ts : List ℕ) (st : State) (p at : ℕ) (c : Fields) (N : GivesFi
               ap (entryStaged k) a ∙ y ∙ ap (λ (v : Bool). newly v (fits (recordOf gs)) (λ (d : Decl). fits (newType wl d))) (z .2),
             )
 
-        go : Comes k (first (stackAt s at)) wl line c e → (fs : List (Name × TypeName)) × (gs : List (Name × ℕ)) × (fieldsIn (first (stackAt s at)) ≡ some fs) × (resolve (k .env) fs ≡ some gs)
+        go : Comes k (first (stackAt s at)) wl line c e → (fs : List (Name × TypeName)) × (gs : List (Name × ℕ)) × (pairsIn (first (stackAt s at)) ≡ some fs) × (resolve (k .env) fs ≡ some gs)
             × (length gs ≤ 1000 → c .names ≡ length gs) × (1000 < length gs → c .names ≡ 1000) × Tracks (c .size) (fieldSizes (k .env .types) gs) × (entryStaged k line ≡ fits (newType wl (recordOf gs)))
         go (comes-none a q) = form-clear (sym (form-new here) ∙ sym (ap (λ (x : Fault). newFault x here) q) ∙ clear)
         go (comes-made fs x a q few full tr) = made fs x a q few full tr (stage-told k wl fs (good-told (k .env) fs))
@@ -429,13 +439,13 @@ module _ (s l ts : List ℕ) (st : State) (p at : ℕ) (c : Fields) (N : GivesFi
 
     added-same : (m size : ℕ) (r : Lined) (l′ ts′ : List ℕ) → AddsRecord s l ts st p at m size r l′ ts′ → Same 0 (st .top) l′ l
     added-same m size r l′ ts′ A =
-        let t₁ = recordNamed st p l .top in
-        let l₁ = recordNamed st p l .list in
+        let t₁ = recordNamed st (keyed s p) l .top in
+        let l₁ = recordNamed st (keyed s p) l .list in
         record {
           at = λ z a d.
-              A .fields .below .at z a (omega (arith, lay-g (typeEntry st p (st .types)) (st .top) l .up, lay-g (infoNumbers (recordInfo m size)) t₁ l₁ .up))
-              ∙ lay-g (infoNumbers (recordInfo m size)) t₁ l₁ .below z (omega (arith, lay-g (typeEntry st p (st .types)) (st .top) l .up))
-              ∙ lay-g (typeEntry st p (st .types)) (st .top) l .below z d;
+              A .fields .below .at z a (omega (arith, lay-g (typeEntry st (keyed s p) (st .types)) (st .top) l .up, lay-g (infoNumbers (recordInfo m size)) t₁ l₁ .up))
+              ∙ lay-g (infoNumbers (recordInfo m size)) t₁ l₁ .below z (omega (arith, lay-g (typeEntry st (keyed s p) (st .types)) (st .top) l .up))
+              ∙ lay-g (typeEntry st (keyed s p) (st .types)) (st .top) l .below z d;
         }
 
     pub record-fits : u ≡ true → (r : Lined) (l′ ts′ : List ℕ) → AddsRecord s l ts st p at (c .names) (c .size) r l′ ts′ → GivesMade s l ts st p at (recordIn (first (stackAt s at))) r l′ ts′

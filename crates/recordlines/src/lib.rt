@@ -1,3 +1,2 @@
-// `type` lines that make a record, and its fields.
-pub mod fields;
+// `type` lines that make a record.
 pub mod records;

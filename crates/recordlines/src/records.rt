@@ -1,16 +1,18 @@
 // `type` lines that make a record.
-use crate::fields::add_type_size;
-use crate::fields::field_at;
-use crate::fields::record_fields;
 use declarations::Lined;
 use declarations::State;
 use declarations::answered;
 use declarations::named_fault;
 use declarations::narrow;
+use pairs::add_type_size;
+use pairs::pair_at;
+use pairs::pairs_from;
 use parts::is_clear;
 use symbols::declare;
+use symbols::keys::name_number;
 use tables::Fault;
 use tables::Info;
+use tables::Scope;
 use typelines::Placed;
 use typelines::end_fault;
 use typelines::lay_type;
@@ -37,20 +39,19 @@ fn lay_fields(
     text: &[u8],
     work: &mut [u32],
     types: &[u32],
-    count: u32,
-    newest: u32,
+    scope: Scope,
     n: u32,
     top: u32,
     at: usize,
 ) -> u32
-    ensures { λ r. ⌜ LaysFields (now (text .entry)) (now (work .entry)) (now (types .entry)) count newest n top at r (now (work .exit)) ⌝ }
+    ensures { λ r. ⌜ LaysFields (now (text .entry)) (now (work .entry)) (now (types .entry)) scope n top at r (now (work .exit)) ⌝ }
 {
     let mut p = at;
     let mut i = 0;
     let mut place = top;
     let mut offset = 0;
     while i < n {
-        let f = field_at(text, work, count, newest, p);
+        let f = pair_at(text, work, scope, p);
         let after = add_type_size(work, types, offset, f.kind);
         place = lay_field(work, f.name, f.kind, offset, place);
         offset = after;
@@ -91,8 +92,9 @@ fn lay_record(
     ensures { λ r. ⌜ LaysRecord (now (text .entry)) (now (work .entry)) (now (types .entry)) st p at n size r (now (work .exit)) ⌝ }
 {
     let x = record_info(n, size);
-    let first = lay_type(work, st, p, x);
-    let free = lay_fields(text, work, types, st.count, st.newest, n, first.top, at);
+    let name = name_number(text, p);
+    let first = lay_type(work, st, name, x);
+    let free = lay_fields(text, work, types, st.scope, n, first.top, at);
     Placed {
         place: first.place,
         top: free,
@@ -139,10 +141,10 @@ pub fn record_line(
 ) -> Lined
     ensures { λ r. ⌜ GivesMade (now (text .entry)) (now (work .entry)) (now (types .entry)) st p at (recordIn (first (stackAt (now (text .entry)) at))) r (now (work .exit)) (now (types .exit)) ⌝ }
 {
-    let c = record_fields(text, work, types, st.count, st.newest, at);
+    let c = pairs_from(text, work, types, st.scope, at);
     let g = c.fault;
     let e = end_fault(text, g, c.next);
-    let f = named_fault(text, work, st.count, st.newest, p, e);
+    let f = named_fault(text, work, st.scope, p, e);
     if is_clear(f) {
         if lines_fit(st.lines, record_fits(c.names, c.size)) {
             return add_record(text, work, types, st, p, at, c.names, c.size);

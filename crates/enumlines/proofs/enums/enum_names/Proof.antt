@@ -7,59 +7,59 @@ use Rattle.enumlines.proofs.enums.enum_names.Statement.{statement}
 use Rattle.enumlines.proofs.enums.enum_names.Tie as tie
 use Rattle.enumlines.proofs.enums.enum_names.Reads as reads
 use Rattle.enumlines.proofs.enums.enum_names.Lts as lts
+use Rattle.declarations.proofs.name_at.Reads as name-at-reads
 use Rattle.enumlines.proofs.enums.both.Reads as both-reads
-use Rattle.enumlines.proofs.enums.is_fresh.Reads as is-fresh-reads
+use Rattle.enumlines.proofs.enums.is_new.Reads as is-new-reads
 use Rattle.enumlines.proofs.enums.names_end.Reads as names-end-reads
 use Rattle.enumlines.proofs.enums.one_more.Reads as one-more-reads
-use Rattle.declarations.proofs.name_at.Reads as name-at-reads
 
 abbrev Inv-loop : tie.InvT-loop
-Inv-loop text work count newest at p₀ n₀ ok₀ p n ok = Counting text work count newest at p n ok
+Inv-loop text work scope at p₀ n₀ ok₀ p n ok = Counting text work scope at p n ok
 
 abbrev μ-loop : tie.MeasureT-loop
-μ-loop text work count newest at p₀ n₀ ok₀ p n ok = many (first (stackAt text p))
+μ-loop text work scope at p₀ n₀ ok₀ p n ok = many (first (stackAt text p))
 
--- src/enums.rt:126:5
+-- src/enums.rt:137:5
 loop-holds : tie.Need-loop-holds Inv-loop μ-loop
-loop-holds c = count-start _ _ _ _ _
+loop-holds c = count-start _ _ _ _
 
--- src/enums.rt:127:13
+-- src/enums.rt:138:13
 name-at-requires : tie.Need-name-at-requires Inv-loop μ-loop
 name-at-requires c κs = search (count-small, needs)
 
--- src/enums.rt:129:28
+-- src/enums.rt:140:28
 enum-known-name : tie.Need-enum-known-name Inv-loop μ-loop
 enum-known-name c = search needs
 
--- src/enums.rt:130:21
-is-fresh-requires : tie.Need-is-fresh-requires Inv-loop μ-loop
-is-fresh-requires c κs = search (count-small, needs)
+-- src/enums.rt:141:31
+is-new-requires : tie.Need-is-new-requires Inv-loop μ-loop
+is-new-requires c κs = search (count-small, needs)
 
--- src/enums.rt:131:17
+-- src/enums.rt:141:17
 both-requires : tie.Need-both-requires Inv-loop μ-loop
 both-requires c κs = search (count-small, needs)
 
--- src/enums.rt:132:17
+-- src/enums.rt:142:17
 one-more-requires : tie.Need-one-more-requires Inv-loop μ-loop
 one-more-requires c κs = search (count-small, needs)
 
--- src/enums.rt:126:5
+-- src/enums.rt:137:5
 loop-less : tie.Need-loop-less Inv-loop μ-loop
 loop-less c = search names-fewer
 
--- src/enums.rt:126:5
+-- src/enums.rt:137:5
 loop-again : tie.Need-loop-again Inv-loop μ-loop
 loop-again c = search (count-laws, needs)
 
--- src/enums.rt:136:17
+-- src/enums.rt:146:17
 enum-told : tie.Need-enum-told Inv-loop μ-loop
 enum-told c = search needs
 
--- src/enums.rt:136:17
+-- src/enums.rt:146:17
 names-end-requires : tie.Need-names-end-requires Inv-loop μ-loop
 names-end-requires c κs = search (count-small, needs)
 
--- src/enums.rt:136:17
+-- src/enums.rt:146:17
 returns : tie.Need-returns Inv-loop μ-loop
 returns c = search (count-laws, needs)
 
@@ -72,7 +72,7 @@ enum-names-spec =
     loop-holds
     name-at-requires
     enum-known-name
-    is-fresh-requires
+    is-new-requires
     both-requires
     one-more-requires
     loop-less

@@ -4,30 +4,24 @@ use Rattle.enumlines.proofs.enums.is_fresh.Statement.{statement}
 use Rattle.enumlines.proofs.enums.is_fresh.Tie as tie
 use Rattle.enumlines.proofs.enums.is_fresh.Reads as reads
 use Rattle.enumlines.proofs.enums.is_fresh.Lts as lts
-use Rattle.enumlines.proofs.enums.is_unknown.Reads as is-unknown-reads
+use Rattle.enumlines.proofs.enums.is_new.Reads as is-new-reads
 use Rattle.enumlines.proofs.enums.listed.Reads as listed-reads
-use Rattle.tables.proofs.meaning_of.Reads as meaning-of-reads
 
--- src/enums.rt:56:8
+-- src/enums.rt:72:8
 listed-requires : tie.Need-listed-requires
 listed-requires c κs = search needs
 
--- src/enums.rt:57:9
+-- src/enums.rt:73:9
 returns : tie.Need-returns
 returns c = search fresh-laws
 
--- src/enums.rt:59:9
-meaning-of-requires : tie.Need-meaning-of-requires
-meaning-of-requires c κs = search needs
+-- src/enums.rt:75:5
+is-new-requires : tie.Need-is-new-requires
+is-new-requires c κs = search needs
 
--- src/enums.rt:60:5
-is-unknown-requires : tie.Need-is-unknown-requires
-is-unknown-requires c κs = search needs
-
--- src/enums.rt:53:1
+-- src/enums.rt:69:1
 returns-2 : tie.Need-returns-2
 returns-2 c = search fresh-laws
 
 pub is-fresh-spec : {M : Type 1} → statement M
-is-fresh-spec =
-    tie.close (tie.spec listed-requires returns meaning-of-requires is-unknown-requires returns-2)
+is-fresh-spec = tie.close (tie.spec listed-requires returns is-new-requires returns-2)

@@ -7,36 +7,41 @@ use Rattle.enumlines.proofs.enums.names_end.Lts as lts
 use Rattle.enumlines.proofs.enums.fresh_fault.Reads as fresh-fault-reads
 use Rattle.enumlines.proofs.enums.names_answer.Reads as names-answer-reads
 use Rattle.parts.proofs.end_at.Reads as end-at-reads
+use Rattle.repeats.proofs.blocks.differ_too.Reads as differ-too-reads
 
--- src/enums.rt:112:9
+-- src/enums.rt:123:9
 end-at-requires : tie.Need-end-at-requires
 end-at-requires c κs = search needs
 
--- src/enums.rt:114:19
+-- src/enums.rt:125:19
 enum-known-e : tie.Need-enum-known-e
 enum-known-e c = search needs
 
--- src/enums.rt:114:38
+-- src/enums.rt:125:50
+differ-too-requires : tie.Need-differ-too-requires
+differ-too-requires c κs = search needs
+
+-- src/enums.rt:125:38
 fresh-fault-requires : tie.Need-fresh-fault-requires
 fresh-fault-requires c κs = search needs
 
--- src/enums.rt:114:25
+-- src/enums.rt:125:25
 names-answer-requires : tie.Need-names-answer-requires
 names-answer-requires c κs = search needs
 
--- src/enums.rt:115:35
+-- src/enums.rt:126:35
 enum-told : tie.Need-enum-told
 enum-told c = search needs
 
--- src/enums.rt:115:22
+-- src/enums.rt:126:22
 names-answer-requires-2 : tie.Need-names-answer-requires-2
 names-answer-requires-2 c κs = search needs
 
--- src/enums.rt:109:1
+-- src/enums.rt:120:1
 returns : tie.Need-returns
 returns c = search end-laws
 
--- src/enums.rt:109:1
+-- src/enums.rt:120:1
 returns-2 : tie.Need-returns-2
 returns-2 c = search end-laws
 
@@ -46,6 +51,7 @@ names-end-spec =
     (tie.spec
     end-at-requires
     enum-known-e
+    differ-too-requires
     fresh-fault-requires
     names-answer-requires
     enum-told

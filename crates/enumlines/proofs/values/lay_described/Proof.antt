@@ -4,27 +4,27 @@ use Rattle.enumlines.proofs.values.lay_described.Statement.{statement}
 use Rattle.enumlines.proofs.values.lay_described.Tie as tie
 use Rattle.enumlines.proofs.values.lay_described.Reads as reads
 use Rattle.enumlines.proofs.values.lay_described.Lts as lts
-use Rattle.typelines.proofs.lay_info.Reads as lay-info-reads
 use Rattle.enumlines.proofs.values.enum_info.Reads as enum-info-reads
 use Rattle.enumlines.proofs.values.lay_enum_name.Reads as lay-enum-name-reads
+use Rattle.typelines.proofs.lay_info.Reads as lay-info-reads
 
--- src/values.rt:132:9
+-- src/values.rt:123:9
 lay-enum-name-requires : tie.Need-lay-enum-name-requires
 lay-enum-name-requires c κs = search needs
 
--- src/values.rt:133:9
+-- src/values.rt:124:9
 enum-info-requires : tie.Need-enum-info-requires
 enum-info-requires c κs = search needs
 
--- src/values.rt:134:9
+-- src/values.rt:125:9
 lay-info-requires : tie.Need-lay-info-requires
 lay-info-requires c κs = search needs
 
--- src/values.rt:129:1
+-- src/values.rt:120:1
 same-length : tie.Need-same-length
 same-length c = search needs
 
--- src/values.rt:129:1
+-- src/values.rt:120:1
 returns : tie.Need-returns
 returns c = search lays-described
 

@@ -4,33 +4,27 @@ use Rattle.enumlines.proofs.values.lay_enum_name.Statement.{statement}
 use Rattle.enumlines.proofs.values.lay_enum_name.Tie as tie
 use Rattle.enumlines.proofs.values.lay_enum_name.Reads as reads
 use Rattle.enumlines.proofs.values.lay_enum_name.Lts as lts
-use Rattle.declarations.proofs.narrow.Reads as narrow-reads
 use Rattle.symbols.proofs.declare.Reads as declare-reads
 
--- src/values.rt:103:9
-narrow-requires : tie.Need-narrow-requires
-narrow-requires c κs = search needs
-
--- src/values.rt:104:16
+-- src/values.rt:96:16
 mul-sort : tie.Need-mul-sort
 mul-sort c = search needs
 
--- src/values.rt:105:16
+-- src/values.rt:97:16
 add-link : tie.Need-add-link
 add-link c = search needs
 
--- src/values.rt:106:5
+-- src/values.rt:98:5
 declare-requires : tie.Need-declare-requires
 declare-requires c κs = search needs
 
--- src/values.rt:100:1
+-- src/values.rt:93:1
 same-length : tie.Need-same-length
 same-length c = search needs
 
--- src/values.rt:100:1
+-- src/values.rt:93:1
 returns : tie.Need-returns
 returns c = search enum-name-laid
 
 pub lay-enum-name-spec : {M : Type 1} → statement M
-lay-enum-name-spec =
-    tie.close (tie.spec narrow-requires mul-sort add-link declare-requires same-length returns)
+lay-enum-name-spec = tie.close (tie.spec mul-sort add-link declare-requires same-length returns)

@@ -4,46 +4,33 @@ use Rattle.enumlines.proofs.values.lay_value.Statement.{statement}
 use Rattle.enumlines.proofs.values.lay_value.Tie as tie
 use Rattle.enumlines.proofs.values.lay_value.Reads as reads
 use Rattle.enumlines.proofs.values.lay_value.Lts as lts
-use Rattle.declarations.proofs.narrow.Reads as narrow-reads
 use Rattle.enumlines.proofs.values.link_of.Reads as link-of-reads
 use Rattle.symbols.proofs.declare.Reads as declare-reads
 
--- src/values.rt:62:9
-narrow-requires : tie.Need-narrow-requires
-narrow-requires c κs = search needs
-
--- src/values.rt:63:20
+-- src/values.rt:55:20
 mul-sort : tie.Need-mul-sort
 mul-sort c = search needs
 
--- src/values.rt:63:16
+-- src/values.rt:55:16
 add-sort : tie.Need-add-sort
 add-sort c = search needs
 
--- src/values.rt:64:9
+-- src/values.rt:56:9
 link-of-requires : tie.Need-link-of-requires
 link-of-requires c κs = search needs
 
--- src/values.rt:65:5
+-- src/values.rt:57:5
 declare-requires : tie.Need-declare-requires
 declare-requires c κs = search needs
 
--- src/values.rt:51:1
+-- src/values.rt:52:1
 same-length : tie.Need-same-length
 same-length c = search needs
 
--- src/values.rt:51:1
+-- src/values.rt:52:1
 returns : tie.Need-returns
 returns c = search value-laid
 
 pub lay-value-spec : {M : Type 1} → statement M
 lay-value-spec =
-    tie.close
-    (tie.spec
-    narrow-requires
-    mul-sort
-    add-sort
-    link-of-requires
-    declare-requires
-    same-length
-    returns)
+    tie.close (tie.spec mul-sort add-sort link-of-requires declare-requires same-length returns)

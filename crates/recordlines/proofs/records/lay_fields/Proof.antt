@@ -7,23 +7,23 @@ use Rattle.recordlines.proofs.records.lay_fields.Statement.{statement}
 use Rattle.recordlines.proofs.records.lay_fields.Tie as tie
 use Rattle.recordlines.proofs.records.lay_fields.Reads as reads
 use Rattle.recordlines.proofs.records.lay_fields.Lts as lts
-use Rattle.recordlines.proofs.fields.add_type_size.Reads as add-type-size-reads
-use Rattle.recordlines.proofs.fields.field_at.Reads as field-at-reads
+use Rattle.pairs.proofs.add_type_size.Reads as add-type-size-reads
+use Rattle.pairs.proofs.pair_at.Reads as pair-at-reads
 use Rattle.recordlines.proofs.records.lay_field.Reads as lay-field-reads
 
 abbrev Inv-loop : tie.InvT-loop
-Inv-loop text work₀ types count newest n top at p₀ i₀ place₀ offset₀ work p i place offset = LayingFields text work₀ types count newest n top at p i place offset work
+Inv-loop text work₀ types scope n top at p₀ i₀ place₀ offset₀ work p i place offset = LayingFields text work₀ types scope n top at p i place offset work
 
 abbrev μ-loop : tie.MeasureT-loop
-μ-loop text work₀ types count newest n top at p₀ i₀ place₀ offset₀ work p i place offset = n - i
+μ-loop text work₀ types scope n top at p₀ i₀ place₀ offset₀ work p i place offset = n - i
 
 -- src/records.rt:53:5
 loop-holds : tie.Need-loop-holds Inv-loop μ-loop
-loop-holds c = fields-start _ _ _ _ _ _ _ _ (search needs) (search needs)
+loop-holds c = fields-start _ _ _ _ _ _ _ (search needs) (search needs)
 
 -- src/records.rt:54:13
-field-at-requires : tie.Need-field-at-requires Inv-loop μ-loop
-field-at-requires c κs = search (laying-place, laying-offset, needs)
+pair-at-requires : tie.Need-pair-at-requires Inv-loop μ-loop
+pair-at-requires c κs = search (laying-place, laying-offset, needs)
 
 -- src/records.rt:55:13
 add-type-size-requires : tie.Need-add-type-size-requires Inv-loop μ-loop
@@ -45,11 +45,11 @@ loop-less c = omega arith
 loop-again : tie.Need-loop-again Inv-loop μ-loop
 loop-again c = search (laying-laws, needs)
 
--- src/records.rt:37:1
+-- src/records.rt:38:1
 same-length : tie.Need-same-length Inv-loop μ-loop
 same-length c = search needs
 
--- src/records.rt:37:1
+-- src/records.rt:38:1
 returns : tie.Need-returns Inv-loop μ-loop
 returns c = search (laying-laws, needs)
 
@@ -60,7 +60,7 @@ lay-fields-spec =
     Inv-loop
     μ-loop
     loop-holds
-    field-at-requires
+    pair-at-requires
     add-type-size-requires
     lay-field-requires
     add-i

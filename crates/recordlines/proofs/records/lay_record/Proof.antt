@@ -6,6 +6,7 @@ use Rattle.recordlines.proofs.records.lay_record.Reads as reads
 use Rattle.recordlines.proofs.records.lay_record.Lts as lts
 use Rattle.recordlines.proofs.records.lay_fields.Reads as lay-fields-reads
 use Rattle.recordlines.proofs.records.record_info.Reads as record-info-reads
+use Rattle.symbols.proofs.keys.name_number.Reads as name-number-reads
 use Rattle.typelines.proofs.lay_type.Reads as lay-type-reads
 
 -- src/records.rt:94:9
@@ -13,10 +14,14 @@ record-info-requires : tie.Need-record-info-requires
 record-info-requires c κs = search needs
 
 -- src/records.rt:95:9
+name-number-requires : tie.Need-name-number-requires
+name-number-requires c κs = search needs
+
+-- src/records.rt:96:9
 lay-type-requires : tie.Need-lay-type-requires
 lay-type-requires c κs = search needs
 
--- src/records.rt:96:9
+-- src/records.rt:97:9
 lay-fields-requires : tie.Need-lay-fields-requires
 lay-fields-requires c κs = search needs
 
@@ -31,4 +36,10 @@ returns c = search lays-record
 pub lay-record-spec : {M : Type 1} → statement M
 lay-record-spec =
     tie.close
-    (tie.spec record-info-requires lay-type-requires lay-fields-requires same-length returns)
+    (tie.spec
+    record-info-requires
+    name-number-requires
+    lay-type-requires
+    lay-fields-requires
+    same-length
+    returns)

@@ -1,0 +1,5 @@
+pub mod Spelling
+pub mod LeadParts
+pub mod NamesApart
+pub mod Meeting
+pub mod BlockByBlock
