@@ -30,7 +30,7 @@ equal-turned x y h = let e : x ≡ y = equal-is x y h in rw e (equal-self y)
 equal-sym : (x y : ℤ) → equalZ x y ≡ equalZ y x
 equal-sym x y = both-ways (equalZ x y) (equalZ y x) (equal-turned x y) (equal-turned y x)
 
-or-assoc : (a b c : Bool) → (a || (b || c)) ≡ ((a || b) || c)
+pub or-assoc : (a b c : Bool) → (a || (b || c)) ≡ ((a || b) || c)
 or-assoc true b c = refl
 or-assoc false b c = refl
 

@@ -1,7 +1,7 @@
 -- Whether a label comes twice: the loops over values, and what they tell of the arms that are read.
 use mathlib.Core.Path.{_≡_, refl, sym, ap, _∙_}
 use mathlib.Core.Bool.{Bool, true, false, cond, not, _&&_, _||_, true≢false}
-use mathlib.Core.List.{List, [], _∷_, _++_}
+use mathlib.Core.List.{List, [], _∷_, _++_, append-nil}
 use mathlib.Core.Option.{Option, none, some}
 use Prim.Native.Nat.{ℕ, suc, _+_, _-_, _<_, _≤_}
 use native.Mathlib.Omega.{arith}
@@ -27,9 +27,10 @@ use Rattle.semantics.specs.Trees.{first, stackAt}
 use Rattle.semantics.proofs.Inversion.{some-inj, bind-some, and-true, and-both}
 use Rattle.reader.specs.Passes.{nodesAll}
 use Rattle.shapes.specs.Parts.{armsIn}
+use Rattle.tables.specs.declared.Scope.{Scope}
 use Rattle.tables.specs.declared.Fault.{Fault}
 use Rattle.tables.specs.declared.Fault.the-variants.{Clear, Kind}
-use Rattle.parts.specs.Got.{isClear}
+use Rattle.parts.specs.Got.{isClear, lowest}
 use Rattle.atoms.proofs.Telling.{unnamed-fits, unfit-fits}
 use Rattle.labels.specs.Marks.{marksOf}
 use Rattle.labels.specs.Repeating.{labelsDiffer, Repeating}
@@ -45,41 +46,42 @@ use Rattle.labels.specs.Hops.{leftAt, EntersArm, Nexts}
 use Rattle.labels.specs.Blocks.{valueAt, among, apart, meets, Held, numbersOf, Values, NextValues, Fills, ComesAgain, Recurs, Doubled}
 use Rattle.labels.proofs.Marking.{marks-arms, labels-known}
 use Rattle.labels.proofs.Telling.{value-told}
-use Rattle.labels.proofs.Differing.{apart-append, allOf, differ-apart, arms-kind}
+use Rattle.labels.proofs.Differing.{or-assoc, apart-append, allOf, differ-apart, arms-kind}
 
 -- ---- the integers of a block
 
 drop-next : (b : List ℤ) (i : ℕ) → i < length b → drop i b ≡ (getD b i (pos 0) ∷ drop (i + 1) b)
 drop-next b i h = let e : suc i ≡ i + 1 = omega arith in drop-cons b i (pos 0) h ∙ ap (λ (j : ℕ). getD b i (pos 0) ∷ drop j b) e
 
--- z is not among those before the i-th
-pub record Holding (b : List ℤ) (z : ℤ) (i : ℕ) : Type 0 where
-  pub left : among z b ≡ among z (drop i b)
+-- whether z is among those before the i-th
+pub record Holding (b : List ℤ) (z : ℤ) (any : Bool) (i : ℕ) : Type 0 where
+  pub left : among z b ≡ (any || among z (drop i b))
 
-pub hold-start : (b : List ℤ) (z : ℤ) → Holding b z 0
+pub hold-start : (b : List ℤ) (z : ℤ) → Holding b z false 0
 hold-start b z = record { left = refl }
 
-module _ (b : List ℤ) (z : ℤ) (i : ℕ) (p : SFits w64 z) (I : Holding b (wire z) i) where
-  whole : among z b ≡ among z (drop i b)
+or-none : (a : Bool) → (a || false) ≡ a
+or-none true = refl
+or-none false = refl
+
+module _ (b : List ℤ) (z : ℤ) (any : Bool) (i : ℕ) (p : SFits w64 z) (I : Holding b (wire z) any i) where
+  whole : among z b ≡ (any || among z (drop i b))
   whole = let j = toZ-ofZ p in let k = I .left in rw j at k
 
-  pub hold-end : length b ≤ i → false ≡ among z b
+  pub hold-end : length b ≤ i → any ≡ among z b
   unfolding among
-  hold-end h = sym (whole ∙ ap (among z) (drop-of-length-le b h))
+  hold-end h = sym (whole ∙ ap (λ (zs : List ℤ). any || among z zs) (drop-of-length-le b h) ∙ or-none any)
 
-  module _ (l : i < length b) (t : Bool) (q : SFits w64 (getD b i (pos 0))) (e : t ≡ equalZ (wire z) (wire (getD b i (pos 0)))) where
-    held : among z b ≡ (t || among z (drop (i + 1) b))
-    unfolding among
-    held = let j = toZ-ofZ p in let k = toZ-ofZ q in
-        whole ∙ ap (among z) (drop-next b i l) ∙ ap (λ (u : Bool). u || among z (drop (i + 1) b)) (sym (e ∙ ap (λ (y : ℤ). equalZ y (wire (getD b i (pos 0)))) j ∙ ap (λ (y : ℤ). equalZ z y) k))
+  pub hold-on : i < length b → (t : Bool) → SFits w64 (getD b i (pos 0)) → t ≡ equalZ (wire z) (wire (getD b i (pos 0))) → (u : Bool) → u ≡ (any || t) → Holding b (wire z) u (i + 1)
+  unfolding among
+  hold-on l t q e u f = let j = toZ-ofZ p in let k = toZ-ofZ q in
+      let same : equalZ z (getD b i (pos 0)) ≡ t = sym (e ∙ ap (λ (y : ℤ). equalZ y (wire (getD b i (pos 0)))) j ∙ ap (λ (y : ℤ). equalZ z y) k) in
+      rw (toZ-ofZ p) (record {
+        left = whole ∙ ap (λ (zs : List ℤ). any || among z zs) (drop-next b i l) ∙ ap (λ (v : Bool). any || (v || among z (drop (i + 1) b))) same
+            ∙ or-assoc any t (among z (drop (i + 1) b)) ∙ ap (λ (v : Bool). v || among z (drop (i + 1) b)) (sym f);
+      })
 
-    pub hold-found : t ≡ true → true ≡ among z b
-    hold-found h = sym (held ∙ ap (λ (u : Bool). u || among z (drop (i + 1) b)) h)
-
-    pub hold-on : t ≡ false → Holding b (wire z) (i + 1)
-    hold-on h = rw (toZ-ofZ p) (record { left = held ∙ ap (λ (u : Bool). u || among z (drop (i + 1) b)) h })
-
-pub ruleset hold-laws = (hold-end, hold-found, hold-on)
+pub ruleset hold-laws = (hold-end, hold-on)
 
 -- none of those before the i-th comes again
 pub record Differing (b : List ℤ) (i : ℕ) : Type 0 where
@@ -144,11 +146,11 @@ module _ (σ : Environment) where
 
 -- ---- from value to value
 
-module _ (s l : List ℕ) (count newest at : ℕ) (x : Next) (N : Nexts s at x) where
-  pub value-done : x ≡ next.Done → NextValues s l count newest at next-value.Done
+module _ (s l : List ℕ) (scope : Scope) (at : ℕ) (x : Next) (N : Nexts s at x) where
+  pub value-done : x ≡ next.Done → NextValues s l scope at next-value.Done
   value-done e = record { says = rw e at (N .says) }
 
-  pub value-next : (m : Mark) (q : ℕ) (z : ℤ) → x ≡ next.Label m q → z ≡ valueAt s l count newest m → SFits w64 z → NextValues s l count newest at (next-value.Value (wire z) q)
+  pub value-next : (m : Mark) (q : ℕ) (z : ℤ) → x ≡ next.Label m q → z ≡ valueAt s l scope m → SFits w64 z → NextValues s l scope at (next-value.Value (wire z) q)
   value-next m q z e f p =
       let g = rw e at (N .says) in
       rw (toZ-ofZ p) (record {
@@ -157,11 +159,11 @@ module _ (s l : List ℕ) (count newest at : ℕ) (x : Next) (N : Nexts s at x) 
 
 pub ruleset next-laws = (value-done, value-next)
 
-pub value-falls : (s l : List ℕ) (count newest p q : ℕ) (x : NextValue) (z : ℤ) → NextValues s l count newest p x → x ≡ next-value.Value z q → nodesAll (stackAt s q) < nodesAll (stackAt s p)
-value-falls s l count newest p q x z N e = let g = rw e at (N .says) in g .1 .nearer
+pub value-falls : (s l : List ℕ) (scope : Scope) (p q : ℕ) (x : NextValue) (z : ℤ) → NextValues s l scope p x → x ≡ next-value.Value z q → nodesAll (stackAt s q) < nodesAll (stackAt s p)
+value-falls s l scope p q x z N e = let g = rw e at (N .says) in g .1 .nearer
 
 -- the value of the next label before the others
-module _ (s l : List ℕ) (count newest p : ℕ) (x : NextValue) (N : NextValues s l count newest p x) (σ : Environment) (H : Held s l count newest σ) (zs : List ℤ) (Y : Values σ (leftAt s p) zs) where
+module _ (s l : List ℕ) (scope : Scope) (p : ℕ) (x : NextValue) (N : NextValues s l scope p x) (σ : Environment) (H : Held s l scope σ) (zs : List ℤ) (Y : Values σ (leftAt s p) zs) where
   none-left : x ≡ next-value.Done → zs ≡ []
   none-left e = let g : leftAt s p ≡ [] = rw e at (N .says) in let v : Values σ [] zs = rw g at Y in values-none σ zs v
 
@@ -175,31 +177,31 @@ module _ (s l : List ℕ) (count newest p : ℕ) (x : NextValue) (N : NextValues
 -- ---- a block is filled
 
 -- n values of the labels from `at` to p stand in the block
-pub record Filling (s l : List ℕ) (count newest : ℕ) (b₀ : List ℤ) (at : ℕ) (b : List ℤ) (n p : ℕ) : Type 0 where
+pub record Filling (s l : List ℕ) (scope : Scope) (b₀ : List ℤ) (at : ℕ) (b : List ℤ) (n p : ℕ) : Type 0 where
   pub long : length b ≡ length b₀
   pub within : n ≤ length b
   pub moved : nodesAll (stackAt s p) + n ≤ nodesAll (stackAt s at)
-  pub filled : (σ : Environment) → Held s l count newest σ → (zs : List ℤ) → Values σ (leftAt s at) zs → (ys : List ℤ) × (Values σ (leftAt s p) ys × (zs ≡ (take n b ++ ys)))
+  pub filled : (σ : Environment) → Held s l scope σ → (zs : List ℤ) → Values σ (leftAt s at) zs → (ys : List ℤ) × (Values σ (leftAt s p) ys × (zs ≡ (take n b ++ ys)))
 
-pub fill-start : (s l : List ℕ) (count newest : ℕ) (b : List ℤ) (at : ℕ) → Filling s l count newest b at b 0 at
-fill-start s l count newest b at = record { long = refl; within = omega arith; moved = omega arith; filled = λ σ H zs Y. (zs, (Y, refl)) }
+pub fill-start : (s l : List ℕ) (scope : Scope) (b : List ℤ) (at : ℕ) → Filling s l scope b at b 0 at
+fill-start s l scope b at = record { long = refl; within = omega arith; moved = omega arith; filled = λ σ H zs Y. (zs, (Y, refl)) }
 
-module _ (s l : List ℕ) (count newest : ℕ) (b₀ : List ℤ) (at : ℕ) (b : List ℤ) (n p : ℕ) (I : Filling s l count newest b₀ at b n p) where
-  pub fill-full : length b ≤ n → Fills s l count newest at (record { size = n; next = p }) b
+module _ (s l : List ℕ) (scope : Scope) (b₀ : List ℤ) (at : ℕ) (b : List ℤ) (n p : ℕ) (I : Filling s l scope b₀ at b n p) where
+  pub fill-full : length b ≤ n → Fills s l scope at (record { size = n; next = p }) b
   fill-full h = record { within = I .within; ended = λ i. absurd (omega arith); moved = I .moved; says = I .filled }
 
-  module _ (x : NextValue) (N : NextValues s l count newest p x) where
-    pub fill-end : x ≡ next-value.Done → Fills s l count newest at (record { size = n; next = p }) b
+  module _ (x : NextValue) (N : NextValues s l scope p x) where
+    pub fill-end : x ≡ next-value.Done → Fills s l scope at (record { size = n; next = p }) b
     fill-end e = record { within = I .within; ended = λ i. rw e at (N .says); moved = I .moved; says = I .filled }
 
-    pub fill-on : (z : ℤ) (q : ℕ) → x ≡ next-value.Value z q → SFits w64 z → n < length b → Filling s l count newest b₀ at (set b n (wire z)) (n + 1) q
+    pub fill-on : (z : ℤ) (q : ℕ) → x ≡ next-value.Value z q → SFits w64 z → n < length b → Filling s l scope b₀ at (set b n (wire z)) (n + 1) q
     fill-on z q e f h = rw (toZ-ofZ f) (record {
       long = length-set b n z ∙ I .long;
       within = let k = length-set b n z in omega arith;
-      moved = let k = value-falls s l count newest p q x z N e in let m = I .moved in omega arith;
+      moved = let k = value-falls s l scope p q x z N e in let m = I .moved in omega arith;
       filled = λ σ H zs Y.
           let c = I .filled σ H zs Y in
-          let d = one-left s l count newest p x N σ H (c .0) (c .1 .0) z q e in
+          let d = one-left s l scope p x N σ H (c .0) (c .1 .0) z q e in
           (d .0, (d .1 .0, c .1 .1 ∙ ap (λ (ys : List ℤ). take n b ++ ys) (d .1 .1) ∙ sym (append-snoc (take n b) z (d .0)) ∙ laid (d .0)));
     })
       where
@@ -214,102 +216,114 @@ pub ruleset fill-laws = (fill-full, fill-end, fill-on)
 -- ---- a block is compared with the labels after it
 
 -- no label from `at` to p has a value of the block
-pub record Comparing (s l : List ℕ) (count newest : ℕ) (b : List ℤ) (at p : ℕ) : Type 0 where
-  pub compared : (σ : Environment) → Held s l count newest σ → (zs : List ℤ) → Values σ (leftAt s at) zs → (ys : List ℤ) × (Values σ (leftAt s p) ys × (meets zs b ≡ meets ys b))
+pub record Comparing (s l : List ℕ) (scope : Scope) (b : List ℤ) (at p : ℕ) : Type 0 where
+  pub compared : (σ : Environment) → Held s l scope σ → (zs : List ℤ) → Values σ (leftAt s at) zs → (ys : List ℤ) × (Values σ (leftAt s p) ys × (meets zs b ≡ meets ys b))
 
-pub compare-start : (s l : List ℕ) (count newest : ℕ) (b : List ℤ) (at : ℕ) → Comparing s l count newest b at at
-compare-start s l count newest b at = record { compared = λ σ H zs Y. (zs, (Y, refl)) }
+pub compare-start : (s l : List ℕ) (scope : Scope) (b : List ℤ) (at : ℕ) → Comparing s l scope b at at
+compare-start s l scope b at = record { compared = λ σ H zs Y. (zs, (Y, refl)) }
 
-module _ (s l : List ℕ) (count newest : ℕ) (b : List ℤ) (at p : ℕ) (x : NextValue) (I : Comparing s l count newest b at p) (N : NextValues s l count newest p x) where
-  pub compare-end : x ≡ next-value.Done → ComesAgain s l count newest b at false
+module _ (s l : List ℕ) (scope : Scope) (b : List ℤ) (at p : ℕ) (x : NextValue) (I : Comparing s l scope b at p) (N : NextValues s l scope p x) where
+  pub compare-end : x ≡ next-value.Done → ComesAgain s l scope b at false
   unfolding meets
   compare-end e = record {
     says = λ σ H zs Y.
         let c = I .compared σ H zs Y in
-        sym (c .1 .1 ∙ ap (λ (ys : List ℤ). meets ys b) (none-left s l count newest p x N σ H (c .0) (c .1 .0) e));
+        sym (c .1 .1 ∙ ap (λ (ys : List ℤ). meets ys b) (none-left s l scope p x N σ H (c .0) (c .1 .0) e));
   }
 
   module _ (z : ℤ) (q : ℕ) (e : x ≡ next-value.Value z q) (t : Bool) (k : SFits w64 z) (f : t ≡ among (wire z) b) where
-    seen : (σ : Environment) → Held s l count newest σ → (zs : List ℤ) → Values σ (leftAt s at) zs → (ys : List ℤ) × (Values σ (leftAt s q) ys × (meets zs b ≡ (t || meets ys b)))
+    seen : (σ : Environment) → Held s l scope σ → (zs : List ℤ) → Values σ (leftAt s at) zs → (ys : List ℤ) × (Values σ (leftAt s q) ys × (meets zs b ≡ (t || meets ys b)))
     unfolding meets
     seen σ H zs Y =
         let i = toZ-ofZ k in
         let c = I .compared σ H zs Y in
-        let d = one-left s l count newest p x N σ H (c .0) (c .1 .0) z q e in
+        let d = one-left s l scope p x N σ H (c .0) (c .1 .0) z q e in
         (d .0, (d .1 .0, c .1 .1 ∙ ap (λ (ys : List ℤ). meets ys b) (d .1 .1) ∙ ap (λ (u : Bool). u || meets (d .0) b) (sym (f ∙ ap (λ (y : ℤ). among y b) i))))
 
-    pub compare-found : t ≡ true → ComesAgain s l count newest b at true
+    pub compare-found : t ≡ true → ComesAgain s l scope b at true
     compare-found h = record { says = λ σ H zs Y. let g = seen σ H zs Y in sym (g .1 .1 ∙ ap (λ (u : Bool). u || meets (g .0) b) h) }
 
-    pub compare-on : t ≡ false → Comparing s l count newest b at q
+    pub compare-on : t ≡ false → Comparing s l scope b at q
     compare-on h = record { compared = λ σ H zs Y. let g = seen σ H zs Y in (g .0, (g .1 .0, g .1 .1 ∙ ap (λ (u : Bool). u || meets (g .0) b) h)) }
 
 pub ruleset compare-laws = (compare-end, compare-found, compare-on)
 
-module _ (s l : List ℕ) (count newest : ℕ) (b : List ℤ) (at : ℕ) (t : Bool) (e : t ≡ not (apart b)) where
-  block-bits : (a : Bool) → t ≡ not a → t ≡ true → a ≡ false
-  block-bits true f h = absurd (true≢false (sym h ∙ f))
-  block-bits false f h = refl
+block-bits : (t a : Bool) → t ≡ not a → t ≡ true → a ≡ false
+block-bits t true f h = absurd (true≢false (sym h ∙ f))
+block-bits t false f h = refl
 
-  clear-bits : (a : Bool) → t ≡ not a → t ≡ false → a ≡ true
-  clear-bits true f h = refl
-  clear-bits false f h = absurd (true≢false (sym f ∙ h))
+clear-bits : (t a : Bool) → t ≡ not a → t ≡ false → a ≡ true
+clear-bits t true f h = refl
+clear-bits t false f h = absurd (true≢false (sym f ∙ h))
 
-  pub block-twice : t ≡ true → Recurs s l count newest b at true
-  block-twice h = record { says = λ σ H zs Y. apart-append b zs ∙ ap (λ (u : Bool). (u && not (meets zs b)) && apart zs) (block-bits (apart b) e h) }
+module _ (s l : List ℕ) (scope : Scope) (b : List ℤ) (at : ℕ) (t : Bool) (e : t ≡ not (apart b)) where
+  pub block-twice : t ≡ true → Recurs s l scope b at true
+  block-twice h = record { says = λ σ H zs Y. apart-append b zs ∙ ap (λ (u : Bool). (u && not (meets zs b)) && apart zs) (block-bits t (apart b) e h) }
 
-  pub block-once : (r : Bool) → t ≡ false → ComesAgain s l count newest b at r → Recurs s l count newest b at r
+  pub block-once : (r : Bool) → t ≡ false → ComesAgain s l scope b at r → Recurs s l scope b at r
   block-once r h C = record {
-    says = λ σ H zs Y. apart-append b zs ∙ ap (λ (u : Bool). (u && not (meets zs b)) && apart zs) (clear-bits (apart b) e h) ∙ ap (λ (u : Bool). not u && apart zs) (sym (C .says σ H zs Y));
+    says = λ σ H zs Y. apart-append b zs ∙ ap (λ (u : Bool). (u && not (meets zs b)) && apart zs) (clear-bits t (apart b) e h) ∙ ap (λ (u : Bool). not u && apart zs) (sym (C .says σ H zs Y));
   }
 
 pub ruleset block-laws = (block-twice, block-once)
 
+module _ (b : List ℤ) (t : Bool) (e : t ≡ not (apart b)) where
+  pub fault-twice : t ≡ true → Kind ≡ cond (apart b) Clear Kind
+  fault-twice h = sym (ap (λ (u : Bool). cond u Clear Kind) (block-bits t (apart b) e h))
+
+  pub fault-once : t ≡ false → Clear ≡ cond (apart b) Clear Kind
+  fault-once h = sym (ap (λ (u : Bool). cond u Clear Kind) (clear-bits t (apart b) e h))
+
+pub ruleset last-laws = (fault-twice, fault-once)
+
+fault-small : (t : Bool) → lowest (cond t Clear Kind) Kind ≡ Kind
+fault-small true = refl
+fault-small false = refl
+
 -- ---- block by block
 
 -- none of the labels from `at` to p comes again after it
-pub record Clearing (s l : List ℕ) (count newest : ℕ) (b₀ : List ℤ) (at : ℕ) (b : List ℤ) (p : ℕ) : Type 0 where
+pub record Clearing (s l : List ℕ) (scope : Scope) (b₀ : List ℤ) (at : ℕ) (b : List ℤ) (p : ℕ) : Type 0 where
   pub long : length b ≡ length b₀
-  pub cleared : (σ : Environment) → Held s l count newest σ → (zs : List ℤ) → Values σ (leftAt s at) zs → (ys : List ℤ) × (Values σ (leftAt s p) ys × (apart zs ≡ apart ys))
+  pub cleared : (σ : Environment) → Held s l scope σ → (zs : List ℤ) → Values σ (leftAt s at) zs → (ys : List ℤ) × (Values σ (leftAt s p) ys × (apart zs ≡ apart ys))
 
-pub clear-start : (s l : List ℕ) (count newest : ℕ) (b : List ℤ) (at : ℕ) → Clearing s l count newest b at b at
-clear-start s l count newest b at = record { long = refl; cleared = λ σ H zs Y. (zs, (Y, refl)) }
+pub clear-start : (s l : List ℕ) (scope : Scope) (b : List ℤ) (at : ℕ) → Clearing s l scope b at b at
+clear-start s l scope b at = record { long = refl; cleared = λ σ H zs Y. (zs, (Y, refl)) }
 
-pub block-part : (s l : List ℕ) (count newest p : ℕ) (r : Filled) (b : List ℤ) → Fills s l count newest p r b → r .size ≡ length (take (r .size) b)
-block-part s l count newest p r b F = sym (length-take-le (r .size) b (F .within))
+pub block-part : (s l : List ℕ) (scope : Scope) (p : ℕ) (r : Filled) (b : List ℤ) → Fills s l scope p r b → r .size ≡ length (take (r .size) b)
+block-part s l scope p r b F = sym (length-take-le (r .size) b (F .within))
 
-pub block-falls : (s l : List ℕ) (count newest p : ℕ) (r : Filled) (b : List ℤ) → Fills s l count newest p r b → (r .size ≡ 0 → ⊥) → nodesAll (stackAt s (r .next)) < nodesAll (stackAt s p)
-block-falls s l count newest p r b F h = let m = F .moved in omega arith
+module _ (s l : List ℕ) (scope : Scope) (b₀ : List ℤ) (at : ℕ) (b : List ℤ) (p : ℕ) (I : Clearing s l scope b₀ at b p) (r : Filled) (b′ : List ℤ) (F : Fills s l scope p r b′) (e : length b′ ≡ length b) where
+  -- a full block holds a label
+  pub block-falls : 0 < length b₀ → length b′ ≤ r .size → nodesAll (stackAt s (r .next)) < nodesAll (stackAt s p)
+  block-falls h k = let m = F .moved in let u = I .long in omega arith
 
-module _ (s l : List ℕ) (count newest : ℕ) (b₀ : List ℤ) (at : ℕ) (b : List ℤ) (p : ℕ) (I : Clearing s l count newest b₀ at b p) (r : Filled) (b′ : List ℤ) (F : Fills s l count newest p r b′) (e : length b′ ≡ length b) where
-  -- a block that is empty, though it has room, holds all labels that are left
-  pub clear-end : 0 < length b₀ → r .size ≡ 0 → Doubled s l count newest at Clear
-  unfolding apart
-  clear-end h k = record {
-    small = refl;
+  -- a block that is not full holds all labels that are left
+  pub clear-last : (w : Fault) → r .size < length b′ → w ≡ cond (apart (take (r .size) b′)) Clear Kind → Doubled s l scope at w
+  clear-last w h i = record {
+    small = ap (λ (f : Fault). lowest f Kind) i ∙ fault-small (apart (take (r .size) b′));
     says = λ σ H zs Y.
         let c = I .cleared σ H zs Y in
         let d = F .says σ H (c .0) (c .1 .0) in
-        let i : leftAt s (r .next) ≡ [] = F .ended (let u = I .long in omega arith) in
-        let v : Values σ [] (d .0) = rw i at (d .1 .0) in
-        let y : c .0 ≡ [] = d .1 .1 ∙ ap (λ (j : ℕ). take j b′ ++ d .0) k ∙ values-none σ (d .0) v in
-        sym (ap (λ (t : Bool). cond t Clear Kind) (c .1 .1 ∙ ap apart y));
+        let v : Values σ [] (d .0) = rw (F .ended h) at (d .1 .0) in
+        let y : c .0 ≡ take (r .size) b′ = d .1 .1 ∙ ap (λ (ys : List ℤ). take (r .size) b′ ++ ys) (values-none σ (d .0) v) ∙ append-nil (take (r .size) b′) in
+        i ∙ sym (ap (λ (t : Bool). cond t Clear Kind) (c .1 .1 ∙ ap apart y));
   }
 
-  module _ (t : Bool) (R : Recurs s l count newest (take (r .size) b′) (r .next) t) where
-    after : (σ : Environment) → Held s l count newest σ → (zs : List ℤ) → Values σ (leftAt s at) zs → (ys : List ℤ) × (Values σ (leftAt s (r .next)) ys × (apart zs ≡ (not t && apart ys)))
+  module _ (t : Bool) (R : Recurs s l scope (take (r .size) b′) (r .next) t) where
+    after : (σ : Environment) → Held s l scope σ → (zs : List ℤ) → Values σ (leftAt s at) zs → (ys : List ℤ) × (Values σ (leftAt s (r .next)) ys × (apart zs ≡ (not t && apart ys)))
     after σ H zs Y =
         let c = I .cleared σ H zs Y in
         let d = F .says σ H (c .0) (c .1 .0) in
         (d .0, (d .1 .0, c .1 .1 ∙ ap apart (d .1 .1) ∙ R .says σ H (d .0) (d .1 .0)))
 
-    pub clear-found : t ≡ true → Doubled s l count newest at Kind
+    pub clear-found : t ≡ true → Doubled s l scope at Kind
     clear-found h = record { small = refl; says = λ σ H zs Y. let g = after σ H zs Y in sym (ap (λ (u : Bool). cond u Clear Kind) (g .1 .1 ∙ ap (λ (u : Bool). not u && apart (g .0)) h)) }
 
-    pub clear-on : t ≡ false → Clearing s l count newest b₀ at b′ (r .next)
+    pub clear-on : t ≡ false → Clearing s l scope b₀ at b′ (r .next)
     clear-on h = record { long = e ∙ I .long; cleared = λ σ H zs Y. let g = after σ H zs Y in (g .0, (g .1 .0, g .1 .1 ∙ ap (λ (u : Bool). not u && apart (g .0)) h)) }
 
-pub ruleset clear-laws = (clear-end, clear-found, clear-on)
+pub ruleset clear-laws = (clear-last, clear-found, clear-on)
 
 -- ---- the arms that are read
 
@@ -369,15 +383,15 @@ told-arms s at w σ js k d n a c h i f =
 clear-is : (f : Fault) → f ≡ Clear → isClear f ≡ true
 clear-is f h = ap isClear h
 
-module _ (s l : List ℕ) (count newest at : ℕ) (f : Fault) (t : Bool) (e : t ≡ isClear f) where
-  pub fault-before : t ≡ false → Repeating s l count newest at f Clear
+module _ (s l : List ℕ) (scope : Scope) (at : ℕ) (f : Fault) (t : Bool) (e : t ≡ isClear f) where
+  pub fault-before : t ≡ false → Repeating s l scope at f Clear
   fault-before h = record { small = refl; says = λ i. absurd (true≢false (sym (clear-is f i) ∙ sym e ∙ h)) }
 
   module _ (h : Hop) (A : EntersArm s at h) where
-    pub fault-label : (m : Mark) (q : ℕ) → h ≡ hop.Label m q → Repeating s l count newest at f Clear
+    pub fault-label : (m : Mark) (q : ℕ) → h ≡ hop.Label m q → Repeating s l scope at f Clear
     fault-label m q i = absurd (rw i at (A .says))
 
-    pub fault-end : h ≡ hop.End → Repeating s l count newest at f Clear
+    pub fault-end : h ≡ hop.End → Repeating s l scope at f Clear
     unfolding apart
     fault-end i = let g = rw i at (A .says) in record {
       small = refl;
@@ -385,7 +399,7 @@ module _ (s l : List ℕ) (count newest at : ℕ) (f : Fault) (t : Bool) (e : t 
           (λ zs Y. let y : Values σ [] zs = rw g at Y in sym (ap (λ (v : List ℤ). cond (apart v) Clear Kind) (values-none σ zs y)));
     }
 
-    pub fault-over : (q : ℕ) (r : Fault) → h ≡ hop.Over q → Doubled s l count newest q r → Repeating s l count newest at f r
+    pub fault-over : (q : ℕ) (r : Fault) → h ≡ hop.Over q → Doubled s l scope q r → Repeating s l scope at f r
     fault-over q r i D = let g = rw i at (A .says) in record {
       small = D .small;
       says = λ z ts top σ bs S js k d n a c j u. told-arms s at r σ js k d n a c j u

@@ -23,12 +23,13 @@ use Rattle.parts.specs.declared.Part.the-variants as part
 use Rattle.parts.specs.declared.End.{End}
 use Rattle.parts.specs.declared.End.the-variants as ending
 use Rattle.atoms.specs.Contracts.{minusForm}
+use Rattle.skips.specs.Skips.{Past}
 use Rattle.labels.specs.Marks.{withMark, marksIn, marksOf}
 use Rattle.labels.specs.declared.Mark.{Mark}
 use Rattle.labels.specs.declared.Hop.{Hop}
 use Rattle.labels.specs.declared.Hop.the-variants as hop
 use Rattle.labels.specs.declared.Next.the-variants as next
-use Rattle.labels.specs.Hops.{Past, leftAt, Marked, Passes, EntersForm, EntersArm, Hops, Nexts}
+use Rattle.labels.specs.Hops.{leftAt, Marked, Passes, EntersForm, EntersArm, Hops, Nexts}
 use Rattle.labels.proofs.Skipping.{before-fewer, form-fewer, shut-nodes, passed-form}
 
 -- ---- whether the part is the last

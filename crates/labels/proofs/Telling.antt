@@ -34,14 +34,13 @@ use Rattle.shapes.specs.declared.Atom.the-variants as AT
 use Rattle.shapes.specs.declared.ExprHead.{ExprHead}
 use Rattle.shapes.specs.declared.ExprHead.the-variants as EH
 use Rattle.shapes.proofs.Expressions.{constant-form, constant-empty, constant-headless}
-use Rattle.symbols.specs.Chain.{entries, placeIn}
+use Rattle.tables.specs.declared.Scope.{Scope}
 use Rattle.tables.specs.declared.Meaning.{Meaning}
 use Rattle.tables.specs.declared.Meaning.the-variants as meaning
-use Rattle.tables.specs.Scene.{meaningAt, Means, a-type, a-var, a-proc, a-value, Told, unknown, known}
+use Rattle.tables.specs.Scene.{Means, a-type, a-var, a-proc, a-value, Told, unknown, known, meaningHere}
 use Rattle.tables.proofs.Telling.{meant}
 use Rattle.parts.specs.Got.{isForm, faultOf}
 use Rattle.atoms.specs.declared.Valued.{Valued}
-use Rattle.atoms.specs.Answers.{meaningHere}
 use Rattle.atoms.specs.Contracts.{GivesMinus, minusForm}
 use Rattle.labels.specs.declared.Mark.{Mark}
 use Rattle.labels.specs.declared.Mark.the-variants as mark
@@ -112,15 +111,14 @@ module _ (m : Meaning) where
 
 pub ruleset ordinal-laws = (ordinal-unknown, ordinal-type, ordinal-var, ordinal-proc, ordinal-is)
 
-module _ (s l : List ℕ) (count newest : ℕ) (m : Mark) where
-  pub value-number : (z : ℤ) → m ≡ mark.Number z → SFits w64 z → wire z ≡ valueAt s l count newest m
+module _ (s l : List ℕ) (scope : Scope) (m : Mark) where
+  pub value-number : (z : ℤ) → m ≡ mark.Number z → SFits w64 z → wire z ≡ valueAt s l scope m
   value-number z e p = let i = toZ-ofZ p in rw e i
 
-  pub value-truth : (b : Bool) (r : ℤ) → m ≡ mark.Truth b → r ≡ truth b → SFits w64 r → wire r ≡ valueAt s l count newest m
+  pub value-truth : (b : Bool) (r : ℤ) → m ≡ mark.Truth b → r ≡ truth b → SFits w64 r → wire r ≡ valueAt s l scope m
   value-truth b r e f p = let i = toZ-ofZ p in rw e (i ∙ f)
 
-  pub value-name : (p : ℕ) (x : Meaning) (r : ℤ) → m ≡ mark.Named p → x ≡ meaningAt l (placeIn s l (entries count l newest) (map small (wordAt s p))) → r ≡ ordinalIn x → SFits w64 r → wire r ≡ valueAt s l count newest m
-  unfolding meaningHere
+  pub value-name : (p : ℕ) (x : Meaning) (r : ℤ) → m ≡ mark.Named p → x ≡ meaningHere s l scope p → r ≡ ordinalIn x → SFits w64 r → wire r ≡ valueAt s l scope m
   value-name p x r e f g q = let i = toZ-ofZ q in rw e (i ∙ g ∙ ap ordinalIn f)
 
 pub ruleset value-laws = (value-number, value-truth, value-name)
@@ -137,8 +135,7 @@ ordinal-told x unknown e = none-some e
 ordinal-told x (known M) e = ordinal-means x M (some-inj e)
 
 -- the value by the tables is that of the label
-pub value-told : {s l : List ℕ} {count newest : ℕ} {σ : Environment} {m : Mark} {x : Const} → Held s l count newest σ → MarkIs s σ m x → valueAt s l count newest m ≡ x .value
-unfolding meaningHere
+pub value-told : {s l : List ℕ} {scope : Scope} {σ : Environment} {m : Mark} {x : Const} → Held s l scope σ → MarkIs s σ m x → valueAt s l scope m ≡ x .value
 value-told H (a-number z) = refl
 value-told H (a-truth b) = refl
 value-told {s} H (a-name p x h) = ordinal-told x (meant (H .scene) (map small (wordAt s p))) h

@@ -15,13 +15,13 @@ use Rattle.semantics.specs.Script.{Const}
 use Rattle.semantics.specs.Syntax.{Constant}
 use Rattle.semantics.specs.Trees.{stackAt}
 use Rattle.reader.specs.Passes.{nodesAll}
+use Rattle.tables.specs.declared.Scope.{Scope}
 use Rattle.tables.specs.declared.Fault.{Fault}
 use Rattle.tables.specs.declared.Fault.the-variants.{Clear, Kind}
 use Rattle.tables.specs.declared.Meaning.{Meaning}
 use Rattle.tables.specs.declared.Meaning.the-variants as meaning
-use Rattle.tables.specs.Scene.{Scene}
+use Rattle.tables.specs.Scene.{Scene, meaningHere}
 use Rattle.parts.specs.Got.{lowest}
-use Rattle.atoms.specs.Answers.{meaningHere}
 use Rattle.labels.specs.Hops.{leftAt, Nearer}
 use Rattle.labels.specs.declared.Mark.{Mark}
 use Rattle.labels.specs.declared.Mark.the-variants as mark
@@ -40,10 +40,10 @@ ordinalIn (meaning.Proc p) = pos 0
 ordinalIn (meaning.Value k n) = pos n
 
 -- the value that a mark stands for, by the tables
-abbrev pub valueAt : List ℕ → List ℕ → ℕ → ℕ → Mark → ℤ
-valueAt s l count newest (mark.Number z) = z
-valueAt s l count newest (mark.Truth b) = truth b
-valueAt s l count newest (mark.Named p) = ordinalIn (meaningHere s l count newest p)
+abbrev pub valueAt : List ℕ → List ℕ → Scope → Mark → ℤ
+valueAt s l scope (mark.Number z) = z
+valueAt s l scope (mark.Truth b) = truth b
+valueAt s l scope (mark.Named p) = ordinalIn (meaningHere s l scope p)
 
 -- ---- integers that differ
 
@@ -65,11 +65,11 @@ meets (z ∷ zs) ys = among z ys || meets zs ys
 -- ---- in an environment
 
 -- the tables hold the environment
-pub record Held (s l : List ℕ) (count newest : ℕ) (σ : Environment) : Type 0 where
+pub record Held (s l : List ℕ) (scope : Scope) (σ : Environment) : Type 0 where
   pub ts : List ℕ
   pub top : ℕ
   pub bs : List ℕ
-  pub scene : Scene s l ts count newest top σ bs
+  pub scene : Scene s l ts scope top σ bs
 
 -- the values of constants
 unfoldable pub numbersOf : List Const → List ℤ
@@ -84,35 +84,35 @@ pub record Values (σ : Environment) (cs : List Constant) (zs : List ℤ) : Type
   pub values : numbersOf consts ≡ zs
 
 -- z is the value of a label
-pub record IsValue (s l : List ℕ) (count newest : ℕ) (z : ℤ) (c : Constant) : Type 0 where
-  pub value-is : (σ : Environment) → Held s l count newest σ → (x : Const) → constantOf σ c ≡ some x → plain x ≡ true → z ≡ x .value
+pub record IsValue (s l : List ℕ) (scope : Scope) (z : ℤ) (c : Constant) : Type 0 where
+  pub value-is : (σ : Environment) → Held s l scope σ → (x : Const) → constantOf σ c ≡ some x → plain x ≡ true → z ≡ x .value
 
 -- ---- the walk over values
 
 -- the next label is passed, or none is left
-abbrev pub NextValuesBy : List ℕ → List ℕ → ℕ → ℕ → ℕ → NextValue → Type 0
-NextValuesBy s l count newest at (next-value.Value z q) = ((c : Constant) × ((leftAt s at ≡ (c ∷ leftAt s q)) × IsValue s l count newest z c)) × Nearer s at q
-NextValuesBy s l count newest at next-value.Done = leftAt s at ≡ []
+abbrev pub NextValuesBy : List ℕ → List ℕ → Scope → ℕ → NextValue → Type 0
+NextValuesBy s l scope at (next-value.Value z q) = ((c : Constant) × ((leftAt s at ≡ (c ∷ leftAt s q)) × IsValue s l scope z c)) × Nearer s at q
+NextValuesBy s l scope at next-value.Done = leftAt s at ≡ []
 
-pub record NextValues (s l : List ℕ) (count newest at : ℕ) (r : NextValue) : Type 0 where
-  pub says : NextValuesBy s l count newest at r
+pub record NextValues (s l : List ℕ) (scope : Scope) (at : ℕ) (r : NextValue) : Type 0 where
+  pub says : NextValuesBy s l scope at r
 
 -- the values of the labels from `at` on are those in the block and then those from the next offset on; a block that is not full holds all
-pub record Fills (s l : List ℕ) (count newest at : ℕ) (r : Filled) (b : List ℤ) : Type 0 where
+pub record Fills (s l : List ℕ) (scope : Scope) (at : ℕ) (r : Filled) (b : List ℤ) : Type 0 where
   pub within : r .size ≤ length b
   pub ended : r .size < length b → leftAt s (r .next) ≡ []
   pub moved : nodesAll (stackAt s (r .next)) + r .size ≤ nodesAll (stackAt s at)
-  pub says : (σ : Environment) → Held s l count newest σ → (zs : List ℤ) → Values σ (leftAt s at) zs → (ys : List ℤ) × (Values σ (leftAt s (r .next)) ys × (zs ≡ (take (r .size) b ++ ys)))
+  pub says : (σ : Environment) → Held s l scope σ → (zs : List ℤ) → Values σ (leftAt s at) zs → (ys : List ℤ) × (Values σ (leftAt s (r .next)) ys × (zs ≡ (take (r .size) b ++ ys)))
 
 -- whether a label from an offset on has a value of the block
-pub record ComesAgain (s l : List ℕ) (count newest : ℕ) (b : List ℤ) (at : ℕ) (r : Bool) : Type 0 where
-  pub says : (σ : Environment) → Held s l count newest σ → (zs : List ℤ) → Values σ (leftAt s at) zs → r ≡ meets zs b
+pub record ComesAgain (s l : List ℕ) (scope : Scope) (b : List ℤ) (at : ℕ) (r : Bool) : Type 0 where
+  pub says : (σ : Environment) → Held s l scope σ → (zs : List ℤ) → Values σ (leftAt s at) zs → r ≡ meets zs b
 
 -- whether a value of the block comes again in it or after it; if not, those after it alone tell whether all differ
-pub record Recurs (s l : List ℕ) (count newest : ℕ) (b : List ℤ) (at : ℕ) (r : Bool) : Type 0 where
-  pub says : (σ : Environment) → Held s l count newest σ → (zs : List ℤ) → Values σ (leftAt s at) zs → apart (b ++ zs) ≡ (not r && apart zs)
+pub record Recurs (s l : List ℕ) (scope : Scope) (b : List ℤ) (at : ℕ) (r : Bool) : Type 0 where
+  pub says : (σ : Environment) → Held s l scope σ → (zs : List ℤ) → Values σ (leftAt s at) zs → apart (b ++ zs) ≡ (not r && apart zs)
 
 -- a fault of row 8 where a label that is left at an offset comes again after it
-pub record Doubled (s l : List ℕ) (count newest at : ℕ) (r : Fault) : Type 0 where
+pub record Doubled (s l : List ℕ) (scope : Scope) (at : ℕ) (r : Fault) : Type 0 where
   pub small : lowest r Kind ≡ Kind
-  pub says : (σ : Environment) → Held s l count newest σ → (zs : List ℤ) → Values σ (leftAt s at) zs → r ≡ cond (apart zs) Clear Kind
+  pub says : (σ : Environment) → Held s l scope σ → (zs : List ℤ) → Values σ (leftAt s at) zs → r ≡ cond (apart zs) Clear Kind

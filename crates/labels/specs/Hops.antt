@@ -14,32 +14,15 @@ use Rattle.semantics.specs.Names.{constantOf, constOf}
 use Rattle.semantics.specs.Rules.{plain}
 use Rattle.semantics.specs.Script.{Const}
 use Rattle.semantics.specs.Syntax.{Constant}
-use Rattle.semantics.specs.Trees.{Tree, form, Trees, end, _then_, Run, first, later, wordAt, stackAt}
+use Rattle.semantics.specs.Trees.{form, Trees, end, _then_, Run, first, later, wordAt, stackAt}
 use Rattle.reader.specs.Passes.{nodesAll}
-use Rattle.parts.specs.Parts.{Before, ShutAt}
 use Rattle.labels.specs.Marks.{marksIn, marksOf}
 use Rattle.labels.specs.declared.Mark.{Mark}
 use Rattle.labels.specs.declared.Mark.the-variants as mark
-use Rattle.labels.specs.declared.Step.{Step}
-use Rattle.labels.specs.declared.Step.the-variants as step
 use Rattle.labels.specs.declared.Hop.{Hop}
 use Rattle.labels.specs.declared.Hop.the-variants as hop
 use Rattle.labels.specs.declared.Next.{Next}
 use Rattle.labels.specs.declared.Next.the-variants as next
-
--- ---- past the parts of a form
-
--- q is past the bracket that closes the parts at an offset
-pub record Past (s : List ℕ) (at q : ℕ) : Type 0 where
-  pub beyond : later (stackAt s at) ≡ stackAt s q
-
--- one part is passed, or the closing bracket
-abbrev pub StepsBy : List ℕ → ℕ → Step → Type 0
-StepsBy s at (step.On q) = (t : Tree Run) × Before s at t q
-StepsBy s at (step.Out q) = ShutAt s at q
-
-pub record Steps (s : List ℕ) (at : ℕ) (r : Step) : Type 0 where
-  pub says : StepsBy s at r
 
 -- ---- labels
 

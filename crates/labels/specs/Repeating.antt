@@ -12,6 +12,7 @@ use Rattle.semantics.specs.Stages.{fits, armsStaged}
 use Rattle.semantics.specs.Syntax.{Arms}
 use Rattle.semantics.specs.Trees.{first, stackAt}
 use Rattle.shapes.specs.Parts.{armsIn}
+use Rattle.tables.specs.declared.Scope.{Scope}
 use Rattle.tables.specs.declared.Fault.{Fault}
 use Rattle.tables.specs.declared.Fault.the-variants.{Clear, Kind}
 use Rattle.tables.specs.Scene.{Scene}
@@ -23,7 +24,7 @@ labelsDiffer σ none = true
 labelsDiffer σ (some a) = elim (armsOf σ a) [ none ↦ true | some b ↦ differ (labelsOf b) ]
 
 -- a fault of row 8 or none: where the arms have no fault f, whether a label comes twice
-pub record Repeating (s l : List ℕ) (count newest at : ℕ) (f w : Fault) : Type 0 where
+pub record Repeating (s l : List ℕ) (scope : Scope) (at : ℕ) (f w : Fault) : Type 0 where
   pub small : lowest w Kind ≡ Kind
-  pub says : f ≡ Clear → (ts : List ℕ) (top : ℕ) (σ : Environment) (bs : List ℕ) → Scene s l ts count newest top σ bs → (js : List ℕ) (k d n : ℕ) (a : Arms × ℕ) (c : Cases)
+  pub says : f ≡ Clear → (ts : List ℕ) (top : ℕ) (σ : Environment) (bs : List ℕ) → Scene s l ts scope top σ bs → (js : List ℕ) (k d n : ℕ) (a : Arms × ℕ) (c : Cases)
       → armsIn d n (first (stackAt s at)) ≡ some a → armsStaged σ js k (some (a .0)) ≡ fits c → w ≡ cond (labelsDiffer σ (some (a .0))) Clear Kind

@@ -9,11 +9,13 @@ use parts::is_form;
 use parts::part_at;
 use shapes::Atom;
 use shapes::atom_of;
+use skips::past_form;
 use tables::Fault;
 use tables::Meaning;
+use tables::Scope;
 use tables::meaning_of;
 ghost use mathlib.Core.Path.{_≡_};
-ghost use mathlib.Core.Bool.{not};
+ghost use mathlib.Core.Bool.{cond, not, _||_};
 ghost use mathlib.Core.List.{map};
 ghost use Prim.Native.Nat.{_<_};
 ghost use lib.IntN.{pos};
@@ -22,8 +24,9 @@ ghost use Rattle.spelling.specs.Bytes.{small};
 ghost use Rattle.semantics.specs.Calculate.{equalZ, truth};
 ghost use Rattle.semantics.specs.Trees.{first, wordAt, stackAt};
 ghost use Rattle.shapes.specs.Heads.{atomOf, atomConstant};
+ghost use Rattle.tables.specs.declared.Fault.the-variants.{Clear, Kind};
 ghost use Rattle.atoms.specs.Contracts.{minusForm};
-ghost use Rattle.labels.specs.Hops.{Past, Steps, Marked, Passes, EntersForm, EntersArm, Hops, Nexts};
+ghost use Rattle.labels.specs.Hops.{Marked, Passes, EntersForm, EntersArm, Hops, Nexts};
 ghost use Rattle.labels.specs.Blocks.{ordinalIn, valueAt, among, apart, NextValues, Fills, ComesAgain, Recurs, Doubled};
 ghost use Rattle.labels.specs.Repeating.{Repeating};
 
@@ -32,12 +35,6 @@ pub enum Mark {
     Number(i64),
     Truth(bool),
     Named(usize),
-}
-
-// A part of a form that is passed (the offset after it), or the end (the offset past the closing bracket).
-pub enum Step {
-    On(usize),
-    Out(usize),
 }
 
 // From an offset inside an arm: a label is passed, something else is passed (the same labels are left at the offset), or no label is left.
@@ -63,36 +60,6 @@ pub enum NextValue {
 pub struct Filled {
     size: usize,
     next: usize,
-}
-
-// Past one part of a form, or past its end.
-fn past_part(text: &[u8], at: usize) -> Step
-    ensures { λ r. ⌜ Steps (now (text .entry)) at r ⌝ }
-{
-    let part = part_at(text, at);
-    match part {
-        Part::Leaf(_, _, q) => Step::On(q),
-        Part::Form(p) => Step::On(past_form(text, p)),
-        Part::Shut(q) => Step::Out(q),
-    }
-}
-
-// Past the closing bracket of a form whose parts begin at an offset.
-fn past_form(text: &[u8], at: usize) -> usize
-    ensures { λ r. ⌜ Past (now (text .entry)) at r ⌝ }
-{
-    let mut p = at;
-    loop {
-        let s = past_part(text, p);
-        match s {
-            Step::On(q) => {
-                p = q;
-            }
-            Step::Out(q) => {
-                return q;
-            }
-        }
-    }
 }
 
 // A word at p that is not the last part, as a label; the next part stands at q.
@@ -232,23 +199,23 @@ pub fn ordinal_in(m: Meaning) -> i64
 }
 
 // The value of a label.
-pub fn value_of(text: &[u8], work: &[u32], count: u32, newest: u32, m: Mark) -> i64
-    ensures { λ r. ⌜ r ≡ valueAt (now (text .entry)) (now (work .entry)) count newest m ⌝ }
+pub fn value_of(text: &[u8], work: &[u32], scope: Scope, m: Mark) -> i64
+    ensures { λ r. ⌜ r ≡ valueAt (now (text .entry)) (now (work .entry)) scope m ⌝ }
 {
     match m {
         Mark::Number(z) => z,
         Mark::Truth(b) => truth_value(b),
-        Mark::Named(p) => ordinal_in(meaning_of(text, work, count, newest, p)),
+        Mark::Named(p) => ordinal_in(meaning_of(text, work, scope, p)),
     }
 }
 
 // The value of the next label from an offset inside an arm.
-fn next_value(text: &[u8], work: &[u32], count: u32, newest: u32, at: usize) -> NextValue
-    ensures { λ r. ⌜ NextValues (now (text .entry)) (now (work .entry)) count newest at r ⌝ }
+fn next_value(text: &[u8], work: &[u32], scope: Scope, at: usize) -> NextValue
+    ensures { λ r. ⌜ NextValues (now (text .entry)) (now (work .entry)) scope at r ⌝ }
 {
     let x = next_label(text, at);
     match x {
-        Next::Label(m, q) => NextValue::Value(value_of(text, work, count, newest, m), q),
+        Next::Label(m, q) => NextValue::Value(value_of(text, work, scope, m), q),
         Next::Done => NextValue::Done,
     }
 }
@@ -263,18 +230,27 @@ pub fn same_number(x: i64, y: i64) -> bool
     false
 }
 
-// Whether an integer is among those of a block.
+// Whether one of the two holds.
+fn either(a: bool, b: bool) -> bool
+    ensures { λ r. ⌜ r ≡ (a || b) ⌝ }
+{
+    if a {
+        return true;
+    }
+    b
+}
+
+// Whether an integer is among those of a block. The loop has no way out, so that the compiler compares several at once.
 pub fn holds(block: &[i64], z: i64) -> bool
     ensures { λ r. ⌜ r ≡ among z (now (block .entry)) ⌝ }
 {
+    let mut any = false;
     let mut i = 0;
     while i < block.len() {
-        if same_number(z, block[i]) {
-            return true;
-        }
+        any = either(any, same_number(z, block[i]));
         i += 1;
     }
-    false
+    any
 }
 
 // Whether an integer of a block comes again in it.
@@ -292,20 +268,13 @@ pub fn repeated(block: &[i64]) -> bool
 }
 
 // The values of the labels from an offset on, as many as a block holds.
-fn fill_block(
-    text: &[u8],
-    work: &[u32],
-    count: u32,
-    newest: u32,
-    block: &mut [i64],
-    at: usize,
-) -> Filled
-    ensures { λ r. ⌜ Fills (now (text .entry)) (now (work .entry)) count newest at r (now (block .exit)) ⌝ }
+fn fill_block(text: &[u8], work: &[u32], scope: Scope, block: &mut [i64], at: usize) -> Filled
+    ensures { λ r. ⌜ Fills (now (text .entry)) (now (work .entry)) scope at r (now (block .exit)) ⌝ }
 {
     let mut n = 0;
     let mut p = at;
     while n < block.len() {
-        let x = next_value(text, work, count, newest, p);
+        let x = next_value(text, work, scope, p);
         match x {
             NextValue::Value(z, q) => {
                 block[n] = z;
@@ -321,12 +290,12 @@ fn fill_block(
 }
 
 // Whether a value of a block is that of a label from an offset on.
-fn comes_again(text: &[u8], work: &[u32], count: u32, newest: u32, block: &[i64], at: usize) -> bool
-    ensures { λ r. ⌜ ComesAgain (now (text .entry)) (now (work .entry)) count newest (now (block .entry)) at r ⌝ }
+fn comes_again(text: &[u8], work: &[u32], scope: Scope, block: &[i64], at: usize) -> bool
+    ensures { λ r. ⌜ ComesAgain (now (text .entry)) (now (work .entry)) scope (now (block .entry)) at r ⌝ }
 {
     let mut p = at;
     loop {
-        let x = next_value(text, work, count, newest, p);
+        let x = next_value(text, work, scope, p);
         match x {
             NextValue::Value(z, q) => {
                 if holds(block, z) {
@@ -342,35 +311,39 @@ fn comes_again(text: &[u8], work: &[u32], count: u32, newest: u32, block: &[i64]
 }
 
 // Whether a value of a block comes again in it or among the labels from an offset on.
-fn recurs(text: &[u8], work: &[u32], count: u32, newest: u32, block: &[i64], at: usize) -> bool
-    ensures { λ r. ⌜ Recurs (now (text .entry)) (now (work .entry)) count newest (now (block .entry)) at r ⌝ }
+fn recurs(text: &[u8], work: &[u32], scope: Scope, block: &[i64], at: usize) -> bool
+    ensures { λ r. ⌜ Recurs (now (text .entry)) (now (work .entry)) scope (now (block .entry)) at r ⌝ }
 {
     if repeated(block) {
         return true;
     }
-    comes_again(text, work, count, newest, block, at)
+    comes_again(text, work, scope, block, at)
+}
+
+// A fault of row 8 where a value of a block comes again in it.
+fn block_fault(block: &[i64]) -> Fault
+    ensures { λ r. ⌜ r ≡ cond (apart (now (block .entry))) Clear Kind ⌝ }
+{
+    if repeated(block) {
+        return Fault::Kind;
+    }
+    Fault::Clear
 }
 
 // A fault of row 8 where a label from an offset inside an arm on comes twice; the labels are compared block by block.
-fn label_fault(
-    text: &[u8],
-    work: &[u32],
-    count: u32,
-    newest: u32,
-    block: &mut [i64],
-    at: usize,
-) -> Fault
+// No label is left after a block that is not full.
+fn label_fault(text: &[u8], work: &[u32], scope: Scope, block: &mut [i64], at: usize) -> Fault
     requires { ⌜ 0 < length (now block) ⌝ }
-    ensures { λ r. ⌜ Doubled (now (text .entry)) (now (work .entry)) count newest at r ⌝ }
+    ensures { λ r. ⌜ Doubled (now (text .entry)) (now (work .entry)) scope at r ⌝ }
 {
     let mut p = at;
     loop {
-        let r = fill_block(text, work, count, newest, block, p);
+        let r = fill_block(text, work, scope, block, p);
         let n = r.size;
-        if n == 0 {
-            return Fault::Clear;
+        if n < block.len() {
+            return block_fault(&block[..n]);
         }
-        if recurs(text, work, count, newest, &block[..n], r.next) {
+        if recurs(text, work, scope, &block[..n], r.next) {
             return Fault::Kind;
         }
         p = r.next;
@@ -378,15 +351,8 @@ fn label_fault(
 }
 
 // A fault of row 8 where a label comes twice in a case whose arms begin at an offset and have the fault f.
-pub fn repeat_fault(
-    text: &[u8],
-    work: &[u32],
-    count: u32,
-    newest: u32,
-    f: Fault,
-    at: usize,
-) -> Fault
-    ensures { λ r. ⌜ Repeating (now (text .entry)) (now (work .entry)) count newest at f r ⌝ }
+pub fn repeat_fault(text: &[u8], work: &[u32], scope: Scope, f: Fault, at: usize) -> Fault
+    ensures { λ r. ⌜ Repeating (now (text .entry)) (now (work .entry)) scope at f r ⌝ }
 {
     if is_clear(f) {
         let h = arm_hop(text, at);
@@ -396,7 +362,7 @@ pub fn repeat_fault(
             }
             Hop::Over(q) => {
                 let mut block = [0i64; 256];
-                return label_fault(text, work, count, newest, &mut block, q);
+                return label_fault(text, work, scope, &mut block, q);
             }
             Hop::End => {
                 return Fault::Clear;

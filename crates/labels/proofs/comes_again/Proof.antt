@@ -12,14 +12,14 @@ use Rattle.labels.proofs.holds.Reads as holds-reads
 use Rattle.labels.proofs.next_value.Reads as next-value-reads
 
 abbrev Inv-loop : tie.InvT-loop
-Inv-loop text work count newest block at p₀ p = Comparing text work count newest block at p
+Inv-loop text work scope block at p₀ p = Comparing text work scope block at p
 
 abbrev μ-loop : tie.MeasureT-loop
-μ-loop text work count newest block at p₀ p = nodesAll (stackAt text p)
+μ-loop text work scope block at p₀ p = nodesAll (stackAt text p)
 
 -- src/lib.rt:328:5
 loop-holds : tie.Need-loop-holds Inv-loop μ-loop
-loop-holds c = compare-start _ _ _ _ _ _
+loop-holds c = compare-start _ _ _ _ _
 
 -- src/lib.rt:329:13
 next-value-requires : tie.Need-next-value-requires Inv-loop μ-loop
