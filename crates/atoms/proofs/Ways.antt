@@ -27,11 +27,11 @@ use Rattle.semantics.specs.Names.{typeOf, constantOf}
 use Rattle.semantics.specs.Stages.{staged}
 use Rattle.semantics.specs.Syntax.{Constant, minus}
 use Rattle.semantics.specs.Trees.{word, form, Trees, end, _then_, Run, first, later, wordAt, stackAt}
+use Rattle.tables.specs.declared.Scope.{Scope}
 use Rattle.tables.specs.declared.Fault.the-variants.{Clear, Kind, Name, Form}
 use Rattle.tables.specs.declared.Meaning.{Meaning}
 use Rattle.tables.specs.declared.Meaning.the-variants as meaning
-use Rattle.symbols.specs.Chain.{entries, placeIn}
-use Rattle.tables.specs.Scene.{meaningAt}
+use Rattle.tables.specs.Scene.{meaningHere}
 use Rattle.tables.proofs.Telling.{meant}
 use Rattle.parts.specs.Parts.{Before, LeafAt, FormAt, ShutAt, Stands, Shuts}
 use Rattle.parts.specs.declared.Part.{Part}
@@ -48,7 +48,7 @@ use Rattle.shapes.proofs.Heads.{type-word, constant-word, number-word}
 use Rattle.shapes.proofs.Expressions.{constant-form, constant-empty, constant-headless}
 use Rattle.atoms.specs.declared.Typed.{Typed}
 use Rattle.atoms.specs.declared.Valued.{Valued}
-use Rattle.atoms.specs.Answers.{meaningHere, typed, typeMeant, typeBy, valued, numValued, valueMeant, valueBy, isMinus}
+use Rattle.atoms.specs.Answers.{typed, typeMeant, typeBy, valued, numValued, valueMeant, valueBy, isMinus}
 use Rattle.atoms.specs.Contracts.{TypeTold, GivesType, GivesConstant, GivesMinus, minusForm, minusNumber, minusEnd, minusBy}
 use Rattle.atoms.proofs.Telling.{base-two, type-told, value-told, num-told, wrong-told, wrong-fits}
 
@@ -132,11 +132,10 @@ module _ (w : Word) (M : Meaning) (q : ℕ) (a : Atom) (e : a ≡ atomOf w) (r :
   pub word-base : (k : ℕ) → a ≡ AT.Base k → r ≡ typed Clear k q → r ≡ typeBy (atomOf w) M q
   word-base k f g = rw (← e, f) g
 
-pub type-named : (s l : List ℕ) (count newest p : ℕ) (w : Word) (q : ℕ) (a : Atom) (r : Typed) (m : Meaning) → a ≡ atomOf w
-    → m ≡ meaningAt l (placeIn s l (entries count l newest) (map small (wordAt s p))) → a ≡ AT.Named → r ≡ typeMeant m q
-    → r ≡ typeBy (atomOf w) (meaningHere s l count newest p) q
-unfolding meaningHere
-type-named s l count newest p w q a r m e g f h = rw (← e, f) (h ∙ rw g refl)
+pub type-named : (s l : List ℕ) (scope : Scope) (p : ℕ) (w : Word) (q : ℕ) (a : Atom) (r : Typed) (m : Meaning) → a ≡ atomOf w
+    → m ≡ meaningHere s l scope p → a ≡ AT.Named → r ≡ typeMeant m q
+    → r ≡ typeBy (atomOf w) (meaningHere s l scope p) q
+type-named s l scope p w q a r m e g f h = rw (← e, f) (h ∙ rw g refl)
 
 pub ruleset type-word-laws = (word-number, word-truth, word-error, word-nothing, word-base, type-named)
 
@@ -156,11 +155,10 @@ module _ (w : Word) (M : Meaning) (q : ℕ) (a : Atom) (e : a ≡ atomOf w) (r :
   pub value-base : (k : ℕ) → a ≡ AT.Base k → r ≡ valued Form 0 (pos 0) q → r ≡ valueBy (atomOf w) M q
   value-base k f g = rw (← e, f) g
 
-pub value-named : (s l : List ℕ) (count newest p : ℕ) (w : Word) (q : ℕ) (a : Atom) (r : Valued) (m : Meaning) → a ≡ atomOf w
-    → m ≡ meaningAt l (placeIn s l (entries count l newest) (map small (wordAt s p))) → a ≡ AT.Named → r ≡ valueMeant m q
-    → r ≡ valueBy (atomOf w) (meaningHere s l count newest p) q
-unfolding meaningHere
-value-named s l count newest p w q a r m e g f h = rw (← e, f) (h ∙ rw g refl)
+pub value-named : (s l : List ℕ) (scope : Scope) (p : ℕ) (w : Word) (q : ℕ) (a : Atom) (r : Valued) (m : Meaning) → a ≡ atomOf w
+    → m ≡ meaningHere s l scope p → a ≡ AT.Named → r ≡ valueMeant m q
+    → r ≡ valueBy (atomOf w) (meaningHere s l scope p) q
+value-named s l scope p w q a r m e g f h = rw (← e, f) (h ∙ rw g refl)
 
 pub ruleset value-word-laws = (value-number, value-truth, value-error, value-nothing, value-base, value-named)
 
@@ -191,24 +189,23 @@ form-type us ts = go (wordedAll us)
     go none = refl
     go (some vs) = refl
 
-module _ (s l : List ℕ) (count newest at : ℕ) (x : Part) (h : Stands s at x) (r : Typed) where
-  pub type-leaf : (w : Word) (p q : ℕ) → x ≡ part.Leaf w p q → r ≡ typeBy (atomOf w) (meaningHere s l count newest p) q → GivesType s l count newest at r
-  unfolding meaningHere
+module _ (s l : List ℕ) (scope : Scope) (at : ℕ) (x : Part) (h : Stands s at x) (r : Typed) where
+  pub type-leaf : (w : Word) (p q : ℕ) → x ≡ part.Leaf w p q → r ≡ typeBy (atomOf w) (meaningHere s l scope p) q → GivesType s l scope at r
   type-leaf w p q e f =
       let g : LeafAt s at p q × (w ≡ wordOf (wordAt s p)) = rw e at (h .says) in
       let b : Before s at (word (wordAt s p)) q = g .0 .leaf in
       record {
-        goes = λ _. (word (wordAt s p), rw (f, type-next (atomOf w) (meaningHere s l count newest p) q) b);
+        goes = λ _. (word (wordAt s p), rw (f, type-next (atomOf w) (meaningHere s l scope p) q) b);
         says = λ ts top σ bs S. rw (f, b .here, type-word (wordAt s p) (first (stackAt s q)), g .1)
             (type-told σ bs (map small (wordAt s p)) q (atomOf (wordOf (wordAt s p))) (base-two (wordOf (wordAt s p))) _ (meant S (map small (wordAt s p))));
       }
 
-  pub type-form : (p : ℕ) → x ≡ part.Form p → r ≡ typed Form 0 at → GivesType s l count newest at r
+  pub type-form : (p : ℕ) → x ≡ part.Form p → r ≡ typed Form 0 at → GivesType s l scope at r
   type-form p e f =
       let g : FormAt s at p = rw e at (h .says) in
       rw f (record { goes = λ k. absurd (false≢true (sym k)); says = λ ts top σ bs S. no-type (first (stackAt s at)) σ at (ap typeNameIn (g .here) ∙ form-type (first (stackAt s p)) (first (later (stackAt s p)))) })
 
-  pub type-shut : (q : ℕ) → x ≡ part.Shut q → r ≡ typed Form 0 at → GivesType s l count newest at r
+  pub type-shut : (q : ℕ) → x ≡ part.Shut q → r ≡ typed Form 0 at → GivesType s l scope at r
   unfolding typeNameIn partOf _>>=_
   type-shut q e f =
       let g : ShutAt s at q = rw e at (h .says) in
@@ -391,19 +388,18 @@ form-alone : (us ts : Trees Run) → constantIn (form us then ts) ≡ minusForm 
 unfolding minusForm constantIn partOf
 form-alone us ts = refl
 
-module _ (s l : List ℕ) (count newest at : ℕ) (x : Part) (h : Stands s at x) (r : Valued) where
-  pub constant-leaf : (w : Word) (p q : ℕ) → x ≡ part.Leaf w p q → r ≡ valueBy (atomOf w) (meaningHere s l count newest p) q → GivesConstant s l count newest at r
-  unfolding meaningHere
+module _ (s l : List ℕ) (scope : Scope) (at : ℕ) (x : Part) (h : Stands s at x) (r : Valued) where
+  pub constant-leaf : (w : Word) (p q : ℕ) → x ≡ part.Leaf w p q → r ≡ valueBy (atomOf w) (meaningHere s l scope p) q → GivesConstant s l scope at r
   constant-leaf w p q e f =
       let g : LeafAt s at p q × (w ≡ wordOf (wordAt s p)) = rw e at (h .says) in
       let b : Before s at (word (wordAt s p)) q = g .0 .leaf in
       record {
-        goes = λ _. (word (wordAt s p), rw (f, value-next (atomOf w) (meaningHere s l count newest p) q) b);
+        goes = λ _. (word (wordAt s p), rw (f, value-next (atomOf w) (meaningHere s l scope p) q) b);
         says = λ ts top σ bs S. rw (f, b .here, constant-word (wordAt s p) (first (stackAt s q)), g .1)
             (value-told σ bs (map small (wordAt s p)) q (atomOf (wordOf (wordAt s p))) _ (meant S (map small (wordAt s p))));
       }
 
-  pub constant-minus : (p : ℕ) → x ≡ part.Form p → GivesMinus s p (minusForm (first (stackAt s p))) r → GivesConstant s l count newest at r
+  pub constant-minus : (p : ℕ) → x ≡ part.Form p → GivesMinus s p (minusForm (first (stackAt s p))) r → GivesConstant s l scope at r
   constant-minus p e G =
       let g : FormAt s at p = rw e at (h .says) in
       record {
@@ -411,7 +407,7 @@ module _ (s l : List ℕ) (count newest at : ℕ) (x : Part) (h : Stands s at x)
         says = λ ts top σ bs S. rw (g .here, form-alone (first (stackAt s p)) (first (later (stackAt s p)))) (G .says σ);
       }
 
-  pub constant-shut : (q : ℕ) → x ≡ part.Shut q → r ≡ valued Form 0 (pos 0) at → GivesConstant s l count newest at r
+  pub constant-shut : (q : ℕ) → x ≡ part.Shut q → r ≡ valued Form 0 (pos 0) at → GivesConstant s l scope at r
   unfolding staged constantIn partOf _>>=_
   constant-shut q e f =
       let g : ShutAt s at q = rw e at (h .says) in

@@ -1,30 +1,21 @@
 -- The answers for a type's name and for a constant, by what a word is alone and what it means as a name.
 use mathlib.Core.Bool.{Bool, true, false}
-use mathlib.Core.List.{List, map}
 use Prim.Native.Nat.{ℕ}
 use lib.IntN.{ℤ, pos}
 use Rattle.arith.specs.Integers.{exact}
 use Rattle.arith.specs.declared.Num.{Num}
 use Rattle.arith.specs.declared.Num.the-variants.{Value, Failed}
-use Rattle.spelling.specs.Bytes.{small}
-use Rattle.semantics.specs.Trees.{wordAt}
 use Rattle.semantics.specs.Calculate.{truth}
-use Rattle.symbols.specs.Chain.{entries, placeIn}
 use Rattle.tables.specs.declared.Fault.{Fault}
 use Rattle.tables.specs.declared.Fault.the-variants.{Clear, Kind, Name, Form}
 use Rattle.tables.specs.declared.Meaning.{Meaning}
 use Rattle.tables.specs.declared.Meaning.the-variants as meaning
-use Rattle.tables.specs.Scene.{meaningAt}
 use Rattle.shapes.specs.declared.Atom.{Atom}
 use Rattle.shapes.specs.declared.Atom.the-variants as AT
 use Rattle.shapes.specs.declared.ExprHead.{ExprHead}
 use Rattle.shapes.specs.declared.ExprHead.the-variants as EH
 use Rattle.atoms.specs.declared.Typed.{Typed}
 use Rattle.atoms.specs.declared.Valued.{Valued}
-
--- the meaning of the word at an offset
-unfoldable pub meaningHere : List ℕ → List ℕ → ℕ → ℕ → ℕ → Meaning
-meaningHere s l count newest p = meaningAt l (placeIn s l (entries count l newest) (map small (wordAt s p)))
 
 -- ---- types
 

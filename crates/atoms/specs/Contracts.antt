@@ -13,6 +13,7 @@ use Rattle.semantics.specs.Script.{Const}
 use Rattle.semantics.specs.Stages.{Staged, fits, staged}
 use Rattle.semantics.specs.Syntax.{Constant, minus}
 use Rattle.semantics.specs.Trees.{Tree, form, Trees, end, _then_, Run, first, later, stackAt}
+use Rattle.tables.specs.declared.Scope.{Scope}
 use Rattle.tables.specs.Scene.{Scene}
 use Rattle.parts.specs.Got.{isForm, faultOf}
 use Rattle.parts.specs.Parts.{Before}
@@ -28,9 +29,9 @@ pub record TypeTold (S : Staged ℕ) (r : Typed) : Type 0 where
   pub fault-is : r .fault ≡ faultOf S
   pub kind-is : (k : ℕ) → S ≡ fits k → r .kind ≡ k
 
-pub record GivesType (s l : List ℕ) (count newest at : ℕ) (r : Typed) : Type 0 where
+pub record GivesType (s l : List ℕ) (scope : Scope) (at : ℕ) (r : Typed) : Type 0 where
   pub goes : isForm (r .fault) ≡ false → (t : Tree Run) × Before s at t (r .next)
-  pub says : (ts : List ℕ) (top : ℕ) (σ : Environment) (bs : List ℕ) → Scene s l ts count newest top σ bs
+  pub says : (ts : List ℕ) (top : ℕ) (σ : Environment) (bs : List ℕ) → Scene s l ts scope top σ bs
       → TypeTold (staged (typeNameIn (first (stackAt s at))) (typeOf σ) (λ _. true) some) r
 
 -- ---- a constant
@@ -39,9 +40,9 @@ pub record ValueTold (S : Staged Const) (r : Valued) : Type 0 where
   pub fault-is : r .fault ≡ faultOf S
   pub value-is : (c : Const) → S ≡ fits c → (r .kind ≡ c .kind) × (r .value ≡ c .value)
 
-pub record GivesConstant (s l : List ℕ) (count newest at : ℕ) (r : Valued) : Type 0 where
+pub record GivesConstant (s l : List ℕ) (scope : Scope) (at : ℕ) (r : Valued) : Type 0 where
   pub goes : isForm (r .fault) ≡ false → (t : Tree Run) × Before s at t (r .next)
-  pub says : (ts : List ℕ) (top : ℕ) (σ : Environment) (bs : List ℕ) → Scene s l ts count newest top σ bs
+  pub says : (ts : List ℕ) (top : ℕ) (σ : Environment) (bs : List ℕ) → Scene s l ts scope top σ bs
       → ValueTold (staged (constantIn (first (stackAt s at))) (constantOf σ) plain some) r
 
 -- `(- number)` from some part on, up to its closing bracket

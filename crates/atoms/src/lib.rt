@@ -13,13 +13,15 @@ use shapes::atom_of;
 use shapes::expr_head;
 use tables::Fault;
 use tables::Meaning;
+use tables::Scope;
 use tables::meaning_of;
 ghost use mathlib.Core.Path.{_≡_};
 ghost use lib.IntN.{pos};
+ghost use Rattle.tables.specs.Scene.{meaningHere};
 ghost use Rattle.semantics.specs.Calculate.{truth as truthOf};
 ghost use Rattle.semantics.specs.Trees.{first, stackAt};
 ghost use Rattle.shapes.specs.Heads.{atomOf, exprHeadOf};
-ghost use Rattle.atoms.specs.Answers.{meaningHere, typed as typedBy, typeMeant, typeBy, valued as valuedBy, numValued, valueMeant, valueBy, isMinus};
+ghost use Rattle.atoms.specs.Answers.{typed as typedBy, typeMeant, typeBy, valued as valuedBy, numValued, valueMeant, valueBy, isMinus};
 ghost use Rattle.atoms.specs.Contracts.{GivesType, GivesConstant, GivesMinus, minusForm, minusNumber, minusEnd, minusBy};
 
 // The answer for a type's name: its fault; with no fault the type; where the next part stands.
@@ -62,21 +64,13 @@ fn type_meant(m: Meaning, next: usize) -> Typed
 }
 
 // The type that the word at p names; the word ends at `next`.
-fn type_word(
-    text: &[u8],
-    work: &[u32],
-    count: u32,
-    newest: u32,
-    w: Word,
-    p: usize,
-    next: usize,
-) -> Typed
-    ensures { λ r. ⌜ r ≡ typeBy (atomOf w) (meaningHere (now (text .entry)) (now (work .entry)) count newest p) next ⌝ }
+fn type_word(text: &[u8], work: &[u32], scope: Scope, w: Word, p: usize, next: usize) -> Typed
+    ensures { λ r. ⌜ r ≡ typeBy (atomOf w) (meaningHere (now (text .entry)) (now (work .entry)) scope p) next ⌝ }
 {
     let a = atom_of(w);
     match a {
         Atom::Number(_) => type_answer(Fault::Form, 0, next),
-        Atom::Named => type_meant(meaning_of(text, work, count, newest, p), next),
+        Atom::Named => type_meant(meaning_of(text, work, scope, p), next),
         Atom::Truth(_) => type_answer(Fault::Form, 0, next),
         Atom::ErrorNumber => type_answer(Fault::Form, 0, next),
         Atom::Base(k) => type_answer(Fault::Clear, k, next),
@@ -85,12 +79,12 @@ fn type_word(
 }
 
 // The type that the part at an offset names.
-pub fn type_name(text: &[u8], work: &[u32], count: u32, newest: u32, at: usize) -> Typed
-    ensures { λ r. ⌜ GivesType (now (text .entry)) (now (work .entry)) count newest at r ⌝ }
+pub fn type_name(text: &[u8], work: &[u32], scope: Scope, at: usize) -> Typed
+    ensures { λ r. ⌜ GivesType (now (text .entry)) (now (work .entry)) scope at r ⌝ }
 {
     let part = part_at(text, at);
     match part {
-        Part::Leaf(w, p, q) => type_word(text, work, count, newest, w, p, q),
+        Part::Leaf(w, p, q) => type_word(text, work, scope, w, p, q),
         Part::Form(_) => type_answer(Fault::Form, 0, at),
         Part::Shut(_) => type_answer(Fault::Form, 0, at),
     }
@@ -156,21 +150,13 @@ fn value_meant(m: Meaning, next: usize) -> Valued
 }
 
 // The constant that the word at p is; the word ends at `next`.
-fn value_word(
-    text: &[u8],
-    work: &[u32],
-    count: u32,
-    newest: u32,
-    w: Word,
-    p: usize,
-    next: usize,
-) -> Valued
-    ensures { λ r. ⌜ r ≡ valueBy (atomOf w) (meaningHere (now (text .entry)) (now (work .entry)) count newest p) next ⌝ }
+fn value_word(text: &[u8], work: &[u32], scope: Scope, w: Word, p: usize, next: usize) -> Valued
+    ensures { λ r. ⌜ r ≡ valueBy (atomOf w) (meaningHere (now (text .entry)) (now (work .entry)) scope p) next ⌝ }
 {
     let a = atom_of(w);
     match a {
         Atom::Number(z) => num_valued(0, fit(z), next),
-        Atom::Named => value_meant(meaning_of(text, work, count, newest, p), next),
+        Atom::Named => value_meant(meaning_of(text, work, scope, p), next),
         Atom::Truth(b) => value_answer(Fault::Clear, 1, truth(b), next),
         Atom::ErrorNumber => no_value(Fault::Form, next),
         Atom::Base(_) => no_value(Fault::Form, next),
@@ -252,12 +238,12 @@ pub fn minus_form(text: &[u8], at: usize) -> Valued
 }
 
 // The constant that the part at an offset is.
-pub fn constant(text: &[u8], work: &[u32], count: u32, newest: u32, at: usize) -> Valued
-    ensures { λ r. ⌜ GivesConstant (now (text .entry)) (now (work .entry)) count newest at r ⌝ }
+pub fn constant(text: &[u8], work: &[u32], scope: Scope, at: usize) -> Valued
+    ensures { λ r. ⌜ GivesConstant (now (text .entry)) (now (work .entry)) scope at r ⌝ }
 {
     let part = part_at(text, at);
     match part {
-        Part::Leaf(w, p, q) => value_word(text, work, count, newest, w, p, q),
+        Part::Leaf(w, p, q) => value_word(text, work, scope, w, p, q),
         Part::Form(p) => minus_form(text, p),
         Part::Shut(_) => no_value(Fault::Form, at),
     }

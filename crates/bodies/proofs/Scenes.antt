@@ -7,6 +7,7 @@ use Rattle.semantics.specs.Environment.{Environment}
 use Rattle.semantics.specs.Types.{infoAt}
 use Rattle.tables.specs.declared.Info.{Info}
 use Rattle.tables.specs.Descriptions.{infoOf, Tells, EndsBelow}
+use Rattle.tables.specs.declared.Scope.{Scope}
 use Rattle.tables.specs.Scene.{Scene}
 
 module _ (s l ts ts′ : List ℕ) (same : (k : ℕ) → getD ts′ k 0 ≡ getD ts k 0) where
@@ -14,8 +15,8 @@ module _ (s l ts ts′ : List ℕ) (same : (k : ℕ) → getD ts′ k 0 ≡ getD
   unfolding infoOf
   info-same k = rw (same k)
 
-  pub scene-types : (count newest top : ℕ) (σ : Environment) (bs : List ℕ) → Scene s l ts count newest top σ bs → Scene s l ts′ count newest top σ bs
-  scene-types count newest top σ bs S = record {
+  pub scene-types : (scope : Scope) (top : ℕ) (σ : Environment) (bs : List ℕ) → Scene s l ts scope top σ bs → Scene s l ts′ scope top σ bs
+  scene-types scope top σ bs S = record {
     names = S .names;
     below = S .below;
     types = λ k. subst (λ (x : Info). Tells s l x (infoAt (σ .types) k)) (info-same k) (S .types k);

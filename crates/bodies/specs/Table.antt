@@ -12,12 +12,17 @@ use Rattle.semantics.specs.Syntax as Syntax
 use Rattle.semantics.specs.Trees.{first, stackAt}
 use Rattle.semantics.proofs.TypeSizes.{SmallTypes}
 use Rattle.shapes.specs.Parts.{bodyIn}
+use Rattle.tables.specs.declared.Scope.{Scope}
 use Rattle.tables.specs.Scene.{Scene}
 
 -- the numbers before n: a procedure's name means its number
 unfoldable pub upTo : ℕ → List ℕ
 upTo zero = []
 upTo (suc n) = upTo n ++ (n ∷ [])
+
+-- how many types a body may see: 64 declared ones and the two built-in
+abbrev pub mostTypes : ℕ
+mostTypes = 66
 
 -- the places of the first n types
 unfoldable pub clip : ℕ → List ℕ → List ℕ
@@ -39,6 +44,9 @@ countOf tb q = getD tb (5 * q + 1) 0
 abbrev pub newestOf : List ℕ → ℕ → ℕ
 newestOf tb q = getD tb (5 * q + 2) 0
 
+abbrev pub scopeOf : List ℕ → ℕ → Scope
+scopeOf tb q = record { count = countOf tb q; newest = newestOf tb q }
+
 abbrev pub stmtsBefore : List ℕ → ℕ → ℕ
 stmtsBefore tb q = getD tb (5 * q + 3) 0
 
@@ -51,12 +59,12 @@ pub record BodyStands (s l ts tb : List ℕ) (pb : PlacedBody) (q : ℕ) : Type 
   pub top : ℕ
   pub form : Syntax.Body
   pub last : ℕ
-  pub scene : Scene s l (clip (typesOf tb q) ts) (countOf tb q) (newestOf tb q) top env (upTo q)
+  pub scene : Scene s l (clip (typesOf tb q) ts) (scopeOf tb q) top env (upTo q)
   pub reads : bodyIn (stmtsBefore tb q) (first (stackAt s (offsetOf tb q))) ≡ some (form, last)
   pub names : bodyOf env form ≡ some (pb .body)
   pub types-are : pb .types ≡ env .types
   pub vars-are : pb .vars ≡ env .vars
-  pub few-types : typesOf tb q ≤ 66
+  pub few-types : typesOf tb q ≤ mostTypes
   -- the types keep the ceilings, and the statements' numbers have 32 bits
   pub small : SmallTypes (env .types)
   pub few : last ≤ 4294967295

@@ -4,6 +4,9 @@ ghost use mathlib.Core.Path.{_≡_};
 ghost use lib.ListN.{getD};
 ghost use Rattle.bodies.specs.Table.{clip, Clips};
 
+// How many types a body may see: 64 declared ones and the two built-in.
+pub const MOST_TYPES: usize = 66;
+
 // The place of type i as a body sees it that knows n types: 0 of a later one.
 fn clipped(types: &[u32], n: u32, i: usize) -> u32
     ensures { λ r. ⌜ r ≡ getD (clip n (now (types .entry))) i 0 ⌝ }

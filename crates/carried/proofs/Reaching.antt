@@ -29,6 +29,7 @@ use Rattle.calc.specs.Words.{noResult, greatest, rangeWord, wordOf, resultOf, p
 use Rattle.calc.proofs.Combining.{value-again}
 use Rattle.calc.proofs.Ranging.{range-value, low-range}
 use Rattle.calc.proofs.Loading.{capped-cells, one-or-more, le-ltb-cap, cap-twice, cap-times, cap-add, test-cases}
+use Rattle.tables.specs.declared.Scope.{Scope}
 use Rattle.tables.specs.declared.Info.{Info}
 use Rattle.tables.specs.Descriptions.{infoOf, fieldPlace}
 use Rattle.tables.specs.Sides.{hostIn}
@@ -140,10 +141,10 @@ first-at a = rw (le-ltb-cap a, cap-twice a) refl
 pub loads-is : (l ts : List ℕ) (ws : List ℤ) (g : Reached) (i : Info) (k a : ℕ) (z : ℤ) → SFits w64 (g .word) → SFits w64 z → i ≡ infoOf l ts (g .typed) → k ≡ hostIn l ts (g .typed)
     → z ≡ cellsAt ws (wire (g .word)) (i .size) → a ≡ firstCell (wire (g .word)) → Loads l ts ws g (carriedOf k (wire z) a)
 loads-is l ts ws g i k a z fg fz ei ek ez ea = rw (toZ-ofZ fz, ez, ea, ek, ei, toZ-ofZ fg) (record {
-  says = λ s count newest σ S m H v R. go σ S m H v R (ltZ greatest (g .word)) refl;
+  says = λ s scope σ S m H v R. go σ S m H v R (ltZ greatest (g .word)) refl;
 })
   where
-    go : {s : List ℕ} {count newest : ℕ} (σ : Environment) (S : Known s l ts count newest σ) (m : Store) → Holds ws m → (v : Result TypedPlace) → Reaches v g → (b : Bool) → ltZ greatest (g .word) ≡ b
+    go : {s : List ℕ} {scope : Scope} (σ : Environment) (S : Known s l ts scope σ) (m : Store) → Holds ws m → (v : Result TypedPlace) → Reaches v g → (b : Bool) → ltZ greatest (g .word) ≡ b
         → Carries (σ .types) m (v >>= λ w. loaded (σ .types) m w) (carriedOf (hostIn l ts (g .typed)) (cellsAt ws (g .word) (infoOf l ts (g .typed) .size)) (firstCell (g .word)))
     go σ S m H v R true h = rw (at-broken ws (g .word) (infoOf l ts (g .typed) .size) h) (carries-broken (σ .types) m (hostIn l ts (g .typed)) (firstCell (g .word)) (broken-bind (λ w. loaded (σ .types) m w) (reached-broken R h)))
     go σ S m H v R false h = reached-value R h (λ w e f t. rw (e, t, host-in (S .scene) (w .type), size-told (S .scene) (w .type), f, first-at (w .addr)) (load-place (σ .types) (S .scene .table) ws m H w))
@@ -188,39 +189,39 @@ pub ruleset element-laws = (element-is, sfits-of)
 
 module _ (l ts : List ℕ) (g : Reached) (x : Carried) (r : Reached) (fg : SFits w64 (g .word)) where
   pub indexes-left : ltZ greatest (wire (g .word)) ≡ true → r ≡ reachedOf 0 (wire (g .word)) → Indexes l ts g x r
-  indexes-left h e = rw (e, toZ-ofZ fg) (record { says = λ s count newest σ S m v u G X. reaches-broken 0 (broken-bind (λ w. u >>= λ y. indexed (σ .types) w y) (reached-broken G (rw (toZ-ofZ fg) at h))) })
+  indexes-left h e = rw (e, toZ-ofZ fg) (record { says = λ s scope σ S m v u G X. reaches-broken 0 (broken-bind (λ w. u >>= λ y. indexed (σ .types) w y) (reached-broken G (rw (toZ-ofZ fg) at h))) })
 
   module _ (fx : SFits w64 (x .word)) (h : ltZ greatest (wire (g .word)) ≡ false) where
     pub indexes-right : ltZ greatest (wire (x .word)) ≡ true → r ≡ reachedOf 0 (wire (x .word)) → Indexes l ts g x r
     indexes-right j e = rw (e, toZ-ofZ fx) (record {
-      says = λ s count newest σ S m v u G X. reached-value G (rw (toZ-ofZ fg) at h) (λ w q f t.
+      says = λ s scope σ S m v u G X. reached-value G (rw (toZ-ofZ fg) at h) (λ w q f t.
           rw q (reaches-broken 0 (broken-bind (λ y. indexed (σ .types) w y) (carried-broken X (rw (toZ-ofZ fx) at j)))));
     })
 
     module _ (j : ltZ greatest (wire (x .word)) ≡ false) (i : Info) (ei : i ≡ infoOf l ts (g .typed)) where
       -- both are values
-      both : ((s : List ℕ) (count newest : ℕ) (σ : Environment) → Known s l ts count newest σ → (w : TypedPlace) (y : TypedValue) → g .word ≡ pos (min (w .addr) 4294967295) → g .typed ≡ w .type
+      both : ((s : List ℕ) (scope : Scope) (σ : Environment) → Known s l ts scope σ → (w : TypedPlace) (y : TypedValue) → g .word ≡ pos (min (w .addr) 4294967295) → g .typed ≡ w .type
           → x .word ≡ sole (y .cells) → InRange (sole (y .cells)) → x .kind ≡ y .kind → Reaches (indexed (σ .types) w y) r) → Indexes l ts g x r
       both K = record {
-        says = λ s count newest σ S m v u G X. reached-value G (rw (toZ-ofZ fg) at h) (λ w q f t. carried-value X (rw (toZ-ofZ fx) at j) (λ y q′ f′ z k. rw (q, q′) (K s count newest σ S w y f t f′ z k)));
+        says = λ s scope σ S m v u G X. reached-value G (rw (toZ-ofZ fg) at h) (λ w q f t. carried-value X (rw (toZ-ofZ fx) at j) (λ y q′ f′ z k. rw (q, q′) (K s scope σ S w y f t f′ z k)));
       }
 
-      array-is : {s : List ℕ} {count newest : ℕ} {σ : Environment} → Known s l ts count newest σ → eqb (i .shape) 2 ≡ array? (σ .types) (g .typed)
+      array-is : {s : List ℕ} {scope : Scope} {σ : Environment} → Known s l ts scope σ → eqb (i .shape) 2 ≡ array? (σ .types) (g .typed)
       array-is S = ap (λ (n : Info). eqb (n .shape) 2) ei ∙ shape-array (S .scene) (g .typed)
 
       pub indexes-shape : ((i .shape ≡ 2) → ⊥) → r ≡ reachedOf 0 noResult → Indexes l ts g x r
-      indexes-shape n e = both (λ s count newest σ S w y f t f′ z k. rw (← t, ← array-is S, ne-eqb (i .shape) 2 n, e) reaches-stuck)
+      indexes-shape n e = both (λ s scope σ S w y f t f′ z k. rw (← t, ← array-is S, ne-eqb (i .shape) 2 n, e) reaches-stuck)
 
       module _ (a : i .shape ≡ 2) (k : ℕ) (ek : k ≡ hostIn l ts (i .index)) where
-        index-kind : {s : List ℕ} {count newest : ℕ} {σ : Environment} → Known s l ts count newest σ → k ≡ hostOf (σ .types) (infoAt (σ .types) (g .typed) .index)
+        index-kind : {s : List ℕ} {scope : Scope} {σ : Environment} → Known s l ts scope σ → k ≡ hostOf (σ .types) (infoAt (σ .types) (g .typed) .index)
         index-kind {σ = σ} S = ek ∙ ap (λ (n : Info). hostIn l ts (n .index)) ei ∙ ap (hostIn l ts) (index-told (S .scene) (g .typed)) ∙ host-in (S .scene) (infoAt (σ .types) (g .typed) .index)
 
         pub indexes-kind : ((k ≡ x .kind) → ⊥) → r ≡ reachedOf 0 noResult → Indexes l ts g x r
-        indexes-kind n e = both (λ s count newest σ S w y f t f′ z q. rw (← t, ← array-is S, eq-eqb (i .shape) 2 a, ← index-kind S, ne-eqb k (y .kind) (λ p. n (p ∙ sym q)), e) reaches-stuck)
+        indexes-kind n e = both (λ s scope σ S w y f t f′ z q. rw (← t, ← array-is S, eq-eqb (i .shape) 2 a, ← index-kind S, ne-eqb k (y .kind) (λ p. n (p ∙ sym q)), e) reaches-stuck)
 
         pub indexes-is : k ≡ x .kind → r ≡ elementPlace l ts i (wire (g .word)) (wire (x .word)) → Indexes l ts g x r
         unfolding elementPlace
-        indexes-is n e = both (λ s count newest σ S w y f t f′ p q.
+        indexes-is n e = both (λ s scope σ S w y f t f′ p q.
             rw (e, toZ-ofZ fx, toZ-ofZ fg, ei, f, f′, low-signed S (g .typed), high-signed S (g .typed), element-told (S .scene) (g .typed), size-told (S .scene) (infoAt (σ .types) (g .typed) .element), ← t, ← array-is S, eq-eqb (i .shape) 2 a, ← index-kind S, eq-eqb k (y .kind) (n ∙ q))
             (element-reaches (infoAt (σ .types) (g .typed) .low) (infoAt (σ .types) (g .typed) .high) (sole (y .cells)) (low-small S (g .typed)) (high-small S (g .typed)) p (w .addr) (sizeOf (σ .types) (infoAt (σ .types) (g .typed) .element)) (infoAt (σ .types) (g .typed) .element)))
 
@@ -234,18 +235,18 @@ shifted-at a k = rw (cell-at a) (ap pos (cap-add a k))
 
 module _ (s l ts : List ℕ) (g : Reached) (p : ℕ) (r : Reached) (fg : SFits w64 (g .word)) where
   pub selects-fault : ltZ greatest (wire (g .word)) ≡ true → r ≡ reachedOf 0 (wire (g .word)) → Selects s l ts g p r
-  selects-fault h e = rw (e, toZ-ofZ fg) (record { says = λ count newest σ S v G. reaches-broken 0 (broken-bind (λ w. selected (σ .types) (map small (wordAt s p)) w) (reached-broken G (rw (toZ-ofZ fg) at h))) })
+  selects-fault h e = rw (e, toZ-ofZ fg) (record { says = λ scope σ S v G. reaches-broken 0 (broken-bind (λ w. selected (σ .types) (map small (wordAt s p)) w) (reached-broken G (rw (toZ-ofZ fg) at h))) })
 
   module _ (h : ltZ greatest (wire (g .word)) ≡ false) (i : Info) (ei : i ≡ infoOf l ts (g .typed)) (f : ℕ)
       (ef : i .place + 8 + 4 * i .fields ≤ 4294967296 → f ≡ fieldPlace s l (i .place + 8) (i .fields) (map small (wordAt s p))) where
-    found : {count newest : ℕ} {σ : Environment} → Known s l ts count newest σ → FieldFound l (infoAt (σ .types) (g .typed) .fields) (map small (wordAt s p)) f
+    found : {scope : Scope} {σ : Environment} → Known s l ts scope σ → FieldFound l (infoAt (σ .types) (g .typed) .fields) (map small (wordAt s p)) f
     found {σ = σ} S =
         let e = ef (rw ei (fields-short (S .scene) (g .typed))) in
         rw (e, ei) (field-told (S .scene) (g .typed) (map small (wordAt s p)))
 
     pub selects-none : f ≡ 0 → r ≡ reachedOf 0 noResult → Selects s l ts g p r
     selects-none z e = record {
-      says = λ count newest σ S v G. reached-value G (rw (toZ-ofZ fg) at h) (λ w q k t. rw (q, ← t, e) (go (infoAt (σ .types) (g .typed) .fields) w (found S)));
+      says = λ scope σ S v G. reached-value G (rw (toZ-ofZ fg) at h) (λ w q k t. rw (q, ← t, e) (go (infoAt (σ .types) (g .typed) .fields) w (found S)));
     }
       where
         go : (fs : List Field) (w : TypedPlace) → FieldFound l fs (map small (wordAt s p)) f → Reaches (orStuck (fieldOf fs (map small (wordAt s p))) λ x. is (typedPlace (x .type) (w .addr + x .offset))) (reachedOf 0 noResult)
@@ -254,7 +255,7 @@ module _ (s l ts : List ℕ) (g : Reached) (p : ℕ) (r : Reached) (fg : SFits w
 
     pub selects-is : (t k : ℕ) (z : ℤ) → ((f ≡ 0) → ⊥) → t ≡ getD l (f + 1) 0 → k ≡ getD l (f + 2) 0 → z ≡ shiftedWord (wire (g .word)) k → SFits w64 z → r ≡ reachedOf t (wire z) → Selects s l ts g p r
     selects-is t k z nz et ek ez fz e = record {
-      says = λ count newest σ S v G. reached-value G (rw (toZ-ofZ fg) at h) (λ w q j y. rw (q, ← y, e, toZ-ofZ fz, ez, toZ-ofZ fg, j, shifted-at (w .addr) k, et, ek) (go (infoAt (σ .types) (g .typed) .fields) w (found S)));
+      says = λ scope σ S v G. reached-value G (rw (toZ-ofZ fg) at h) (λ w q j y. rw (q, ← y, e, toZ-ofZ fz, ez, toZ-ofZ fg, j, shifted-at (w .addr) k, et, ek) (go (infoAt (σ .types) (g .typed) .fields) w (found S)));
     }
       where
         go : (fs : List Field) (w : TypedPlace) → FieldFound l fs (map small (wordAt s p)) f

@@ -31,6 +31,7 @@ use Rattle.semantics.proofs.TypeTables.{Table}
 use Rattle.calc.specs.Words.{noResult, greatest, faultBase, wordOf, testedWord, latestIn, InRange, Exceptional}
 use Rattle.calc.proofs.Combining.{value-again, fault-again}
 use Rattle.calc.proofs.Ranging.{wide}
+use Rattle.tables.specs.declared.Scope.{Scope}
 use Rattle.tables.specs.declared.Info.{Info}
 use Rattle.tables.specs.Descriptions.{infoOf}
 use Rattle.tables.specs.Sides.{hostIn}
@@ -43,7 +44,7 @@ use Rattle.carried.proofs.Ruling.{simple-ordinal}
 
 -- ---- the bounds of a type, as they are described
 
-module _ {s l ts : List ℕ} {count newest : ℕ} {σ : Environment} (S : Known s l ts count newest σ) (t : ℕ) where
+module _ {s l ts : List ℕ} {scope : Scope} {σ : Environment} (S : Known s l ts scope σ) (t : ℕ) where
   pub low-small : inside least most (infoAt (σ .types) t .low) ≡ true
   low-small = S .small t .low .ok
 
@@ -81,23 +82,23 @@ between lo hi z p q h =
 
 module _ (l ts : List ℕ) (k : ℕ) (z : ℤ) (r : Carried) (i : Info) (ei : i ≡ infoOf l ts k) where
   pub constant-shape : ((i .shape ≡ 0) → ⊥) → r ≡ carriedOf 0 noResult 0 → Constants l ts k z r
-  constant-shape h e = rw e (record { says = λ s count newest σ S m. rw (ordinal-no S k (λ q. h (ap (λ (j : Info). j .shape) ei ∙ q))) (carries-stuck (σ .types) m) })
+  constant-shape h e = rw e (record { says = λ s scope σ S m. rw (ordinal-no S k (λ q. h (ap (λ (j : Info). j .shape) ei ∙ q))) (carries-stuck (σ .types) m) })
 
   module _ (h : i .shape ≡ 0) (lo hi : ℤ) (fz : SFits w64 z) (el : lo ≡ signed (i .low)) (eh : hi ≡ signed (i .high)) (fl : SFits w64 lo) (fh : SFits w64 hi) (b : Bool) (g : b ≡ inside (wire lo) (wire hi) (wire z)) where
-    tested-as : {s : List ℕ} {count newest : ℕ} {σ : Environment} (S : Known s l ts count newest σ) → inside (infoAt (σ .types) k .low) (infoAt (σ .types) k .high) z ≡ b
+    tested-as : {s : List ℕ} {scope : Scope} {σ : Environment} (S : Known s l ts scope σ) → inside (infoAt (σ .types) k .low) (infoAt (σ .types) k .high) z ≡ b
     tested-as S = sym (g ∙ rw (toZ-ofZ fl, toZ-ofZ fh, toZ-ofZ fz, el, eh, ei, low-signed S k, high-signed S k) refl)
 
-    ordinal : {s : List ℕ} {count newest : ℕ} {σ : Environment} (S : Known s l ts count newest σ) → ordinal? (σ .types) k ≡ true
+    ordinal : {s : List ℕ} {scope : Scope} {σ : Environment} (S : Known s l ts scope σ) → ordinal? (σ .types) k ≡ true
     ordinal S = ordinal-yes S k (sym (ap (λ (j : Info). j .shape) ei) ∙ h)
 
     pub constant-in : b ≡ true → r ≡ carriedOf k (wire z) 0 → Constants l ts k z r
     constant-in q e = rw (e, toZ-ofZ fz) (record {
-      says = λ s count newest σ S m. rw (ordinal S, tested-as S, q)
+      says = λ s scope σ S m. rw (ordinal S, tested-as S, q)
           (carries-cell (σ .types) m k z 0 (simple-ordinal (σ .types) (kinded (S .scene)) k (ordinal S)) (between (infoAt (σ .types) k .low) (infoAt (σ .types) k .high) z (low-small S k) (high-small S k) (tested-as S ∙ q)));
     })
 
     pub constant-out : b ≡ false → r ≡ carriedOf 0 noResult 0 → Constants l ts k z r
-    constant-out q e = rw e (record { says = λ s count newest σ S m. rw (ordinal S, tested-as S, q) (carries-stuck (σ .types) m) })
+    constant-out q e = rw e (record { says = λ s scope σ S m. rw (ordinal S, tested-as S, q) (carries-stuck (σ .types) m) })
 
 pub ruleset constant-laws = (constant-shape, constant-in, constant-out, sfits-of)
 
@@ -109,7 +110,7 @@ module _ (l ts : List ℕ) (z : ℤ) (fz : SFits w64 z) (r : Carried) (n : Num) 
   unfolding exact
   negative-past f h g =
       let q : inside least most (negℤ z) ≡ false = rw (toZ-ofZ fz) at (ranged-fault _ f least most (negℤ (wire z)) (sym e ∙ h) .0) in
-      rw g (record { says = λ s count newest σ S m. rw (S .scene .table .integers .0, S .scene .table .integers .1, S .scene .table .integers .2, q) (carries-stuck (σ .types) m) })
+      rw g (record { says = λ s scope σ S m. rw (S .scene .table .integers .0, S .scene .table .integers .1, S .scene .table .integers .2, q) (carries-stuck (σ .types) m) })
 
 pub ruleset negative-laws = (negative-value, negative-past, sfits-of)
 
@@ -126,7 +127,7 @@ module _ (last : Bool) (i : Info) (w : ℤ) (fw : SFits w64 w) where
 
 pub ruleset end-word-laws = (end-last, end-first, sfits-of)
 
-module _ {s l ts : List ℕ} {count newest : ℕ} {σ : Environment} (S : Known s l ts count newest σ) (t : ℕ) where
+module _ {s l ts : List ℕ} {scope : Scope} {σ : Environment} (S : Known s l ts scope σ) (t : ℕ) where
   end-signed : (last : Bool) → endWord last (infoOf l ts t) ≡ pick last (infoAt (σ .types) t .high) (infoAt (σ .types) t .low)
   unfolding endWord pick
   end-signed true = high-signed S t
@@ -139,11 +140,11 @@ module _ {s l ts : List ℕ} {count newest : ℕ} {σ : Environment} (S : Known 
 
 module _ (l ts : List ℕ) (last : Bool) (t : ℕ) (r : Carried) (i : Info) (ei : i ≡ infoOf l ts t) where
   pub end-shape : ((i .shape ≡ 0) → ⊥) → r ≡ carriedOf 0 noResult 0 → Ends l ts last t r
-  end-shape h e = rw e (record { says = λ s count newest σ S m. rw (ordinal-no S t (λ q. h (ap (λ (j : Info). j .shape) ei ∙ q))) (carries-stuck (σ .types) m) })
+  end-shape h e = rw e (record { says = λ s scope σ S m. rw (ordinal-no S t (λ q. h (ap (λ (j : Info). j .shape) ei ∙ q))) (carries-stuck (σ .types) m) })
 
   pub end-is : (k : ℕ) (w : ℤ) → i .shape ≡ 0 → k ≡ hostIn l ts t → w ≡ endWord last i → SFits w64 w → r ≡ carriedOf k (wire w) 0 → Ends l ts last t r
   end-is k w h ek ew fw e = rw (e, toZ-ofZ fw, ew, ek, ei) (record {
-    says = λ s count newest σ S m.
+    says = λ s scope σ S m.
         let o = ordinal-yes S t (sym (ap (λ (j : Info). j .shape) ei) ∙ h) in
         rw (o, host-in (S .scene) t, end-signed S t last)
         (carries-cell (σ .types) m (hostOf (σ .types) t) (pick last (infoAt (σ .types) t .high) (infoAt (σ .types) t .low)) 0
@@ -186,7 +187,7 @@ tested-marks lo hi w q h = go (ltZ greatest w) refl
 pub member-is : (l ts : List ℕ) (t : ℕ) (x : Carried) (i : Info) (h : ℕ) (w lo hi z : ℤ) → i ≡ infoOf l ts t → h ≡ hostIn l ts (i .element) → Wants h x w → lo ≡ signed (i .low) → hi ≡ signed (i .high)
     → z ≡ testedWord (wire lo) (wire hi) (wire w) → SFits w64 w → SFits w64 lo → SFits w64 hi → SFits w64 z → Admits l ts t x (wire z)
 member-is l ts t x i h w lo hi z ei eh W el er ez fw fl fh fz = rw (toZ-ofZ fz, ez, toZ-ofZ fw, toZ-ofZ fl, toZ-ofZ fh, el, er, ei) (record {
-  says = λ s count newest σ S m v X.
+  says = λ s scope σ S m v X.
       rw (low-signed S t, high-signed S t)
       (tested-marks (infoAt (σ .types) t .low) (infoAt (σ .types) t .high) w (v >>= wanted (hostOf (σ .types) (infoAt (σ .types) t .element)))
       (rw (eh, ei, element-told (S .scene) t, host-in (S .scene) (infoAt (σ .types) t .element)) at (W .says (σ .types) m v X)));

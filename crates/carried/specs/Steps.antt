@@ -18,6 +18,7 @@ use Rattle.semantics.specs.Names.{constOf}
 use Rattle.semantics.specs.Trees.{wordAt}
 use Rattle.semantics.specs.Types.{Types, infoAt, hostOf, sizeOf, ordinal?, array?, baseOf, fieldOf}
 use Rattle.calc.specs.Words.{distanceWord, elementWord, Holds}
+use Rattle.tables.specs.declared.Scope.{Scope}
 use Rattle.tables.specs.declared.Info.{Info}
 use Rattle.tables.specs.Descriptions.{infoOf}
 use Rattle.carried.specs.declared.values.Carried.{Carried}
@@ -63,28 +64,28 @@ pub record Wants (k : ℕ) (x : Carried) (r : ℤ) : Type 0 where
   pub says : (Γ : Types) (m : Store) (v : Result TypedValue) → Carries Γ m v x → MarkMeans r ((v >>= wanted k) >>= λ u. is (sole u))
 
 pub record Constants (l ts : List ℕ) (k : ℕ) (z : ℤ) (r : Carried) : Type 0 where
-  pub says : (s : List ℕ) (count newest : ℕ) (σ : Environment) → Known s l ts count newest σ → (m : Store) → Carries (σ .types) m (constantly (σ .types) k z) r
+  pub says : (s : List ℕ) (scope : Scope) (σ : Environment) → Known s l ts scope σ → (m : Store) → Carries (σ .types) m (constantly (σ .types) k z) r
 
 pub record Ends (l ts : List ℕ) (last : Bool) (t : ℕ) (r : Carried) : Type 0 where
-  pub says : (s : List ℕ) (count newest : ℕ) (σ : Environment) → Known s l ts count newest σ → (m : Store) → Carries (σ .types) m (ending (σ .types) last t) r
+  pub says : (s : List ℕ) (scope : Scope) (σ : Environment) → Known s l ts scope σ → (m : Store) → Carries (σ .types) m (ending (σ .types) last t) r
 
 -- `error_number`
 pub record Latest (ws : List ℤ) (r : Carried) : Type 0 where
   pub says : (Γ : Types) → ordinal? Γ 0 ≡ true → (m : Store) → Holds ws m → Carries Γ m (is (typedValue 0 (m .latest ∷ []))) r
 
 pub record Loads (l ts : List ℕ) (ws : List ℤ) (g : Reached) (r : Carried) : Type 0 where
-  pub says : (s : List ℕ) (count newest : ℕ) (σ : Environment) → Known s l ts count newest σ → (m : Store) → Holds ws m
+  pub says : (s : List ℕ) (scope : Scope) (σ : Environment) → Known s l ts scope σ → (m : Store) → Holds ws m
       → (v : Result TypedPlace) → Reaches v g → Carries (σ .types) m (v >>= λ w. loaded (σ .types) m w) r
 
 pub record Indexes (l ts : List ℕ) (g : Reached) (x : Carried) (r : Reached) : Type 0 where
-  pub says : (s : List ℕ) (count newest : ℕ) (σ : Environment) → Known s l ts count newest σ → (m : Store)
+  pub says : (s : List ℕ) (scope : Scope) (σ : Environment) → Known s l ts scope σ → (m : Store)
       → (v : Result TypedPlace) (u : Result TypedValue) → Reaches v g → Carries (σ .types) m u x → Reaches (v >>= λ w. u >>= λ y. indexed (σ .types) w y) r
 
 -- the field that the word at p names
 pub record Selects (s l ts : List ℕ) (g : Reached) (p : ℕ) (r : Reached) : Type 0 where
-  pub says : (count newest : ℕ) (σ : Environment) → Known s l ts count newest σ
+  pub says : (scope : Scope) (σ : Environment) → Known s l ts scope σ
       → (v : Result TypedPlace) → Reaches v g → Reaches (v >>= λ w. selected (σ .types) (map small (wordAt s p)) w) r
 
 pub record Admits (l ts : List ℕ) (t : ℕ) (x : Carried) (r : ℤ) : Type 0 where
-  pub says : (s : List ℕ) (count newest : ℕ) (σ : Environment) → Known s l ts count newest σ → (m : Store)
+  pub says : (s : List ℕ) (scope : Scope) (σ : Environment) → Known s l ts scope σ → (m : Store)
       → (v : Result TypedValue) → Carries (σ .types) m v x → MarkMeans r ((v >>= wanted (baseOf (σ .types) t)) >>= λ u. admitted (σ .types) t u)

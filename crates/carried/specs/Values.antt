@@ -13,6 +13,7 @@ use Rattle.semantics.specs.Marking.{TypedValue, TypedPlace}
 use Rattle.semantics.specs.Types.{Types, ordinal?, set?, sizeOf}
 use Rattle.semantics.proofs.TypeSizes.{SmallTypes}
 use Rattle.calc.specs.Words.{greatest, wordOf, InRange, Exceptional}
+use Rattle.tables.specs.declared.Scope.{Scope}
 use Rattle.tables.specs.Scene.{Scene}
 use Rattle.carried.specs.declared.values.Carried.{Carried}
 use Rattle.carried.specs.declared.places.Reached.{Reached}
@@ -55,8 +56,8 @@ pub record Reaches (v : Result TypedPlace) (r : Reached) : Type 0 where
   pub type-is : (w : TypedPlace) → v ≡ is w → r .typed ≡ w .type
 
 -- the tables hold the environment, and its types keep the ceilings
-pub record Known (s l ts : List ℕ) (count newest : ℕ) (σ : Environment) : Type 0 where
+pub record Known (s l ts : List ℕ) (scope : Scope) (σ : Environment) : Type 0 where
   pub top : ℕ
   pub bodies : List ℕ
-  pub scene : Scene s l ts count newest top σ bodies
+  pub scene : Scene s l ts scope top σ bodies
   pub small : SmallTypes (σ .types)

@@ -6,7 +6,7 @@ use arith::Num;
 use arith::in_range;
 use arith::neg;
 use calc::cells::latest;
-use calc::words::WORDS;
+use calc::words::Store;
 use calc::words::signed_of;
 use tables::Info;
 use tables::describe;
@@ -62,7 +62,7 @@ pub fn end_of(work: &[u32], types: &[u32], last: bool, t: u32) -> Carried
 }
 
 // The last exception's number.
-pub fn error_number(store: &[i64; WORDS]) -> Carried
+pub fn error_number(store: &Store) -> Carried
     ensures { λ r. ⌜ Latest (now (store .entry)) r ⌝ }
 {
     value(0, latest(store))

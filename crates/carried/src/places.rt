@@ -6,7 +6,7 @@ use calc::operators::distance;
 use calc::operators::element;
 use calc::operators::shifted;
 use calc::words::GREATEST;
-use calc::words::WORDS;
+use calc::words::Store;
 use calc::words::reach;
 use tables::Info;
 use tables::describe;
@@ -41,7 +41,7 @@ fn first_cell(word: i64) -> u32
 }
 
 // The cells at a place.
-pub fn load(work: &[u32], types: &[u32], store: &[i64; WORDS], g: Reached) -> Carried
+pub fn load(work: &[u32], types: &[u32], store: &Store, g: Reached) -> Carried
     ensures { λ r. ⌜ Loads (now (work .entry)) (now (types .entry)) (now (store .entry)) g r ⌝ }
 {
     let i = describe(work, types, g.typed);

@@ -8,6 +8,7 @@ use native.Mathlib.Omega.{arith}
 use borrow.Author.Tests.{eq-eqb, ne-eqb}
 use lib.ListN.{length, getD, set, take, drop, replicate, length-set}
 use lib.Seq.{take-at, getD-set-same, getD-set-other}
+use Rattle.declarations.specs.State.{notes}
 use Rattle.semantics.specs.Verdict as Meaning
 use Rattle.semantics.specs.Verdict.{Read, accepted, refused}
 use Rattle.semantics.specs.Whole.{verdictOf}
@@ -64,12 +65,12 @@ unfolding countedBy cellsTold
 counted-is s l ts (accepted q) c h = rw (eq-eqb (c .refusal) 0 (h .0), h .2 .holds .cells-are) refl
 counted-is s l ts (refused m n) c h = rw (ne-eqb (c .refusal) 0 (λ e. omega (arith, h .0, h .2)), h .0, h .1) refl
 
-module _ (s l : List ℕ) (n : ℕ) (i : n ≡ min 16384 (length l)) (c : Checked) (l′ ts′ : List ℕ) (C : Checks s (take n l) (replicate 66 0) c l′ ts′) where
+module _ (s l : List ℕ) (n : ℕ) (i : n ≡ min 16384 (length l)) (c : Checked) (l′ ts′ : List ℕ) (C : Checks s (take n l) (replicate notes 0) c l′ ts′) where
   same-verdict : verdictOf s (length (take n l)) ≡ verdictOf s (length l)
   same-verdict = ap (λ m. verdictOf s m) (sym (part-long l n i) ∙ i) ∙ verdict-same s (length l)
 
   checked : CheckedBy s l′ ts′ (verdictOf s (length l)) c
-  checked = subst (λ (x : Meaning.Verdict Read). CheckedBy s l′ ts′ x c) same-verdict (C .says (omega arith) (zeros 66))
+  checked = subst (λ (x : Meaning.Verdict Read). CheckedBy s l′ ts′ x c) same-verdict (C .says (omega arith) (zeros notes))
 
   pub cells-told : (r : Counted) → r ≡ countedBy c → r ≡ cellsTold (verdictOf s (length l))
   cells-told r e = e ∙ counted-is s l′ ts′ (verdictOf s (length l)) c checked

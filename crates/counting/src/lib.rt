@@ -1,5 +1,6 @@
 // The cells of a script: how many there are, and the name of each one's variable.
 use answers::Counted;
+use declarations::NOTES;
 use declarations::State;
 use stores::owner;
 use texts::Checked;
@@ -42,7 +43,7 @@ pub fn name_cells(work: &[u32], types: &[u32], st: State, names: &mut [usize])
 pub fn cells(text: &[u8], work: &mut [u32]) -> Counted
     ensures { λ r. ⌜ (r ≡ cellsTold (verdictOf (now (text .entry)) (length (now (work .entry))))) × (now (work .exit) ≡ workAfter (now (work .entry))) ⌝ }
 {
-    let mut types = [0; 66];
+    let mut types = [0; NOTES];
     let n = working(work.len());
     let c = check(text, &mut work[..n], &mut types);
     clear(work);
@@ -53,7 +54,7 @@ pub fn cells(text: &[u8], work: &mut [u32]) -> Counted
 pub fn owners(text: &[u8], work: &mut [u32], names: &mut [usize]) -> Counted
     ensures { λ r. ⌜ (r ≡ cellsTold (verdictOf (now (text .entry)) (length (now (work .entry))))) × (now (work .exit) ≡ workAfter (now (work .entry))) × Owners (now (text .entry)) (verdictOf (now (text .entry)) (length (now (work .entry)))) (now (names .exit)) ⌝ }
 {
-    let mut types = [0; 66];
+    let mut types = [0; NOTES];
     let n = working(work.len());
     let c = check(text, &mut work[..n], &mut types);
     let known = c.known;

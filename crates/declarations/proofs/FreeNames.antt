@@ -23,12 +23,12 @@ use Rattle.semantics.specs.Trees.{Tree, form, Trees, end, _then_, Run, first, l
 use Rattle.semantics.specs.Words as Words
 use Rattle.semantics.specs.Words.{worded, wordedAll}
 use Rattle.semantics.proofs.Reading.{none-word}
-use Rattle.symbols.specs.Chain.{entries, placeIn}
+use Rattle.tables.specs.declared.Scope.{Scope}
 use Rattle.tables.specs.declared.Fault.{Fault}
 use Rattle.tables.specs.declared.Fault.the-variants.{Clear, Kind, Name, Form}
 use Rattle.tables.specs.declared.Meaning.{Meaning}
 use Rattle.tables.specs.declared.Meaning.the-variants as meaning
-use Rattle.tables.specs.Scene.{Scene, meaningAt}
+use Rattle.tables.specs.Scene.{Scene, meaningHere}
 use Rattle.parts.specs.Got.{isForm, lowest, faultOf}
 use Rattle.parts.specs.Parts.{Before, LeafAt, FormAt, ShutAt, Stands, Shuts}
 use Rattle.parts.specs.declared.Part.{Part}
@@ -41,7 +41,7 @@ use Rattle.shapes.specs.declared.Atom.{Atom}
 use Rattle.shapes.specs.declared.Atom.the-variants as AT
 use Rattle.shapes.proofs.Heads.{name-word}
 use Rattle.atoms.specs.declared.Typed.{Typed}
-use Rattle.atoms.specs.Answers.{meaningHere, typed}
+use Rattle.atoms.specs.Answers.{typed}
 use Rattle.atoms.specs.Contracts.{GivesType}
 use Rattle.atoms.proofs.Telling.{wrong-fits}
 use Rattle.declarations.specs.Names.{namedBy, GivesName, newFault, lastType, GivesLastType}
@@ -120,10 +120,9 @@ module _ (f : Fault) (m : Meaning) where
 
 pub ruleset new-laws = (new-unknown, new-type, new-var, new-proc, new-value)
 
-pub named-is : (s l : List ℕ) (count newest p : ℕ) (f r : Fault) (m : Meaning) → m ≡ meaningAt l (placeIn s l (entries count l newest) (map small (wordAt s p)))
-    → r ≡ newFault f m → r ≡ newFault f (meaningHere s l count newest p)
-unfolding meaningHere
-named-is s l count newest p f r m e g = g ∙ rw e refl
+pub named-is : (s l : List ℕ) (scope : Scope) (p : ℕ) (f r : Fault) (m : Meaning) → m ≡ meaningHere s l scope p
+    → r ≡ newFault f m → r ≡ newFault f (meaningHere s l scope p)
+named-is s l scope p f r m e g = g ∙ rw e refl
 
 -- ---- a type's name that is the last part
 
@@ -176,18 +175,18 @@ unfolding closed
 more-closed end a k = absurd (k refl)
 more-closed (t then us) a k = refl
 
-no-last : (s l : List ℕ) (count newest at q : ℕ) → ((ts : List ℕ) (top : ℕ) (σ : Environment) (bs : List ℕ) → Scene s l ts count newest top σ bs → lastType (first (stackAt s at)) ≡ none)
-    → GivesLastType s l count newest at (typed Form 0 q)
+no-last : (s l : List ℕ) (scope : Scope) (at q : ℕ) → ((ts : List ℕ) (top : ℕ) (σ : Environment) (bs : List ℕ) → Scene s l ts scope top σ bs → lastType (first (stackAt s at)) ≡ none)
+    → GivesLastType s l scope at (typed Form 0 q)
 unfolding staged
-no-last s l count newest at q h = record {
+no-last s l scope at q h = record {
   goes = λ k. absurd (false≢true (sym k));
   says = λ ts top σ bs S. rw (h ts top σ bs S) (record { fault-is = refl; kind-is = λ k e. wrong-fits e });
 }
 
-module _ (s l : List ℕ) (count newest at : ℕ) (t : Typed) (G : GivesType s l count newest at t) (f : Fault) (d : f ≡ t .fault) (r : Typed) where
-  pub last-form : (b : Bool) → b ≡ isForm f → b ≡ true → r ≡ typed Form 0 at → GivesLastType s l count newest at r
+module _ (s l : List ℕ) (scope : Scope) (at : ℕ) (t : Typed) (G : GivesType s l scope at t) (f : Fault) (d : f ≡ t .fault) (r : Typed) where
+  pub last-form : (b : Bool) → b ≡ isForm f → b ≡ true → r ≡ typed Form 0 at → GivesLastType s l scope at r
   unfolding lastType
-  last-form b e i g = rw g (no-last s l count newest at at (λ ts top σ bs S.
+  last-form b e i g = rw g (no-last s l scope at at (λ ts top σ bs S.
       bound-none (typeNameIn (first (stackAt s at))) _
       (none-wrong (typeNameIn (first (stackAt s at))) (typeOf σ) (λ _. true) some (sym (sym d ∙ form-is f (sym e ∙ i)) ∙ G .says ts top σ bs S .fault-is))))
 
@@ -198,14 +197,14 @@ module _ (s l : List ℕ) (count newest at : ℕ) (t : Typed) (G : GivesType s l
     rest-is : rest (first (stackAt s at)) ≡ first (stackAt s (t .next))
     rest-is = ap rest (passed .1 .here)
 
-    pub last-more : x ≡ ending.More → r ≡ typed Form 0 at → GivesLastType s l count newest at r
+    pub last-more : x ≡ ending.More → r ≡ typed Form 0 at → GivesLastType s l scope at r
     unfolding lastType
     last-more j g =
         let m : first (stackAt s (t .next)) ≡ end → ⊥ = rw j at (E .says) in
-        rw g (no-last s l count newest at at (λ ts top σ bs S.
+        rw g (no-last s l scope at at (λ ts top σ bs S.
         bound-nones (typeNameIn (first (stackAt s at))) _ (λ a. more-closed (rest (first (stackAt s at))) a (λ z. m (sym rest-is ∙ z)))))
 
-    pub last-past : (q : ℕ) → x ≡ ending.Past q → r ≡ typed f (t .kind) q → GivesLastType s l count newest at r
+    pub last-past : (q : ℕ) → x ≡ ending.Past q → r ≡ typed f (t .kind) q → GivesLastType s l scope at r
     unfolding lastType closed
     last-past q j g =
         let m : ShutAt s (t .next) q = rw j at (E .says) in

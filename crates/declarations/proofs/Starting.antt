@@ -1,4 +1,4 @@
--- Before any line nothing is declared, and a list and 66 zeros hold that.
+-- Before any line nothing is declared, and a list and notes that are all 0 hold that.
 use mathlib.Core.Path.{_≡_, refl}
 use mathlib.Core.List.{List, []}
 use Prim.Native.Nat.{ℕ, zero, suc, _≤_}
@@ -15,7 +15,7 @@ use Rattle.semantics.proofs.TypeTables.{started}
 use Rattle.symbols.specs.Chain.{entries}
 use Rattle.symbols.proofs.Chained.{no-names, no-entry}
 use Rattle.tables.specs.Descriptions.{shapeNumber, integerInfo, booleanInfo, noInfo, infoOf, fieldsAt, Tells, EndsBelow}
-use Rattle.declarations.specs.State.{Holds, startState}
+use Rattle.declarations.specs.State.{notes, scoped, Holds, startState}
 
 none-there : (ts l : List ℕ) → ((i : ℕ) → getD ts i 0 ≡ 0) → (k : ℕ) → infoOf l ts (suc (suc k)) ≡ noInfo
 unfolding infoOf
@@ -43,7 +43,11 @@ size-start zero = omega arith
 size-start (suc zero) = omega arith
 size-start (suc (suc t)) = omega arith
 
-pub holds-start : (s l ts : List ℕ) → length s ≤ 32768 → 16384 ≤ length l → 66 ≤ length ts → ((i : ℕ) → getD ts i 0 ≡ 0) → Holds s l ts startState nothingDeclared []
+pub start-is : record { scope = scoped 0 0; top = 1; types = 2; lines = 0; vars = 0; cells = 0; procs = 0 } ≡ startState
+unfolding startState
+start-is = refl
+
+pub holds-start : (s l ts : List ℕ) → length s ≤ 32768 → 16384 ≤ length l → notes ≤ length ts → ((i : ℕ) → getD ts i 0 ≡ 0) → Holds s l ts startState nothingDeclared []
 unfolding entries find startState
 holds-start s l ts a b c h = record {
   scene = record {
@@ -74,6 +78,6 @@ holds-start s l ts a b c h = record {
   start = omega arith;
   low = omega arith;
   long-list = b;
-  long-types = c;
+  long-notes = c;
   short-text = a;
 }

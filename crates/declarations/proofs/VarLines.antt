@@ -29,6 +29,7 @@ use Rattle.semantics.proofs.Inversion.{none-some, some-inj, and-true}
 use Rattle.semantics.proofs.LayoutRegions.{Same, Room, lay-g, lay-l}
 use Rattle.semantics.proofs.LinesKeep.{Keeps, line-keeps}
 use Rattle.worklist.specs.Laid.{Laid}
+use Rattle.symbols.specs.Keys.{keyed}
 use Rattle.tables.proofs.Cells.{keeps-cells}
 use Rattle.tables.specs.declared.Fault.{Fault}
 use Rattle.tables.specs.declared.Fault.the-variants.{Clear, Kind, Form}
@@ -36,17 +37,16 @@ use Rattle.tables.specs.declared.Fault.the-variants as fault
 use Rattle.tables.specs.declared.Info.{Info}
 use Rattle.tables.specs.declared.Meaning.{Meaning}
 use Rattle.tables.specs.Descriptions.{infoOf}
-use Rattle.tables.specs.Scene.{Scene, Means, a-type, a-var, a-proc, a-value, meaningBy, Told, unknown as unmeant, known}
+use Rattle.tables.specs.Scene.{Scene, Means, a-type, a-var, a-proc, a-value, meaningBy, Told, unknown as unmeant, known, meaningHere}
 use Rattle.tables.proofs.Kept.{scene-kept}
 use Rattle.tables.proofs.Telling.{meant, size-told}
 use Rattle.parts.specs.Got.{isClear, lowest, faultOf}
 use Rattle.shapes.specs.Parts.{partOf, rest, closed, nameIn, typeNameIn}
 use Rattle.shapes.proofs.Walks.{bind-cong, bind-assoc, two-then}
 use Rattle.atoms.specs.declared.Typed.{Typed}
-use Rattle.atoms.specs.Answers.{meaningHere}
 use Rattle.atoms.specs.Contracts.{TypeTold}
 use Rattle.atoms.proofs.Telling.{fits-inj, wrong-fits, unnamed-fits, unfit-fits}
-use Rattle.declarations.specs.State.{Holds}
+use Rattle.declarations.specs.State.{scoped, Holds, withNames, withVar}
 use Rattle.declarations.specs.Names.{newFault, lastType, GivesLastType, GivesName}
 use Rattle.declarations.specs.Lines.{lineOf, entryStaged, newly, linedBy, LineTold, GivesLine}
 use Rattle.declarations.specs.Vars.{varAfter, varFits, varEntry, varState, AddsVar, var-fits, var-past, GivesVar}
@@ -246,7 +246,7 @@ module _ {s l ts : List ℕ} {st : State} {k : Declared} {bs : List ℕ} (H : Ho
   size = infoOf l ts kind .size
 
   abbrev lp : List ℕ
-  lp = lay (varEntry st p kind) (st .top) l .list
+  lp = lay (varEntry st (keyed s p) kind) (st .top) l .list
 
   -- row 9
   var-bounded : varFits (st .vars) (st .cells) size ≡ lineBounded k (newVar wp kind)
@@ -277,31 +277,30 @@ module _ {s l ts : List ℕ} {st : State} {k : Declared} {bs : List ℕ} (H : Ho
         let x : kind < length (k .env .types) = var-keeps .typed (length (k .env .vars)) (record { type = kind; base = length (k .cells) }) (var-last (k .env .vars) (record { type = kind; base = length (k .cells) })) in
         omega (arith, H .types-are, H .few-types, H .few-lines)
 
-    entry-is : varEntry st p kind ≡ p ∷ (1 + 4 * length (k .env .vars)) ∷ (kind + 128 * length (k .cells)) ∷ st .newest ∷ []
+    entry-is : varEntry st (keyed s p) kind ≡ keyed s p ∷ (1 + 4 * length (k .env .vars)) ∷ (kind + 128 * length (k .cells)) ∷ st .scope .newest ∷ []
     unfolding varEntry
     entry-is =
-        let x : p % 32768 ≡ p = mod-eq-of-lt (omega (arith, H .short-text)) in
         let y : st .vars % 128 ≡ length (k .env .vars) = mod-eq-of-lt var-low ∙ H .vars-are in
         let z : st .cells % 4096 ≡ length (k .cells) = mod-eq-of-lt (omega (arith, H .few-cells)) ∙ H .cells-are in
         let v : kind % 128 ≡ kind = mod-eq-of-lt kind-low in
-        rw (x, y, z, v) refl
+        rw (y, z, v) refl
 
-    top-is : lay (varEntry st p kind) (st .top) l .top ≡ st .top + 4
-    top-is = rw entry-is (lay-l (p ∷ (1 + 4 * length (k .env .vars)) ∷ (kind + 128 * length (k .cells)) ∷ st .newest ∷ []) (st .top) l .top-is room)
+    top-is : lay (varEntry st (keyed s p) kind) (st .top) l .top ≡ st .top + 4
+    top-is = rw entry-is (lay-l (keyed s p ∷ (1 + 4 * length (k .env .vars)) ∷ (kind + 128 * length (k .cells)) ∷ st .scope .newest ∷ []) (st .top) l .top-is room)
 
     var-room : Room 4 (st .top) l
     var-room = record { start = H .start; fits = room; long = H .long-list }
 
-    var-chained : Chained s lp (suc (st .count)) (st .top) (st .top + 4) (k′ .env) bs ((wp, aVar (length (k .env .vars))) ∷ k .env .names)
+    var-chained : Chained s lp (scoped (suc (st .scope .count)) (st .top)) (st .top + 4) (k′ .env) bs ((wp, aVar (length (k .env .vars))) ∷ k .env .names)
     unfolding declareLine
-    var-chained = subst (λ (ns : List ℕ). Chained s (lay ns (st .top) l .list) (suc (st .count)) (st .top) (st .top + 4) (k′ .env) bs ((wp, aVar (length (k .env .vars))) ∷ k .env .names)) (sym entry-is) (chained-more p (1 + 4 * length (k .env .vars)) (kind + 128 * length (k .cells)) (aVar (length (k .env .vars))) var-room
+    var-chained = subst (λ (ns : List ℕ). Chained s (lay ns (st .top) l .list) (scoped (suc (st .scope .count)) (st .top)) (st .top + 4) (k′ .env) bs ((wp, aVar (length (k .env .vars))) ∷ k .env .names)) (sym entry-is) (chained-more p (1 + 4 * length (k .env .vars)) (kind + 128 * length (k .cells)) (aVar (length (k .env .vars))) (omega (arith, H .short-text)) var-room
         (var-means (k′ .env) bs (length (k .env .vars)) kind (length (k .cells)) kind-low (var-last (k .env .vars) (record { type = kind; base = length (k .cells) })))
         (chained-env {σ′ = k′ .env} (means-old (record { type = kind; base = length (k .cells) }) refl) (scene-chained (H .scene))))
 
     var-same : Same 0 (st .top) lp l
-    var-same = laid-same (varEntry st p kind) (st .top) l lp refl
+    var-same = laid-same (varEntry st (keyed s p) kind) (st .top) l lp refl
 
-    var-scene : Scene s lp ts (suc (st .count)) (st .top) (st .top + 4) (k′ .env) bs
+    var-scene : Scene s lp ts (scoped (suc (st .scope .count)) (st .top)) (st .top + 4) (k′ .env) bs
     unfolding declareLine
     var-scene =
         let K = scene-kept {top′ = st .top + 4} (H .scene) var-same (omega arith) in
@@ -320,11 +319,11 @@ module _ {s l ts : List ℕ} {st : State} {k : Declared} {bs : List ℕ} (H : Ho
               (value-find wp w (aVar (length (k .env .vars))) (k .env .names) c (var-value (length (k .env .vars))) h);
         }
 
-    pub var-holds : Holds s lp ts (varState st size (lay (varEntry st p kind) (st .top) l .top)) k′ bs
+    pub var-holds : Holds s lp ts (varState st size (lay (varEntry st (keyed s p) kind) (st .top) l .top)) k′ bs
     unfolding varState declareLine
     var-holds =
-        let a : st .count % 65536 ≡ st .count = mod-eq-of-lt (omega (arith, H .few-names, H .low)) in
-        let c : st .count % 65536 + 1 ≡ suc (st .count) = rw a (omega arith) in
+        let a : st .scope .count % 65536 ≡ st .scope .count = mod-eq-of-lt (omega (arith, H .few-names, H .low)) in
+        let c : st .scope .count % 65536 + 1 ≡ suc (st .scope .count) = rw a (omega arith) in
         let v : st .vars % 128 ≡ st .vars = mod-eq-of-lt var-low in
         let z : st .cells % 4096 ≡ st .cells = mod-eq-of-lt (omega (arith, H .few-cells)) in
         let y : size % 4096 ≡ sizeOf (k .env .types) kind = ap (λ n. n % 4096) (size-told (H .scene) kind) ∙ mod-eq-of-lt (omega (arith, cells-low)) in
@@ -345,8 +344,8 @@ module _ {s l ts : List ℕ} {st : State} {k : Declared} {bs : List ℕ} (H : Ho
           few-names = rw (c, top-is) (omega (arith, H .few-names));
           start = rw top-is (omega arith);
           low = rw top-is (omega arith);
-          long-list = rw (lay-g (varEntry st p kind) (st .top) l .long) (H .long-list);
-          long-types = H .long-types;
+          long-list = rw (lay-g (varEntry st (keyed s p) kind) (st .top) l .long) (H .long-list);
+          long-notes = H .long-notes;
           short-text = H .short-text;
         }
 
@@ -372,27 +371,26 @@ fits-is vars cells size h g = rw (le-leb (vars + 1) 128 (omega arith)) (go (leb 
 pub ruleset fits-laws = (fits-many, fits-large, fits-is)
 
 -- `var_state`
-pub state-is : (st : State) (size top : ℕ)
-    → record { count = st .count % 65536 + 1; newest = st .top; top = top; types = st .types; lines = st .lines; vars = st .vars % 128 + 1; cells = st .cells % 4096 + size % 4096; procs = st .procs } ≡ varState st size top
+pub state-is : (st a b : State) (size top : ℕ) → a ≡ withNames st 1 (st .top) top → b ≡ withVar a size → b ≡ varState st size top
 unfolding varState
-state-is st size top = refl
+state-is st a b size top e f = f ∙ ap (λ (x : State). withVar x size) e
 
 -- `lay_var`
-pub var-laid : (st : State) (p kind name : ℕ) (l : List ℕ) (r : ℕ) (l′ : List ℕ) → name ≡ p % 32768
-    → Laid (lay (name ∷ (1 + 4 * (st .vars % 128)) ∷ (kind % 128 + 128 * (st .cells % 4096)) ∷ st .newest ∷ []) (st .top) l) r l′
-    → Laid (lay (varEntry st p kind) (st .top) l) r l′
+pub var-laid : (st : State) (name kind : ℕ) (l : List ℕ) (r : ℕ) (l′ : List ℕ)
+    → Laid (lay (name ∷ (1 + 4 * (st .vars % 128)) ∷ (kind % 128 + 128 * (st .cells % 4096)) ∷ st .scope .newest ∷ []) (st .top) l) r l′
+    → Laid (lay (varEntry st name kind) (st .top) l) r l′
 unfolding varEntry
-var-laid st p kind name l r l′ e L = rw (← e) L
+var-laid st name kind l r l′ L = L
 
 -- `add_var`
-module _ (l ts : List ℕ) (st : State) (p kind : ℕ) (x : Info) (e : x ≡ infoOf l ts kind) (b : Bool) (g : b ≡ varFits (st .vars) (st .cells) (x .size)) where
-  pub adds-fits : b ≡ true → (t : ℕ) (l′ : List ℕ) → Laid (lay (varEntry st p kind) (st .top) l) t l′ → (st′ : State) → st′ ≡ varState st (x .size) t
-      → (r : Lined) → r ≡ linedBy Clear true st′ → AddsVar l ts st p kind r l′
+module _ (l ts : List ℕ) (st : State) (name kind : ℕ) (x : Info) (e : x ≡ infoOf l ts kind) (b : Bool) (g : b ≡ varFits (st .vars) (st .cells) (x .size)) where
+  pub adds-fits : b ≡ true → (t : ℕ) (l′ : List ℕ) → Laid (lay (varEntry st name kind) (st .top) l) t l′ → (st′ : State) → st′ ≡ varState st (x .size) t
+      → (r : Lined) → r ≡ linedBy Clear true st′ → AddsVar l ts st name kind r l′
   adds-fits h t l′ L st′ i r j =
       let a : varFits (st .vars) (st .cells) (infoOf l ts kind .size) ≡ true = ap (λ (y : Info). varFits (st .vars) (st .cells) (y .size)) (sym e) ∙ sym g ∙ h in
       rw (j, i, L .free, L .left, e) (var-fits a)
 
-  pub adds-past : b ≡ false → (r : Lined) → r ≡ linedBy Clear false st → AddsVar l ts st p kind r l
+  pub adds-past : b ≡ false → (r : Lined) → r ≡ linedBy Clear false st → AddsVar l ts st name kind r l
   adds-past h r j =
       let a : varFits (st .vars) (st .cells) (infoOf l ts kind .size) ≡ false = ap (λ (y : Info). varFits (st .vars) (st .cells) (y .size)) (sym e) ∙ sym g ∙ h in
       rw j (var-past a)
@@ -400,7 +398,7 @@ module _ (l ts : List ℕ) (st : State) (p kind : ℕ) (x : Info) (e : x ≡ inf
 pub ruleset adds-laws = (adds-fits, adds-past)
 
 -- a variable with no fault: row 9 decides
-added-told : (s l ts : List ℕ) (st : State) (p kind : ℕ) (r : Lined) (l′ : List ℕ) → p < length s → AddsVar l ts st p kind r l′
+added-told : (s l ts : List ℕ) (st : State) (p kind : ℕ) (r : Lined) (l′ : List ℕ) → p < length s → AddsVar l ts st (keyed s p) kind r l′
     → (k : Declared) (bs : List ℕ) → Holds s l ts st k bs → (f : LineForm) → entryOf (k .env) f ≡ some (newVar (map small (wordAt s p)) kind)
     → LineTold s st k bs (fits (newVar (map small (wordAt s p)) kind)) r l′ ts
 unfolding symbolSize varState
@@ -415,13 +413,13 @@ added-told s l ts st p kind _ _ hp (var-past h) k bs H f e = record {
   holds = λ x i. rw (← fits-inj i) (λ b room sn nn. absurd (false≢true (sym h ∙ var-bounded H p kind hp ∙ b)));
 }
 
-added-below : (l ts : List ℕ) (st : State) (p kind : ℕ) (r : Lined) (l′ : List ℕ) → AddsVar l ts st p kind r l′ → Same 0 (st .top) l′ l
-added-below l ts st p kind _ _ (var-fits h) = laid-same (varEntry st p kind) (st .top) l _ refl
-added-below l ts st p kind _ _ (var-past h) = record { at = λ _ _ _. refl }
+added-below : (l ts : List ℕ) (st : State) (name kind : ℕ) (r : Lined) (l′ : List ℕ) → AddsVar l ts st name kind r l′ → Same 0 (st .top) l′ l
+added-below l ts st name kind _ _ (var-fits h) = laid-same (varEntry st name kind) (st .top) l _ refl
+added-below l ts st name kind _ _ (var-past h) = record { at = λ _ _ _. refl }
 
 -- `var_after`
-module _ (s l ts : List ℕ) (st : State) (p at : ℕ) (t : Typed) (G : GivesLastType s l (st .count) (st .newest) at t)
-    (g : Fault) (d : g ≡ t .fault) (f : Fault) (e : f ≡ newFault g (meaningHere s l (st .count) (st .newest) p)) (b : Bool) (i : b ≡ isClear f) where
+module _ (s l ts : List ℕ) (st : State) (p at : ℕ) (t : Typed) (G : GivesLastType s l (st .scope) at t)
+    (g : Fault) (d : g ≡ t .fault) (f : Fault) (e : f ≡ newFault g (meaningHere s l (st .scope) p)) (b : Bool) (i : b ≡ isClear f) where
   abbrev w : Name
   w = map small (wordAt s p)
 
@@ -435,12 +433,11 @@ module _ (s l ts : List ℕ) (st : State) (p at : ℕ) (t : Typed) (G : GivesLas
     told : TypeTold S t
     told = G .says ts (st .top) (k .env) bs (H .scene)
 
-    meaning-told : Told (k .env) bs (meaningHere s l (st .count) (st .newest) p) (find (k .env .names) w)
-    unfolding meaningHere
+    meaning-told : Told (k .env) bs (meaningHere s l (st .scope) p) (find (k .env .names) w)
     meaning-told = meant (H .scene) w
 
-    f-is : f ≡ newFault (faultOf S) (meaningHere s l (st .count) (st .newest) p)
-    f-is = e ∙ ap (λ (x : Fault). newFault x (meaningHere s l (st .count) (st .newest) p)) (d ∙ told .fault-is)
+    f-is : f ≡ newFault (faultOf S) (meaningHere s l (st .scope) p)
+    f-is = e ∙ ap (λ (x : Fault). newFault x (meaningHere s l (st .scope) p)) (d ∙ told .fault-is)
 
     staged-is : entryStaged k (varAfter w us) ≡ newly (isKnown (k .env) w) S (λ (n : ℕ). fits (newVar w n))
     unfolding keepsRules ruled entryOf
@@ -456,11 +453,11 @@ module _ (s l ts : List ℕ) (st : State) (p at : ℕ) (t : Typed) (G : GivesLas
     };
   })
 
-  pub after-clear : b ≡ true → (r : Lined) (l′ : List ℕ) → AddsVar l ts st p (t .kind) r l′ → GivesVar s l ts st p at r l′
+  pub after-clear : b ≡ true → (name : ℕ) → name ≡ keyed s p → (r : Lined) (l′ : List ℕ) → AddsVar l ts st name (t .kind) r l′ → GivesVar s l ts st p at r l′
   unfolding newly onFits
-  after-clear j r l′ A = record {
+  after-clear j name c r l′ A = record {
     gives = λ hp. record {
-      below = added-below l ts st p (t .kind) r l′ A;
+      below = added-below l ts st name (t .kind) r l′ A;
       told = λ k bs H.
           let x = plain-clear w _ (meaning-told k bs H) (S k bs H) (λ (n : ℕ). newVar w n) (sym (f-is k bs H) ∙ clear-is f (sym i ∙ j)) in
           let n : t .kind ≡ x .0 = told k bs H .kind-is (x .0) (x .1) in
@@ -468,7 +465,7 @@ module _ (s l ts : List ℕ) (st : State) (p at : ℕ) (t : Typed) (G : GivesLas
           staged-is k bs H ∙ ap (λ (c : Bool). newly c (S k bs H) (λ (n : ℕ). fits (newVar w n))) (x .2)
           ∙ ap (λ (T : Staged ℕ). newly false T (λ (n : ℕ). fits (newVar w n))) (x .1) ∙ ap (λ (n : ℕ). fits (newVar w n)) (sym n) in
           let y = entry-fits k (varAfter w us) (newVar w (t .kind)) z in
-          subst (λ (T : Staged Entry). LineTold s st k bs T r l′ ts) (sym z) (added-told s l ts st p (t .kind) r l′ hp A k bs H (y .0) (y .1));
+          subst (λ (T : Staged Entry). LineTold s st k bs T r l′ ts) (sym z) (added-told s l ts st p (t .kind) r l′ hp (rw c at A) k bs H (y .0) (y .1));
     };
   }
 

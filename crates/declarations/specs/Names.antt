@@ -13,6 +13,7 @@ use Rattle.semantics.specs.Rules.{plain}
 use Rattle.semantics.specs.Stages.{staged}
 use Rattle.semantics.specs.Syntax.{TypeName, Constant}
 use Rattle.semantics.specs.Trees.{Trees, Run, first, later, wordAt, stackAt}
+use Rattle.tables.specs.declared.Scope.{Scope}
 use Rattle.tables.specs.declared.Fault.{Fault}
 use Rattle.tables.specs.declared.Fault.the-variants.{Name}
 use Rattle.tables.specs.declared.Meaning.{Meaning}
@@ -63,12 +64,12 @@ lastType us = typeNameIn us >>= λ t. closed (rest us) t
 unfoldable pub lastConstant : Trees Run → Option Constant
 lastConstant us = constantIn us >>= λ c. closed (rest us) c
 
-pub record GivesLastType (s l : List ℕ) (count newest at : ℕ) (r : Typed) : Type 0 where
+pub record GivesLastType (s l : List ℕ) (scope : Scope) (at : ℕ) (r : Typed) : Type 0 where
   pub goes : isForm (r .fault) ≡ false → later (stackAt s at) ≡ stackAt s (r .next)
-  pub says : (ts : List ℕ) (top : ℕ) (σ : Environment) (bs : List ℕ) → Scene s l ts count newest top σ bs
+  pub says : (ts : List ℕ) (top : ℕ) (σ : Environment) (bs : List ℕ) → Scene s l ts scope top σ bs
       → TypeTold (staged (lastType (first (stackAt s at))) (typeOf σ) (λ _. true) some) r
 
-pub record GivesLastConstant (s l : List ℕ) (count newest at : ℕ) (r : Valued) : Type 0 where
+pub record GivesLastConstant (s l : List ℕ) (scope : Scope) (at : ℕ) (r : Valued) : Type 0 where
   pub goes : isForm (r .fault) ≡ false → later (stackAt s at) ≡ stackAt s (r .next)
-  pub says : (ts : List ℕ) (top : ℕ) (σ : Environment) (bs : List ℕ) → Scene s l ts count newest top σ bs
+  pub says : (ts : List ℕ) (top : ℕ) (σ : Environment) (bs : List ℕ) → Scene s l ts scope top σ bs
       → ValueTold (staged (lastConstant (first (stackAt s at))) (constantOf σ) plain some) r

@@ -1,5 +1,4 @@
--- A variable's entry and the counts after it. Numbers that are small wherever the lines so far are held are taken modulo a power of two, so
--- that no sum overflows.
+-- A variable's entry and what is held after it.
 use mathlib.Core.Bool.{Bool, true, false, _&&_}
 use mathlib.Core.List.{List, [], _∷_, map}
 use mathlib.Core.Option.{Option}
@@ -16,6 +15,7 @@ use Rattle.tables.specs.Descriptions.{infoOf}
 use Rattle.tables.specs.declared.Fault.the-variants.{Clear}
 use Rattle.shapes.specs.Parts.{rest, closed, typeNameIn}
 use Rattle.declarations.specs.Lines.{linedBy, GivesLine}
+use Rattle.declarations.specs.State.{withNames, withVar}
 use Rattle.declarations.specs.declared.State.{State}
 use Rattle.declarations.specs.declared.Lined.{Lined}
 
@@ -27,26 +27,18 @@ varAfter w us = typeNameIn us >>= λ t. closed (rest us) (varLine w t)
 unfoldable pub varFits : ℕ → ℕ → ℕ → Bool
 varFits vars cells size = leb (vars + 1) 128 && leb (cells + size) 2048
 
+-- by its name's number (symbols, Keys)
 unfoldable pub varEntry : State → ℕ → ℕ → List ℕ
-varEntry st p kind = (p % 32768) ∷ (1 + 4 * (st .vars % 128)) ∷ (kind % 128 + 128 * (st .cells % 4096)) ∷ st .newest ∷ []
+varEntry st name kind = name ∷ (1 + 4 * (st .vars % 128)) ∷ (kind % 128 + 128 * (st .cells % 4096)) ∷ st .scope .newest ∷ []
 
 unfoldable pub varState : State → ℕ → ℕ → State
-varState st size top = record {
-  count = st .count % 65536 + 1;
-  newest = st .top;
-  top = top;
-  types = st .types;
-  lines = st .lines;
-  vars = st .vars % 128 + 1;
-  cells = st .cells % 4096 + size % 4096;
-  procs = st .procs;
-}
+varState st size top = withVar (withNames st 1 (st .top) top) size
 
--- a variable of type `kind` whose name is at p, if it is within its ceilings
-pub data AddsVar (l ts : List ℕ) (st : State) (p kind : ℕ) : Lined → List ℕ → Type 0 where
+-- a variable of type `kind`, by its name's number, if it is within its ceilings
+pub data AddsVar (l ts : List ℕ) (st : State) (name kind : ℕ) : Lined → List ℕ → Type 0 where
   var-fits : varFits (st .vars) (st .cells) (infoOf l ts kind .size) ≡ true
-      → AddsVar l ts st p kind (linedBy Clear true (varState st (infoOf l ts kind .size) (lay (varEntry st p kind) (st .top) l .top))) (lay (varEntry st p kind) (st .top) l .list)
-  var-past : varFits (st .vars) (st .cells) (infoOf l ts kind .size) ≡ false → AddsVar l ts st p kind (linedBy Clear false st) l
+      → AddsVar l ts st name kind (linedBy Clear true (varState st (infoOf l ts kind .size) (lay (varEntry st name kind) (st .top) l .top))) (lay (varEntry st name kind) (st .top) l .list)
+  var-past : varFits (st .vars) (st .cells) (infoOf l ts kind .size) ≡ false → AddsVar l ts st name kind (linedBy Clear false st) l
 
 -- a line from its variable's type on; its name is at p
 pub record GivesVar (s l ts : List ℕ) (st : State) (p at : ℕ) (r : Lined) (l′ : List ℕ) : Type 0 where

@@ -12,27 +12,34 @@ use parts::part_at;
 use shapes::Atom;
 use shapes::atom_of;
 use symbols::declare;
+use symbols::keys::name_number;
 use tables::Fault;
 use tables::Meaning;
+use tables::Scope;
 use tables::describe;
 use tables::meaning_of;
 ghost use mathlib.Core.Path.{_≡_};
 ghost use Prim.Native.Nat.{_+_, _*_, _%_};
+ghost use Rattle.tables.specs.Scene.{meaningHere};
 ghost use Rattle.semantics.specs.Forms.{isVar};
 ghost use Rattle.semantics.specs.Layout.{lay as laid};
 ghost use Rattle.semantics.specs.Trees.{first, stackAt};
 ghost use Rattle.shapes.specs.Heads.{atomOf};
-ghost use Rattle.atoms.specs.Answers.{meaningHere, typed as typedBy};
+ghost use Rattle.atoms.specs.Answers.{typed as typedBy};
 ghost use Rattle.declarations.specs.Names.{namedBy, GivesName, newFault, GivesLastType};
+ghost use Rattle.declarations.specs.State.{startState, withNames, withTypeLine, withVar, bodyState};
 ghost use Rattle.declarations.specs.Lines.{linedBy, lineOf, GivesLine};
 ghost use Rattle.worklist.specs.Laid.{Laid};
 ghost use Rattle.declarations.specs.Vars.{varFits, varEntry, varState, AddsVar, GivesVar};
 
-// What is held of the lines so far: how many entries of names, the newest of them, the free place of the working list, how many types (the
-// two built-in ones too), `type` lines, variables, cells and bodies.
+// How many notes the checker keeps beside the working list: by type number the places of the types' descriptions (the walks' `types`), below
+// 128; the others are free.
+pub const NOTES: usize = 512;
+
+// What is held of the lines so far: the names, the free place of the working list, how many types (the two built-in ones too), `type` lines,
+// variables, cells and bodies.
 pub struct State {
-    pub count: u32,
-    pub newest: u32,
+    pub scope: Scope,
     pub top: u32,
     pub types: u32,
     pub lines: u32,
@@ -95,10 +102,10 @@ fn new_fault(f: Fault, m: Meaning) -> Fault
 }
 
 // The fault of a line that declares the name at p, f being that of its other parts.
-pub fn named_fault(text: &[u8], work: &[u32], count: u32, newest: u32, p: usize, f: Fault) -> Fault
-    ensures { λ r. ⌜ r ≡ newFault f (meaningHere (now (text .entry)) (now (work .entry)) count newest p) ⌝ }
+pub fn named_fault(text: &[u8], work: &[u32], scope: Scope, p: usize, f: Fault) -> Fault
+    ensures { λ r. ⌜ r ≡ newFault f (meaningHere (now (text .entry)) (now (work .entry)) scope p) ⌝ }
 {
-    let m = meaning_of(text, work, count, newest, p);
+    let m = meaning_of(text, work, scope, p);
     new_fault(f, m)
 }
 
@@ -114,10 +121,10 @@ fn type_answer(fault: Fault, kind: u32, next: usize) -> Typed
 }
 
 // The type that the last part of a form names; the next part stands past the form.
-pub fn last_type(text: &[u8], work: &[u32], count: u32, newest: u32, at: usize) -> Typed
-    ensures { λ r. ⌜ GivesLastType (now (text .entry)) (now (work .entry)) count newest at r ⌝ }
+pub fn last_type(text: &[u8], work: &[u32], scope: Scope, at: usize) -> Typed
+    ensures { λ r. ⌜ GivesLastType (now (text .entry)) (now (work .entry)) scope at r ⌝ }
 {
-    let t = type_name(text, work, count, newest, at);
+    let t = type_name(text, work, scope, at);
     let f = t.fault;
     if is_form(f) {
         return type_answer(Fault::Form, 0, at);
@@ -160,39 +167,99 @@ pub fn narrow(p: usize) -> u32
     (p % 32768) as u32
 }
 
-// What is held after a variable of so many cells, with the free place then.
-fn var_state(st: State, size: u32, top: u32) -> State
-    ensures { λ r. ⌜ r ≡ varState st size top ⌝ }
+// What is held after so many names more, the newest at a place, with the free place then.
+pub fn with_names(st: State, names: u32, newest: u32, top: u32) -> State
+    ensures { λ r. ⌜ r ≡ withNames st names newest top ⌝ }
 {
+    let scope = Scope {
+        count: st.scope.count % 65536 + names % 65536,
+        newest,
+    };
+    State { scope, top, ..st }
+}
+
+// What is held after a `type` line more that makes so many types.
+pub fn with_type_line(st: State, made: u32) -> State
+    ensures { λ r. ⌜ r ≡ withTypeLine st made ⌝ }
+{
+    let scope = st.scope;
     State {
-        count: st.count % 65536 + 1,
-        newest: st.top,
-        top: top,
-        types: st.types,
-        lines: st.lines,
-        vars: st.vars % 128 + 1,
-        cells: st.cells % 4096 + size % 4096,
-        procs: st.procs,
+        scope,
+        types: st.types % 128 + made % 2,
+        lines: st.lines % 128 + 1,
+        ..st
     }
 }
 
-// Lays the entry of a variable whose name is at p; the free place then.
-fn lay_var(work: &mut [u32], st: State, p: usize, kind: u32) -> u32
-    ensures { λ r. ⌜ Laid (laid (varEntry st p kind) (st .top) (now (work .entry))) r (now (work .exit)) ⌝ }
+// What is held after a variable more of so many cells.
+fn with_var(st: State, size: u32) -> State
+    ensures { λ r. ⌜ r ≡ withVar st size ⌝ }
 {
-    let name = narrow(p);
-    let sort = 1 + 4 * (st.vars % 128);
-    let more = kind % 128 + 128 * (st.cells % 4096);
-    declare(work, st.top, name, sort, more, st.newest)
+    let scope = st.scope;
+    State {
+        scope,
+        vars: st.vars % 128 + 1,
+        cells: st.cells % 4096 + size % 4096,
+        ..st
+    }
 }
 
-// A line that declares a variable, with no fault of rows 6 to 8: its name is at p.
-fn add_var(work: &mut [u32], types: &[u32], st: State, p: usize, kind: u32) -> Lined
-    ensures { λ r. ⌜ AddsVar (now (work .entry)) (now (types .entry)) st p kind r (now (work .exit)) ⌝ }
+// What is held after a body more, with the free place then.
+pub fn with_body(st: State, top: u32) -> State
+    ensures { λ r. ⌜ r ≡ bodyState st top ⌝ }
+{
+    let scope = st.scope;
+    State {
+        scope,
+        top,
+        procs: st.procs % 16384 + 1,
+        ..st
+    }
+}
+
+// What is held before any line.
+pub fn start_state() -> State
+    ensures { λ r. ⌜ r ≡ startState ⌝ }
+{
+    let scope = Scope {
+        count: 0,
+        newest: 0,
+    };
+    State {
+        scope,
+        top: 1,
+        types: 2,
+        lines: 0,
+        vars: 0,
+        cells: 0,
+        procs: 0,
+    }
+}
+
+// What is held after a variable of so many cells and its name, with the free place then.
+fn var_state(st: State, size: u32, top: u32) -> State
+    ensures { λ r. ⌜ r ≡ varState st size top ⌝ }
+{
+    let named = with_names(st, 1, st.top, top);
+    with_var(named, size)
+}
+
+// Lays the entry of a variable, by its name's number; the free place then.
+fn lay_var(work: &mut [u32], st: State, name: u32, kind: u32) -> u32
+    ensures { λ r. ⌜ Laid (laid (varEntry st name kind) (st .top) (now (work .entry))) r (now (work .exit)) ⌝ }
+{
+    let sort = 1 + 4 * (st.vars % 128);
+    let more = kind % 128 + 128 * (st.cells % 4096);
+    declare(work, st.top, name, sort, more, st.scope.newest)
+}
+
+// A line that declares a variable, with no fault of rows 6 to 8, by its name's number.
+fn add_var(work: &mut [u32], types: &[u32], st: State, name: u32, kind: u32) -> Lined
+    ensures { λ r. ⌜ AddsVar (now (work .entry)) (now (types .entry)) st name kind r (now (work .exit)) ⌝ }
 {
     let x = describe(work, types, kind);
     if var_fits(st.vars, st.cells, x.size) {
-        let top = lay_var(work, st, p, kind);
+        let top = lay_var(work, st, name, kind);
         let after = var_state(st, x.size, top);
         return answered(Fault::Clear, true, after);
     }
@@ -203,11 +270,12 @@ fn add_var(work: &mut [u32], types: &[u32], st: State, p: usize, kind: u32) -> L
 fn var_after(text: &[u8], work: &mut [u32], types: &[u32], st: State, p: usize, at: usize) -> Lined
     ensures { λ r. ⌜ GivesVar (now (text .entry)) (now (work .entry)) (now (types .entry)) st p at r (now (work .exit)) ⌝ }
 {
-    let t = last_type(text, work, st.count, st.newest, at);
+    let t = last_type(text, work, st.scope, at);
     let g = t.fault;
-    let f = named_fault(text, work, st.count, st.newest, p, g);
+    let f = named_fault(text, work, st.scope, p, g);
     if is_clear(f) {
-        return add_var(work, types, st, p, t.kind);
+        let name = name_number(text, p);
+        return add_var(work, types, st, name, t.kind);
     }
     answered(f, false, st)
 }

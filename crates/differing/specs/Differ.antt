@@ -11,9 +11,10 @@ use Rattle.semantics.specs.Script as Script
 use Rattle.semantics.specs.Syntax.{Arms}
 use Rattle.semantics.specs.Trees.{first, stackAt}
 use Rattle.shapes.specs.Parts.{armsIn}
+use Rattle.tables.specs.declared.Scope.{Scope}
 use Rattle.tables.specs.Scene.{Scene}
 
 -- whether the labels of arms at an offset differ, where none is past the integers
-pub record Differs (s l : List ℕ) (count newest at : ℕ) (r : Bool) : Type 0 where
-  pub says : (ts : List ℕ) (top : ℕ) (σ : Environment) (bs : List ℕ) → Scene s l ts count newest top σ bs → (d n : ℕ) (a : Arms × ℕ) (b : Script.Arms)
+pub record Differs (s l : List ℕ) (scope : Scope) (at : ℕ) (r : Bool) : Type 0 where
+  pub says : (ts : List ℕ) (top : ℕ) (σ : Environment) (bs : List ℕ) → Scene s l ts scope top σ bs → (d n : ℕ) (a : Arms × ℕ) (b : Script.Arms)
       → armsIn d n (first (stackAt s at)) ≡ some a → armsOf σ (a .0) ≡ some b → allPlain (labelsOf b) ≡ true → r ≡ differ (labelsOf b)

@@ -10,6 +10,7 @@ use labels::ordinal_in;
 use labels::repeated;
 use labels::truth_value;
 use tables::Meaning;
+use tables::Scope;
 use tables::meaning_of;
 ghost use mathlib.Core.Path.{_≡_};
 ghost use Prim.Native.Nat.{_<_};
@@ -61,42 +62,35 @@ fn name_key(m: Meaning) -> i64
 }
 
 // The key of a label.
-fn key_of(text: &[u8], work: &[u32], count: u32, newest: u32, m: Mark) -> i64
-    ensures { λ r. ⌜ r ≡ keyAt (now (text .entry)) (now (work .entry)) count newest m ⌝ }
+fn key_of(text: &[u8], work: &[u32], scope: Scope, m: Mark) -> i64
+    ensures { λ r. ⌜ r ≡ keyAt (now (text .entry)) (now (work .entry)) scope m ⌝ }
 {
     match m {
         Mark::Number(z) => key(0, z),
         Mark::Truth(b) => key(1, truth_value(b)),
-        Mark::Named(p) => name_key(meaning_of(text, work, count, newest, p)),
+        Mark::Named(p) => name_key(meaning_of(text, work, scope, p)),
     }
 }
 
 // The key of the next label from an offset inside an arm.
-fn next_key(text: &[u8], work: &[u32], count: u32, newest: u32, at: usize) -> NextKey
-    ensures { λ r. ⌜ NextKeys (now (text .entry)) (now (work .entry)) count newest at r ⌝ }
+fn next_key(text: &[u8], work: &[u32], scope: Scope, at: usize) -> NextKey
+    ensures { λ r. ⌜ NextKeys (now (text .entry)) (now (work .entry)) scope at r ⌝ }
 {
     let x = next_label(text, at);
     match x {
-        Next::Label(m, q) => NextKey::Key(key_of(text, work, count, newest, m), q),
+        Next::Label(m, q) => NextKey::Key(key_of(text, work, scope, m), q),
         Next::Done => NextKey::Done,
     }
 }
 
 // The keys of the labels from an offset on, as many as a block holds.
-fn fill_keys(
-    text: &[u8],
-    work: &[u32],
-    count: u32,
-    newest: u32,
-    block: &mut [i64],
-    at: usize,
-) -> Filled
-    ensures { λ r. ⌜ Fills (now (text .entry)) (now (work .entry)) count newest at r (now (block .exit)) ⌝ }
+fn fill_keys(text: &[u8], work: &[u32], scope: Scope, block: &mut [i64], at: usize) -> Filled
+    ensures { λ r. ⌜ Fills (now (text .entry)) (now (work .entry)) scope at r (now (block .exit)) ⌝ }
 {
     let mut n = 0;
     let mut p = at;
     while n < block.len() {
-        let x = next_key(text, work, count, newest, p);
+        let x = next_key(text, work, scope, p);
         match x {
             NextKey::Key(z, q) => {
                 block[n] = z;
@@ -112,12 +106,12 @@ fn fill_keys(
 }
 
 // Whether a key of a block is that of a label from an offset on.
-fn comes_again(text: &[u8], work: &[u32], count: u32, newest: u32, block: &[i64], at: usize) -> bool
-    ensures { λ r. ⌜ ComesAgain (now (text .entry)) (now (work .entry)) count newest (now (block .entry)) at r ⌝ }
+fn comes_again(text: &[u8], work: &[u32], scope: Scope, block: &[i64], at: usize) -> bool
+    ensures { λ r. ⌜ ComesAgain (now (text .entry)) (now (work .entry)) scope (now (block .entry)) at r ⌝ }
 {
     let mut p = at;
     loop {
-        let x = next_key(text, work, count, newest, p);
+        let x = next_key(text, work, scope, p);
         match x {
             NextKey::Key(z, q) => {
                 if holds(block, z) {
@@ -133,35 +127,28 @@ fn comes_again(text: &[u8], work: &[u32], count: u32, newest: u32, block: &[i64]
 }
 
 // Whether a key of a block comes again in it or among the labels from an offset on.
-fn recurs(text: &[u8], work: &[u32], count: u32, newest: u32, block: &[i64], at: usize) -> bool
-    ensures { λ r. ⌜ Recurs (now (text .entry)) (now (work .entry)) count newest (now (block .entry)) at r ⌝ }
+fn recurs(text: &[u8], work: &[u32], scope: Scope, block: &[i64], at: usize) -> bool
+    ensures { λ r. ⌜ Recurs (now (text .entry)) (now (work .entry)) scope (now (block .entry)) at r ⌝ }
 {
     if repeated(block) {
         return true;
     }
-    comes_again(text, work, count, newest, block, at)
+    comes_again(text, work, scope, block, at)
 }
 
 // Whether the labels from an offset inside an arm on differ; they are compared block by block.
-fn differ_from(
-    text: &[u8],
-    work: &[u32],
-    count: u32,
-    newest: u32,
-    block: &mut [i64],
-    at: usize,
-) -> bool
+fn differ_from(text: &[u8], work: &[u32], scope: Scope, block: &mut [i64], at: usize) -> bool
     requires { ⌜ 0 < length (now block) ⌝ }
-    ensures { λ r. ⌜ DiffersFrom (now (text .entry)) (now (work .entry)) count newest at r ⌝ }
+    ensures { λ r. ⌜ DiffersFrom (now (text .entry)) (now (work .entry)) scope at r ⌝ }
 {
     let mut p = at;
     loop {
-        let r = fill_keys(text, work, count, newest, block, p);
+        let r = fill_keys(text, work, scope, block, p);
         let n = r.size;
         if n == 0 {
             return true;
         }
-        if recurs(text, work, count, newest, &block[..n], r.next) {
+        if recurs(text, work, scope, &block[..n], r.next) {
             return false;
         }
         p = r.next;
@@ -169,15 +156,15 @@ fn differ_from(
 }
 
 // Whether the labels of a case whose arms begin at an offset differ.
-pub fn labels_differ(text: &[u8], work: &[u32], count: u32, newest: u32, at: usize) -> bool
-    ensures { λ r. ⌜ Differs (now (text .entry)) (now (work .entry)) count newest at r ⌝ }
+pub fn labels_differ(text: &[u8], work: &[u32], scope: Scope, at: usize) -> bool
+    ensures { λ r. ⌜ Differs (now (text .entry)) (now (work .entry)) scope at r ⌝ }
 {
     let h = arm_hop(text, at);
     match h {
         Hop::Label(_, _) => true,
         Hop::Over(q) => {
             let mut block = [0i64; 256];
-            differ_from(text, work, count, newest, &mut block, q)
+            differ_from(text, work, scope, &mut block, q)
         }
         Hop::End => true,
     }

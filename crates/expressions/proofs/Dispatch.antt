@@ -6,20 +6,19 @@ use mathlib.Core.Option.{Option, none, some}
 use Prim.Native.Nat.{ℕ, zero, suc, _-_, _<_, _≤_}
 use native.Mathlib.Omega.{arith}
 use Rattle.lexis.specs.declared.words.Word.{Word}
-use Rattle.spelling.specs.Bytes.{small}
 use Rattle.lexis.specs.Words.{wordOf}
 use Rattle.semantics.specs.Base.{_>>=_}
 use Rattle.semantics.specs.Environment.{Environment}
 use Rattle.semantics.specs.Syntax as Syntax
-use Rattle.semantics.specs.Trees.{Tree, word, form, Trees, end, _then_, Run, first, later, wordAt, stackAt}
+use Rattle.semantics.specs.Trees.{word, form, Trees, end, _then_, Run, first, later, wordAt, stackAt}
 use Rattle.shapes.specs.declared.ExprHead.{ExprHead}
 use Rattle.shapes.specs.declared.ExprHead.the-variants as EH
 use Rattle.shapes.specs.Heads.{exprHeadOf, atomExpr, atomTarget, atomOf}
 use Rattle.shapes.specs.Parts.{rest, exprIn, targetIn, targetBy, partOf}
 use Rattle.shapes.proofs.Heads.{expr-head-is, expr-word, target-word}
 use Rattle.shapes.proofs.Expressions.{expr-form, expr-end, expr-zero, expr-empty, expr-headless, target-form, target-end, target-zero, target-empty, target-headless}
+use Rattle.tables.specs.declared.Scope.{Scope}
 use Rattle.tables.specs.declared.Fault.the-variants.{Form}
-use Rattle.tables.specs.Scene.{Scene}
 use Rattle.parts.specs.declared.Got.{Got}
 use Rattle.parts.specs.declared.Part.{Part}
 use Rattle.parts.specs.declared.Part.the-variants as part
@@ -50,21 +49,21 @@ target-alone : (d : ℕ) (us ts : Trees Run) → targetIn d (form us then ts) �
 unfolding targetIn partOf
 target-alone d us ts = refl
 
-module _ (s l ts : List ℕ) (count newest d at top : ℕ) where
-  pub expr-deep : (q : ℕ) (r : Got) → d ≡ 0 → r ≡ failedGot Form 0 q top → GivesExpr s l ts count newest d at top r l
+module _ (s l ts : List ℕ) (scope : Scope) (d at top : ℕ) where
+  pub expr-deep : (q : ℕ) (r : Got) → d ≡ 0 → r ≡ failedGot Form 0 q top → GivesExpr s l ts scope d at top r l
   expr-deep q r h e = rw e (record { moves = failed-moves s at top q l; says = λ σ bs S. expr-failed σ (exprIn d (first (stackAt s at))) top l (failedGot Form 0 q top) l (rw h (expr-zero (first (stackAt s at)))) refl })
 
-  pub target-deep : (q : ℕ) (r : Got) → d ≡ 0 → r ≡ failedGot Form 0 q top → GivesTarget s l ts count newest d at top r l
+  pub target-deep : (q : ℕ) (r : Got) → d ≡ 0 → r ≡ failedGot Form 0 q top → GivesTarget s l ts scope d at top r l
   target-deep q r h e = rw e (record { moves = failed-moves s at top q l; says = λ σ bs S. target-failed σ (targetIn d (first (stackAt s at))) top l (failedGot Form 0 q top) l (rw h (target-zero (first (stackAt s at)))) refl })
 
   module _ (x : Part) (c : Stands s at x) where
-    pub expr-shut : (q : ℕ) (r : Got) → x ≡ part.Shut q → r ≡ failedGot Form 0 q top → GivesExpr s l ts count newest d at top r l
+    pub expr-shut : (q : ℕ) (r : Got) → x ≡ part.Shut q → r ≡ failedGot Form 0 q top → GivesExpr s l ts scope d at top r l
     expr-shut q r h e = let f = rw h at (c .says) in rw e (record { moves = failed-moves s at top q l; says = λ σ bs S. expr-failed σ (exprIn d (first (stackAt s at))) top l (failedGot Form 0 q top) l (rw (f .here) (expr-end d)) refl })
 
-    pub target-shut : (q : ℕ) (r : Got) → x ≡ part.Shut q → r ≡ failedGot Form 0 q top → GivesTarget s l ts count newest d at top r l
+    pub target-shut : (q : ℕ) (r : Got) → x ≡ part.Shut q → r ≡ failedGot Form 0 q top → GivesTarget s l ts scope d at top r l
     target-shut q r h e = let f = rw h at (c .says) in rw e (record { moves = failed-moves s at top q l; says = λ σ bs S. target-failed σ (targetIn d (first (stackAt s at))) top l (failedGot Form 0 q top) l (rw (f .here) (target-end d)) refl })
 
-    pub expr-leaf : (w : Word) (p q : ℕ) (r : Got) (l′ : List ℕ) → ((d ≡ 0) → ⊥) → x ≡ part.Leaf w p q → GivesWord s l ts count newest w p q top r l′ → GivesExpr s l ts count newest d at top r l′
+    pub expr-leaf : (w : Word) (p q : ℕ) (r : Got) (l′ : List ℕ) → ((d ≡ 0) → ⊥) → x ≡ part.Leaf w p q → GivesWord s l ts scope w p q top r l′ → GivesExpr s l ts scope d at top r l′
     expr-leaf w p q r l′ n h W =
         let f = rw h at (c .says) in
         let b = f .0 .leaf in
@@ -73,7 +72,7 @@ module _ (s l ts : List ℕ) (count newest d at top : ℕ) where
           says = λ σ bs S. rw (b .here, ← fuel d n, expr-word (d - 1) (wordAt s p) (first (stackAt s q)), ← f .1) (W .says σ bs S (f .1));
         }
 
-    pub target-leaf : (w : Word) (p q : ℕ) (r : Got) (l′ : List ℕ) → ((d ≡ 0) → ⊥) → x ≡ part.Leaf w p q → GivesVar s l ts count newest w p q top r l′ → GivesTarget s l ts count newest d at top r l′
+    pub target-leaf : (w : Word) (p q : ℕ) (r : Got) (l′ : List ℕ) → ((d ≡ 0) → ⊥) → x ≡ part.Leaf w p q → GivesVar s l ts scope w p q top r l′ → GivesTarget s l ts scope d at top r l′
     target-leaf w p q r l′ n h W =
         let f = rw h at (c .says) in
         let b = f .0 .leaf in
@@ -90,7 +89,7 @@ module _ (s l ts : List ℕ) (count newest d at top : ℕ) where
       grows = L .grows;
     }
 
-    pub expr-inner : (p : ℕ) (r : Got) (l′ : List ℕ) → ((d ≡ 0) → ⊥) → x ≡ part.Form p → GivesInner s l ts count newest (d - 1) p top r l′ → GivesExpr s l ts count newest d at top r l′
+    pub expr-inner : (p : ℕ) (r : Got) (l′ : List ℕ) → ((d ≡ 0) → ⊥) → x ≡ part.Form p → GivesInner s l ts scope (d - 1) p top r l′ → GivesExpr s l ts scope d at top r l′
     expr-inner p r l′ n h I =
         let f = rw h at (c .says) in
         record {
@@ -98,7 +97,7 @@ module _ (s l ts : List ℕ) (count newest d at top : ℕ) where
           says = λ σ bs S. rw (f .here, ← fuel d n, expr-alone (suc (d - 1)) (first (stackAt s p)) (first (later (stackAt s p)))) (I .says σ bs S);
         }
 
-    pub target-inner : (p : ℕ) (r : Got) (l′ : List ℕ) → ((d ≡ 0) → ⊥) → x ≡ part.Form p → GivesInnerPlace s l ts count newest (d - 1) p top r l′ → GivesTarget s l ts count newest d at top r l′
+    pub target-inner : (p : ℕ) (r : Got) (l′ : List ℕ) → ((d ≡ 0) → ⊥) → x ≡ part.Form p → GivesInnerPlace s l ts scope (d - 1) p top r l′ → GivesTarget s l ts scope d at top r l′
     target-inner p r l′ n h I =
         let f = rw h at (c .says) in
         record {
@@ -108,23 +107,23 @@ module _ (s l ts : List ℕ) (count newest d at top : ℕ) where
 
     -- ---- the head word
 
-    pub inner-shut : (q : ℕ) (r : Got) → x ≡ part.Shut q → r ≡ failedGot Form 0 q top → GivesInner s l ts count newest d at top r l
+    pub inner-shut : (q : ℕ) (r : Got) → x ≡ part.Shut q → r ≡ failedGot Form 0 q top → GivesInner s l ts scope d at top r l
     inner-shut q r h e = let f = rw h at (c .says) in rw e (record { leaves = failed-leaves s at top q l; says = λ σ bs S. expr-failed σ _ top l (failedGot Form 0 q top) l (rw (f .here) (expr-empty (suc d) end)) refl })
 
-    pub inner-form : (p : ℕ) (r : Got) → x ≡ part.Form p → r ≡ failedGot Form 0 p top → GivesInner s l ts count newest d at top r l
+    pub inner-form : (p : ℕ) (r : Got) → x ≡ part.Form p → r ≡ failedGot Form 0 p top → GivesInner s l ts scope d at top r l
     inner-form p r h e = let f = rw h at (c .says) in rw e (record { leaves = failed-leaves s at top p l; says = λ σ bs S. expr-failed σ _ top l (failedGot Form 0 p top) l (rw (f .here) (expr-headless (suc d) (first (stackAt s p)) (first (later (stackAt s p))) end)) refl })
 
-    pub place-shut : (q : ℕ) (r : Got) → x ≡ part.Shut q → r ≡ failedGot Form 0 q top → GivesInnerPlace s l ts count newest d at top r l
+    pub place-shut : (q : ℕ) (r : Got) → x ≡ part.Shut q → r ≡ failedGot Form 0 q top → GivesInnerPlace s l ts scope d at top r l
     place-shut q r h e = let f = rw h at (c .says) in rw e (record { leaves = failed-leaves s at top q l; says = λ σ bs S. target-failed σ _ top l (failedGot Form 0 q top) l (rw (f .here) (target-empty (suc d) end)) refl })
 
-    pub place-form : (p : ℕ) (r : Got) → x ≡ part.Form p → r ≡ failedGot Form 0 p top → GivesInnerPlace s l ts count newest d at top r l
+    pub place-form : (p : ℕ) (r : Got) → x ≡ part.Form p → r ≡ failedGot Form 0 p top → GivesInnerPlace s l ts scope d at top r l
     place-form p r h e = let f = rw h at (c .says) in rw e (record { leaves = failed-leaves s at top p l; says = λ σ bs S. target-failed σ _ top l (failedGot Form 0 p top) l (rw (f .here) (target-headless (suc d) (first (stackAt s p)) (first (later (stackAt s p))) end)) refl })
 
     head-leaves : (p q : ℕ) (r : Got) (l′ : List ℕ) → LeafAt s at p q → Leaves s q top l r l′ → Leaves s at top l r l′
     head-leaves p q r l′ f L = record { goes = λ h. f .leaf .around ∙ L .goes h; keeps = L .keeps; grows = L .grows }
 
     module _ (w : Word) (p q : ℕ) (h : x ≡ part.Leaf w p q) (k : ExprHead) (i : k ≡ exprHeadOf w) (r : Got) (l′ : List ℕ) where
-      pub inner-head : GivesForm s l ts count newest k d q top r l′ → GivesInner s l ts count newest d at top r l′
+      pub inner-head : GivesForm s l ts scope k d q top r l′ → GivesInner s l ts scope d at top r l′
       unfolding formIn
       inner-head F =
           let f = rw h at (c .says) in
@@ -134,7 +133,7 @@ module _ (s l ts : List ℕ) (count newest d at top : ℕ) where
             says = λ σ bs S. rw (f .0 .leaf .here, expr-form d (wordAt s p) (first (stackAt s q)) end, expr-head-is (wordAt s p), ← j) (F .says σ bs S);
           }
 
-      pub place-head : GivesPlace s l ts count newest k d q top r l′ → GivesInnerPlace s l ts count newest d at top r l′
+      pub place-head : GivesPlace s l ts scope k d q top r l′ → GivesInnerPlace s l ts scope d at top r l′
       place-head F =
           let f = rw h at (c .says) in
           let j : k ≡ exprHeadOf (wordOf (wordAt s p)) = i ∙ ap exprHeadOf (f .1) in
@@ -153,47 +152,47 @@ pub ruleset place-laws = (place-shut, place-form, place-head)
 
 -- ---- by the head word
 
-module _ (s l ts : List ℕ) (count newest : ℕ) (k : ExprHead) (d at top : ℕ) (r : Got) (l′ : List ℕ) where
-  pub by-form : (h : ExprHead) → k ≡ h → GivesForm s l ts count newest h d at top r l′ → GivesForm s l ts count newest k d at top r l′
+module _ (s l ts : List ℕ) (scope : Scope) (k : ExprHead) (d at top : ℕ) (r : Got) (l′ : List ℕ) where
+  pub by-form : (h : ExprHead) → k ≡ h → GivesForm s l ts scope h d at top r l′ → GivesForm s l ts scope k d at top r l′
   by-form h e F = rw e F
 
-  pub by-place : (h : ExprHead) → k ≡ h → GivesPlace s l ts count newest h d at top r l′ → GivesPlace s l ts count newest k d at top r l′
+  pub by-place : (h : ExprHead) → k ≡ h → GivesPlace s l ts scope h d at top r l′ → GivesPlace s l ts scope k d at top r l′
   by-place h e F = rw e F
 
-pub by-nothing : (s l ts : List ℕ) (count newest : ℕ) (k : ExprHead) (d at top q : ℕ) (r : Got) → k ≡ EH.Nothing → r ≡ failedGot Form 0 q top → GivesForm s l ts count newest k d at top r l
+pub by-nothing : (s l ts : List ℕ) (scope : Scope) (k : ExprHead) (d at top q : ℕ) (r : Got) → k ≡ EH.Nothing → r ≡ failedGot Form 0 q top → GivesForm s l ts scope k d at top r l
 unfolding formIn _>>=_
-by-nothing s l ts count newest k d at top q r h e = rw (h, e) (record { leaves = failed-leaves s at top q l; says = λ σ bs S. expr-failed σ (formIn EH.Nothing d (first (stackAt s at))) top l (failedGot Form 0 q top) l refl refl })
+by-nothing s l ts scope k d at top q r h e = rw (h, e) (record { leaves = failed-leaves s at top q l; says = λ σ bs S. expr-failed σ (formIn EH.Nothing d (first (stackAt s at))) top l (failedGot Form 0 q top) l refl refl })
 
 -- any other head is that of no target
-module _ (s l ts : List ℕ) (count newest : ℕ) (k : ExprHead) (d at top q : ℕ) (r : Got) (e : r ≡ failedGot Form 0 q top) where
-  no-place : targetBy k d (first (stackAt s at)) ≡ none → GivesPlace s l ts count newest k d at top r l
+module _ (s l ts : List ℕ) (scope : Scope) (k : ExprHead) (d at top q : ℕ) (r : Got) (e : r ≡ failedGot Form 0 q top) where
+  no-place : targetBy k d (first (stackAt s at)) ≡ none → GivesPlace s l ts scope k d at top r l
   no-place h = rw e (record { leaves = failed-leaves s at top q l; says = λ σ bs S. target-failed σ (targetBy k d (first (stackAt s at))) top l (failedGot Form 0 q top) l h refl })
 
-  pub place-members : k ≡ EH.Members → GivesPlace s l ts count newest k d at top r l
+  pub place-members : k ≡ EH.Members → GivesPlace s l ts scope k d at top r l
   unfolding targetBy
   place-members h = no-place (rw h refl)
 
-  pub place-minus : k ≡ EH.Minus → GivesPlace s l ts count newest k d at top r l
+  pub place-minus : k ≡ EH.Minus → GivesPlace s l ts scope k d at top r l
   unfolding targetBy
   place-minus h = no-place (rw h refl)
 
-  pub place-bound : (b : Bool) → k ≡ EH.Bound b → GivesPlace s l ts count newest k d at top r l
+  pub place-bound : (b : Bool) → k ≡ EH.Bound b → GivesPlace s l ts scope k d at top r l
   unfolding targetBy
   place-bound b h = no-place (rw h refl)
 
-  pub place-short : (b : Bool) → k ≡ EH.Short b → GivesPlace s l ts count newest k d at top r l
+  pub place-short : (b : Bool) → k ≡ EH.Short b → GivesPlace s l ts scope k d at top r l
   unfolding targetBy
   place-short b h = no-place (rw h refl)
 
-  pub place-two : (n : ℕ) → k ≡ EH.Two n → GivesPlace s l ts count newest k d at top r l
+  pub place-two : (n : ℕ) → k ≡ EH.Two n → GivesPlace s l ts scope k d at top r l
   unfolding targetBy
   place-two n h = no-place (rw h refl)
 
-  pub place-one : (n : ℕ) → k ≡ EH.One n → GivesPlace s l ts count newest k d at top r l
+  pub place-one : (n : ℕ) → k ≡ EH.One n → GivesPlace s l ts scope k d at top r l
   unfolding targetBy
   place-one n h = no-place (rw h refl)
 
-  pub place-nothing : k ≡ EH.Nothing → GivesPlace s l ts count newest k d at top r l
+  pub place-nothing : k ≡ EH.Nothing → GivesPlace s l ts scope k d at top r l
   unfolding targetBy
   place-nothing h = no-place (rw h refl)
 

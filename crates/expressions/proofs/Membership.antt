@@ -26,6 +26,7 @@ use Rattle.semantics.proofs.LayoutRegions.{Same, lay-g}
 use Rattle.semantics.proofs.OnePassExprs.{member-staged, members-staged, members-unknown}
 use Rattle.worklist.specs.Laid.{Laid}
 use Rattle.shapes.specs.Parts.{rest, exprIn, exprsIn, partOf, typeNameIn}
+use Rattle.tables.specs.declared.Scope.{Scope}
 use Rattle.tables.specs.declared.Fault.{Fault}
 use Rattle.tables.specs.declared.Fault.the-variants.{Clear, Kind, Name, Form}
 use Rattle.tables.specs.Descriptions.{infoOf}
@@ -189,15 +190,15 @@ pub record Sums (σ : Environment) (k d : ℕ) (us₀ us : Trees Run) (chain top
   pub faults : faultOf (membersStaged σ k (exprsIn d us₀)) ≡ lowest f (faultOf (membersStaged σ k (exprsIn d us)))
   pub codes : f ≡ Clear → (cs : Codes) → membersStaged σ k (exprsIn d us) ≡ fits cs → (as′ : Codes) × (membersStaged σ k (exprsIn d us₀) ≡ fits as′) × (layCodes as′ chain top l₀ ≡ layCodes cs slot t l)
 
-pub record Sofar (s l₀ ts : List ℕ) (count newest k d at chain top : ℕ) (f : Fault) (next slot t : ℕ) (l : List ℕ) : Type 0 where
+pub record Sofar (s l₀ ts : List ℕ) (scope : Scope) (k d at chain top : ℕ) (f : Fault) (next slot t : ℕ) (l : List ℕ) : Type 0 where
   pub moved : later (stackAt s at) ≡ later (stackAt s next)
   pub kept : chain ≤ top → Same 0 chain l l₀
   pub up : top ≤ t
   pub above : chain ≤ top → chain ≤ slot
-  pub sums : (σ : Environment) (bs : List ℕ) → Scene s l₀ ts count newest chain σ bs → chain ≤ top → Sums σ k d (first (stackAt s at)) (first (stackAt s next)) chain top l₀ f slot t l
+  pub sums : (σ : Environment) (bs : List ℕ) → Scene s l₀ ts scope chain σ bs → chain ≤ top → Sums σ k d (first (stackAt s at)) (first (stackAt s next)) chain top l₀ f slot t l
 
-pub sofar-start : (s l ts : List ℕ) (count newest k d at chain top : ℕ) → Sofar s l ts count newest k d at chain top Clear at chain top l
-sofar-start s l ts count newest k d at chain top = record {
+pub sofar-start : (s l ts : List ℕ) (scope : Scope) (k d at chain top : ℕ) → Sofar s l ts scope k d at chain top Clear at chain top l
+sofar-start s l ts scope k d at chain top = record {
   moved = refl;
   kept = λ _. same-refl chain l;
   up = omega arith;
@@ -205,9 +206,9 @@ sofar-start s l ts count newest k d at chain top = record {
   sums = λ σ bs S h. record { faults = refl; codes = λ _ cs e. (cs, e, refl) };
 }
 
-module _ (s l₀ ts : List ℕ) (count newest k d at chain top : ℕ) (f : Fault) (next slot t : ℕ) (l : List ℕ) (I : Sofar s l₀ ts count newest k d at chain top f next slot t l) where
+module _ (s l₀ ts : List ℕ) (scope : Scope) (k d at chain top : ℕ) (f : Fault) (next slot t : ℕ) (l : List ℕ) (I : Sofar s l₀ ts scope k d at chain top f next slot t l) where
   module _ (e : End) (E : Shuts s next e) where
-    pub members-done : (q : ℕ) (r : Got) → e ≡ ending.Past q → r ≡ failedGot f 0 q t → GivesMembers s l₀ ts count newest k d at chain top r l
+    pub members-done : (q : ℕ) (r : Got) → e ≡ ending.Past q → r ≡ failedGot f 0 q t → GivesMembers s l₀ ts scope k d at chain top r l
     members-done q r h m =
         let z = rw h at (E .says) in
         rw m (record {
@@ -226,8 +227,8 @@ module _ (s l₀ ts : List ℕ) (count newest k d at chain top : ℕ) (f : Fault
             → (t ≡ layCodes cs chain top l₀ .top) × (l ≡ layCodes cs chain top l₀ .list)
         ended {σ} cs c i Q n = let x = Q .codes c noCodes n in rw (← fits-inj (sym (x .1) ∙ i), x .2) (tops slot t l)
 
-    module _ (h : e ≡ ending.More) (x : Got) (l₁ : List ℕ) (X : GivesExpr s l ts count newest d next t x l₁) (b : Bool) (i : b ≡ isForm (x .fault)) where
-      pub members-wrong : b ≡ true → GivesMembers s l₀ ts count newest k d at chain top x l₁
+    module _ (h : e ≡ ending.More) (x : Got) (l₁ : List ℕ) (X : GivesExpr s l ts scope d next t x l₁) (b : Bool) (i : b ≡ isForm (x .fault)) where
+      pub members-wrong : b ≡ true → GivesMembers s l₀ ts scope k d at chain top x l₁
       members-wrong z = record {
         goes = λ y. absurd (true≢false (sym (sym i ∙ z) ∙ y));
         keeps = λ u. below-chain u (X .moves .keeps);
@@ -244,7 +245,7 @@ module _ (s l₀ ts : List ℕ) (count newest k d at chain top : ℕ) (f : Fault
 
       -- one member more
       module _ (z : b ≡ false) (g f′ : Fault) (c : g ≡ memberFault (x .fault) (x .kind) k) (c′ : f′ ≡ lowest f g) (t′ : ℕ) (l′ : List ℕ) (L : Laid (linked slot (x .place) (x .top) l₁) t′ l′) where
-        next-sums : (σ : Environment) (bs : List ℕ) → Scene s l₀ ts count newest chain σ bs → chain ≤ top
+        next-sums : (σ : Environment) (bs : List ℕ) → Scene s l₀ ts scope chain σ bs → chain ≤ top
             → Sums σ k d (first (stackAt s at)) (first (stackAt s (x .next))) chain top l₀ f′ (x .top + 1) t′ l′
         unfolding layCode linked link lay
         next-sums σ bs S u =
@@ -264,7 +265,7 @@ module _ (s l₀ ts : List ℕ) (count newest k d at chain top : ℕ) (f : Fault
                   (a .0, a .1, a .2 ∙ rw (← T .laid (y .0) (y .1) .1, ← L .free, ← L .left) refl);
             }
 
-        members-next : Sofar s l₀ ts count newest k d at chain top f′ (x .next) (x .top + 1) t′ l′
+        members-next : Sofar s l₀ ts scope k d at chain top f′ (x .next) (x .top + 1) t′ l′
         unfolding linked link
         members-next =
             let B = X .moves .goes (sym i ∙ z) .1 in
@@ -281,7 +282,7 @@ module _ (s l₀ ts : List ℕ) (count newest k d at chain top : ℕ) (f : Fault
               sums = next-sums;
             }
 
-        pub members-again : (v : ℕ) → v ≡ x .top + 1 → Sofar s l₀ ts count newest k d at chain top f′ (x .next) v t′ l′
+        pub members-again : (v : ℕ) → v ≡ x .top + 1 → Sofar s l₀ ts scope k d at chain top f′ (x .next) v t′ l′
         members-again v q = rw q members-next
 
         pub members-falls : many (first (stackAt s (x .next))) < many (first (stackAt s next))
@@ -338,8 +339,8 @@ type-none : {A B : Type 0} (o : Option A) (f : A → Option B) → o ≡ none �
 unfolding _>>=_
 type-none o f h = rw h refl
 
-module _ (s l ts : List ℕ) (count newest d at top : ℕ) (y : Typed) (Y : GivesType s l count newest at y) (t : Bool) (e : t ≡ isForm (y .fault)) where
-  pub set-wrong : (r : Got) (q : ℕ) → t ≡ true → r ≡ failedGot Form 0 q top → GivesForm s l ts count newest EH.Members d at top r l
+module _ (s l ts : List ℕ) (scope : Scope) (d at top : ℕ) (y : Typed) (Y : GivesType s l scope at y) (t : Bool) (e : t ≡ isForm (y .fault)) where
+  pub set-wrong : (r : Got) (q : ℕ) → t ≡ true → r ≡ failedGot Form 0 q top → GivesForm s l ts scope EH.Members d at top r l
   set-wrong r q z m = rw m (record {
     leaves = failed-leaves s at top q l;
     says = λ σ bs S. no-type σ (type-read σ (typeNameIn (first (stackAt s at))) y (Y .says ts top σ bs S));
@@ -351,7 +352,7 @@ module _ (s l ts : List ℕ) (count newest d at top : ℕ) (y : Typed) (Y : Give
       no-type σ (read-known n k a b f g) = absurd (false≢true (ap isForm (sym f) ∙ sym e ∙ z))
 
   module _ (z : t ≡ false) (base u : ℕ) (l₁ : List ℕ) (b : base ≡ hostIn l ts (infoOf l ts (y .kind) .element)) (L : Laid (lay (0 ∷ []) top l) u l₁) (m : Got) (l₂ : List ℕ)
-      (M : GivesMembers s l₁ ts count newest base d (y .next) top u m l₂) (r : Got) (l′ : List ℕ) where
+      (M : GivesMembers s l₁ ts scope base d (y .next) top u m l₂) (r : Got) (l′ : List ℕ) where
     abbrev us : Trees Run
     us = first (stackAt s at)
 
@@ -364,7 +365,7 @@ module _ (s l ts : List ℕ) (count newest d at top : ℕ) (y : Typed) (Y : Give
     slot-below : Same 0 top l₁ l
     slot-below = let G = lay-g (0 ∷ []) top l in record { at = λ j p q. ap (λ k. getD k j 0) (L .left) ∙ G .below j q }
 
-    set-told : (σ : Environment) (bs : List ℕ) → Scene s l ts count newest top σ bs → TypeRead σ (typeNameIn us) y
+    set-told : (σ : Environment) (bs : List ℕ) → Scene s l ts scope top σ bs → TypeRead σ (typeNameIn us) y
         → Told (exprStaged σ (formIn EH.Members d us)) (λ x. x .kind) (λ x. layCode (x .code)) top l (setMade l₂ ts (y .fault) (y .kind) top m .got) (setMade l₂ ts (y .fault) (y .kind) top m .list)
     unfolding setMade setNode layCode lay given
     set-told σ bs S (read-none n f) = absurd (true≢false (ap isForm (sym f) ∙ sym e ∙ z))
@@ -383,7 +384,7 @@ module _ (s l ts : List ℕ) (count newest d at top : ℕ) (y : Typed) (Y : Give
         (told-one (m .fault) 0 (m .next) (m .top) l₂ (setNode (infoOf l₂ ts k) k top m l₂) (membersStaged σ base (exprsIn d us′)) _ (T .fault-is)
         (λ cs i. set-node k cs S₂ (T .laid cs i)))
       where
-        set-node : (k : ℕ) (cs : Codes) → Scene s l₂ ts count newest (m .top) σ bs → (m .top ≡ layCodes cs top u l₁ .top) × (l₂ ≡ layCodes cs top u l₁ .list)
+        set-node : (k : ℕ) (cs : Codes) → Scene s l₂ ts scope (m .top) σ bs → (m .top ≡ layCodes cs top u l₁ .top) × (l₂ ≡ layCodes cs top u l₁ .list)
             → Told (orUnfit (given (set? (σ .types) k) (elaborated k (makeSet (infoAt (σ .types) k .low) (infoAt (σ .types) k .high) cs)))) (λ x. x .kind) (λ x. layCode (x .code)) top l (setNode (infoOf l₂ ts k) k top m l₂ .got) (setNode (infoOf l₂ ts k) k top m l₂ .list)
         set-node k cs S₂ C = rw (shape-set S₂ k, low-told S₂ k, high-told S₂ k) (by-set (set? (σ .types) k))
           where
@@ -393,7 +394,7 @@ module _ (s l ts : List ℕ) (count newest d at top : ℕ) (y : Typed) (Y : Give
             by-set true = told-or (some (elaborated k (makeSet (infoAt (σ .types) k .low) (infoAt (σ .types) k .high) cs))) (λ j. none-some (sym j)) (λ x j. rw (← some-inj j) (refl, refl, rw (C .0, C .1, L .free, L .left) refl))
             by-set false = told-or none (λ _. refl) (λ x j. none-some j)
 
-    pub set-right : Makes (setMade l₂ ts (y .fault) (y .kind) top m) r l′ → GivesForm s l ts count newest EH.Members d at top r l′
+    pub set-right : Makes (setMade l₂ ts (y .fault) (y .kind) top m) r l′ → GivesForm s l ts scope EH.Members d at top r l′
     set-right k =
         let st = stays-set l₂ ts (y .fault) (y .kind) top m in
         let w = slot-up in

@@ -14,11 +14,12 @@ use Rattle.semantics.specs.Base.{_>>=_}
 use Rattle.semantics.specs.Forms.{exprForm}
 use Rattle.semantics.specs.Operators as Operators
 use Rattle.semantics.specs.Syntax as Syntax
-use Rattle.semantics.specs.Trees.{Tree, Trees, end, _then_, Run, first, later, stackAt}
+use Rattle.semantics.specs.Trees.{Tree, Trees, end, _then_, Run, first, stackAt}
 use Rattle.shapes.specs.declared.ExprHead.{ExprHead}
 use Rattle.shapes.specs.declared.ExprHead.the-variants as EH
 use Rattle.shapes.specs.Parts.{rest, closed, exprIn, numberIn}
 use Rattle.shapes.proofs.Expressions.{minus-one, minus-two, one-part, two-parts}
+use Rattle.tables.specs.declared.Scope.{Scope}
 use Rattle.tables.specs.declared.Fault.the-variants.{Form}
 use Rattle.parts.specs.declared.Got.{Got}
 use Rattle.parts.specs.declared.End.{End}
@@ -70,15 +71,15 @@ none-first h f = rw h refl
 no-both : {t : Tree Run} {ts : Trees Run} → (t then ts) ≡ end → ⊥
 no-both h = let z : _≡_ {A = ℕ} 0 1 = cc in omega arith
 
-module _ (s l ts : List ℕ) (count newest d at top : ℕ) where
+module _ (s l ts : List ℕ) (scope : Scope) (d at top : ℕ) where
   abbrev us : Trees Run
   us = first (stackAt s at)
 
-  as-minus : (h : ExprHead) (r : Got) (l′ : List ℕ) → formIn EH.Minus d us ≡ formIn h d us → GivesForm s l ts count newest h d at top r l′ → GivesForm s l ts count newest EH.Minus d at top r l′
+  as-minus : (h : ExprHead) (r : Got) (l′ : List ℕ) → formIn EH.Minus d us ≡ formIn h d us → GivesForm s l ts scope h d at top r l′ → GivesForm s l ts scope EH.Minus d at top r l′
   as-minus h r l′ e F = record { leaves = F .leaves; says = λ σ bs S. rw e (F .says σ bs S) }
 
-  module _ (a : Got) (l₁ : List ℕ) (A : GivesExpr s l ts count newest d at top a l₁) (t : Bool) (e : t ≡ isForm (a .fault)) where
-    pub minus-left : t ≡ true → GivesMinus s l ts count newest d at top a l₁
+  module _ (a : Got) (l₁ : List ℕ) (A : GivesExpr s l ts scope d at top a l₁) (t : Bool) (e : t ≡ isForm (a .fault)) where
+    pub minus-left : t ≡ true → GivesMinus s l ts scope d at top a l₁
     minus-left z = record {
       gives = λ N. record {
         leaves = left-wrong (A .moves) (sym e ∙ z);
@@ -94,24 +95,24 @@ module _ (s l ts : List ℕ) (count newest d at top : ℕ) where
             go (u then vs) h = as-two d us (λ q. no-both (sym h ∙ q)) ∙ two-shape d us ∙ none-first n _
 
     module _ (z : t ≡ false) (x : End) (E : Shuts s (a .next) x) where
-      pub minus-side : (q : ℕ) (y : Got) (r : Got) (l′ : List ℕ) → x ≡ ending.Past q → Closes s a y → Makes (applied l₁ ts 0 y) r l′ → GivesMinus s l ts count newest d at top r l′
+      pub minus-side : (q : ℕ) (y : Got) (r : Got) (l′ : List ℕ) → x ≡ ending.Past q → Closes s a y → Makes (applied l₁ ts 0 y) r l′ → GivesMinus s l ts scope d at top r l′
       minus-side q y r l′ h C m = record {
         gives = λ N.
             let k : rest us ≡ end = rest-is (A .moves .goes (sym e ∙ z) .1) ∙ (rw h at (E .says)) .here in
-            as-minus (EH.One 0) r l′ (as-one d us (N .says k) k) (one-side s l ts count newest d at top a l₁ A y C 0 (lit< tt) r l′ m);
+            as-minus (EH.One 0) r l′ (as-one d us (N .says k) k) (one-side s l ts scope d at top a l₁ A y C 0 (lit< tt) r l′ m);
       }
 
-      pub minus-sides : (r : Got) (l′ : List ℕ) → x ≡ ending.More → GivesSecond s l₁ ts count newest 1 d a r l′ → GivesMinus s l ts count newest d at top r l′
+      pub minus-sides : (r : Got) (l′ : List ℕ) → x ≡ ending.More → GivesSecond s l₁ ts scope 1 d a r l′ → GivesMinus s l ts scope d at top r l′
       minus-sides r l′ h G = record {
         gives = λ N.
-            as-minus (EH.Two 1) r l′ (as-two d us (λ k. (rw h at (E .says)) (sym (rest-is (A .moves .goes (sym e ∙ z) .1)) ∙ k))) (two-second s l ts count newest d at top a l₁ A t e 1 (lit< tt) z r l′ G);
+            as-minus (EH.Two 1) r l′ (as-two d us (λ k. (rw h at (E .says)) (sym (rest-is (A .moves .goes (sym e ∙ z) .1)) ∙ k))) (two-second s l ts scope d at top a l₁ A t e 1 (lit< tt) z r l′ G);
       }
 
   module _ (x : Alone) (N : StandsAlone s at x) (r : Got) (l′ : List ℕ) where
-    pub minus-alone : (v : ℤ) (q : ℕ) → x ≡ alone.Number v q → SFits w64 v → Makes (literalMade 0 (negℤ (toZ w64 (ofZ w64 v))) q top l) r l′ → GivesForm s l ts count newest EH.Minus d at top r l′
-    minus-alone v q h f m = negative-gives s l ts count newest d at top v q r l′ (rw h at N) (rw (toZ-ofZ f) at m)
+    pub minus-alone : (v : ℤ) (q : ℕ) → x ≡ alone.Number v q → SFits w64 v → Makes (literalMade 0 (negℤ (toZ w64 (ofZ w64 v))) q top l) r l′ → GivesForm s l ts scope EH.Minus d at top r l′
+    minus-alone v q h f m = negative-gives s l ts scope d at top v q r l′ (rw h at N) (rw (toZ-ofZ f) at m)
 
-    pub minus-other : x ≡ alone.No → GivesMinus s l ts count newest d at top r l′ → GivesForm s l ts count newest EH.Minus d at top r l′
+    pub minus-other : x ≡ alone.No → GivesMinus s l ts scope d at top r l′ → GivesForm s l ts scope EH.Minus d at top r l′
     minus-other h G = G .gives (rw h at N)
 
 pub ruleset minus-parts-laws = (minus-left, minus-side, minus-sides)

@@ -19,7 +19,7 @@ use Rattle.semantics.specs.Operators.{Op, plus, minus, times, power, divide, mo
 use Rattle.semantics.specs.Rules.{plainExpr}
 use Rattle.semantics.specs.Stages.{Staged, wrong, fits, join, onFits, orUnfit, exprStaged}
 use Rattle.semantics.specs.Syntax as Syntax
-use Rattle.semantics.specs.Trees.{Tree, Trees, end, _then_, Run, first, later, stackAt, list}
+use Rattle.semantics.specs.Trees.{Trees, Run, first, stackAt, list}
 use Rattle.semantics.specs.Types.{Types, infoAt, ordinal?, set?}
 use Rattle.semantics.specs.Words.{wordedAll}
 use Rattle.semantics.specs.Elaborate.{elabExpr}
@@ -36,6 +36,7 @@ use Rattle.shapes.specs.declared.ExprHead.the-variants.{Short, Two, One}
 use Rattle.shapes.specs.Heads.{exprHeadMeant}
 use Rattle.shapes.specs.Parts.{rest, closed, exprIn}
 use Rattle.shapes.proofs.Expressions.{two-parts, one-part}
+use Rattle.tables.specs.declared.Scope.{Scope}
 use Rattle.tables.specs.declared.Fault.the-variants.{Clear, Kind, Name, Form}
 use Rattle.tables.specs.declared.Info.{Info}
 use Rattle.tables.specs.Descriptions.{infoOf}
@@ -174,7 +175,7 @@ numbers-are p lo hi Γ setmin k r a b h = rw (← given-rule (set? Γ k) _ r h) 
 numbers-are p lo hi Γ setmax k r a b h = rw (← given-rule (set? Γ k) _ r h) refl
 
 -- two sides without a fault: a, laid on l₀ from t₀ on, and b after it
-module _ {s ts : List ℕ} {count newest : ℕ} {σ : Environment} {bs : List ℕ} {l₂ : List ℕ} {t₂ : ℕ} (S : Scene s l₂ ts count newest t₂ σ bs) {t₀ : ℕ} {l₀ : List ℕ} where
+module _ {s ts : List ℕ} {scope : Scope} {σ : Environment} {bs : List ℕ} {l₂ : List ℕ} {t₂ : ℕ} (S : Scene s l₂ ts scope t₂ σ bs) {t₀ : ℕ} {l₀ : List ℕ} where
   module _ {l₁ : List ℕ} (a b : Got) (x y : Elaborated) (ka : a .kind ≡ x .kind) (la : out (a .place) (a .top) l₁ ≡ layCode (x .code) t₀ l₀) (kb : b .kind ≡ y .kind) (lb : out (b .place) (b .top) l₂ ≡ layCode (y .code) (a .top) l₁) where
     operated-told : (o : Op)
         → Told (orUnfit (operatorRule (σ .types) o (x .kind) (y .kind) >>= λ r. some (elaborated (r .kind) (calculate (r .operation) (x .code) (y .code))))) (λ e. e .kind) (λ e. layCode (e .code)) t₀ l₀
@@ -243,10 +244,10 @@ stays-applied l ts f a = stays-clear (a .fault) 0 (a .next) (a .top) l _ (stays-
 
 -- ---- the walk
 
-module _ (s l ts : List ℕ) (count newest d at top : ℕ) (a : Got) (l₁ : List ℕ) (A : GivesExpr s l ts count newest d at top a l₁) where
+module _ (s l ts : List ℕ) (scope : Scope) (d at top : ℕ) (a : Got) (l₁ : List ℕ) (A : GivesExpr s l ts scope d at top a l₁) where
   -- a first side without a form
   module _ (t : Bool) (e : t ≡ isForm (a .fault)) where
-    pub two-left : (op : ℕ) → op < 15 → t ≡ true → GivesForm s l ts count newest (Two op) d at top a l₁
+    pub two-left : (op : ℕ) → op < 15 → t ≡ true → GivesForm s l ts scope (Two op) d at top a l₁
     two-left op h z = record {
       leaves = left-wrong (A .moves) (sym e ∙ z);
       says = λ σ bs S.
@@ -255,7 +256,7 @@ module _ (s l ts : List ℕ) (count newest d at top : ℕ) (a : Got) (l₁ : Lis
           expr-failed σ (formIn (Two op) d (first (stackAt s at))) top l a l₁ (two-form op d (first (stackAt s at)) (o .0) (o .2) ∙ rw n (none-bind _)) (form-true (a .fault) (sym e ∙ z));
     }
 
-    pub short-left : (q : Bool) → t ≡ true → GivesForm s l ts count newest (Short q) d at top a l₁
+    pub short-left : (q : Bool) → t ≡ true → GivesForm s l ts scope (Short q) d at top a l₁
     short-left q z = record {
       leaves = left-wrong (A .moves) (sym e ∙ z);
       says = λ σ bs S.
@@ -264,12 +265,12 @@ module _ (s l ts : List ℕ) (count newest d at top : ℕ) (a : Got) (l₁ : Lis
     }
 
     -- both sides
-    module _ (z : t ≡ false) (b : Got) (l₂ : List ℕ) (B : GivesExpr s l₁ ts count newest d (a .next) (a .top) b l₂) (x : Got) (C : Closes s b x) (r : Got) (l′ : List ℕ) where
+    module _ (z : t ≡ false) (b : Got) (l₂ : List ℕ) (B : GivesExpr s l₁ ts scope d (a .next) (a .top) b l₂) (x : Got) (C : Closes s b x) (r : Got) (l′ : List ℕ) where
       abbrev us : Trees Run
       us = first (stackAt s at)
 
       -- what is told of the second side and the bracket
-      second : (σ : Environment) (bs : List ℕ) → Scene s l ts count newest top σ bs
+      second : (σ : Environment) (bs : List ℕ) → Scene s l ts scope top σ bs
           → ExprTold σ (exprIn d (rest us) >>= λ y. closed (rest (rest us)) y) (a .top) l₁ x l₂
       second σ bs S =
           let f = A .moves .goes (sym e ∙ z) .1 in
@@ -278,10 +279,10 @@ module _ (s l ts : List ℕ) (count newest d at top : ℕ) (a : Got) (l₁ : Lis
           (λ h. ap rest (rest-is f) ∙ rest-is (B .moves .goes h .1))
           (rw (rest-is f) (B .says σ bs S₁))
 
-      last-scene : (σ : Environment) (bs : List ℕ) → Scene s l ts count newest top σ bs → Scene s l₂ ts count newest (b .top) σ bs
+      last-scene : (σ : Environment) (bs : List ℕ) → Scene s l ts scope top σ bs → Scene s l₂ ts scope (b .top) σ bs
       last-scene σ bs S = scene-kept (scene-kept S (A .moves .keeps) (A .moves .grows)) (B .moves .keeps) (B .moves .grows)
 
-      two-made : (op : ℕ) (o : Op) → opNumber o ≡ op → exprHeadMeant (Two op) ≡ some (hOp o) → Makes (paired l₂ ts op a x) r l′ → GivesForm s l ts count newest (Two op) d at top r l′
+      two-made : (op : ℕ) (o : Op) → opNumber o ≡ op → exprHeadMeant (Two op) ≡ some (hOp o) → Makes (paired l₂ ts op a x) r l′ → GivesForm s l ts scope (Two op) d at top r l′
       unfolding paired
       two-made op o n k m = record {
         leaves = leaves-two (A .moves) (sym e ∙ z) (B .moves) C (stays-paired l₂ ts op a x) (λ g. right-lowest (a .fault) (x .fault) (clear-form (lowest (a .fault) (x .fault)) 0 (x .next) (x .top) l₂ _ g)) m;
@@ -296,10 +297,10 @@ module _ (s l ts : List ℕ) (count newest d at top : ℕ) (a : Got) (l₁ : Lis
             };
       }
 
-      pub two-both : (op : ℕ) → op < 15 → Makes (paired l₂ ts op a x) r l′ → GivesForm s l ts count newest (Two op) d at top r l′
+      pub two-both : (op : ℕ) → op < 15 → Makes (paired l₂ ts op a x) r l′ → GivesForm s l ts scope (Two op) d at top r l′
       two-both op h m = let o = op-known op h in two-made op (o .0) (o .1) (o .2) m
 
-      pub short-both : (q : Bool) → Makes (shorted l₂ q a x) r l′ → GivesForm s l ts count newest (Short q) d at top r l′
+      pub short-both : (q : Bool) → Makes (shorted l₂ q a x) r l′ → GivesForm s l ts scope (Short q) d at top r l′
       unfolding shorted
       short-both q m = record {
         leaves = leaves-two (A .moves) (sym e ∙ z) (B .moves) C (stays-shorted l₂ q a x) (λ g. right-lowest (a .fault) (x .fault) (clear-form (lowest (a .fault) (x .fault)) 0 (x .next) (x .top) l₂ _ g)) m;
@@ -314,11 +315,11 @@ module _ (s l ts : List ℕ) (count newest d at top : ℕ) (a : Got) (l₁ : Lis
             };
       }
 
-    pub two-second : (op : ℕ) → op < 15 → t ≡ false → (r : Got) (l′ : List ℕ) → GivesSecond s l₁ ts count newest op d a r l′ → GivesForm s l ts count newest (Two op) d at top r l′
+    pub two-second : (op : ℕ) → op < 15 → t ≡ false → (r : Got) (l′ : List ℕ) → GivesSecond s l₁ ts scope op d a r l′ → GivesForm s l ts scope (Two op) d at top r l′
     two-second op h z r l′ G = two-both z (G .side) (G .list) (G .gives) (G .past) (G .closes) r l′ op h (G .makes)
 
   -- one side
-  one-made : (x : Got) → Closes s a x → (f : ℕ) (k : Fun) → funNumber k ≡ f → exprHeadMeant (One f) ≡ some (hFun k) → (r : Got) (l′ : List ℕ) → Makes (applied l₁ ts f x) r l′ → GivesForm s l ts count newest (One f) d at top r l′
+  one-made : (x : Got) → Closes s a x → (f : ℕ) (k : Fun) → funNumber k ≡ f → exprHeadMeant (One f) ≡ some (hFun k) → (r : Got) (l′ : List ℕ) → Makes (applied l₁ ts f x) r l′ → GivesForm s l ts scope (One f) d at top r l′
   unfolding applied
   one-made x C f k n i r l′ m = record {
     leaves = leaves-one (A .moves) C (stays-applied l₁ ts f x) (λ g. clear-form (x .fault) 0 (x .next) (x .top) l₁ _ g) m;
@@ -333,25 +334,25 @@ module _ (s l ts : List ℕ) (count newest d at top : ℕ) (a : Got) (l₁ : Lis
         };
   }
 
-  pub one-side : (x : Got) → Closes s a x → (f : ℕ) → f < 11 → (r : Got) (l′ : List ℕ) → Makes (applied l₁ ts f x) r l′ → GivesForm s l ts count newest (One f) d at top r l′
+  pub one-side : (x : Got) → Closes s a x → (f : ℕ) → f < 11 → (r : Got) (l′ : List ℕ) → Makes (applied l₁ ts f x) r l′ → GivesForm s l ts scope (One f) d at top r l′
   one-side x C f h r l′ m = let k = fun-known f h in one-made x C f (k .0) (k .1) (k .2) r l′ m
 
 -- a number that no operator or function has
-pub two-none : (s l ts : List ℕ) (count newest op d at top q : ℕ) (r : Got) → 15 ≤ op → r ≡ failedGot Form 0 q top → GivesForm s l ts count newest (Two op) d at top r l
-two-none s l ts count newest op d at top q r h e = rw e (record {
+pub two-none : (s l ts : List ℕ) (scope : Scope) (op d at top q : ℕ) (r : Got) → 15 ≤ op → r ≡ failedGot Form 0 q top → GivesForm s l ts scope (Two op) d at top r l
+two-none s l ts scope op d at top q r h e = rw e (record {
   leaves = record { goes = λ i. absurd (true≢false i); keeps = record { at = λ i a b. refl }; grows = omega arith };
   says = λ σ bs S. expr-failed σ (formIn (Two op) d (first (stackAt s at))) top l (failedGot Form 0 q top) l (past-two op d (first (stackAt s at)) h) refl;
 })
 
-pub one-none : (s l ts : List ℕ) (count newest f d at top q : ℕ) (r : Got) → 11 ≤ f → r ≡ failedGot Form 0 q top → GivesForm s l ts count newest (One f) d at top r l
-one-none s l ts count newest f d at top q r h e = rw e (record {
+pub one-none : (s l ts : List ℕ) (scope : Scope) (f d at top q : ℕ) (r : Got) → 11 ≤ f → r ≡ failedGot Form 0 q top → GivesForm s l ts scope (One f) d at top r l
+one-none s l ts scope f d at top q r h e = rw e (record {
   leaves = record { goes = λ i. absurd (true≢false i); keeps = record { at = λ i a b. refl }; grows = omega arith };
   says = λ σ bs S. expr-failed σ (formIn (One f) d (first (stackAt s at))) top l (failedGot Form 0 q top) l (past-one f d (first (stackAt s at)) h) refl;
 })
 
-pub second-is : (s l ts : List ℕ) (count newest op d : ℕ) (a b : Got) (l₂ : List ℕ) (x r : Got) (l′ : List ℕ) → GivesExpr s l ts count newest d (a .next) (a .top) b l₂ → Closes s b x → Makes (paired l₂ ts op a x) r l′
-    → GivesSecond s l ts count newest op d a r l′
-second-is s l ts count newest op d a b l₂ x r l′ B C M = record { side = b; list = l₂; past = x; gives = B; closes = C; makes = M }
+pub second-is : (s l ts : List ℕ) (scope : Scope) (op d : ℕ) (a b : Got) (l₂ : List ℕ) (x r : Got) (l′ : List ℕ) → GivesExpr s l ts scope d (a .next) (a .top) b l₂ → Closes s b x → Makes (paired l₂ ts op a x) r l′
+    → GivesSecond s l ts scope op d a r l′
+second-is s l ts scope op d a b l₂ x r l′ B C M = record { side = b; list = l₂; past = x; gives = B; closes = C; makes = M }
 
 pub ruleset two-laws = (two-none, two-left, two-second)
 

@@ -21,7 +21,7 @@ use Rattle.semantics.specs.Rules.{plainTarget}
 use Rattle.semantics.specs.Script as Script
 use Rattle.semantics.specs.Stages.{Staged, wrong, unnamed, unfit, fits, ruled, named, staged, join, onFits, orUnfit, dotted, exprStaged, targetStaged, targetName, targetType, typeBy}
 use Rattle.semantics.specs.Syntax as Syntax
-use Rattle.semantics.specs.Trees.{Tree, Trees, end, _then_, Run, first, later, wordAt, stackAt}
+use Rattle.semantics.specs.Trees.{Trees, end, Run, first, wordAt, stackAt}
 use Rattle.semantics.specs.Types.{Types, Field, infoAt, hostOf, sizeOf, array?, record?, fieldOf}
 use Rattle.semantics.proofs.Inversion.{none-some, some-inj, bind-some, both-some, given-some}
 use Rattle.semantics.proofs.LayoutRegions.{Same}
@@ -30,6 +30,7 @@ use Rattle.shapes.specs.declared.ExprHead.{ExprHead}
 use Rattle.shapes.specs.declared.ExprHead.the-variants as EH
 use Rattle.shapes.specs.Parts.{rest, closed, exprIn, targetIn, nameIn, targetBy}
 use Rattle.shapes.proofs.Expressions.{at-read, dot-read}
+use Rattle.tables.specs.declared.Scope.{Scope}
 use Rattle.tables.specs.declared.Fault.{Fault}
 use Rattle.tables.specs.declared.Fault.the-variants.{Clear, Kind, Name, Form}
 use Rattle.tables.specs.declared.Info.{Info}
@@ -77,7 +78,7 @@ pub at-form : (d : ℕ) (us : Trees Run) → targetBy EH.At d us ≡ (targetIn d
 unfolding targetBy
 at-form d us = closed-two Syntax.at (targetIn d us) (exprIn d (rest us)) (rest (rest us))
 
-module _ {s ts : List ℕ} {count newest : ℕ} {σ : Environment} {bs : List ℕ} {l₂ : List ℕ} {t₂ : ℕ} (S : Scene s l₂ ts count newest t₂ σ bs) where
+module _ {s ts : List ℕ} {scope : Scope} {σ : Environment} {bs : List ℕ} {l₂ : List ℕ} {t₂ : ℕ} (S : Scene s l₂ ts scope t₂ σ bs) where
   -- an element without a fault in its parts
   element-made : {t₀ : ℕ} {l₀ l₁ : List ℕ} (g e : Got) (w : Located) (y : Elaborated) → g .kind ≡ w .type → out (g .place) (g .top) l₁ ≡ layPlace (w .place) t₀ l₀ → e .kind ≡ y .kind
       → out (e .place) (e .top) l₂ ≡ layCode (y .code) (g .top) l₁
@@ -294,7 +295,7 @@ unfolding targetBy
 dot-form d us = closed-two Syntax.dot (targetIn d us) (nameIn (rest us)) (rest (rest us))
 
 -- an element's type behind a fault of row 8
-typed-after : {s l₂ ts : List ℕ} {count newest t₂ : ℕ} {σ : Environment} {bs : List ℕ} → Scene s l₂ ts count newest t₂ σ bs → {top : ℕ} {l l₁ : List ℕ} {g : Got} (o : Option Syntax.Target) → TargetTold σ o top l g l₁
+typed-after : {s l₂ ts : List ℕ} {scope : Scope} {t₂ : ℕ} {σ : Environment} {bs : List ℕ} → Scene s l₂ ts scope t₂ σ bs → {top : ℕ} {l l₁ : List ℕ} {g : Got} (o : Option Syntax.Target) → TargetTold σ o top l g l₁
     → (p : Option Syntax.Expr) (y : Syntax.Target) (q : Reached) → (o >>= λ g. p >>= λ e. some (Syntax.at g e)) ≡ some y → targetOf σ y ≡ some q → TypeIs (q .type) (elementKind (infoOf l₂ ts (g .kind)))
 unfolding targetOf
 typed-after {σ = σ} S₂ {g = g} o T p y q h k = bind-some h λ x₀ ho h₁. bind-some h₁ λ e₀ hp i. bind-some (rw (← some-inj i) at k) λ r₀ hr k₁. bind-some k₁ λ u hu j.
@@ -310,24 +311,24 @@ unfolding _>>=_
 name-missing none m h = refl
 name-missing (some g) m h = rw h refl
 
-module _ (s l ts : List ℕ) (count newest d at top : ℕ) (g : Got) (l₁ : List ℕ) (G : GivesTarget s l ts count newest d at top g l₁) (t : Bool) (e : t ≡ isForm (g .fault)) where
+module _ (s l ts : List ℕ) (scope : Scope) (d at top : ℕ) (g : Got) (l₁ : List ℕ) (G : GivesTarget s l ts scope d at top g l₁) (t : Bool) (e : t ≡ isForm (g .fault)) where
   abbrev us : Trees Run
   us = first (stackAt s at)
 
-  pub at-left : t ≡ true → GivesPlace s l ts count newest EH.At d at top g l₁
+  pub at-left : t ≡ true → GivesPlace s l ts scope EH.At d at top g l₁
   at-left z = record {
     leaves = left-wrong (G .moves) (sym e ∙ z);
     says = λ σ bs S. target-failed σ (targetBy EH.At d us) top l g l₁ (at-form d us ∙ rw (target-missing (G .says σ bs S) (sym e ∙ z)) (none-bind _)) (form-true (g .fault) (sym e ∙ z));
   }
 
-  pub dot-left : t ≡ true → GivesPlace s l ts count newest EH.Dot d at top g l₁
+  pub dot-left : t ≡ true → GivesPlace s l ts scope EH.Dot d at top g l₁
   dot-left z = record {
     leaves = left-wrong (G .moves) (sym e ∙ z);
     says = λ σ bs S. target-failed σ (targetBy EH.Dot d us) top l g l₁ (dot-form d us ∙ rw (target-missing (G .says σ bs S) (sym e ∙ z)) (none-bind _)) (form-true (g .fault) (sym e ∙ z));
   }
 
   module _ (z : t ≡ false) where
-    pub at-both : (b : Got) (l₂ : List ℕ) → GivesExpr s l₁ ts count newest d (g .next) (g .top) b l₂ → (x : Got) → Closes s b x → (r : Got) (l′ : List ℕ) → Makes (indexed l₂ ts g x) r l′ → GivesPlace s l ts count newest EH.At d at top r l′
+    pub at-both : (b : Got) (l₂ : List ℕ) → GivesExpr s l₁ ts scope d (g .next) (g .top) b l₂ → (x : Got) → Closes s b x → (r : Got) (l′ : List ℕ) → Makes (indexed l₂ ts g x) r l′ → GivesPlace s l ts scope EH.At d at top r l′
     unfolding indexed
     at-both b l₂ B x C r l′ m = record {
       leaves = leaves-two (G .moves) (sym e ∙ z) (B .moves) C (stays-indexed l₂ ts g x) (λ h. right-lowest (g .fault) (x .fault) (clear-form (lowest (g .fault) (x .fault)) (elementKind (infoOf l₂ ts (g .kind))) (x .next) (x .top) l₂ _ h)) m;
@@ -348,7 +349,7 @@ module _ (s l ts : List ℕ) (count newest d at top : ℕ) (g : Got) (l₁ : Lis
     }
 
     module _ (n : Sole) (N : SoleName s (g .next) n) (r : Got) (l′ : List ℕ) where
-      pub dot-none : n ≡ sole.Nothing → r ≡ failedGot Form 0 (g .next) (g .top) → GivesPlace s l ts count newest EH.Dot d at top r l₁
+      pub dot-none : n ≡ sole.Nothing → r ≡ failedGot Form 0 (g .next) (g .top) → GivesPlace s l ts scope EH.Dot d at top r l₁
       dot-none h m = rw m (record {
         leaves = record { goes = λ i. absurd (true≢false i); keeps = G .moves .keeps; grows = G .moves .grows };
         says = λ σ bs S. target-failed σ (targetBy EH.Dot d us) top l (failedGot Form 0 (g .next) (g .top)) l₁
@@ -356,7 +357,7 @@ module _ (s l ts : List ℕ) (count newest d at top : ℕ) (g : Got) (l₁ : Lis
             (rw (rest-is (G .moves .goes (sym e ∙ z) .1)) (rw h at (N .says)))) refl;
       })
 
-      pub dot-field : (p q : ℕ) → n ≡ sole.Name p q → Selects s l₁ (infoOf l₁ ts (g .kind)) (map small (wordAt s p)) q g r l′ → GivesPlace s l ts count newest EH.Dot d at top r l′
+      pub dot-field : (p q : ℕ) → n ≡ sole.Name p q → Selects s l₁ (infoOf l₁ ts (g .kind)) (map small (wordAt s p)) q g r l′ → GivesPlace s l ts scope EH.Dot d at top r l′
       dot-field p q h m =
           let f = G .moves .goes (sym e ∙ z) .1 in
           let w = map small (wordAt s p) in
@@ -427,10 +428,10 @@ unfolding layCode layLoad
 load-layout p n t l o at-index e = rw e refl
 load-layout p n t l o at-shift e = rw e refl
 
-module _ (s l ts : List ℕ) (count newest d at top : ℕ) (g : Got) (l₁ : List ℕ) (r : Got) (l′ : List ℕ) where
+module _ (s l ts : List ℕ) (scope : Scope) (d at top : ℕ) (g : Got) (l₁ : List ℕ) (r : Got) (l′ : List ℕ) where
   loaded-form : (h : ExprHead) → ((σ : Environment) (w : Located) → targetStaged σ (targetBy h d (first (stackAt s at))) ≡ fits w → Computed (w .place))
       → formIn h d (first (stackAt s at)) ≡ (targetBy h d (first (stackAt s at)) >>= λ x. some (Syntax.read x))
-      → GivesPlace s l ts count newest h d at top g l₁ → Makes (loaded l₁ ts g) r l′ → GivesForm s l ts count newest h d at top r l′
+      → GivesPlace s l ts scope h d at top g l₁ → Makes (loaded l₁ ts g) r l′ → GivesForm s l ts scope h d at top r l′
   unfolding loaded
   loaded-form h c f G m =
       let st = stays-loaded l₁ ts g in
@@ -451,10 +452,10 @@ module _ (s l ts : List ℕ) (count newest d at top : ℕ) (g : Got) (l₁ : Lis
             };
       })
 
-  pub loads-at : GivesPlace s l ts count newest EH.At d at top g l₁ → Makes (loaded l₁ ts g) r l′ → GivesForm s l ts count newest EH.At d at top r l′
+  pub loads-at : GivesPlace s l ts scope EH.At d at top g l₁ → Makes (loaded l₁ ts g) r l′ → GivesForm s l ts scope EH.At d at top r l′
   unfolding formIn targetBy _>>=_
   loads-at = loaded-form EH.At (λ σ w e. computed-at σ (targetIn d (first (stackAt s at))) (exprIn d (rest (first (stackAt s at))) >>= λ e. closed (rest (rest (first (stackAt s at)))) e) w (ap (targetStaged σ) (sym (at-form d (first (stackAt s at)))) ∙ e)) (at-read d (first (stackAt s at)))
 
-  pub loads-dot : GivesPlace s l ts count newest EH.Dot d at top g l₁ → Makes (loaded l₁ ts g) r l′ → GivesForm s l ts count newest EH.Dot d at top r l′
+  pub loads-dot : GivesPlace s l ts scope EH.Dot d at top g l₁ → Makes (loaded l₁ ts g) r l′ → GivesForm s l ts scope EH.Dot d at top r l′
   unfolding formIn targetBy _>>=_
   loads-dot = loaded-form EH.Dot (λ σ w e. computed-dot σ (targetIn d (first (stackAt s at))) (nameIn (rest (first (stackAt s at))) >>= λ n. closed (rest (rest (first (stackAt s at)))) n) w (ap (targetStaged σ) (sym (dot-form d (first (stackAt s at)))) ∙ e)) (dot-read d (first (stackAt s at)))

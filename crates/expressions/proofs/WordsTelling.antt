@@ -41,13 +41,13 @@ use Rattle.shapes.specs.declared.Atom.{Atom}
 use Rattle.shapes.specs.declared.Atom.the-variants as AT
 use Rattle.shapes.specs.declared.ExprHead.the-variants.{Bound, Minus}
 use Rattle.shapes.proofs.Expressions.{bound-parts, minus-number}
-use Rattle.symbols.specs.Chain.{entries, placeIn}
+use Rattle.tables.specs.declared.Scope.{Scope}
 use Rattle.tables.specs.declared.Fault.{Fault}
 use Rattle.tables.specs.declared.Fault.the-variants.{Kind, Name, Form}
 use Rattle.tables.specs.declared.Meaning.{Meaning}
 use Rattle.tables.specs.declared.Meaning.the-variants as meaning
 use Rattle.tables.specs.Descriptions.{infoOf}
-use Rattle.tables.specs.Scene.{Scene, meaningAt, unknown, known, a-type, a-var, a-proc, a-value}
+use Rattle.tables.specs.Scene.{Scene, unknown, known, a-type, a-var, a-proc, a-value, meaningHere}
 use Rattle.tables.specs.Scene as Scene
 use Rattle.tables.specs.Sides.{hostIn}
 use Rattle.tables.proofs.Telling.{meant, size-told, host-in, low-told, high-told, shape-ordinal}
@@ -123,7 +123,7 @@ cells-are n k a q t l h = rw (← span-both a n (omega arith) (omega arith)) (go
     go true = refl
     go false = refl
 
-module _ {s l ts : List ℕ} {count newest top : ℕ} {σ : Environment} {bs : List ℕ} (S : Scene s l ts count newest top σ bs) (q : ℕ) where
+module _ {s l ts : List ℕ} {scope : Scope} {top : ℕ} {σ : Environment} {bs : List ℕ} (S : Scene s l ts scope top σ bs) (q : ℕ) where
   abbrev Tells : Staged Elaborated → Made → Type 0
   Tells F M = Told F (λ e. e .kind) (λ e. layCode (e .code)) top l (M .got) (M .list)
 
@@ -264,12 +264,12 @@ module _ {s l ts : List ℕ} {count newest top : ℕ} {σ : Environment} {bs : L
 
 -- ---- the ways through `word` and `variable`
 
-module _ (s l ts : List ℕ) (count newest : ℕ) (w : Word) (p q top : ℕ) (r : Got) (l′ : List ℕ) where
+module _ (s l ts : List ℕ) (scope : Scope) (w : Word) (p q top : ℕ) (r : Got) (l′ : List ℕ) where
   -- the meaning of the word at p
   abbrev here : Meaning
-  here = meaningAt l (placeIn s l (entries count l newest) (map small (wordAt s p)))
+  here = meaningHere s l scope p
 
-  gives-word : Makes (wordMade l ts (atomOf w) here q top) r l′ → GivesWord s l ts count newest w p q top r l′
+  gives-word : Makes (wordMade l ts (atomOf w) here q top) r l′ → GivesWord s l ts scope w p q top r l′
   gives-word m =
       let st = stays-word l ts q top (atomOf w) here in
       rw (m .given, m .left) (record {
@@ -279,7 +279,7 @@ module _ (s l ts : List ℕ) (count newest : ℕ) (w : Word) (p q top : ℕ) (r 
         says = λ σ bs S e. word-told S q (atomOf w) here (map small (wordAt s p)) (meant S (map small (wordAt s p)));
       })
 
-  gives-var : Makes (variableMade l (atomOf w) here q top) r l′ → GivesVar s l ts count newest w p q top r l′
+  gives-var : Makes (variableMade l (atomOf w) here q top) r l′ → GivesVar s l ts scope w p q top r l′
   gives-var m =
       let st = stays-variable l ts q top (atomOf w) here in
       rw (m .given, m .left) (record {
@@ -289,44 +289,44 @@ module _ (s l ts : List ℕ) (count newest : ℕ) (w : Word) (p q top : ℕ) (r 
         says = λ σ bs S e. variable-told S q (atomOf w) here (map small (wordAt s p)) (meant S (map small (wordAt s p)));
       })
 
-module _ (s l ts : List ℕ) (count newest : ℕ) (w : Word) (p q top : ℕ) (a : Atom) (e : a ≡ atomOf w) (r : Got) where
-  pub word-number : (z : ℤ) (l′ : List ℕ) → a ≡ AT.Number z → SFits w64 z → Makes (literalMade 0 (wire z) q top l) r l′ → GivesWord s l ts count newest w p q top r l′
-  word-number z l′ f i m = gives-word s l ts count newest w p q top r l′ (rw (← e, f) (rw (toZ-ofZ i) at m))
+module _ (s l ts : List ℕ) (scope : Scope) (w : Word) (p q top : ℕ) (a : Atom) (e : a ≡ atomOf w) (r : Got) where
+  pub word-number : (z : ℤ) (l′ : List ℕ) → a ≡ AT.Number z → SFits w64 z → Makes (literalMade 0 (wire z) q top l) r l′ → GivesWord s l ts scope w p q top r l′
+  word-number z l′ f i m = gives-word s l ts scope w p q top r l′ (rw (← e, f) (rw (toZ-ofZ i) at m))
 
-  pub word-named : (m : Meaning) (l′ : List ℕ) → a ≡ AT.Named → m ≡ meaningAt l (placeIn s l (entries count l newest) (map small (wordAt s p)))
-      → Makes (namedMade l ts m q top) r l′ → GivesWord s l ts count newest w p q top r l′
-  word-named m l′ f g h = gives-word s l ts count newest w p q top r l′ (rw (← e, f, ← g) h)
+  pub word-named : (m : Meaning) (l′ : List ℕ) → a ≡ AT.Named → m ≡ meaningHere s l scope p
+      → Makes (namedMade l ts m q top) r l′ → GivesWord s l ts scope w p q top r l′
+  word-named m l′ f g h = gives-word s l ts scope w p q top r l′ (rw (← e, f, ← g) h)
 
-  pub word-truth : (b : Bool) (n : ℕ) (l′ : List ℕ) → a ≡ AT.Truth b → n ≡ flag b → Makes (nodeMade 1 q (lay (1 ∷ n ∷ []) top l)) r l′ → GivesWord s l ts count newest w p q top r l′
-  word-truth b n l′ f g m = gives-word s l ts count newest w p q top r l′ (rw (← e, f, ← g) m)
+  pub word-truth : (b : Bool) (n : ℕ) (l′ : List ℕ) → a ≡ AT.Truth b → n ≡ flag b → Makes (nodeMade 1 q (lay (1 ∷ n ∷ []) top l)) r l′ → GivesWord s l ts scope w p q top r l′
+  word-truth b n l′ f g m = gives-word s l ts scope w p q top r l′ (rw (← e, f, ← g) m)
 
-  pub word-error : (l′ : List ℕ) → a ≡ AT.ErrorNumber → Makes (nodeMade 0 q (lay (5 ∷ []) top l)) r l′ → GivesWord s l ts count newest w p q top r l′
-  word-error l′ f m = gives-word s l ts count newest w p q top r l′ (rw (← e, f) m)
+  pub word-error : (l′ : List ℕ) → a ≡ AT.ErrorNumber → Makes (nodeMade 0 q (lay (5 ∷ []) top l)) r l′ → GivesWord s l ts scope w p q top r l′
+  word-error l′ f m = gives-word s l ts scope w p q top r l′ (rw (← e, f) m)
 
-  pub word-base : (k : ℕ) → a ≡ AT.Base k → r ≡ failedGot Form 0 q top → GivesWord s l ts count newest w p q top r l
-  word-base k f g = gives-word s l ts count newest w p q top r l (rw (← e, f) (record { given = g; left = refl }))
+  pub word-base : (k : ℕ) → a ≡ AT.Base k → r ≡ failedGot Form 0 q top → GivesWord s l ts scope w p q top r l
+  word-base k f g = gives-word s l ts scope w p q top r l (rw (← e, f) (record { given = g; left = refl }))
 
-  pub word-nothing : a ≡ AT.Nothing → r ≡ failedGot Form 0 q top → GivesWord s l ts count newest w p q top r l
-  word-nothing f g = gives-word s l ts count newest w p q top r l (rw (← e, f) (record { given = g; left = refl }))
+  pub word-nothing : a ≡ AT.Nothing → r ≡ failedGot Form 0 q top → GivesWord s l ts scope w p q top r l
+  word-nothing f g = gives-word s l ts scope w p q top r l (rw (← e, f) (record { given = g; left = refl }))
 
-  pub var-number : (z : ℤ) → a ≡ AT.Number z → r ≡ failedGot Form 0 q top → GivesVar s l ts count newest w p q top r l
-  var-number z f g = gives-var s l ts count newest w p q top r l (rw (← e, f) (record { given = g; left = refl }))
+  pub var-number : (z : ℤ) → a ≡ AT.Number z → r ≡ failedGot Form 0 q top → GivesVar s l ts scope w p q top r l
+  var-number z f g = gives-var s l ts scope w p q top r l (rw (← e, f) (record { given = g; left = refl }))
 
-  pub var-named : (m : Meaning) (l′ : List ℕ) → a ≡ AT.Named → m ≡ meaningAt l (placeIn s l (entries count l newest) (map small (wordAt s p)))
-      → Makes (placeMade l m q top) r l′ → GivesVar s l ts count newest w p q top r l′
-  var-named m l′ f g h = gives-var s l ts count newest w p q top r l′ (rw (← e, f, ← g) h)
+  pub var-named : (m : Meaning) (l′ : List ℕ) → a ≡ AT.Named → m ≡ meaningHere s l scope p
+      → Makes (placeMade l m q top) r l′ → GivesVar s l ts scope w p q top r l′
+  var-named m l′ f g h = gives-var s l ts scope w p q top r l′ (rw (← e, f, ← g) h)
 
-  pub var-truth : (b : Bool) → a ≡ AT.Truth b → r ≡ failedGot Form 0 q top → GivesVar s l ts count newest w p q top r l
-  var-truth b f g = gives-var s l ts count newest w p q top r l (rw (← e, f) (record { given = g; left = refl }))
+  pub var-truth : (b : Bool) → a ≡ AT.Truth b → r ≡ failedGot Form 0 q top → GivesVar s l ts scope w p q top r l
+  var-truth b f g = gives-var s l ts scope w p q top r l (rw (← e, f) (record { given = g; left = refl }))
 
-  pub var-error : a ≡ AT.ErrorNumber → r ≡ failedGot Form 0 q top → GivesVar s l ts count newest w p q top r l
-  var-error f g = gives-var s l ts count newest w p q top r l (rw (← e, f) (record { given = g; left = refl }))
+  pub var-error : a ≡ AT.ErrorNumber → r ≡ failedGot Form 0 q top → GivesVar s l ts scope w p q top r l
+  var-error f g = gives-var s l ts scope w p q top r l (rw (← e, f) (record { given = g; left = refl }))
 
-  pub var-base : (k : ℕ) → a ≡ AT.Base k → r ≡ failedGot Form 0 q top → GivesVar s l ts count newest w p q top r l
-  var-base k f g = gives-var s l ts count newest w p q top r l (rw (← e, f) (record { given = g; left = refl }))
+  pub var-base : (k : ℕ) → a ≡ AT.Base k → r ≡ failedGot Form 0 q top → GivesVar s l ts scope w p q top r l
+  var-base k f g = gives-var s l ts scope w p q top r l (rw (← e, f) (record { given = g; left = refl }))
 
-  pub var-nothing : a ≡ AT.Nothing → r ≡ failedGot Form 0 q top → GivesVar s l ts count newest w p q top r l
-  var-nothing f g = gives-var s l ts count newest w p q top r l (rw (← e, f) (record { given = g; left = refl }))
+  pub var-nothing : a ≡ AT.Nothing → r ≡ failedGot Form 0 q top → GivesVar s l ts scope w p q top r l
+  var-nothing f g = gives-var s l ts scope w p q top r l (rw (← e, f) (record { given = g; left = refl }))
 
 pub ruleset word-laws = (word-number, word-named, word-truth, word-error, word-base, word-nothing)
 
@@ -344,10 +344,10 @@ bound-form : (last : Bool) (d : ℕ) (us : Trees Run) → formIn (Bound last) d 
 unfolding formIn _>>=_
 bound-form last d us = bound-parts d us last ∙ made-closed (Syntax.endOf last) (typeNameIn us) (rest us)
 
-pub bound-is : (s l ts : List ℕ) (count newest : ℕ) (last : Bool) (d at top : ℕ) (t : Typed) (g r : Got) (l′ : List ℕ) → GivesType s l count newest at t
-    → Makes (boundMade l ts last (t .fault) (t .kind) (t .next) top) g l′ → Closes s g r → GivesForm s l ts count newest (Bound last) d at top r l′
+pub bound-is : (s l ts : List ℕ) (scope : Scope) (last : Bool) (d at top : ℕ) (t : Typed) (g r : Got) (l′ : List ℕ) → GivesType s l scope at t
+    → Makes (boundMade l ts last (t .fault) (t .kind) (t .next) top) g l′ → Closes s g r → GivesForm s l ts scope (Bound last) d at top r l′
 unfolding boundMade
-bound-is s l ts count newest last d at top t g r l′ T m c =
+bound-is s l ts scope last d at top t g r l′ T m c =
     let us = first (stackAt s at) in
     let st = stays-bound l ts (t .next) top last (t .fault) (t .kind) in
     let n : g .next ≡ t .next = ap (λ (x : Got). x .next) (m .given) ∙ st .next-is in
@@ -363,10 +363,10 @@ bound-is s l ts count newest last d at top t g r l′ T m c =
     }
 
 -- `(- z)` where a number stands alone
-pub negative-gives : (s l ts : List ℕ) (count newest d at top : ℕ) (z : ℤ) (q : ℕ) (r : Got) (l′ : List ℕ) → StandsAlone s at (alone.Number z q)
-    → Makes (literalMade 0 (negℤ z) q top l) r l′ → GivesForm s l ts count newest Minus d at top r l′
+pub negative-gives : (s l ts : List ℕ) (scope : Scope) (d at top : ℕ) (z : ℤ) (q : ℕ) (r : Got) (l′ : List ℕ) → StandsAlone s at (alone.Number z q)
+    → Makes (literalMade 0 (negℤ z) q top l) r l′ → GivesForm s l ts scope Minus d at top r l′
 unfolding formIn exprStaged staged exprOf Names.atomOf _>>=_
-negative-gives s l ts count newest d at top z q r l′ A m =
+negative-gives s l ts scope d at top z q r l′ A m =
     let st = stays-literal 0 (negℤ z) q top l in
     let h = A .says in
     rw (m .given, m .left) (record {

@@ -10,6 +10,7 @@ use Rattle.semantics.specs.Stages.{fits, membersStaged}
 use Rattle.semantics.specs.Trees.{Trees, end, _then_, Run, first, later, stackAt}
 use Rattle.semantics.proofs.LayoutRegions.{Same}
 use Rattle.shapes.specs.Parts.{exprsIn}
+use Rattle.tables.specs.declared.Scope.{Scope}
 use Rattle.tables.specs.Scene.{Scene}
 use Rattle.parts.specs.declared.Got.{Got}
 use Rattle.parts.specs.Got.{isForm, faultOf}
@@ -24,8 +25,8 @@ pub record MembersTold (σ : Environment) (k d : ℕ) (us : Trees Run) (chain to
   pub laid : (cs : Codes) → membersStaged σ k (exprsIn d us) ≡ fits cs → (g .top ≡ layCodes cs chain top l .top) × (l′ ≡ layCodes cs chain top l .list)
 
 -- members of kind k up to the closing bracket, in a chain from the slot on
-pub record GivesMembers (s l ts : List ℕ) (count newest k d at chain top : ℕ) (g : Got) (l′ : List ℕ) : Type 0 where
+pub record GivesMembers (s l ts : List ℕ) (scope : Scope) (k d at chain top : ℕ) (g : Got) (l′ : List ℕ) : Type 0 where
   pub goes : isForm (g .fault) ≡ false → later (stackAt s at) ≡ stackAt s (g .next)
   pub keeps : chain ≤ top → Same 0 chain l′ l
   pub grows : top ≤ g .top
-  pub says : (σ : Environment) (bs : List ℕ) → Scene s l ts count newest chain σ bs → chain ≤ top → MembersTold σ k d (first (stackAt s at)) chain top l g l′
+  pub says : (σ : Environment) (bs : List ℕ) → Scene s l ts scope chain σ bs → chain ≤ top → MembersTold σ k d (first (stackAt s at)) chain top l g l′

@@ -6,6 +6,7 @@ use Rattle.parts.specs.declared.Got.{Got}
 use Rattle.exprleaves.specs.declared.words.Alone.the-variants.{No}
 use Rattle.expressions.specs.Walks.{GivesForm}
 use Rattle.exprleaves.specs.Words.{StandsAlone}
+use Rattle.tables.specs.declared.Scope.{Scope}
 
-pub record GivesMinus (s l ts : List ℕ) (count newest d at top : ℕ) (g : Got) (l′ : List ℕ) : Type 0 where
-  pub gives : StandsAlone s at No → GivesForm s l ts count newest Minus d at top g l′
+pub record GivesMinus (s l ts : List ℕ) (scope : Scope) (d at top : ℕ) (g : Got) (l′ : List ℕ) : Type 0 where
+  pub gives : StandsAlone s at No → GivesForm s l ts scope Minus d at top g l′

@@ -22,6 +22,7 @@ use Rattle.semantics.proofs.LayoutRegions.{Same}
 use Rattle.shapes.specs.declared.ExprHead.{ExprHead}
 use Rattle.shapes.specs.Heads.{exprHeadMeant, atomExpr, atomTarget, atomOf}
 use Rattle.shapes.specs.Parts.{exprIn, targetIn, targetBy}
+use Rattle.tables.specs.declared.Scope.{Scope}
 use Rattle.tables.specs.Scene.{Scene}
 use Rattle.parts.specs.declared.Got.{Got}
 use Rattle.parts.specs.Got.{isForm, Told}
@@ -60,47 +61,47 @@ pub record TargetTold (σ : Environment) (o : Option Syntax.Target) (top : ℕ) 
 -- ---- the promises
 
 -- an expression, at most d deep
-pub record GivesExpr (s l ts : List ℕ) (count newest d at top : ℕ) (g : Got) (l′ : List ℕ) : Type 0 where
+pub record GivesExpr (s l ts : List ℕ) (scope : Scope) (d at top : ℕ) (g : Got) (l′ : List ℕ) : Type 0 where
   pub moves : Moves s at top l g l′
-  pub says : (σ : Environment) (bs : List ℕ) → Scene s l ts count newest top σ bs → ExprTold σ (exprIn d (first (stackAt s at))) top l g l′
+  pub says : (σ : Environment) (bs : List ℕ) → Scene s l ts scope top σ bs → ExprTold σ (exprIn d (first (stackAt s at))) top l g l′
 
 -- a target
-pub record GivesTarget (s l ts : List ℕ) (count newest d at top : ℕ) (g : Got) (l′ : List ℕ) : Type 0 where
+pub record GivesTarget (s l ts : List ℕ) (scope : Scope) (d at top : ℕ) (g : Got) (l′ : List ℕ) : Type 0 where
   pub moves : Moves s at top l g l′
-  pub says : (σ : Environment) (bs : List ℕ) → Scene s l ts count newest top σ bs → TargetTold σ (targetIn d (first (stackAt s at))) top l g l′
+  pub says : (σ : Environment) (bs : List ℕ) → Scene s l ts scope top σ bs → TargetTold σ (targetIn d (first (stackAt s at))) top l g l′
 
 -- the parts of a form after its head word, as an expression
 unfoldable pub formIn : ExprHead → ℕ → Trees Run → Option Syntax.Expr
 formIn h d us = exprHeadMeant h >>= λ k. wordedAll us >>= λ vs. exprForm (λ t. expr d t) (λ t. target d t) k (list vs)
 
-pub record GivesForm (s l ts : List ℕ) (count newest : ℕ) (h : ExprHead) (d at top : ℕ) (g : Got) (l′ : List ℕ) : Type 0 where
+pub record GivesForm (s l ts : List ℕ) (scope : Scope) (h : ExprHead) (d at top : ℕ) (g : Got) (l′ : List ℕ) : Type 0 where
   pub leaves : Leaves s at top l g l′
-  pub says : (σ : Environment) (bs : List ℕ) → Scene s l ts count newest top σ bs → ExprTold σ (formIn h d (first (stackAt s at))) top l g l′
+  pub says : (σ : Environment) (bs : List ℕ) → Scene s l ts scope top σ bs → ExprTold σ (formIn h d (first (stackAt s at))) top l g l′
 
 -- and as a target
-pub record GivesPlace (s l ts : List ℕ) (count newest : ℕ) (h : ExprHead) (d at top : ℕ) (g : Got) (l′ : List ℕ) : Type 0 where
+pub record GivesPlace (s l ts : List ℕ) (scope : Scope) (h : ExprHead) (d at top : ℕ) (g : Got) (l′ : List ℕ) : Type 0 where
   pub leaves : Leaves s at top l g l′
-  pub says : (σ : Environment) (bs : List ℕ) → Scene s l ts count newest top σ bs → TargetTold σ (targetBy h d (first (stackAt s at))) top l g l′
+  pub says : (σ : Environment) (bs : List ℕ) → Scene s l ts scope top σ bs → TargetTold σ (targetBy h d (first (stackAt s at))) top l g l′
 
 -- all parts of a form, from past its opening bracket
-pub record GivesInner (s l ts : List ℕ) (count newest d at top : ℕ) (g : Got) (l′ : List ℕ) : Type 0 where
+pub record GivesInner (s l ts : List ℕ) (scope : Scope) (d at top : ℕ) (g : Got) (l′ : List ℕ) : Type 0 where
   pub leaves : Leaves s at top l g l′
-  pub says : (σ : Environment) (bs : List ℕ) → Scene s l ts count newest top σ bs → ExprTold σ (exprIn (suc d) (form (first (stackAt s at)) then end)) top l g l′
+  pub says : (σ : Environment) (bs : List ℕ) → Scene s l ts scope top σ bs → ExprTold σ (exprIn (suc d) (form (first (stackAt s at)) then end)) top l g l′
 
-pub record GivesInnerPlace (s l ts : List ℕ) (count newest d at top : ℕ) (g : Got) (l′ : List ℕ) : Type 0 where
+pub record GivesInnerPlace (s l ts : List ℕ) (scope : Scope) (d at top : ℕ) (g : Got) (l′ : List ℕ) : Type 0 where
   pub leaves : Leaves s at top l g l′
-  pub says : (σ : Environment) (bs : List ℕ) → Scene s l ts count newest top σ bs → TargetTold σ (targetIn (suc d) (form (first (stackAt s at)) then end)) top l g l′
+  pub says : (σ : Environment) (bs : List ℕ) → Scene s l ts scope top σ bs → TargetTold σ (targetIn (suc d) (form (first (stackAt s at)) then end)) top l g l′
 
 -- a word w at p that ends at q, as an expression
-pub record GivesWord (s l ts : List ℕ) (count newest : ℕ) (w : Word) (p q top : ℕ) (g : Got) (l′ : List ℕ) : Type 0 where
+pub record GivesWord (s l ts : List ℕ) (scope : Scope) (w : Word) (p q top : ℕ) (g : Got) (l′ : List ℕ) : Type 0 where
   pub next-is : g .next ≡ q
   pub keeps : Same 0 top l′ l
   pub grows : top ≤ g .top
-  pub says : (σ : Environment) (bs : List ℕ) → Scene s l ts count newest top σ bs → w ≡ wordOf (wordAt s p) → ExprTold σ (atomExpr (atomOf w) (map small (wordAt s p))) top l g l′
+  pub says : (σ : Environment) (bs : List ℕ) → Scene s l ts scope top σ bs → w ≡ wordOf (wordAt s p) → ExprTold σ (atomExpr (atomOf w) (map small (wordAt s p))) top l g l′
 
 -- and as a target
-pub record GivesVar (s l ts : List ℕ) (count newest : ℕ) (w : Word) (p q top : ℕ) (g : Got) (l′ : List ℕ) : Type 0 where
+pub record GivesVar (s l ts : List ℕ) (scope : Scope) (w : Word) (p q top : ℕ) (g : Got) (l′ : List ℕ) : Type 0 where
   pub next-is : g .next ≡ q
   pub keeps : Same 0 top l′ l
   pub grows : top ≤ g .top
-  pub says : (σ : Environment) (bs : List ℕ) → Scene s l ts count newest top σ bs → w ≡ wordOf (wordAt s p) → TargetTold σ (atomTarget (atomOf w) (map small (wordAt s p))) top l g l′
+  pub says : (σ : Environment) (bs : List ℕ) → Scene s l ts scope top σ bs → w ≡ wordOf (wordAt s p) → TargetTold σ (atomTarget (atomOf w) (map small (wordAt s p))) top l g l′

@@ -31,6 +31,7 @@ use parts::part_at;
 use shapes::ExprHead;
 use shapes::expr_head;
 use tables::Fault;
+use tables::Scope;
 use worklist::slot;
 ghost use Rattle.shapes.specs.declared.ExprHead.the-variants.{At, Dot, Members, Minus, Bound, Short, Two, One};
 ghost use Rattle.expressions.specs.Walks.{GivesExpr, GivesTarget, GivesForm, GivesPlace, GivesInner, GivesInnerPlace};
@@ -43,21 +44,20 @@ pub fn expr(
     text: &[u8],
     work: &mut [u32],
     types: &[u32],
-    count: u32,
-    newest: u32,
+    scope: Scope,
     depth: usize,
     at: usize,
     top: u32,
 ) -> Got
-    ensures { λ r. ⌜ GivesExpr (now (text .entry)) (now (work .entry)) (now (types .entry)) count newest depth at top r (now (work .exit)) ⌝ }
+    ensures { λ r. ⌜ GivesExpr (now (text .entry)) (now (work .entry)) (now (types .entry)) scope depth at top r (now (work .exit)) ⌝ }
 {
     if depth == 0 {
         return failed(Fault::Form, 0, at, top);
     }
     let p = part_at(text, at);
     match p {
-        Part::Leaf(w, p, q) => word(text, work, types, count, newest, w, p, q, top),
-        Part::Form(p) => inner(text, work, types, count, newest, depth - 1, p, top),
+        Part::Leaf(w, p, q) => word(text, work, types, scope, w, p, q, top),
+        Part::Form(p) => inner(text, work, types, scope, depth - 1, p, top),
         Part::Shut(q) => failed(Fault::Form, 0, q, top),
     }
 }
@@ -67,27 +67,16 @@ fn inner(
     text: &[u8],
     work: &mut [u32],
     types: &[u32],
-    count: u32,
-    newest: u32,
+    scope: Scope,
     depth: usize,
     at: usize,
     top: u32,
 ) -> Got
-    ensures { λ r. ⌜ GivesInner (now (text .entry)) (now (work .entry)) (now (types .entry)) count newest depth at top r (now (work .exit)) ⌝ }
+    ensures { λ r. ⌜ GivesInner (now (text .entry)) (now (work .entry)) (now (types .entry)) scope depth at top r (now (work .exit)) ⌝ }
 {
     let p = part_at(text, at);
     match p {
-        Part::Leaf(w, _, q) => headed(
-            text,
-            work,
-            types,
-            count,
-            newest,
-            expr_head(w),
-            depth,
-            q,
-            top,
-        ),
+        Part::Leaf(w, _, q) => headed(text, work, types, scope, expr_head(w), depth, q, top),
         Part::Form(p) => failed(Fault::Form, 0, p, top),
         Part::Shut(q) => failed(Fault::Form, 0, q, top),
     }
@@ -98,24 +87,23 @@ fn headed(
     text: &[u8],
     work: &mut [u32],
     types: &[u32],
-    count: u32,
-    newest: u32,
+    scope: Scope,
     head: ExprHead,
     depth: usize,
     at: usize,
     top: u32,
 ) -> Got
-    ensures { λ r. ⌜ GivesForm (now (text .entry)) (now (work .entry)) (now (types .entry)) count newest head depth at top r (now (work .exit)) ⌝ }
+    ensures { λ r. ⌜ GivesForm (now (text .entry)) (now (work .entry)) (now (types .entry)) scope head depth at top r (now (work .exit)) ⌝ }
 {
     match head {
-        ExprHead::At => load_at(text, work, types, count, newest, depth, at, top),
-        ExprHead::Dot => load_dot(text, work, types, count, newest, depth, at, top),
-        ExprHead::Members => set_form(text, work, types, count, newest, depth, at, top),
-        ExprHead::Minus => minus(text, work, types, count, newest, depth, at, top),
-        ExprHead::Bound(last) => bound(text, work, types, count, newest, last, depth, at, top),
-        ExprHead::Short(every) => short(text, work, types, count, newest, every, depth, at, top),
-        ExprHead::Two(op) => two(text, work, types, count, newest, op, depth, at, top),
-        ExprHead::One(f) => one(text, work, types, count, newest, f, depth, at, top),
+        ExprHead::At => load_at(text, work, types, scope, depth, at, top),
+        ExprHead::Dot => load_dot(text, work, types, scope, depth, at, top),
+        ExprHead::Members => set_form(text, work, types, scope, depth, at, top),
+        ExprHead::Minus => minus(text, work, types, scope, depth, at, top),
+        ExprHead::Bound(last) => bound(text, work, types, scope, last, depth, at, top),
+        ExprHead::Short(every) => short(text, work, types, scope, every, depth, at, top),
+        ExprHead::Two(op) => two(text, work, types, scope, op, depth, at, top),
+        ExprHead::One(f) => one(text, work, types, scope, f, depth, at, top),
         ExprHead::Nothing => failed(Fault::Form, 0, at, top),
     }
 }
@@ -125,24 +113,23 @@ fn two(
     text: &[u8],
     work: &mut [u32],
     types: &[u32],
-    count: u32,
-    newest: u32,
+    scope: Scope,
     op: usize,
     depth: usize,
     at: usize,
     top: u32,
 ) -> Got
-    ensures { λ r. ⌜ GivesForm (now (text .entry)) (now (work .entry)) (now (types .entry)) count newest (Two op) depth at top r (now (work .exit)) ⌝ }
+    ensures { λ r. ⌜ GivesForm (now (text .entry)) (now (work .entry)) (now (types .entry)) scope (Two op) depth at top r (now (work .exit)) ⌝ }
 {
     if op >= 15 {
         return failed(Fault::Form, 0, at, top);
     }
-    let a = expr(text, work, types, count, newest, depth, at, top);
+    let a = expr(text, work, types, scope, depth, at, top);
     let f = a.fault;
     if is_form(f) {
         return a;
     }
-    second(text, work, types, count, newest, op, depth, a)
+    second(text, work, types, scope, op, depth, a)
 }
 
 // The second of two sides, and the node.
@@ -150,15 +137,14 @@ fn second(
     text: &[u8],
     work: &mut [u32],
     types: &[u32],
-    count: u32,
-    newest: u32,
+    scope: Scope,
     op: usize,
     depth: usize,
     a: Got,
 ) -> Got
-    ensures { λ r. ⌜ GivesSecond (now (text .entry)) (now (work .entry)) (now (types .entry)) count newest op depth a r (now (work .exit)) ⌝ }
+    ensures { λ r. ⌜ GivesSecond (now (text .entry)) (now (work .entry)) (now (types .entry)) scope op depth a r (now (work .exit)) ⌝ }
 {
-    let b = expr(text, work, types, count, newest, depth, a.next, a.top);
+    let b = expr(text, work, types, scope, depth, a.next, a.top);
     pair(work, types, op, a, closing(text, b))
 }
 
@@ -167,21 +153,20 @@ fn short(
     text: &[u8],
     work: &mut [u32],
     types: &[u32],
-    count: u32,
-    newest: u32,
+    scope: Scope,
     every: bool,
     depth: usize,
     at: usize,
     top: u32,
 ) -> Got
-    ensures { λ r. ⌜ GivesForm (now (text .entry)) (now (work .entry)) (now (types .entry)) count newest (Short every) depth at top r (now (work .exit)) ⌝ }
+    ensures { λ r. ⌜ GivesForm (now (text .entry)) (now (work .entry)) (now (types .entry)) scope (Short every) depth at top r (now (work .exit)) ⌝ }
 {
-    let a = expr(text, work, types, count, newest, depth, at, top);
+    let a = expr(text, work, types, scope, depth, at, top);
     let f = a.fault;
     if is_form(f) {
         return a;
     }
-    let b = expr(text, work, types, count, newest, depth, a.next, a.top);
+    let b = expr(text, work, types, scope, depth, a.next, a.top);
     short_pair(work, every, a, closing(text, b))
 }
 
@@ -190,19 +175,18 @@ fn one(
     text: &[u8],
     work: &mut [u32],
     types: &[u32],
-    count: u32,
-    newest: u32,
+    scope: Scope,
     f: usize,
     depth: usize,
     at: usize,
     top: u32,
 ) -> Got
-    ensures { λ r. ⌜ GivesForm (now (text .entry)) (now (work .entry)) (now (types .entry)) count newest (One f) depth at top r (now (work .exit)) ⌝ }
+    ensures { λ r. ⌜ GivesForm (now (text .entry)) (now (work .entry)) (now (types .entry)) scope (One f) depth at top r (now (work .exit)) ⌝ }
 {
     if f >= 11 {
         return failed(Fault::Form, 0, at, top);
     }
-    let a = expr(text, work, types, count, newest, depth, at, top);
+    let a = expr(text, work, types, scope, depth, at, top);
     apply(work, types, f, closing(text, a))
 }
 
@@ -211,18 +195,17 @@ fn minus(
     text: &[u8],
     work: &mut [u32],
     types: &[u32],
-    count: u32,
-    newest: u32,
+    scope: Scope,
     depth: usize,
     at: usize,
     top: u32,
 ) -> Got
-    ensures { λ r. ⌜ GivesForm (now (text .entry)) (now (work .entry)) (now (types .entry)) count newest Minus depth at top r (now (work .exit)) ⌝ }
+    ensures { λ r. ⌜ GivesForm (now (text .entry)) (now (work .entry)) (now (types .entry)) scope Minus depth at top r (now (work .exit)) ⌝ }
 {
     let n = number_alone(text, at);
     match n {
         Alone::Number(z, q) => negative(work, z, q, top),
-        Alone::No => minus_parts(text, work, types, count, newest, depth, at, top),
+        Alone::No => minus_parts(text, work, types, scope, depth, at, top),
     }
 }
 
@@ -231,15 +214,14 @@ fn minus_parts(
     text: &[u8],
     work: &mut [u32],
     types: &[u32],
-    count: u32,
-    newest: u32,
+    scope: Scope,
     depth: usize,
     at: usize,
     top: u32,
 ) -> Got
-    ensures { λ r. ⌜ GivesMinus (now (text .entry)) (now (work .entry)) (now (types .entry)) count newest depth at top r (now (work .exit)) ⌝ }
+    ensures { λ r. ⌜ GivesMinus (now (text .entry)) (now (work .entry)) (now (types .entry)) scope depth at top r (now (work .exit)) ⌝ }
 {
-    let a = expr(text, work, types, count, newest, depth, at, top);
+    let a = expr(text, work, types, scope, depth, at, top);
     let f = a.fault;
     if is_form(f) {
         return a;
@@ -247,7 +229,7 @@ fn minus_parts(
     let e = end_at(text, a.next);
     match e {
         End::Past(_) => apply(work, types, 0, closing(text, a)),
-        End::More => second(text, work, types, count, newest, 1, depth, a),
+        End::More => second(text, work, types, scope, 1, depth, a),
     }
 }
 
@@ -256,33 +238,21 @@ fn set_form(
     text: &[u8],
     work: &mut [u32],
     types: &[u32],
-    count: u32,
-    newest: u32,
+    scope: Scope,
     depth: usize,
     at: usize,
     top: u32,
 ) -> Got
-    ensures { λ r. ⌜ GivesForm (now (text .entry)) (now (work .entry)) (now (types .entry)) count newest Members depth at top r (now (work .exit)) ⌝ }
+    ensures { λ r. ⌜ GivesForm (now (text .entry)) (now (work .entry)) (now (types .entry)) scope Members depth at top r (now (work .exit)) ⌝ }
 {
-    let t = type_name(text, work, count, newest, at);
+    let t = type_name(text, work, scope, at);
     let f = t.fault;
     if is_form(f) {
         return failed(Fault::Form, 0, t.next, top);
     }
     let base = base_of(work, types, t.kind);
     let first = slot(work, top);
-    let m = member_list(
-        text,
-        work,
-        types,
-        count,
-        newest,
-        base,
-        depth,
-        t.next,
-        top,
-        first,
-    );
+    let m = member_list(text, work, types, scope, base, depth, t.next, top, first);
     let g = t.fault;
     set_of(work, types, g, t.kind, top, m)
 }
@@ -292,15 +262,14 @@ fn member_list(
     text: &[u8],
     work: &mut [u32],
     types: &[u32],
-    count: u32,
-    newest: u32,
+    scope: Scope,
     base: u32,
     depth: usize,
     at: usize,
     chain: u32,
     top: u32,
 ) -> Got
-    ensures { λ r. ⌜ GivesMembers (now (text .entry)) (now (work .entry)) (now (types .entry)) count newest base depth at chain top r (now (work .exit)) ⌝ }
+    ensures { λ r. ⌜ GivesMembers (now (text .entry)) (now (work .entry)) (now (types .entry)) scope base depth at chain top r (now (work .exit)) ⌝ }
 {
     let mut next = at;
     let mut link = chain as usize;
@@ -314,7 +283,7 @@ fn member_list(
             }
             End::More => {}
         }
-        let x = expr(text, work, types, count, newest, depth, next, free);
+        let x = expr(text, work, types, scope, depth, next, free);
         let f = x.fault;
         if is_form(f) {
             return x;
@@ -331,15 +300,14 @@ fn load_at(
     text: &[u8],
     work: &mut [u32],
     types: &[u32],
-    count: u32,
-    newest: u32,
+    scope: Scope,
     depth: usize,
     at: usize,
     top: u32,
 ) -> Got
-    ensures { λ r. ⌜ GivesForm (now (text .entry)) (now (work .entry)) (now (types .entry)) count newest At depth at top r (now (work .exit)) ⌝ }
+    ensures { λ r. ⌜ GivesForm (now (text .entry)) (now (work .entry)) (now (types .entry)) scope At depth at top r (now (work .exit)) ⌝ }
 {
-    let g = element(text, work, types, count, newest, depth, at, top);
+    let g = element(text, work, types, scope, depth, at, top);
     load(work, types, g)
 }
 
@@ -348,15 +316,14 @@ fn load_dot(
     text: &[u8],
     work: &mut [u32],
     types: &[u32],
-    count: u32,
-    newest: u32,
+    scope: Scope,
     depth: usize,
     at: usize,
     top: u32,
 ) -> Got
-    ensures { λ r. ⌜ GivesForm (now (text .entry)) (now (work .entry)) (now (types .entry)) count newest Dot depth at top r (now (work .exit)) ⌝ }
+    ensures { λ r. ⌜ GivesForm (now (text .entry)) (now (work .entry)) (now (types .entry)) scope Dot depth at top r (now (work .exit)) ⌝ }
 {
-    let g = field(text, work, types, count, newest, depth, at, top);
+    let g = field(text, work, types, scope, depth, at, top);
     load(work, types, g)
 }
 
@@ -365,21 +332,20 @@ pub fn target(
     text: &[u8],
     work: &mut [u32],
     types: &[u32],
-    count: u32,
-    newest: u32,
+    scope: Scope,
     depth: usize,
     at: usize,
     top: u32,
 ) -> Got
-    ensures { λ r. ⌜ GivesTarget (now (text .entry)) (now (work .entry)) (now (types .entry)) count newest depth at top r (now (work .exit)) ⌝ }
+    ensures { λ r. ⌜ GivesTarget (now (text .entry)) (now (work .entry)) (now (types .entry)) scope depth at top r (now (work .exit)) ⌝ }
 {
     if depth == 0 {
         return failed(Fault::Form, 0, at, top);
     }
     let p = part_at(text, at);
     match p {
-        Part::Leaf(w, p, q) => variable(text, work, types, count, newest, w, p, q, top),
-        Part::Form(p) => place(text, work, types, count, newest, depth - 1, p, top),
+        Part::Leaf(w, p, q) => variable(text, work, types, scope, w, p, q, top),
+        Part::Form(p) => place(text, work, types, scope, depth - 1, p, top),
         Part::Shut(q) => failed(Fault::Form, 0, q, top),
     }
 }
@@ -389,27 +355,16 @@ fn place(
     text: &[u8],
     work: &mut [u32],
     types: &[u32],
-    count: u32,
-    newest: u32,
+    scope: Scope,
     depth: usize,
     at: usize,
     top: u32,
 ) -> Got
-    ensures { λ r. ⌜ GivesInnerPlace (now (text .entry)) (now (work .entry)) (now (types .entry)) count newest depth at top r (now (work .exit)) ⌝ }
+    ensures { λ r. ⌜ GivesInnerPlace (now (text .entry)) (now (work .entry)) (now (types .entry)) scope depth at top r (now (work .exit)) ⌝ }
 {
     let p = part_at(text, at);
     match p {
-        Part::Leaf(w, _, q) => place_headed(
-            text,
-            work,
-            types,
-            count,
-            newest,
-            expr_head(w),
-            depth,
-            q,
-            top,
-        ),
+        Part::Leaf(w, _, q) => place_headed(text, work, types, scope, expr_head(w), depth, q, top),
         Part::Form(p) => failed(Fault::Form, 0, p, top),
         Part::Shut(q) => failed(Fault::Form, 0, q, top),
     }
@@ -420,18 +375,17 @@ fn place_headed(
     text: &[u8],
     work: &mut [u32],
     types: &[u32],
-    count: u32,
-    newest: u32,
+    scope: Scope,
     head: ExprHead,
     depth: usize,
     at: usize,
     top: u32,
 ) -> Got
-    ensures { λ r. ⌜ GivesPlace (now (text .entry)) (now (work .entry)) (now (types .entry)) count newest head depth at top r (now (work .exit)) ⌝ }
+    ensures { λ r. ⌜ GivesPlace (now (text .entry)) (now (work .entry)) (now (types .entry)) scope head depth at top r (now (work .exit)) ⌝ }
 {
     match head {
-        ExprHead::At => element(text, work, types, count, newest, depth, at, top),
-        ExprHead::Dot => field(text, work, types, count, newest, depth, at, top),
+        ExprHead::At => element(text, work, types, scope, depth, at, top),
+        ExprHead::Dot => field(text, work, types, scope, depth, at, top),
         ExprHead::Members => failed(Fault::Form, 0, at, top),
         ExprHead::Minus => failed(Fault::Form, 0, at, top),
         ExprHead::Bound(_) => failed(Fault::Form, 0, at, top),
@@ -447,20 +401,19 @@ fn element(
     text: &[u8],
     work: &mut [u32],
     types: &[u32],
-    count: u32,
-    newest: u32,
+    scope: Scope,
     depth: usize,
     at: usize,
     top: u32,
 ) -> Got
-    ensures { λ r. ⌜ GivesPlace (now (text .entry)) (now (work .entry)) (now (types .entry)) count newest At depth at top r (now (work .exit)) ⌝ }
+    ensures { λ r. ⌜ GivesPlace (now (text .entry)) (now (work .entry)) (now (types .entry)) scope At depth at top r (now (work .exit)) ⌝ }
 {
-    let g = target(text, work, types, count, newest, depth, at, top);
+    let g = target(text, work, types, scope, depth, at, top);
     let f = g.fault;
     if is_form(f) {
         return g;
     }
-    let e = expr(text, work, types, count, newest, depth, g.next, g.top);
+    let e = expr(text, work, types, scope, depth, g.next, g.top);
     index(work, types, g, closing(text, e))
 }
 
@@ -469,15 +422,14 @@ fn field(
     text: &[u8],
     work: &mut [u32],
     types: &[u32],
-    count: u32,
-    newest: u32,
+    scope: Scope,
     depth: usize,
     at: usize,
     top: u32,
 ) -> Got
-    ensures { λ r. ⌜ GivesPlace (now (text .entry)) (now (work .entry)) (now (types .entry)) count newest Dot depth at top r (now (work .exit)) ⌝ }
+    ensures { λ r. ⌜ GivesPlace (now (text .entry)) (now (work .entry)) (now (types .entry)) scope Dot depth at top r (now (work .exit)) ⌝ }
 {
-    let g = target(text, work, types, count, newest, depth, at, top);
+    let g = target(text, work, types, scope, depth, at, top);
     let f = g.fault;
     if is_form(f) {
         return g;

@@ -13,6 +13,7 @@ use parts::failed;
 use shapes::Atom;
 use shapes::atom_of;
 use tables::Fault;
+use tables::Scope;
 use tables::meaning_of;
 ghost use Rattle.shapes.specs.declared.ExprHead.the-variants.{Bound};
 ghost use Rattle.expressions.specs.Walks.{GivesWord, GivesVar, GivesForm};
@@ -22,28 +23,27 @@ pub fn word(
     text: &[u8],
     work: &mut [u32],
     types: &[u32],
-    count: u32,
-    newest: u32,
+    scope: Scope,
     w: Word,
     p: usize,
     next: usize,
     top: u32,
 ) -> Got
-    ensures { λ r. ⌜ GivesWord (now (text .entry)) (now (work .entry)) (now (types .entry)) count newest w p next top r (now (work .exit)) ⌝ }
+    ensures { λ r. ⌜ GivesWord (now (text .entry)) (now (work .entry)) (now (types .entry)) scope w p next top r (now (work .exit)) ⌝ }
 {
     let a = atom_of(w);
     match a {
         Atom::Number(z) => literal(work, 0, z, next, top),
         Atom::Named => {
-            let m = meaning_of(text, work, count, newest, p);
+            let m = meaning_of(text, work, scope, p);
             named(work, types, m, next, top)
         }
         Atom::Truth(b) => {
-            let ns = [1, flag(b)];
+            let ns = [ops::expr::LITERAL, flag(b)];
             node(work, 1, next, top, &ns)
         }
         Atom::ErrorNumber => {
-            let ns = [5];
+            let ns = [ops::expr::LAST_NUMBER];
             node(work, 0, next, top, &ns)
         }
         Atom::Base(_) => failed(Fault::Form, 0, next, top),
@@ -56,20 +56,19 @@ pub fn variable(
     text: &[u8],
     work: &mut [u32],
     types: &[u32],
-    count: u32,
-    newest: u32,
+    scope: Scope,
     w: Word,
     p: usize,
     next: usize,
     top: u32,
 ) -> Got
-    ensures { λ r. ⌜ GivesVar (now (text .entry)) (now (work .entry)) (now (types .entry)) count newest w p next top r (now (work .exit)) ⌝ }
+    ensures { λ r. ⌜ GivesVar (now (text .entry)) (now (work .entry)) (now (types .entry)) scope w p next top r (now (work .exit)) ⌝ }
 {
     let a = atom_of(w);
     match a {
         Atom::Number(_) => failed(Fault::Form, 0, next, top),
         Atom::Named => {
-            let m = meaning_of(text, work, count, newest, p);
+            let m = meaning_of(text, work, scope, p);
             place(work, m, next, top)
         }
         Atom::Truth(_) => failed(Fault::Form, 0, next, top),
@@ -84,16 +83,15 @@ pub fn bound(
     text: &[u8],
     work: &mut [u32],
     types: &[u32],
-    count: u32,
-    newest: u32,
+    scope: Scope,
     last: bool,
     depth: usize,
     at: usize,
     top: u32,
 ) -> Got
-    ensures { λ r. ⌜ GivesForm (now (text .entry)) (now (work .entry)) (now (types .entry)) count newest (Bound last) depth at top r (now (work .exit)) ⌝ }
+    ensures { λ r. ⌜ GivesForm (now (text .entry)) (now (work .entry)) (now (types .entry)) scope (Bound last) depth at top r (now (work .exit)) ⌝ }
 {
-    let t = type_name(text, work, count, newest, at);
+    let t = type_name(text, work, scope, at);
     let fault = t.fault;
     let g = bound_of(work, types, last, fault, t.kind, t.next, top);
     closing(text, g)

@@ -16,10 +16,11 @@ use Rattle.semantics.specs.Ceilings.{lineBounded}
 use Rattle.semantics.specs.Code.{BodyCode}
 use Rattle.semantics.specs.Environment.{Declared, Environment, NameSort, declareLine}
 use Rattle.semantics.specs.Names.{newNames, distinct, noneKnown, isKnown, listedIn}
+use Rattle.symbols.specs.Keys.{keyed}
 use Rattle.tables.specs.declared.Fault.{Fault}
 use Rattle.tables.specs.declared.Fault.the-variants.{Clear, Name as Unnamed}
 use Rattle.tables.specs.declared.Meaning.{Meaning}
-use Rattle.tables.specs.Scene.{Told, unknown, known, a-type, a-var, a-proc, a-value}
+use Rattle.tables.specs.Scene.{Told, unknown, known, a-type, a-var, a-proc, a-value, meaningHere}
 use Rattle.declarations.specs.Names.{newFault}
 use Rattle.semantics.specs.Forms.{isProc, isMain}
 use Rattle.semantics.specs.Layout.{Out, out, lay, layBody}
@@ -38,15 +39,14 @@ use Rattle.semantics.proofs.LinesMeasured.{Measured}
 use Rattle.parts.specs.declared.Got.{Got}
 use Rattle.parts.specs.Got.{lowest, faultOf}
 use Rattle.parts.specs.Parts.{LeafAt}
-use Rattle.atoms.specs.Answers.{meaningHere}
 use Rattle.shapes.specs.Parts.{rest, nameIn, bodyIn}
 use Rattle.statements.specs.Walks.{GivesBody, BodyTold, bare}
 use Rattle.declarations.specs.declared.State.{State}
-use Rattle.declarations.specs.State.{Holds}
+use Rattle.declarations.specs.State.{Holds, bodyState}
 use Rattle.declarations.proofs.Growing.{laid-same}
 use Rattle.judgements.specs.declared.Known.{Known}
 use Rattle.judgements.specs.declared.Entered.{Entered}
-use Rattle.judge.specs.Answers.{bodyState, mainEntry, procState, procNumbers, procEntry}
+use Rattle.judge.specs.Answers.{mainEntry, procState, procNumbers, procEntry}
 use Rattle.judge.specs.Entering.{EntryStands, lastOf, EntryTold, ProcLaid}
 use Rattle.judge.specs.Judging.{Standing}
 use Rattle.judge.specs.Whole.{headIn, wholeStaged}
@@ -66,13 +66,13 @@ next-fits : (k : Declared) (cs : List BodyCode) (c : BodyCode) → Measured k (c
 next-fits k cs c M = subst (λ (n : ℕ). BodyFits n c) (omega arith) (body-at (bodies-fit (M .sized) (M .calls)) (length cs) c (last-there cs c))
 
 module _ (s l ts : List ℕ) (kn : Known) (r : Read) (bs : List ℕ) (S : Standing s l ts kn r bs) (at : ℕ) (few : r .known .stmts + nodesIn (first (stackAt s at)) ≤ 65535) (g : Got) (l′ : List ℕ)
-    (B : GivesBody s l ts (kn .state .count) (kn .state .newest) (kn .state .procs) (kn .stmts) at (kn .state .top) g l′) where
+    (B : GivesBody s l ts (kn .state .scope) (kn .state .procs) (kn .stmts) at (kn .state .top) g l′) where
   H : Holds s l ts (kn .state) (r .known) bs
   H = S .holds
 
   body-told : BodyTold (r .known .env) bs (kn .state .procs) (bodyIn (r .known .stmts) (first (stackAt s at))) (kn .state .top) l g l′
   body-told = subst (λ (n : ℕ). BodyTold (r .known .env) bs (kn .state .procs) (bodyIn n (first (stackAt s at))) (kn .state .top) l g l′) (S .stmts-are)
-      (B .says (r .known .env) bs (S .holds .scene) (omega (arith, S .holds .few-vars, S .holds .vars-are)) (omega (arith, S .stmts-are)))
+      (B .says (r .known .env) bs (S .holds .scene) (omega (arith, S .stmts-are)))
 
   procs-here : kn .state .procs ≡ length bs
   procs-here = S .holds .procs-are ∙ sym (S .holds .bodies-are)
@@ -192,17 +192,16 @@ below-32 n = go (ltb n 32) refl
     go false e = sym (lt-leb (suc n) 32 (let h = ltb-false n 32 e in omega arith))
 
 module _ (s l ts : List ℕ) (kn : Known) (r : Read) (bs : List ℕ) (S : Standing s l ts kn r bs) (at p q : ℕ) (there : LeafAt s at p q) (inside : p < length s) (called : nameIn (first (stackAt s at)) ≡ some (map small (wordAt s p)))
-    (few : r .known .stmts + nodesIn (first (stackAt s q)) ≤ 65535) (g : Got) (l′ : List ℕ) (B : GivesBody s l ts (kn .state .count) (kn .state .newest) (kn .state .procs) (kn .stmts) q (kn .state .top) g l′)
-    (x : Meaning) (X : x ≡ meaningHere s l (kn .state .count) (kn .state .newest) p) (f : Fault) (F : f ≡ lowest (g .fault) (newFault Clear x)) (u : ℕ) (l″ : List ℕ) (P : ProcLaid (kn .state) f p g l′ u l″) where
+    (few : r .known .stmts + nodesIn (first (stackAt s q)) ≤ 65535) (g : Got) (l′ : List ℕ) (B : GivesBody s l ts (kn .state .scope) (kn .state .procs) (kn .stmts) q (kn .state .top) g l′)
+    (x : Meaning) (X : x ≡ meaningHere s l (kn .state .scope) p) (f : Fault) (F : f ≡ lowest (g .fault) (newFault Clear x)) (u : ℕ) (l″ : List ℕ) (P : ProcLaid (kn .state) f (keyed s p) g l′ u l″) where
   abbrev w : Name
   w = map small (wordAt s p)
 
-  numbers-are : procNumbers (kn .state) p (g .place) ≡ p ∷ (2 + 4 * length bs) ∷ g .place ∷ kn .state .newest ∷ []
+  numbers-are : procNumbers (kn .state) (keyed s p) (g .place) ≡ keyed s p ∷ (2 + 4 * length bs) ∷ g .place ∷ kn .state .scope .newest ∷ []
   unfolding procNumbers
   numbers-are =
-      let a : p % 32768 ≡ p = mod-eq-of-lt (omega (arith, S .holds .short-text)) in
       let b : kn .state .procs % 16384 ≡ length bs = mod-eq-of-lt (procs-few s l ts kn r bs S q few g l′ B) ∙ procs-here s l ts kn r bs S q few g l′ B in
-      rw (a, b) refl
+      rw b refl
 
   proc-here : (o : Syntax.Body × ℕ) (y : Body) (c : BodyCode) → f ≡ Clear → bodyIn (r .known .stmts) (first (stackAt s q)) ≡ some o → bodyStaged (r .known .env) (bare (bodyIn (r .known .stmts) (first (stackAt s q)))) ≡ fits c
       → kn .state .top + symbolSize (newProc w y) + sizeBodies (c ∷ []) ≤ 16384 → (nn : ℕ) → Measured (declareLine (r .known) (newProc w y) (o .1) nn) (r .codes ++ c ∷ [])
@@ -213,13 +212,13 @@ module _ (s l ts : List ℕ) (kn : Known) (r : Read) (bs : List ℕ) (S : Standi
       let t = L .top-here in
       let Z = P .laid-so z in
       let e = numbers-are in
-      let N = p ∷ (2 + 4 * length bs) ∷ g .place ∷ kn .state .newest ∷ [] in
-      let v : lay (p ∷ (2 + 4 * length bs) ∷ g .place ∷ kn .state .newest ∷ []) (g .top) l′ .top ≡ g .top + 4 = lay-l (p ∷ (2 + 4 * length bs) ∷ g .place ∷ kn .state .newest ∷ []) (g .top) l′ .top-is (omega arith) in
+      let N = keyed s p ∷ (2 + 4 * length bs) ∷ g .place ∷ kn .state .scope .newest ∷ [] in
+      let v : lay (keyed s p ∷ (2 + 4 * length bs) ∷ g .place ∷ kn .state .scope .newest ∷ []) (g .top) l′ .top ≡ g .top + 4 = lay-l (keyed s p ∷ (2 + 4 * length bs) ∷ g .place ∷ kn .state .scope .newest ∷ []) (g .top) l′ .top-is (omega arith) in
       rw (Z .0, Z .1, e) (record {
         places = bs ++ g .place ∷ [];
-        holds = proc-holds (S .holds) (procs-few s l ts kn r bs S q few g l′ B) y (o .1) nn (B .leaves .keeps) (L .long-here) (g .top) (B .leaves .grows) (omega arith) (g .place) p (M .keeps);
+        holds = proc-holds (S .holds) (procs-few s l ts kn r bs S q few g l′ B) y (o .1) nn (B .leaves .keeps) (L .long-here) (g .top) (B .leaves .grows) (omega arith) (g .place) p (omega (arith, inside, S .holds .short-text)) (M .keeps);
         top-is = omega (arith, v);
-        bodies = λ other. bodies-kept other (L .bodies-here other) (laid-same (p ∷ (2 + 4 * length bs) ∷ g .place ∷ kn .state .newest ∷ []) (g .top) l′ _ refl) (omega (arith, v));
+        bodies = λ other. bodies-kept other (L .bodies-here other) (laid-same (keyed s p ∷ (2 + 4 * length bs) ∷ g .place ∷ kn .state .scope .newest ∷ []) (g .top) l′ _ refl) (omega (arith, v));
         stmts-are = body-told s l ts kn r bs S q few g l′ B .number o ho;
         ended-is = sym (not-main nn y (o .1));
         main-is = λ i. absurd (true≢false (sym i ∙ not-main nn y (o .1)));
@@ -238,7 +237,6 @@ module _ (s l ts : List ℕ) (kn : Known) (r : Read) (bs : List ℕ) (S : Standi
       ∙ ap (λ v. bodyIn (r .known .stmts) v >>= λ b. some (procOf (map small (wordAt s p)) b)) (ap rest (there .leaf .here))
 
   fault-here : f ≡ faultOf (wholeStaged (r .known) (bodyIn (r .known .stmts) (first (stackAt s q)) >>= λ b. some (procOf (map small (wordAt s p)) b)))
-  unfolding meaningHere
   fault-here =
       let T = meant (S .holds .scene) (map small (wordAt s p)) in
       let e : newFault Clear x ≡ cond (newNames (r .known .env) (map small (wordAt s p) ∷ [])) Clear Unnamed = ap (newFault Clear) X ∙ new-name (r .known .env) bs _ (map small (wordAt s p)) T in

@@ -17,15 +17,17 @@ use Rattle.semantics.specs.Trees.{wordAt}
 use Rattle.semantics.specs.Types.{Types, Vars, variable}
 use Rattle.semantics.proofs.LayoutRegions.{Same, lay-g, lay-l}
 use Rattle.semantics.proofs.LinesKeep.{Keeps, Fair, AllFair, type, var, proc, value, no-names as none-fair, name as one-fair}
+use Rattle.symbols.specs.Keys.{keyed}
 use Rattle.symbols.specs.Chain.{entries}
 use Rattle.symbols.proofs.Chained.{Names, no-names, one-name}
+use Rattle.tables.specs.declared.Scope.{Scope}
 use Rattle.tables.specs.declared.Meaning.{Meaning}
 use Rattle.tables.specs.declared.Meaning.the-variants as meaning
 use Rattle.tables.specs.Scene.{meaningBy, Means, a-type, a-var, a-proc, a-value, Meant, Scene}
 use Rattle.tables.proofs.Kept.{scene-kept}
 use Rattle.declarations.specs.declared.State.{State}
-use Rattle.judge.specs.Answers.{bodyState, procState}
-use Rattle.declarations.specs.State.{Holds}
+use Rattle.judge.specs.Answers.{procState}
+use Rattle.declarations.specs.State.{scoped, Holds, bodyState}
 use Rattle.declarations.proofs.Growing.{Chained, scene-chained, chained-env, chained-more, laid-same}
 use Rattle.declarations.proofs.VarLines.{value-find}
 
@@ -42,8 +44,8 @@ names-more σ bs p none-fair no-names = no-names
 names-more σ bs p (one-fair f F) (one-name {p = q} {w = w} {a = a} h e r N) = one-name {w = w} h e (record { means = means-more σ bs p _ a f (r .means) }) (names-more σ bs p F N)
 
 -- the same environment, with a body laid at p
-pub body-scene : {s l l′ ts : List ℕ} {count newest top top′ : ℕ} {σ : Environment} {bs : List ℕ} → Scene s l ts count newest top σ bs → Same 0 top l′ l → top ≤ top′ → (p : ℕ)
-    → AllFair (σ .types) (length (bs ++ p ∷ [])) (σ .names) → Scene s l′ ts count newest top′ σ (bs ++ p ∷ [])
+pub body-scene : {s l l′ ts : List ℕ} {scope : Scope} {top top′ : ℕ} {σ : Environment} {bs : List ℕ} → Scene s l ts scope top σ bs → Same 0 top l′ l → top ≤ top′ → (p : ℕ)
+    → AllFair (σ .types) (length (bs ++ p ∷ [])) (σ .names) → Scene s l′ ts scope top′ σ (bs ++ p ∷ [])
 body-scene {top′ = top′} {σ = σ} {bs = bs} S E h p F =
     let K = scene-kept {top′ = top′} S E h in
     record {
@@ -87,7 +89,7 @@ module _ {s l ts : List ℕ} {st : State} {k : Declared} {bs : List ℕ} (H : Ho
         start = omega (arith, H .start);
         low = low;
         long-list = omega (arith, long, H .long-list);
-        long-types = H .long-types;
+        long-notes = H .long-notes;
         short-text = H .short-text;
       }
 
@@ -110,15 +112,15 @@ means-env σ σ′ bs h x m a-proc = a-proc
 means-env σ σ′ bs h x m a-value = a-value
 
 module _ {s l ts : List ℕ} {st : State} {k : Declared} {bs : List ℕ} (H : Holds s l ts st k bs) (few : st .procs < 16384) (x : Body) (n nn : ℕ) {l′ : List ℕ} (E : Same 0 (st .top) l′ l) (long : length l′ ≡ length l)
-    (t : ℕ) (up : st .top ≤ t) (low : t + 4 ≤ 16384) (p name : ℕ) (K : Keeps (declareLine k (newProc (map small (wordAt s name)) x) n nn)) where
+    (t : ℕ) (up : st .top ≤ t) (low : t + 4 ≤ 16384) (p name : ℕ) (inside : name < 32768) (K : Keeps (declareLine k (newProc (map small (wordAt s name)) x) n nn)) where
   abbrev w : Name
   w = map small (wordAt s name)
 
   abbrev entry : List ℕ
-  entry = name ∷ (2 + 4 * length bs) ∷ p ∷ st .newest ∷ []
+  entry = keyed s name ∷ (2 + 4 * length bs) ∷ p ∷ st .scope .newest ∷ []
 
   abbrev l″ : List ℕ
-  l″ = lay (name ∷ (2 + 4 * length bs) ∷ p ∷ st .newest ∷ []) t l′ .list
+  l″ = lay (keyed s name ∷ (2 + 4 * length bs) ∷ p ∷ st .scope .newest ∷ []) t l′ .list
 
   proc-bodies : length (k .bodies ++ (record { types = k .env .types; vars = k .env .vars; body = x } ∷ [])) ≡ length (k .bodies) + 1
   proc-bodies = length-append (k .bodies) (record { types = k .env .types; vars = k .env .vars; body = x } ∷ [])
@@ -133,20 +135,20 @@ module _ {s l ts : List ℕ} {st : State} {k : Declared} {bs : List ℕ} (H : Ho
   old-fair : {Γ : Types} {m : ℕ} {v : Name} {a : NameSort} {ns : List (Name × NameSort)} → AllFair Γ m ((v, a) ∷ ns) → AllFair Γ m ns
   old-fair (one-fair f F) = F
 
-  before : Scene s l′ ts (st .count) (st .newest) t (k .env) (bs ++ p ∷ [])
+  before : Scene s l′ ts (st .scope) t (k .env) (bs ++ p ∷ [])
   before = body-scene (H .scene) E up p (old-fair proc-fair)
 
-  proc-chained : Chained s l″ (suc (st .count)) t (t + 4) (declareLine k (newProc w x) n nn .env) (bs ++ p ∷ []) ((w, aProc (length bs)) ∷ k .env .names)
+  proc-chained : Chained s l″ (scoped (suc (st .scope .count)) t) (t + 4) (declareLine k (newProc w x) n nn .env) (bs ++ p ∷ []) ((w, aProc (length bs)) ∷ k .env .names)
   unfolding declareLine
-  proc-chained = chained-more name (2 + 4 * length bs) p (aProc (length bs)) (record { start = omega (arith, H .start); fits = low; long = omega (arith, long, H .long-list) }) (proc-means (declareLine k (newProc w x) n nn .env) bs p)
+  proc-chained = chained-more name (2 + 4 * length bs) p (aProc (length bs)) inside (record { start = omega (arith, H .start); fits = low; long = omega (arith, long, H .long-list) }) (proc-means (declareLine k (newProc w x) n nn .env) bs p)
       (chained-env {σ′ = declareLine k (newProc w x) n nn .env} (means-env (k .env) (declareLine k (newProc w x) n nn .env) (bs ++ p ∷ []) refl) (scene-chained before))
 
-  proc-scene : Scene s l″ ts (suc (st .count)) t (t + 4) (declareLine k (newProc w x) n nn .env) (bs ++ p ∷ [])
+  proc-scene : Scene s l″ ts (scoped (suc (st .scope .count)) t) (t + 4) (declareLine k (newProc w x) n nn .env) (bs ++ p ∷ [])
   unfolding declareLine
   proc-scene =
       let S = scene-kept {top′ = t + 4} before (laid-same entry t l′ l″ refl) (omega arith) in
       record {
-        names = subst (λ (q : ℕ). Names s l″ (Meant (declareLine k (newProc w x) n nn .env) (bs ++ p ∷ []) l″) (entries (suc (st .count)) l″ t) ((w, aProc q) ∷ k .env .names)) (H .bodies-are) (proc-chained .names);
+        names = subst (λ (q : ℕ). Names s l″ (Meant (declareLine k (newProc w x) n nn .env) (bs ++ p ∷ []) l″) (entries (suc (st .scope .count)) l″ t) ((w, aProc q) ∷ k .env .names)) (H .bodies-are) (proc-chained .names);
         below = proc-chained .below;
         types = S .types;
         described = S .described;
@@ -162,8 +164,8 @@ module _ {s l ts : List ℕ} {st : State} {k : Declared} {bs : List ℕ} (H : Ho
   unfolding declareLine
   proc-holds =
       let q : st .procs % 16384 ≡ st .procs = mod-eq-of-lt few in
-      let r : st .count % 65536 ≡ st .count = mod-eq-of-lt (omega (arith, H .few-names, H .low)) in
-      let c : st .count % 65536 + 1 ≡ suc (st .count) = omega (arith, r) in
+      let r : st .scope .count % 65536 ≡ st .scope .count = mod-eq-of-lt (omega (arith, H .few-names, H .low)) in
+      let c : st .scope .count % 65536 + 1 ≡ suc (st .scope .count) = omega (arith, r) in
       let u : lay entry t l′ .top ≡ t + 4 = lay-l entry t l′ .top-is low in
       let g = lay-g entry t l′ .long in
       record {
@@ -184,6 +186,6 @@ module _ {s l ts : List ℕ} {st : State} {k : Declared} {bs : List ℕ} (H : Ho
         start = omega (arith, u);
         low = omega (arith, u);
         long-list = omega (arith, g, long, H .long-list);
-        long-types = H .long-types;
+        long-notes = H .long-notes;
         short-text = H .short-text;
       }

@@ -6,7 +6,6 @@ use mathlib.Core.Option.{Option, none, some}
 use Prim.Native.Nat.{ℕ, _+_, _*_, _%_, _<_, _≤_}
 use native.Mathlib.Omega.{arith}
 use Rattle.lexis.specs.declared.words.Word as Kind
-use Rattle.spelling.specs.Bytes.{small}
 use Rattle.lexis.specs.Words.{wordOf}
 use Rattle.semantics.specs.Base.{_>>=_}
 use Rattle.semantics.specs.Forms as Forms
@@ -14,9 +13,11 @@ use Rattle.semantics.specs.Forms.{isType, isVar, isProc, isMain}
 use Rattle.semantics.specs.Lines.{Line}
 use Rattle.semantics.specs.Stages.{wrong, staged}
 use Rattle.semantics.specs.Syntax as Syntax
-use Rattle.semantics.specs.Trees.{word, form, Trees, end, _then_, Run, nodes, nodesIn, first, later, wordAt, stackAt}
+use Rattle.semantics.specs.Trees.{word, form, Trees, _then_, Run, nodes, nodesIn, first, later, wordAt, stackAt}
 use Rattle.semantics.specs.Verdict.{Read, bad, strictly, judgeLine}
 use Rattle.semantics.proofs.OnePassLines.{judgedBy}
+use Rattle.symbols.specs.Keys.{keyed}
+use Rattle.tables.specs.Scene.{meaningHere}
 use Rattle.tables.specs.declared.Fault.{Fault}
 use Rattle.tables.specs.declared.Fault.the-variants.{Clear, Form}
 use Rattle.tables.specs.declared.Meaning.{Meaning}
@@ -31,7 +32,6 @@ use Rattle.shapes.specs.declared.LineHead.{LineHead}
 use Rattle.shapes.specs.declared.LineHead.the-variants as LH
 use Rattle.shapes.specs.Heads.{lineHeadOf, lineHeadMeant}
 use Rattle.shapes.specs.Parts.{nameIn}
-use Rattle.atoms.specs.Answers.{meaningHere}
 use Rattle.statements.specs.Walks.{GivesBody}
 use Rattle.declarations.specs.declared.Lined.{Lined}
 use Rattle.declarations.specs.Lines.{lineOf, GivesLine}
@@ -53,6 +53,9 @@ use Rattle.judge.proofs.BodyEnters.{main-told, proc-told}
 use Rattle.judge.proofs.Declaring.{some-first, declared-enters, type-fixed, var-fixed}
 use Rattle.judge.proofs.Lines.{line-judged, line-headed, line-empty, line-headless}
 use Rattle.judge.proofs.Stepping.{line-answer}
+use Rattle.declarations.specs.State.{withNames, bodyState}
+use Rattle.declarations.specs.declared.State.{State}
+use lib.Dec.{ltb}
 
 -- ---- counts
 
@@ -79,7 +82,7 @@ module _ (s l ts : List ℕ) (kn : Known) (at : ℕ) (g : Entered) where
   pub enters-nothing : (k : LineHead) → k ≡ LH.Nothing → g .fault ≡ Form → Enters s l ts kn k at g l ts
   enters-nothing k h e = rw h (record { says = λ r bs S n. wrong-told s l ts (kn .state .top) r _ g (none-first _) e })
 
-  pub enters-main : (k : LineHead) (b : Got) (l′ : List ℕ) → k ≡ LH.Main → GivesBody s l ts (kn .state .count) (kn .state .newest) (kn .state .procs) (kn .stmts) at (kn .state .top) b l′ → g ≡ mainEntry kn b → Enters s l ts kn k at g l′ ts
+  pub enters-main : (k : LineHead) (b : Got) (l′ : List ℕ) → k ≡ LH.Main → GivesBody s l ts (kn .state .scope) (kn .state .procs) (kn .stmts) at (kn .state .top) b l′ → g ≡ mainEntry kn b → Enters s l ts kn k at g l′ ts
   enters-main k b l′ h B e = rw (h, e) (record { says = λ r bs S n. rw (some-first isMain (λ k. headIn k (r .known .stmts) (first (stackAt s at)))) (main-told s l ts kn r bs S at n b l′ B) })
 
   module _ (n : Naming) (N : GivesName s at n) where
@@ -89,8 +92,8 @@ module _ (s l ts : List ℕ) (kn : Known) (at : ℕ) (g : Entered) where
           (some-first isProc (λ k. headIn k (r .known .stmts) (first (stackAt s at))) ∙ proc-shape (r .known .stmts) (first (stackAt s at)) ∙ rw (rw h at (N .says)) (none-first _)) e;
     }
 
-    pub enters-proc : (p q : ℕ) (b : Got) (l′ : List ℕ) (x : Meaning) (f : Fault) (u : ℕ) (l″ : List ℕ) → n ≡ naming.Called p q → x ≡ meaningHere s l (kn .state .count) (kn .state .newest) p
-        → GivesBody s l ts (kn .state .count) (kn .state .newest) (kn .state .procs) (kn .stmts) q (kn .state .top) b l′ → f ≡ lowest (b .fault) (newFault Clear x) → ProcLaid (kn .state) f p b l′ u l″ → g ≡ procEntry kn f b u
+    pub enters-proc : (p q : ℕ) (b : Got) (l′ : List ℕ) (x : Meaning) (f : Fault) (u : ℕ) (l″ : List ℕ) → n ≡ naming.Called p q → x ≡ meaningHere s l (kn .state .scope) p
+        → GivesBody s l ts (kn .state .scope) (kn .state .procs) (kn .stmts) q (kn .state .top) b l′ → f ≡ lowest (b .fault) (newFault Clear x) → ProcLaid (kn .state) f (keyed s p) b l′ u l″ → g ≡ procEntry kn f b u
         → Enters s l ts kn LH.Proc at g l″ ts
     enters-proc p q b l′ x f u l″ h X B F P e = rw e (record {
       says = λ r bs S i.
@@ -142,21 +145,21 @@ module _ (s l ts : List ℕ) (kn : Known) (at n : ℕ) (x : Part) (c : Stands s 
 
 -- ---- a procedure's parts
 
-module _ (kn : Known) (f : Fault) (g : Got) (p : ℕ) (l : List ℕ) (b : Bool) (c : b ≡ isClear f) (e : Entered) where
-  pub proc-clear : (u n : ℕ) (l′ : List ℕ) → b ≡ true → n ≡ p % 32768 → Laid (lay (n ∷ (2 + 4 * (kn .state .procs % 16384)) ∷ g .place ∷ kn .state .newest ∷ []) (g .top) l) u l′ → e ≡ procEntry kn f g u → ProcEnds kn f g p l e l′
+module _ (kn : Known) (f : Fault) (g : Got) (n : ℕ) (l : List ℕ) (b : Bool) (c : b ≡ isClear f) (e : Entered) where
+  pub proc-clear : (u : ℕ) (l′ : List ℕ) → b ≡ true → Laid (lay (n ∷ (2 + 4 * (kn .state .procs % 16384)) ∷ g .place ∷ kn .state .scope .newest ∷ []) (g .top) l) u l′ → e ≡ procEntry kn f g u → ProcEnds kn f g n l e l′
   unfolding procNumbers
-  proc-clear u n l′ h m L q = record { free = u; laid = record { laid-so = λ _. rw (← m) (L .free, L .left) }; given = q }
+  proc-clear u l′ h L q = record { free = u; laid = record { laid-so = λ _. (L .free, L .left) }; given = q }
 
-  pub proc-fault : b ≡ false → e ≡ procEntry kn f g (g .top) → ProcEnds kn f g p l e l
+  pub proc-fault : b ≡ false → e ≡ procEntry kn f g (g .top) → ProcEnds kn f g n l e l
   proc-fault h q = record { free = g .top; laid = record { laid-so = λ z. absurd (true≢false (sym (ap isClear z) ∙ sym c ∙ h)) }; given = q }
 
 pub ruleset proc-end-laws = (proc-clear, proc-fault)
 
-pub proc-named-is : (s l ts : List ℕ) (kn : Known) (p at : ℕ) (n m : Fault) (g : Got) (l₁ : List ℕ) (e : Entered) (l′ : List ℕ) → n ≡ newFault Clear (meaningHere s l (kn .state .count) (kn .state .newest) p)
-    → GivesBody s l ts (kn .state .count) (kn .state .newest) (kn .state .procs) (kn .stmts) at (kn .state .top) g l₁ → m ≡ lowest (g .fault) n → ProcEnds kn m g p l₁ e l′ → ProcNamed s l ts kn p at e l′
-proc-named-is s l ts kn p at n m g l₁ e l′ h B k E = record { answer = g; list = l₁; gives = B; ends = rw (← h, ← k) E }
+pub proc-named-is : (s l ts : List ℕ) (kn : Known) (p at : ℕ) (n m : Fault) (g : Got) (l₁ : List ℕ) (e : Entered) (l′ : List ℕ) → n ≡ newFault Clear (meaningHere s l (kn .state .scope) p)
+    → GivesBody s l ts (kn .state .scope) (kn .state .procs) (kn .stmts) at (kn .state .top) g l₁ → m ≡ lowest (g .fault) n → (i : ℕ) → i ≡ keyed s p → ProcEnds kn m g i l₁ e l′ → ProcNamed s l ts kn p at e l′
+proc-named-is s l ts kn p at n m g l₁ e l′ h B k i c E = record { answer = g; list = l₁; gives = B; ends = rw (← h, ← k, ← c) E }
 
-pub main-line-is : (s l ts : List ℕ) (kn : Known) (at : ℕ) (b : Got) (l′ : List ℕ) (g : Entered) → GivesBody s l ts (kn .state .count) (kn .state .newest) (kn .state .procs) (kn .stmts) at (kn .state .top) b l′ → g ≡ mainEntry kn b → Enters s l ts kn LH.Main at g l′ ts
+pub main-line-is : (s l ts : List ℕ) (kn : Known) (at : ℕ) (b : Got) (l′ : List ℕ) (g : Entered) → GivesBody s l ts (kn .state .scope) (kn .state .procs) (kn .stmts) at (kn .state .top) b l′ → g ≡ mainEntry kn b → Enters s l ts kn LH.Main at g l′ ts
 main-line-is s l ts kn at b l′ g B e = enters-main s l ts kn at g LH.Main b l′ refl B e
 
 module _ (s l ts : List ℕ) (kn : Known) (at : ℕ) (n : Naming) (N : GivesName s at n) (g : Entered) where
@@ -174,3 +177,13 @@ pub ruleset proc-line-laws = (proc-called, proc-nameless)
 pub ruleset enter-laws = (enters-type, enters-var, enters-by, no-head-word)
 
 pub ruleset form-laws = (form-shut, form-form, form-headed)
+
+-- ---- the answers for a line with a body
+
+pub main-entry-is : (kn : Known) (g : Got) (st : State) → st ≡ bodyState (kn .state) (g .top)
+    → record { fault = g .fault; within = true; state = st; stmts = g .kind; ended = true; main = g .place } ≡ mainEntry kn g
+main-entry-is kn g st e = rw e refl
+
+pub proc-entry-is : (kn : Known) (f : Fault) (g : Got) (u : ℕ) (a b : State) → a ≡ withNames (kn .state) 1 (g .top) u → b ≡ bodyState a u
+    → record { fault = f; within = ltb (kn .state .procs) 32; state = b; stmts = g .kind; ended = false; main = 0 } ≡ procEntry kn f g u
+proc-entry-is kn f g u a b d e = rw (e, d) refl

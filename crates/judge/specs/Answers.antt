@@ -5,13 +5,10 @@ use Prim.Native.Nat.{ℕ, _+_, _*_, _%_}
 use lib.Dec.{ltb}
 use Rattle.tables.specs.declared.Fault.{Fault}
 use Rattle.parts.specs.declared.Got.{Got}
+use Rattle.declarations.specs.State.{withNames, bodyState}
 use Rattle.declarations.specs.declared.State.{State}
 use Rattle.judgements.specs.declared.Known.{Known}
 use Rattle.judgements.specs.declared.Entered.{Entered}
-
--- the state with a body more, where the free place is t
-abbrev pub bodyState : State → ℕ → State
-bodyState st t = record { count = st .count; newest = st .newest; top = t; types = st .types; lines = st .lines; vars = st .vars; cells = st .cells; procs = st .procs % 16384 + 1 }
 
 -- of `main`, whose body's answer is g
 abbrev pub mainEntry : Known → Got → Entered
@@ -19,11 +16,11 @@ mainEntry kn g = record { fault = g .fault; within = true; state = bodyState (kn
 
 -- the state after a procedure, whose name's entry is laid at t; the free place then is u
 abbrev pub procState : State → ℕ → ℕ → State
-procState st t u = record { count = st .count % 65536 + 1; newest = t; top = u; types = st .types; lines = st .lines; vars = st .vars; cells = st .cells; procs = st .procs % 16384 + 1 }
+procState st t u = bodyState (withNames st 1 t u) u
 
--- its name's entry: the name at p, the body at `place`
+-- its entry, by its name's number (symbols, Keys); the body is at `place`
 unfoldable pub procNumbers : State → ℕ → ℕ → List ℕ
-procNumbers st p place = p % 32768 ∷ (2 + 4 * (st .procs % 16384)) ∷ place ∷ st .newest ∷ []
+procNumbers st name place = name ∷ (2 + 4 * (st .procs % 16384)) ∷ place ∷ st .scope .newest ∷ []
 
 -- of `proc`: f is the fault of its name and body, whose answer is g; the free place after its entry is u
 abbrev pub procEntry : Known → Fault → Got → ℕ → Entered

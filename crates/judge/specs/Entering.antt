@@ -19,11 +19,12 @@ use Rattle.semantics.specs.Verdict.{Read}
 use Rattle.semantics.proofs.LayoutBodies.{Bodies}
 use Rattle.semantics.proofs.LinesMeasured.{Measured}
 use Rattle.semantics.specs.Layout.{lay}
+use Rattle.symbols.specs.Keys.{keyed}
+use Rattle.tables.specs.Scene.{meaningHere}
 use Rattle.tables.specs.declared.Fault.{Fault}
 use Rattle.tables.specs.declared.Fault.the-variants.{Clear}
 use Rattle.parts.specs.declared.Got.{Got}
 use Rattle.parts.specs.Got.{lowest, faultOf}
-use Rattle.atoms.specs.Answers.{meaningHere}
 use Rattle.statements.specs.Walks.{GivesBody}
 use Rattle.declarations.specs.declared.State.{State}
 use Rattle.declarations.specs.Names.{newFault}
@@ -64,18 +65,18 @@ pub record Enters (s l ts : List ℕ) (kn : Known) (h : LineHead) (at : ℕ) (g 
       → EntryTold s l′ ts′ (kn .state .top) r (lineHeadMeant h >>= λ k. headIn k (r .known .stmts) (first (stackAt s at))) g
 
 -- what is laid after the body of a procedure that has no fault; the free place is u then
-pub record ProcLaid (st : State) (f : Fault) (p : ℕ) (g : Got) (l : List ℕ) (u : ℕ) (l′ : List ℕ) : Type 0 where
-  pub laid-so : f ≡ Clear → (u ≡ lay (procNumbers st p (g .place)) (g .top) l .top) × (l′ ≡ lay (procNumbers st p (g .place)) (g .top) l .list)
+pub record ProcLaid (st : State) (f : Fault) (name : ℕ) (g : Got) (l : List ℕ) (u : ℕ) (l′ : List ℕ) : Type 0 where
+  pub laid-so : f ≡ Clear → (u ≡ lay (procNumbers st name (g .place)) (g .top) l .top) × (l′ ≡ lay (procNumbers st name (g .place)) (g .top) l .list)
 
 -- the entry of its name, and its answer
-pub record ProcEnds (kn : Known) (f : Fault) (g : Got) (p : ℕ) (l : List ℕ) (e : Entered) (l′ : List ℕ) : Type 0 where
+pub record ProcEnds (kn : Known) (f : Fault) (g : Got) (name : ℕ) (l : List ℕ) (e : Entered) (l′ : List ℕ) : Type 0 where
   pub free : ℕ
-  pub laid : ProcLaid (kn .state) f p g l free l′
+  pub laid : ProcLaid (kn .state) f name g l free l′
   pub given : e ≡ procEntry kn f g free
 
 -- a procedure from its name at p on; its body begins at an offset
 pub record ProcNamed (s l ts : List ℕ) (kn : Known) (p at : ℕ) (e : Entered) (l′ : List ℕ) : Type 0 where
   pub answer : Got
   pub list : List ℕ
-  pub gives : GivesBody s l ts (kn .state .count) (kn .state .newest) (kn .state .procs) (kn .stmts) at (kn .state .top) answer list
-  pub ends : ProcEnds kn (lowest (answer .fault) (newFault Clear (meaningHere s l (kn .state .count) (kn .state .newest) p))) answer p list e l′
+  pub gives : GivesBody s l ts (kn .state .scope) (kn .state .procs) (kn .stmts) at (kn .state .top) answer list
+  pub ends : ProcEnds kn (lowest (answer .fault) (newFault Clear (meaningHere s l (kn .state .scope) p))) answer (keyed s p) list e l′

@@ -1,10 +1,10 @@
 // A line's parts after its head word.
 use declarations::Naming;
-use declarations::State;
 use declarations::name_at;
 use declarations::named_fault;
-use declarations::narrow;
 use declarations::var_line;
+use declarations::with_body;
+use declarations::with_names;
 use judgements::Entered;
 use judgements::Known;
 use judgements::judging::declared;
@@ -14,6 +14,7 @@ use parts::lowest;
 use shapes::LineHead;
 use statements::body::body;
 use symbols::declare;
+use symbols::keys::name_number;
 use tables::Fault;
 use typeforms::type_line;
 ghost use mathlib.Core.Path.{_≡_};
@@ -42,16 +43,7 @@ fn main_entry(kn: Known, g: Got) -> Entered
 {
     let st = kn.state;
     let fault = g.fault;
-    let state = State {
-        count: st.count,
-        newest: st.newest,
-        top: g.top,
-        types: st.types,
-        lines: st.lines,
-        vars: st.vars,
-        cells: st.cells,
-        procs: st.procs % 16384 + 1,
-    };
+    let state = with_body(st, g.top);
     Entered {
         fault: fault,
         within: true,
@@ -67,17 +59,7 @@ fn main_line(text: &[u8], work: &mut [u32], types: &[u32], kn: Known, at: usize)
     ensures { λ r. ⌜ Enters (now (text .entry)) (now (work .entry)) (now (types .entry)) kn Main at r (now (work .exit)) (now (types .entry)) ⌝ }
 {
     let st = kn.state;
-    let g = body(
-        text,
-        work,
-        types,
-        st.count,
-        st.newest,
-        st.procs,
-        kn.stmts,
-        at,
-        st.top,
-    );
+    let g = body(text, work, types, st.scope, st.procs, kn.stmts, at, st.top);
     main_entry(kn, g)
 }
 
@@ -86,16 +68,8 @@ fn proc_entry(kn: Known, fault: Fault, g: Got, u: u32) -> Entered
     ensures { λ r. ⌜ r ≡ procEntry kn fault g u ⌝ }
 {
     let st = kn.state;
-    let state = State {
-        count: st.count % 65536 + 1,
-        newest: g.top,
-        top: u,
-        types: st.types,
-        lines: st.lines,
-        vars: st.vars,
-        cells: st.cells,
-        procs: st.procs % 16384 + 1,
-    };
+    let named = with_names(st, 1, g.top, u);
+    let state = with_body(named, u);
     Entered {
         fault: fault,
         within: st.procs < 32,
@@ -106,19 +80,19 @@ fn proc_entry(kn: Known, fault: Fault, g: Got, u: u32) -> Entered
     }
 }
 
-// The entry of a procedure's name, where name and body have no fault.
-fn proc_end(work: &mut [u32], kn: Known, fault: Fault, g: Got, p: usize) -> Entered
-    ensures { λ r. ⌜ ProcEnds kn fault g p (now (work .entry)) r (now (work .exit)) ⌝ }
+// The entry of a procedure, by its name's number, where name and body have no fault.
+fn proc_end(work: &mut [u32], kn: Known, fault: Fault, g: Got, name: u32) -> Entered
+    ensures { λ r. ⌜ ProcEnds kn fault g name (now (work .entry)) r (now (work .exit)) ⌝ }
 {
     if is_clear(fault) {
         let st = kn.state;
         let u = declare(
             work,
             g.top,
-            narrow(p),
+            name,
             2 + 4 * (st.procs % 16384),
             g.place,
-            st.newest,
+            st.scope.newest,
         );
         return proc_entry(kn, fault, g, u);
     }
@@ -137,20 +111,11 @@ fn proc_named(
     ensures { λ r. ⌜ ProcNamed (now (text .entry)) (now (work .entry)) (now (types .entry)) kn p at r (now (work .exit)) ⌝ }
 {
     let st = kn.state;
-    let n = named_fault(text, work, st.count, st.newest, p, Fault::Clear);
-    let g = body(
-        text,
-        work,
-        types,
-        st.count,
-        st.newest,
-        st.procs,
-        kn.stmts,
-        at,
-        st.top,
-    );
+    let n = named_fault(text, work, st.scope, p, Fault::Clear);
+    let g = body(text, work, types, st.scope, st.procs, kn.stmts, at, st.top);
     let f = g.fault;
-    proc_end(work, kn, lowest(f, n), g, p)
+    let name = name_number(text, p);
+    proc_end(work, kn, lowest(f, n), g, name)
 }
 
 // The parts of `proc`.

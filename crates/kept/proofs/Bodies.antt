@@ -4,6 +4,7 @@ use mathlib.Core.Bool.{Bool, true, false, _&&_}
 use mathlib.Core.List.{List, []}
 use mathlib.Core.Option.{Option, none, some}
 use Prim.Native.Nat.{ℕ, _<_}
+use native.Mathlib.Omega.{arith}
 use Rattle.lexis.specs.Words.{wordOf}
 use Rattle.semantics.specs.Base.{_>>=_, given}
 use Rattle.semantics.specs.Environment.{Environment}
@@ -18,7 +19,8 @@ use Rattle.shapes.specs.Heads.{isException}
 use Rattle.shapes.specs.Parts.{partOf, stmtIn, stmtsIn, bodyIn, handlerIn, handlerLast, handling, withFirst}
 use Rattle.parts.specs.Parts.{ShutAt}
 use Rattle.skips.specs.Skips.{Skips}
-use Rattle.tables.specs.declared.Mask.{Mask}
+use Rattle.tables.specs.declared.Scope.{Scope}
+use Rattle.tables.specs.declared.Loops.{Loops}
 use Rattle.tables.specs.Loops.{noLoops}
 use Rattle.tables.proofs.Looping.{in-force-none}
 use Rattle.stmtnodes.specs.declared.last.Next.{Next}
@@ -45,12 +47,12 @@ handler-part n us (t then ts) u h k = none-some h
 
 -- ---- the loop: the statements from `at` to p keep the rules
 
-pub record Fronting (s l : List ℕ) (count newest at p : ℕ) : Type 0 where
-  pub done : (σ : Environment) → Near s l count newest noLoops σ [] → (n : ℕ) (v : Syntax.Body × ℕ) (b : Script.Body) → bodyIn n (first (stackAt s at)) ≡ some v → bodyOf σ (v .0) ≡ some b
+pub record Fronting (s l : List ℕ) (scope : Scope) (at p : ℕ) : Type 0 where
+  pub done : (σ : Environment) → Near s l scope noLoops 33 σ [] → (n : ℕ) (v : Syntax.Body × ℕ) (b : Script.Body) → bodyIn n (first (stackAt s at)) ≡ some v → bodyOf σ (v .0) ≡ some b
       → (m : ℕ) × ((u : Syntax.Body × ℕ) × ((c : Script.Body) × ((bodyIn m (first (stackAt s p)) ≡ some u) × ((bodyOf σ (u .0) ≡ some c) × (keptBody b ≡ keptBody c)))))
 
-pub front-start : (s l : List ℕ) (count newest at : ℕ) → Fronting s l count newest at at
-front-start s l count newest at = record { done = λ σ N n v b h k. (n, (v, (b, (h, (k, refl))))) }
+pub front-start : (s l : List ℕ) (scope : Scope) (at : ℕ) → Fronting s l scope at at
+front-start s l scope at = record { done = λ σ N n v b h k. (n, (v, (b, (h, (k, refl))))) }
 
 abbrev with-parts : Script.Stmts → Bool → Script.Stmts → Option Script.Body
 with-parts x b y = some (record { stmts = x; handles = b; handler = y })
@@ -84,12 +86,12 @@ plain-of : (σ : Environment) → some none-there ≡ bodyOf σ (plainBody Synta
 unfolding bodyOf stmtOf _>>=_
 plain-of σ = refl
 
-module _ (s l : List ℕ) (count newest at p : ℕ) (I : Fronting s l count newest at p) (e : Next) (E : Comes s p e) where
+module _ (s l : List ℕ) (scope : Scope) (at p : ℕ) (I : Fronting s l scope at p) (e : Next) (E : Comes s p e) where
   -- in every environment that the tables hold
-  body-by : (r : Bool) → ((σ : Environment) → Near s l count newest noLoops σ [] → (n : ℕ) (v : Syntax.Body × ℕ) (b : Script.Body) → bodyIn n (first (stackAt s at)) ≡ some v → bodyOf σ (v .0) ≡ some b → r ≡ keptBody b) → KeepsBody s l count newest at r
-  body-by r f = record { says = λ ts top σ bs S few n v b h k. f σ (record { held = record { ts = ts; top = top; bs = bs; scene = S }; in-force = in-force-none; few-vars = few }) n v b h k }
+  body-by : (r : Bool) → ((σ : Environment) → Near s l scope noLoops 33 σ [] → (n : ℕ) (v : Syntax.Body × ℕ) (b : Script.Body) → bodyIn n (first (stackAt s at)) ≡ some v → bodyOf σ (v .0) ≡ some b → r ≡ keptBody b) → KeepsBody s l scope at r
+  body-by r f = record { says = λ ts top σ bs S n v b h k. f σ (record { held = record { ts = ts; top = top; bs = bs; scene = S }; in-force = in-force-none; few-loops = omega arith }) n v b h k }
 
-  pub front-end : (q : ℕ) → e ≡ following.Past q → KeepsBody s l count newest at true
+  pub front-end : (q : ℕ) → e ≡ following.Past q → KeepsBody s l scope at true
   unfolding bodyIn bodyOf stmtOf keptBody keptStmt
   front-end q f = body-by true λ σ N n v b h k.
       let C : ShutAt s p q = rw f at (E .says) in
@@ -98,35 +100,35 @@ module _ (s l : List ℕ) (count newest at p : ℕ) (I : Fronting s l count newe
       let c : none-there ≡ i .1 .1 .0 = some-inj (plain-of σ ∙ ap (λ (w : Syntax.Body × ℕ). bodyOf σ (w .0)) a ∙ i .1 .1 .1 .1 .0) in
       sym (i .1 .1 .1 .1 .1 ∙ ap keptBody (sym c))
 
-  pub front-handler : (w : Mask) (q : ℕ) (r : Bool) → e ≡ following.Handler q → w ≡ noLoops → KeepsStmts s l count newest w 33 q r → KeepsBody s l count newest at r
+  pub front-handler : (w : Loops) (q : ℕ) (r : Bool) → e ≡ following.Handler q → w ≡ noLoops → KeepsStmts s l scope w 33 q r → KeepsBody s l scope at r
   front-handler w q r f g K = body-by r λ σ N n v b h k.
       let H : HandlerAt s p q = rw f at (E .says) in
-      let K′ : KeepsStmts s l count newest noLoops 33 q r = rw g at K in
+      let K′ : KeepsStmts s l scope noLoops 33 q r = rw g at K in
       let i = I .done σ N n v b h k in
       handler-part (i .0) (first (stackAt s q)) (first (later (stackAt s q))) (i .1 .0)
       (sym (handler-first (i .0) (H .head) (first (stackAt s q)) (first (later (stackAt s q))) (H .exception)) ∙ ap (bodyIn (i .0)) (sym (H .here)) ∙ i .1 .1 .1 .0) λ a ha z.
       handler-of σ (a .0) (i .1 .1 .0) (ap (λ (w : Syntax.Body × ℕ). bodyOf σ (w .0)) z ∙ i .1 .1 .1 .1 .0) λ ys hys j.
       K′ .says σ [] N (i .0) a ys ha hys ∙ sym (i .1 .1 .1 .1 .1 ∙ j)
 
-  module _ (w : Mask) (f : e ≡ following.Stmt) (g : w ≡ noLoops) (t : Bool) (K : KeepsStmt s l count newest w 33 p t) where
+  module _ (w : Loops) (f : e ≡ following.Stmt) (g : w ≡ noLoops) (t : Bool) (K : KeepsStmt s l scope w 33 p t) where
     P : PlainAt s p
     P = rw f at (E .says)
 
     -- the first statement of what is left, and the others
-    after : {X : Type 0} (σ : Environment) → Near s l count newest noLoops σ [] → (m : ℕ) (u : Syntax.Body × ℕ) (c : Script.Body) → bodyIn m (first (stackAt s p)) ≡ some u → bodyOf σ (u .0) ≡ some c
+    after : {X : Type 0} (σ : Environment) → Near s l scope noLoops 33 σ [] → (m : ℕ) (u : Syntax.Body × ℕ) (c : Script.Body) → bodyIn m (first (stackAt s p)) ≡ some u → bodyOf σ (u .0) ≡ some c
         → ((y : Tree Run) (ys : Trees Run) (n : ℕ) (q : Syntax.Body × ℕ) (z : Script.Body) → first (stackAt s p) ≡ (y then ys) → bodyIn n ys ≡ some q → bodyOf σ (q .0) ≡ some z → keptBody c ≡ (t && keptBody z) → X) → X
     after σ N m u c h k j = split (first (stackAt s p)) (P .more) λ y ys d.
-        let K′ : KeepsStmt s l count newest noLoops 33 p t = rw g at K in
+        let K′ : KeepsStmt s l scope noLoops 33 p t = rw g at K in
         bind-some (sym (plain-first m y ys (P .plain y ys d)) ∙ ap (bodyIn m) (sym d) ∙ h) λ a ha h′. bind-some h′ λ q hq i.
         first-of σ (a .0) (q .0) c (ap (λ (v : Syntax.Body × ℕ). bodyOf σ (v .0)) (some-inj i) ∙ k) λ x z hx hz e.
         j y ys (a .1) q z d hq hz (e ∙ ap (λ (b : Bool). b && keptBody z) (sym (K′ .says σ [] N m a x (ap (stmtIn 33 m) d ∙ ha) hx)))
 
-    pub front-bad : t ≡ false → KeepsBody s l count newest at false
+    pub front-bad : t ≡ false → KeepsBody s l scope at false
     front-bad z = body-by false λ σ N n v b h k.
         let i = I .done σ N n v b h k in
         after σ N (i .0) (i .1 .0) (i .1 .1 .0) (i .1 .1 .1 .0) (i .1 .1 .1 .1 .0) λ y ys m q c d hq hc j. sym (i .1 .1 .1 .1 .1 ∙ j ∙ ap (λ (b : Bool). b && keptBody c) z)
 
-    pub front-on : (r : ℕ) → t ≡ true → Skips s p r → Fronting s l count newest at r
+    pub front-on : (r : ℕ) → t ≡ true → Skips s p r → Fronting s l scope at r
     front-on r z S = record {
       done = λ σ N n v b h k.
           let i = I .done σ N n v b h k in

@@ -20,7 +20,8 @@ use Rattle.shapes.specs.Parts.{rest, stmtIn, armIn, armsIn, armHeadIn, elseArmI
 use Rattle.parts.specs.Parts.{ShutAt}
 use Rattle.skips.specs.Skips.{Skips}
 use Rattle.plain.specs.Plain.{plainFirst}
-use Rattle.tables.specs.declared.Mask.{Mask}
+use Rattle.tables.specs.declared.Scope.{Scope}
+use Rattle.tables.specs.declared.Loops.{Loops}
 use Rattle.labels.proofs.Finding.{arms-plain}
 use Rattle.differing.specs.Differ.{Differs}
 use Rattle.statements.specs.declared.arms.NextArm.{NextArm}
@@ -32,13 +33,13 @@ use Rattle.kept.specs.declared.arm_parts.AfterArm.{AfterArm}
 use Rattle.kept.specs.declared.arm_parts.AfterArm.the-variants as after
 use Rattle.kept.specs.Walks.{Near, KeepsStmt, KeepsVerb, KeepsArm, KeepsArms, KeepsCases}
 use Rattle.kept.specs.ArmParts.{AfterLabels}
-use Rattle.kept.proofs.Passing.{closed-is, no-end, expr-some, skip-then, skip-rest, skip-falls, expr-first, and-one, and-none}
+use Rattle.kept.proofs.Passing.{near-in, closed-is, no-end, expr-some, skip-then, skip-rest, skip-falls, expr-first, and-one, and-none}
 use Rattle.kept.proofs.ArmLabels.{arm-from}
 
 -- ---- an arm
 
-module _ (s l : List ℕ) (count newest : ℕ) (loops : Mask) (d at : ℕ) (x : AfterArm) (A : AfterLabels s at x) where
-  pub arm-stmt : (p : ℕ) (r : Bool) → x ≡ after.Stmt p → KeepsStmt s l count newest loops d p r → KeepsArm s l count newest loops d at r
+module _ (s l : List ℕ) (scope : Scope) (loops : Loops) (d at : ℕ) (x : AfterArm) (A : AfterLabels s at x) where
+  pub arm-stmt : (p : ℕ) (r : Bool) → x ≡ after.Stmt p → KeepsStmt s l scope loops d p r → KeepsArm s l scope loops d at r
   arm-stmt p r e K = record {
     says = λ σ js N n a ls y h hl hy.
         let g = (rw e at (A .says)) d n a (arm-from d n (first (stackAt s at)) a h) in
@@ -46,14 +47,14 @@ module _ (s l : List ℕ) (count newest : ℕ) (loops : Mask) (d at : ℕ) (x : 
         ∙ sym (ap (λ (b : Bool). b && keptStmt y js) (g .1 .says σ (N .held .scene .table) (length (N .held .bs)) (N .held .scene .fair) ls hl));
   }
 
-  pub arm-broken : x ≡ after.Broken → KeepsArm s l count newest loops d at false
+  pub arm-broken : x ≡ after.Broken → KeepsArm s l scope loops d at false
   arm-broken e = record {
     says = λ σ js N n a ls y h hl hy.
         let g = (rw e at (A .says)) d n a (arm-from d n (first (stackAt s at)) a h) in
         sym (ap (λ (b : Bool). b && keptStmt y js) (g .says σ (N .held .scene .table) (length (N .held .bs)) (N .held .scene .fair) ls hl));
   }
 
-  pub arm-nothing : x ≡ after.Nothing → KeepsArm s l count newest loops d at true
+  pub arm-nothing : x ≡ after.Nothing → KeepsArm s l scope loops d at true
   arm-nothing e = record { says = λ σ js N n a ls y h hl hy. absurd ((rw e at (A .says)) d n a (arm-from d n (first (stackAt s at)) a h)) }
 
 pub ruleset arm-laws = (arm-stmt, arm-broken, arm-nothing)
@@ -78,12 +79,12 @@ else-part d n us (t then ts) u h k = none-some h
 -- ---- all arms
 
 -- those from `at` to p keep the rules
-pub record Arming (s l : List ℕ) (count newest : ℕ) (loops : Mask) (d at p : ℕ) : Type 0 where
-  pub done : (σ : Environment) (js : List ℕ) → Near s l count newest loops σ js → (n : ℕ) (v : Syntax.Arms × ℕ) (b : Script.Arms) → armsIn d n (first (stackAt s at)) ≡ some v → armsOf σ (v .0) ≡ some b
+pub record Arming (s l : List ℕ) (scope : Scope) (loops : Loops) (d at p : ℕ) : Type 0 where
+  pub done : (σ : Environment) (js : List ℕ) → Near s l scope loops d σ js → (n : ℕ) (v : Syntax.Arms × ℕ) (b : Script.Arms) → armsIn d n (first (stackAt s at)) ≡ some v → armsOf σ (v .0) ≡ some b
       → (m : ℕ) × ((u : Syntax.Arms × ℕ) × ((c : Script.Arms) × ((armsIn d m (first (stackAt s p)) ≡ some u) × ((armsOf σ (u .0) ≡ some c) × (keptArms b js ≡ keptArms c js)))))
 
-pub arms-start : (s l : List ℕ) (count newest : ℕ) (loops : Mask) (d at : ℕ) → Arming s l count newest loops d at at
-arms-start s l count newest loops d at = record { done = λ σ js N n v b h k. (n, (v, (b, (h, (k, refl))))) }
+pub arms-start : (s l : List ℕ) (scope : Scope) (loops : Loops) (d at : ℕ) → Arming s l scope loops d at at
+arms-start s l scope loops d at = record { done = λ σ js N n v b h k. (n, (v, (b, (h, (k, refl))))) }
 
 -- the first arm and the others
 first-arm : {P : Type 0} (σ : Environment) (js : List ℕ) (d m : ℕ) (w : Run) (us ts : Trees Run) (u : Syntax.Arms × ℕ) (c : Script.Arms) → armHeadIn w ≡ some isArm → armsIn d m (form (word w then us) then ts) ≡ some u → armsOf σ (u .0) ≡ some c
@@ -94,8 +95,8 @@ first-arm σ js d m w us ts u c e h k f =
     bind-some (sym (arms-arm d m w us ts e) ∙ h) λ a ha h′. bind-some h′ λ b hb q. bind-some (rw (← some-inj q) at k) λ ls hls k′. bind-some k′ λ x hx k″. bind-some k″ λ ys hys j.
     f a ls x b ys ha hls hx hb hys (ap (λ (v : Script.Arms). keptArms v js) (sym (some-inj j)))
 
-module _ (s l : List ℕ) (count newest : ℕ) (loops : Mask) (d at p : ℕ) (I : Arming s l count newest loops d at p) (e : NextArm) (E : ArmComes s p e) where
-  pub arms-end : (q : ℕ) → e ≡ next-arm.Past q → KeepsArms s l count newest loops d at true
+module _ (s l : List ℕ) (scope : Scope) (loops : Loops) (d at p : ℕ) (I : Arming s l scope loops d at p) (e : NextArm) (E : ArmComes s p e) where
+  pub arms-end : (q : ℕ) → e ≡ next-arm.Past q → KeepsArms s l scope loops d at true
   unfolding armsIn armsOf keptArms
   arms-end q f = record {
     says = λ σ js N n v b h k.
@@ -106,12 +107,12 @@ module _ (s l : List ℕ) (count newest : ℕ) (loops : Mask) (d at p : ℕ) (I 
         sym (i .1 .1 .1 .1 .1 ∙ ap (λ (w : Script.Arms). keptArms w js) (sym c));
   }
 
-  pub arms-nothing : e ≡ next-arm.Nothing → KeepsArms s l count newest loops d at true
+  pub arms-nothing : e ≡ next-arm.Nothing → KeepsArms s l scope loops d at true
   arms-nothing f = record {
     says = λ σ js N n v b h k. let i = I .done σ js N n v b h k in none-some (sym ((rw f at (E .says)) d (i .0)) ∙ i .1 .1 .1 .0);
   }
 
-  pub arms-last : (q : ℕ) (r : Bool) → e ≡ next-arm.Else q → KeepsStmt s l count newest loops d q r → KeepsArms s l count newest loops d at r
+  pub arms-last : (q : ℕ) (r : Bool) → e ≡ next-arm.Else q → KeepsStmt s l scope loops d q r → KeepsArms s l scope loops d at r
   unfolding armsOf keptArms
   arms-last q r f K = record {
     says = λ σ js N n v b h k.
@@ -123,11 +124,11 @@ module _ (s l : List ℕ) (count newest : ℕ) (loops : Mask) (d at p : ℕ) (I 
         K .says σ js N (i .0) a x ha hx ∙ sym (i .1 .1 .1 .1 .1 ∙ ap (λ (w : Script.Arms). keptArms w js) (sym (some-inj j)));
   }
 
-  module _ (q : ℕ) (f : e ≡ next-arm.Arm q) (t : Bool) (K : KeepsArm s l count newest loops d q t) where
+  module _ (q : ℕ) (f : e ≡ next-arm.Arm q) (t : Bool) (K : KeepsArm s l scope loops d q t) where
     F : ArmFormAt isArm s p q
     F = rw f at (E .says)
 
-    pub arms-bad : t ≡ false → KeepsArms s l count newest loops d at false
+    pub arms-bad : t ≡ false → KeepsArms s l scope loops d at false
     arms-bad g = record {
       says = λ σ js N n v b h k.
           let i = I .done σ js N n v b h k in
@@ -135,7 +136,7 @@ module _ (s l : List ℕ) (count newest : ℕ) (loops : Mask) (d at p : ℕ) (I 
           sym (i .1 .1 .1 .1 .1 ∙ j ∙ ap (λ (b : Bool). b && keptArms ys js) (sym (K .says σ js N (i .0) a ls x ha hl hx) ∙ g));
     }
 
-    pub arms-on : (z : ℕ) → t ≡ true → Skips s p z → Arming s l count newest loops d at z
+    pub arms-on : (z : ℕ) → t ≡ true → Skips s p z → Arming s l scope loops d at z
     arms-on z g S = record {
       done = λ σ js N n v b h k.
           let i = I .done σ js N n v b h k in
@@ -161,11 +162,11 @@ arms-falls s p q z e E f S = let F : ArmFormAt isArm s p q = rw f at (E .says) i
 
 -- ---- the case
 
-module _ (s l : List ℕ) (count newest : ℕ) (loops : Mask) (d at : ℕ) (t : Bool) (K : KeepsArms s l count newest loops d at t) where
-  pub cases-bad : t ≡ false → KeepsCases s l count newest loops d at false
+module _ (s l : List ℕ) (scope : Scope) (loops : Loops) (d at : ℕ) (t : Bool) (K : KeepsArms s l scope loops d at t) where
+  pub cases-bad : t ≡ false → KeepsCases s l scope loops d at false
   cases-bad g = record { says = λ σ js N n a b h k. sym (ap (λ (c : Bool). differ (labelsOf b) && c) (sym (K .says σ js N n a b h k) ∙ g) ∙ and-none (differ (labelsOf b))) }
 
-  pub cases-on : (r : Bool) → t ≡ true → Differs s l count newest at r → KeepsCases s l count newest loops d at r
+  pub cases-on : (r : Bool) → t ≡ true → Differs s l scope at r → KeepsCases s l scope loops d at r
   cases-on r g D = record {
     says = λ σ js N n a b h k.
         let e : keptArms b js ≡ true = sym (K .says σ js N n a b h k) ∙ g in
@@ -181,25 +182,25 @@ first-is (Syntax.elseArm x) b h = none-some h
 first-is Syntax.noElse b h = none-some h
 first-is (Syntax.arm cs x ys) b h = some-inj h
 
-module _ (s l : List ℕ) (count newest : ℕ) (loops : Mask) (d at : ℕ) (t : Bool) (f : t ≡ plainFirst (first (stackAt s at))) where
+module _ (s l : List ℕ) (scope : Scope) (loops : Loops) (d at : ℕ) (t : Bool) (f : t ≡ plainFirst (first (stackAt s at))) where
   abbrev us : Trees Run
   us = first (stackAt s at)
 
   cased : (r b : Bool) → t ≡ b
-      → ((σ : Environment) (js : List ℕ) → Near s l count newest loops σ js → (n : ℕ) (a : Syntax.Arms × ℕ) (y : Script.Arms) → (us ≡ end → ⊥) → armsIn d n (rest us) ≡ some a → armsOf σ (a .0) ≡ some y → r ≡ ((b && differ (labelsOf y)) && keptArms y js))
-      → KeepsVerb s l count newest loops VB.Case d at r
+      → ((σ : Environment) (js : List ℕ) → Near s l scope loops d σ js → (n : ℕ) (a : Syntax.Arms × ℕ) (y : Script.Arms) → (us ≡ end → ⊥) → armsIn d n (rest us) ≡ some a → armsOf σ (a .0) ≡ some y → r ≡ ((b && differ (labelsOf y)) && keptArms y js))
+      → KeepsVerb s l scope loops VB.Case d at r
   unfolding stmtOf keptStmt
   cased r b g H = record {
     says = λ σ js N n p x h k.
         bind-some (sym (case-shape d n us) ∙ h) λ e he h′. bind-some h′ λ a ha h″. bind-some h″ λ c hc q.
         bind-some (rw (← some-inj q) at k) λ u hu k′. bind-some k′ λ y hy j.
-        rw (← some-inj j, expr-first N us e u he hu ∙ sym f ∙ g) (H σ js N n a y (expr-some 33 he) ha (ap (armsOf σ) (first-is (a .0) c hc) ∙ hy));
+        rw (← some-inj j, expr-first N us e u he hu ∙ sym f ∙ g) (H σ js (near-in N) n a y (expr-some 33 he) ha (ap (armsOf σ) (first-is (a .0) c hc) ∙ hy));
   }
 
-  pub case-bad : t ≡ false → KeepsVerb s l count newest loops VB.Case d at false
+  pub case-bad : t ≡ false → KeepsVerb s l scope loops VB.Case d at false
   case-bad g = cased false false g λ σ js N n a y z ha hy. refl
 
-  pub case-on : (q : ℕ) (r : Bool) → t ≡ true → Skips s at q → KeepsCases s l count newest loops d q r → KeepsVerb s l count newest loops VB.Case d at r
+  pub case-on : (q : ℕ) (r : Bool) → t ≡ true → Skips s at q → KeepsCases s l scope loops d q r → KeepsVerb s l scope loops VB.Case d at r
   case-on q r g S K = cased r true g λ σ js N n a y z ha hy. K .says σ js N n a y (ap (armsIn d n) (skip-rest S z) ∙ ha) hy
 
 pub ruleset case-laws = (case-bad, case-on)

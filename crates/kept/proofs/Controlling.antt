@@ -4,7 +4,7 @@ use mathlib.Core.Bool.{Bool, true, false, not, _&&_}
 use mathlib.Core.Logic.{_⊎_, inl, inr}
 use mathlib.Core.List.{List, _∷_, map}
 use mathlib.Core.Option.{Option, none, some}
-use Prim.Native.Nat.{ℕ, _<_, _≤_}
+use Prim.Native.Nat.{ℕ, _<_, _≤_, suc, _+_}
 use native.Mathlib.Omega.{arith}
 use lib.ListN.{length}
 use Rattle.lexis.specs.declared.words.Word.{Word}
@@ -19,7 +19,6 @@ use Rattle.semantics.specs.Syntax as Syntax
 use Rattle.semantics.specs.Trees.{word, form, Trees, end, _then_, Run, first, later, wordAt, stackAt}
 use Rattle.semantics.specs.Types.{Var}
 use Rattle.semantics.proofs.Inversion.{none-some, some-inj, bind-some}
-use Rattle.symbols.specs.Chain.{entries, placeIn}
 use Rattle.shapes.specs.declared.Atom.{Atom}
 use Rattle.shapes.specs.declared.Atom.the-variants as AT
 use Rattle.shapes.specs.declared.ExprHead.{ExprHead}
@@ -33,16 +32,16 @@ use Rattle.parts.specs.declared.Part.the-variants as part
 use Rattle.parts.specs.Parts.{LeafAt, FormAt, ShutAt, Stands}
 use Rattle.skips.specs.Skips.{Skips}
 use Rattle.plain.specs.Plain.{plainFirst}
-use Rattle.tables.specs.declared.Mask.{Mask}
+use Rattle.tables.specs.declared.Scope.{Scope}
+use Rattle.tables.specs.declared.Loops.{Loops}
 use Rattle.tables.specs.declared.Meaning.{Meaning}
 use Rattle.tables.specs.declared.Meaning.the-variants as meaning
-use Rattle.tables.specs.Loops.{loopsOver, withLoop}
-use Rattle.tables.specs.Scene.{meaningAt, Means, a-type, a-var, a-proc, a-value, Told, unknown, known}
+use Rattle.tables.specs.Loops.{loopsOver}
+use Rattle.tables.specs.Scene.{Means, a-type, a-var, a-proc, a-value, Told, unknown, known, meaningIn, meaningHere}
 use Rattle.tables.proofs.Looping.{in-force-more}
 use Rattle.tables.proofs.Telling.{meant}
 use Rattle.statements.specs.Walks.{forIn}
 use Rattle.statements.proofs.Shapes.{assign-shape, for-shape}
-use Rattle.statements.proofs.Storing.{below-length}
 use Rattle.kept.specs.declared.control.Start.{Start}
 use Rattle.kept.specs.declared.control.Start.the-variants as start
 use Rattle.kept.specs.Walks.{Near, KeepsAssign}
@@ -71,7 +70,7 @@ two-told {s} {at} P h = split (first (stackAt s at)) h λ t ts e. P .says t ts e
 
 -- ---- variables of the loops around
 
-module _ (w : Mask) (i : ℕ) (b : Bool) (h : b ≡ loopsOver w i) where
+module _ (w : Loops) (i : ℕ) (b : Bool) (h : b ≡ loopsOver w i) where
   pub step-over : b ≡ true → false ≡ not (loopsOver w i)
   step-over e = sym (ap not (sym h ∙ e))
 
@@ -80,7 +79,7 @@ module _ (w : Mask) (i : ℕ) (b : Bool) (h : b ≡ loopsOver w i) where
 
 pub ruleset step-laws = (step-over, step-free)
 
-module _ (w : Mask) (m : Meaning) where
+module _ (w : Loops) (m : Meaning) where
   pub free-unknown : m ≡ meaning.Unknown → true ≡ freeBy w m
   free-unknown e = rw e refl
 
@@ -98,19 +97,16 @@ module _ (w : Mask) (m : Meaning) where
 
 pub ruleset free-by-laws = (free-unknown, free-type, free-var, free-proc, free-value)
 
--- a variable's name means that variable, which is one of 128
-means-var : {σ : Environment} {bs : List ℕ} {x : Meaning} {n : NameSort} (i : ℕ) → Means σ bs x n → n ≡ aVar i → length (σ .vars) ≤ 128 → (k : ℕ) × ((a : ℕ) × ((x ≡ meaning.Var i k a) × (i < 128)))
-means-var i a-type e f = none-some (ap asVar e)
-means-var {σ} i (a-var {i = j} v h) e f =
-    let q : j ≡ i = some-inj (ap asVar e) in
-    let l = below-length (σ .vars) j v h in
-    (v .type, (v .base, (ap (λ (y : ℕ). meaning.Var y (v .type) (v .base)) q, omega arith)))
-means-var i a-proc e f = none-some (ap asVar e)
-means-var i a-value e f = none-some (ap asVar e)
+-- a variable's name means that variable
+means-var : {σ : Environment} {bs : List ℕ} {x : Meaning} {n : NameSort} (i : ℕ) → Means σ bs x n → n ≡ aVar i → (k : ℕ) × ((a : ℕ) × (x ≡ meaning.Var i k a))
+means-var i a-type e = none-some (ap asVar e)
+means-var i (a-var v h) e = (v .type, (v .base, ap (λ (y : ℕ). meaning.Var y (v .type) (v .base)) (some-inj (ap asVar e))))
+means-var i a-proc e = none-some (ap asVar e)
+means-var i a-value e = none-some (ap asVar e)
 
-told-var : {σ : Environment} {bs : List ℕ} {x : Meaning} {o : Option NameSort} (i : ℕ) → Told σ bs x o → o ≡ some (aVar i) → length (σ .vars) ≤ 128 → (k : ℕ) × ((a : ℕ) × ((x ≡ meaning.Var i k a) × (i < 128)))
-told-var i unknown e f = none-some e
-told-var i (known M) e f = means-var i M (some-inj e) f
+told-var : {σ : Environment} {bs : List ℕ} {x : Meaning} {o : Option NameSort} (i : ℕ) → Told σ bs x o → o ≡ some (aVar i) → (k : ℕ) × ((a : ℕ) × (x ≡ meaning.Var i k a))
+told-var i unknown e = none-some e
+told-var i (known M) e = means-var i M (some-inj e)
 
 sort-var : (m : NameSort) (i : ℕ) → asVar m ≡ some i → m ≡ aVar i
 sort-var (aType t) i e = none-some e
@@ -118,19 +114,19 @@ sort-var (aVar j) i e = ap aVar (some-inj e)
 sort-var (aProc p) i e = none-some e
 sort-var (aValue c) i e = none-some e
 
-module _ {s l : List ℕ} {count newest : ℕ} {loops : Mask} {σ : Environment} {js : List ℕ} (N : Near s l count newest loops σ js) where
-  var-means : (w : Name) (i : ℕ) → varOf σ w ≡ some i → (k : ℕ) × ((a : ℕ) × ((meaningAt l (placeIn s l (entries count l newest) w) ≡ meaning.Var i k a) × (i < 128)))
+module _ {s l : List ℕ} {scope : Scope} {loops : Loops} {d : ℕ} {σ : Environment} {js : List ℕ} (N : Near s l scope loops d σ js) where
+  var-means : (w : Name) (i : ℕ) → varOf σ w ≡ some i → (k : ℕ) × ((a : ℕ) × (meaningIn s l scope w ≡ meaning.Var i k a))
   unfolding varOf
-  var-means w i h = bind-some h λ m hm e. told-var i (meant (N .held .scene) w) (hm ∙ ap some (sort-var m i e)) (N .few-vars)
+  var-means w i h = bind-some h λ m hm e. told-var i (meant (N .held .scene) w) (hm ∙ ap some (sort-var m i e))
 
 -- ---- the target that is assigned
 
-var-free : {s l : List ℕ} {count newest : ℕ} {loops : Mask} (σ : Environment) (js : List ℕ) → Near s l count newest loops σ js → (w : Name) (z : Reached) (x : Meaning) (r : Bool) → x ≡ meaningAt l (placeIn s l (entries count l newest) w)
+var-free : {s l : List ℕ} {scope : Scope} {loops : Loops} {d : ℕ} (σ : Environment) (js : List ℕ) → Near s l scope loops d σ js → (w : Name) (z : Reached) (x : Meaning) (r : Bool) → x ≡ meaningIn s l scope w
     → r ≡ freeBy loops x → targetOf σ (Syntax.var w) ≡ some z → r ≡ not (steers (z .target) js)
 unfolding targetOf
 var-free {loops} σ js N w z x r f g h = bind-some h λ i hi h′. bind-some h′ λ v hv p.
     let M = var-means N w i hi in
-    rw (← some-inj p) (g ∙ ap (freeBy loops) (f ∙ M .1 .1 .0) ∙ ap not (N .in-force .in-force i (M .1 .1 .1)))
+    rw (← some-inj p) (g ∙ ap (freeBy loops) (f ∙ M .1 .1) ∙ ap not (N .in-force .in-force i))
 
 name-target : (a : Atom) (w : Name) (g : Syntax.Target) → atomTarget a w ≡ some g → Syntax.var w ≡ g
 name-target (AT.Number z) w g h = none-some h
@@ -153,22 +149,22 @@ form-free σ js (EH.Two n) d us g x h k = none-some h
 form-free σ js (EH.One n) d us g x h k = none-some h
 form-free σ js EH.Nothing d us g x h k = none-some h
 
-module _ (s l : List ℕ) (count newest : ℕ) (loops : Mask) (at : ℕ) (y : Part) (S : Stands s at y) where
-  pub free-leaf : (w : Word) (p q : ℕ) (x : Meaning) (r : Bool) → y ≡ part.Leaf w p q → x ≡ meaningAt l (placeIn s l (entries count l newest) (map small (wordAt s p))) → r ≡ freeBy loops x → Free s l count newest loops at r
+module _ (s l : List ℕ) (scope : Scope) (loops : Loops) (at : ℕ) (y : Part) (S : Stands s at y) where
+  pub free-leaf : (w : Word) (p q : ℕ) (x : Meaning) (r : Bool) → y ≡ part.Leaf w p q → x ≡ meaningHere s l scope p → r ≡ freeBy loops x → Free s l scope loops at r
   free-leaf w p q x r e f g = record {
-    says = λ σ js N v z hv hz.
+    says = λ d σ js N v z hv hz.
         let L : LeafAt s at p q = (rw e at (S .says)) .0 in
         let n : Syntax.var (map small (wordAt s p)) ≡ v
         = name-target (atomOf (wordOf (wordAt s p))) (map small (wordAt s p)) v (sym (target-word 32 (wordAt s p) (first (stackAt s q))) ∙ ap (targetIn 33) (sym (L .leaf .here)) ∙ hv) in
-        whole σ js N z (rw (← n) at hz);
+        whole d σ js N z (rw (← n) at hz);
   }
     where
-      whole : (σ : Environment) (js : List ℕ) → Near s l count newest loops σ js → (z : Reached) → targetOf σ (Syntax.var (map small (wordAt s p))) ≡ some z → r ≡ not (steers (z .target) js)
-      whole σ js N z h = var-free σ js N (map small (wordAt s p)) z x r f g h
+      whole : (d : ℕ) (σ : Environment) (js : List ℕ) → Near s l scope loops d σ js → (z : Reached) → targetOf σ (Syntax.var (map small (wordAt s p))) ≡ some z → r ≡ not (steers (z .target) js)
+      whole d σ js N z h = var-free σ js N (map small (wordAt s p)) z x r f g h
 
-  pub free-form : (p : ℕ) → y ≡ part.Form p → Free s l count newest loops at true
+  pub free-form : (p : ℕ) → y ≡ part.Form p → Free s l scope loops at true
   free-form p e = record {
-    says = λ σ js N v z hv hz.
+    says = λ d σ js N v z hv hz.
         let F : FormAt s at p = rw e at (S .says) in
         sym (ap not (inside σ js (first (stackAt s p)) v z (ap (targetIn 33) (sym (F .here)) ∙ hv) hz));
   }
@@ -178,18 +174,18 @@ module _ (s l : List ℕ) (count newest : ℕ) (loops : Mask) (at : ℕ) (y : Pa
       inside σ js (form us then vs) v z h k = none-some (sym (target-headless 33 us vs (first (later (stackAt s p)))) ∙ h)
       inside σ js (word w then us) v z h k = form-free σ js (exprHeadOf (wordOf w)) 32 us v z (sym (target-form 32 w us (first (later (stackAt s p)))) ∙ h) k
 
-  pub free-shut : (q : ℕ) → y ≡ part.Shut q → Free s l count newest loops at true
-  free-shut q e = record { says = λ σ js N v z hv hz. let C : ShutAt s at q = rw e at (S .says) in absurd (target-some 33 hv (C .here)) }
+  pub free-shut : (q : ℕ) → y ≡ part.Shut q → Free s l scope loops at true
+  free-shut q e = record { says = λ d σ js N v z hv hz. let C : ShutAt s at q = rw e at (S .says) in absurd (target-some 33 hv (C .here)) }
 
 pub ruleset free-laws = (free-leaf, free-form, free-shut)
 
 -- ---- an assignment
 
-module _ (s l : List ℕ) (count newest : ℕ) (loops : Mask) (at : ℕ) (t : Bool) (P : PlainTwo s at t) where
+module _ (s l : List ℕ) (scope : Scope) (loops : Loops) (at : ℕ) (t : Bool) (P : PlainTwo s at t) where
   abbrev us : Trees Run
   us = first (stackAt s at)
 
-  assigned : (r : Bool) → ((b : Bool) (σ : Environment) (js : List ℕ) → Near s l count newest loops σ js → (g : Syntax.Target) (x : Reached) → targetIn 33 us ≡ some g → targetOf σ g ≡ some x → r ≡ (t && not (steers (x .target) js))) → KeepsAssign s l count newest loops at r
+  assigned : (r : Bool) → ((b : Bool) (d : ℕ) (σ : Environment) (js : List ℕ) → Near s l scope loops d σ js → (g : Syntax.Target) (x : Reached) → targetIn 33 us ≡ some g → targetOf σ g ≡ some x → r ≡ (t && not (steers (x .target) js))) → KeepsAssign s l scope loops at r
   unfolding stmtOf keptStmt
   assigned r f = record {
     any = λ d. record {
@@ -197,26 +193,26 @@ module _ (s l : List ℕ) (count newest : ℕ) (loops : Mask) (at : ℕ) (t : Bo
           bind-some (sym (assign-shape d n us) ∙ h) λ g hg h′. bind-some h′ λ e he q. bind-some he λ e₀ he₀ c. closed-is c λ z i.
           bind-some (rw (← some-inj q) at k) λ v hv k′. bind-some k′ λ y hy j.
           rw (← some-inj j)
-          (f t σ js N g v hg hv
-          ∙ ap (λ (b : Bool). b && not (steers (v .target) js)) (two-told P (target-some 33 hg) ∙ sym (both σ js N g e₀ v y hg he₀ hv (rw (← i) at hy))));
+          (f t (suc d) σ js N g v hg hv
+          ∙ ap (λ (b : Bool). b && not (steers (v .target) js)) (two-told P (target-some 33 hg) ∙ sym (both (suc d) σ js N g e₀ v y hg he₀ hv (rw (← i) at hy))));
     };
   }
     where
-      both : (σ : Environment) (js : List ℕ) → Near s l count newest loops σ js → (g : Syntax.Target) (e : Syntax.Expr) (v : Reached) (y : Script.Expr) → targetIn 33 us ≡ some g → exprIn 33 (rest us) ≡ some e → targetOf σ g ≡ some v → exprOf σ e ≡ some y
+      both : (d : ℕ) (σ : Environment) (js : List ℕ) → Near s l scope loops d σ js → (g : Syntax.Target) (e : Syntax.Expr) (v : Reached) (y : Script.Expr) → targetIn 33 us ≡ some g → exprIn 33 (rest us) ≡ some e → targetOf σ g ≡ some v → exprOf σ e ≡ some y
           → (plainTarget (v .target) && plainExpr y) ≡ (plainFirst us && plainFirst (rest us))
-      both σ js N g e v y hg he hv hy = rw (target-first N us g v hg hv, expr-first N (rest us) e y he hy) refl
+      both d σ js N g e v y hg he hv hy = rw (target-first N us g v hg hv, expr-first N (rest us) e y he hy) refl
 
-  pub assign-bad : t ≡ false → KeepsAssign s l count newest loops at false
-  assign-bad z = assigned false λ b σ js N g x hg hx. sym (ap (λ (b : Bool). b && not (steers (x .target) js)) z)
+  pub assign-bad : t ≡ false → KeepsAssign s l scope loops at false
+  assign-bad z = assigned false λ b d σ js N g x hg hx. sym (ap (λ (b : Bool). b && not (steers (x .target) js)) z)
 
-  pub assign-free : (r : Bool) → t ≡ true → Free s l count newest loops at r → KeepsAssign s l count newest loops at r
-  assign-free r z F = assigned r λ b σ js N g x hg hx. F .says σ js N g x hg hx ∙ sym (ap (λ (b : Bool). b && not (steers (x .target) js)) z)
+  pub assign-free : (r : Bool) → t ≡ true → Free s l scope loops at r → KeepsAssign s l scope loops at r
+  assign-free r z F = assigned r λ b d σ js N g x hg hx. F .says d σ js N g x hg hx ∙ sym (ap (λ (b : Bool). b && not (steers (x .target) js)) z)
 
 pub ruleset assign-laws = (assign-bad, assign-free)
 
 -- ---- a `for`
 
-module _ (s : List ℕ) (loops : Mask) (i at : ℕ) (t : Bool) (P : PlainTwo s at t) where
+module _ (s : List ℕ) (loops : Loops) (i at : ℕ) (t : Bool) (P : PlainTwo s at t) where
   pub bounds-bad : t ≡ false → Bounded s loops i at start.Broken
   bounds-bad z = record { says = inr (rw z at P) }
 
@@ -224,8 +220,8 @@ module _ (s : List ℕ) (loops : Mask) (i at : ℕ) (t : Bool) (P : PlainTwo s a
     pub bounds-over : o ≡ true → Bounded s loops i at start.Broken
     bounds-over e = record { says = inl (sym h ∙ e) }
 
-    pub bounds-on : (w : Mask) (q : ℕ) → o ≡ false → w ≡ withLoop loops i → SkipsTwo s at q → Bounded s loops i at (start.Fine w q)
-    bounds-on w q e f S = record { says = (f, (sym h ∙ e, (rw z at P, S))) }
+    pub bounds-on : (q : ℕ) → o ≡ false → SkipsTwo s at q → Bounded s loops i at (start.Fine i q)
+    bounds-on q e S = record { says = (refl, (sym h ∙ e, (rw z at P, S))) }
 
 pub ruleset bounds-laws = (bounds-bad, bounds-over, bounds-on)
 
@@ -250,7 +246,7 @@ no-var : {X : Type 0} {m : Meaning} {i k a : ℕ} → isVar m ≡ false → m �
 unfolding isVar
 no-var h e = let g : true ≡ false = sym (ap isVar e) ∙ h in let z : _≡_ {A = ℕ} 0 1 = cc in absurd (omega arith)
 
-module _ (s : List ℕ) (loops : Mask) (m : Meaning) (at : ℕ) where
+module _ (s : List ℕ) (loops : Loops) (m : Meaning) (at : ℕ) where
   pub start-unknown : m ≡ meaning.Unknown → StartsBy s loops m at start.Broken
   unfolding isVar
   start-unknown e = record { says = λ i k a f. no-var (ap isVar e) f }
@@ -285,9 +281,9 @@ name-name (AT.Base k) w n h = none-some h
 name-name AT.Nothing w n h = none-some h
 
 -- the parts of a `for` after its control variable, as they are read and named
-module _ {s l : List ℕ} {count newest : ℕ} {loops : Mask} {σ : Environment} {js : List ℕ} (N : Near s l count newest loops σ js) (q d n : ℕ)
+module _ {s l : List ℕ} {scope : Scope} {loops : Loops} {d : ℕ} {σ : Environment} {js : List ℕ} (N : Near s l scope loops (suc d) σ js) (q n : ℕ)
     (a b : Syntax.Expr) (c : Syntax.Stmt × ℕ) (ha : exprIn 33 (first (stackAt s q)) ≡ some a) (hb : exprIn 33 (rest (first (stackAt s q))) ≡ some b) (hc : stmtIn d n (rest (rest (first (stackAt s q)))) ≡ some c)
-    (i : ℕ) (x y : Script.Expr) (z : Script.Stmt) (hx : exprOf σ a ≡ some x) (hy : exprOf σ b ≡ some y) (hz : stmtOf σ (c .0) ≡ some z) (few : i < 128) where
+    (i : ℕ) (x y : Script.Expr) (z : Script.Stmt) (hx : exprOf σ a ≡ some x) (hy : exprOf σ b ≡ some y) (hz : stmtOf σ (c .0) ≡ some z) where
   abbrev vs : Trees Run
   vs = first (stackAt s q)
 
@@ -297,18 +293,17 @@ module _ {s l : List ℕ} {count newest : ℕ} {loops : Mask} {σ : Environment}
       pair : {u v f g : Bool} → u ≡ f → v ≡ g → (u && v) ≡ (f && g)
       pair e h = rw (e, h) refl
 
-  for-as : (r : Start) → Bounded s loops i q r → (e : Script.Stmt) → Script.for n i x y z ≡ e → StartsAs s σ js d n e r
+  for-as : (r : Start) → Bounded s loops i q r → (e : Script.Stmt) → Script.for n i x y z ≡ e → StartsAs s loops σ js d n e r
   unfolding keptStmt
-  for-as (start.Fine w q′) B e k =
+  for-as (start.Fine j q′) B e k =
       let g = B .says in
-      rw (← k) (record {
-        var = i;
+      rw (← k, g .0) (record {
         form = c;
         inside = z;
-        in-force = rw (g .0) (in-force-more (N .in-force) few);
+        in-force = in-force-more (N .in-force) (let w = N .few-loops in omega arith);
         read = ap (stmtIn d n) (there (g .1 .1 .1)) ∙ hc;
         named = hz;
-        kept = rw (bounds-are true (g .1 .1 .0), sym (N .in-force .in-force i few) ∙ g .1 .0) refl;
+        kept = rw (bounds-are true (g .1 .1 .0), sym (N .in-force .in-force i) ∙ g .1 .0) refl;
       })
     where
       there : SkipsTwo s q q′ → first (stackAt s q′) ≡ rest (rest vs)
@@ -316,18 +311,18 @@ module _ {s l : List ℕ} {count newest : ℕ} {loops : Mask} {σ : Environment}
   for-as start.Broken B e k = rw (← k) (go (B .says))
     where
       go : (loopsOver loops i ≡ true) ⊎ PlainTwo s q false → (((plainExpr x && plainExpr y) && not (looping i js)) && keptStmt z (i ∷ js)) ≡ false
-      go (inl o) = rw (sym (N .in-force .in-force i few) ∙ o) (ap (λ (b : Bool). b && keptStmt z (i ∷ js)) (last (plainExpr x && plainExpr y)))
+      go (inl o) = rw (sym (N .in-force .in-force i) ∙ o) (ap (λ (b : Bool). b && keptStmt z (i ∷ js)) (last (plainExpr x && plainExpr y)))
         where
           last : (b : Bool) → (b && false) ≡ false
           last true = refl
           last false = refl
       go (inr P) = rw (bounds-are false P) refl
 
-module _ (s l : List ℕ) (count newest : ℕ) (loops : Mask) (at : ℕ) (y : Part) (S : Stands s at y) where
-  pub start-leaf : (w : Word) (p q : ℕ) (x : Meaning) (r : Start) → y ≡ part.Leaf w p q → x ≡ meaningAt l (placeIn s l (entries count l newest) (map small (wordAt s p))) → StartsBy s loops x q r → Starts s l count newest loops at r
+module _ (s l : List ℕ) (scope : Scope) (loops : Loops) (at : ℕ) (y : Part) (S : Stands s at y) where
+  pub start-leaf : (w : Word) (p q : ℕ) (x : Meaning) (r : Start) → y ≡ part.Leaf w p q → x ≡ meaningHere s l scope p → StartsBy s loops x q r → Starts s l scope loops at r
   unfolding forIn stmtOf
   start-leaf w p q x r e f B = record {
-    says = λ σ js N d n v z h k.
+    says = λ d σ js N n v z h k.
         let L : LeafAt s at p q = (rw e at (S .says)) .0 in
         bind-some (sym (for-shape d n (first (stackAt s at))) ∙ h) λ i hi h′.
         let m : map small (wordAt s p) ≡ i = name-name (atomOf (wordOf (wordAt s p))) (map small (wordAt s p)) i (sym (name-word (wordAt s p) (first (stackAt s q))) ∙ ap nameIn (sym (L .leaf .here)) ∙ hi) in
@@ -335,20 +330,20 @@ module _ (s l : List ℕ) (count newest : ℕ) (loops : Mask) (at : ℕ) (y : Pa
         bind-some (rw u at h′) λ a ha h₁. bind-some h₁ λ b hb h₂. bind-some h₂ λ c hc g. bind-some hc λ c₀ hc₀ j. closed-is j λ o eq.
         bind-some (rw (← some-inj g) at k) λ num hn k₁. bind-some k₁ λ ex hex k₂. bind-some k₂ λ ey hey k₃. bind-some k₃ λ ez hez fin.
         let M = var-means N i num hn in
-        for-as N q d n a b c₀ ha hb hc₀ num ex ey ez hex hey (rw (← eq) at hez) (M .1 .1 .1) r
-        (B .says num (M .0) (M .1 .0) (f ∙ ap (λ (w : Name). meaningAt l (placeIn s l (entries count l newest) w)) m ∙ M .1 .1 .0)) z (some-inj fin);
+        for-as N q n a b c₀ ha hb hc₀ num ex ey ez hex hey (rw (← eq) at hez) r
+        (B .says num (M .0) (M .1 .0) (f ∙ ap (λ (w : Name). meaningIn s l scope w) m ∙ M .1 .1)) z (some-inj fin);
   }
 
-  pub start-form : (p : ℕ) → y ≡ part.Form p → Starts s l count newest loops at start.Broken
+  pub start-form : (p : ℕ) → y ≡ part.Form p → Starts s l scope loops at start.Broken
   start-form p e = record {
-    says = λ σ js N d n v z h k.
+    says = λ d σ js N n v z h k.
         let F : FormAt s at p = rw e at (S .says) in
         bind-some (sym (for-shape d n (first (stackAt s at))) ∙ h) λ i hi h′. none-some (sym (name-form (first (stackAt s p)) (first (later (stackAt s p)))) ∙ ap nameIn (sym (F .here)) ∙ hi);
   }
 
-  pub start-shut : (q : ℕ) → y ≡ part.Shut q → Starts s l count newest loops at start.Broken
+  pub start-shut : (q : ℕ) → y ≡ part.Shut q → Starts s l scope loops at start.Broken
   start-shut q e = record {
-    says = λ σ js N d n v z h k.
+    says = λ d σ js N n v z h k.
         let C : ShutAt s at q = rw e at (S .says) in
         bind-some (sym (for-shape d n (first (stackAt s at))) ∙ h) λ i hi h′. none-some (sym name-end ∙ ap nameIn (sym (C .here)) ∙ hi);
   }

@@ -3,7 +3,7 @@ use mathlib.Core.Path.{_≡_, refl, sym, ap, _∙_}
 use mathlib.Core.Bool.{Bool, true, false, _&&_}
 use mathlib.Core.List.{List}
 use mathlib.Core.Option.{some}
-use Prim.Native.Nat.{ℕ, _<_}
+use Prim.Native.Nat.{ℕ, _<_, suc, _+_}
 use native.Mathlib.Omega.{arith}
 use lib.ListN.{length}
 use Rattle.semantics.specs.Environment.{Environment}
@@ -19,7 +19,8 @@ use Rattle.shapes.proofs.Statements.{stmt-end}
 use Rattle.skips.specs.Skips.{Skips}
 use Rattle.plain.specs.Plain.{plainFirst}
 use Rattle.plain.proofs.Exprs.{expr-plain, target-plain}
-use Rattle.tables.specs.declared.Mask.{Mask}
+use Rattle.tables.specs.declared.Scope.{Scope}
+use Rattle.tables.specs.declared.Loops.{Loops}
 use Rattle.statements.specs.Chains.{many}
 use Rattle.kept.specs.Walks.{Near}
 
@@ -61,9 +62,14 @@ module _ {s : List ℕ} {at q : ℕ} (S : Skips s at q) where
   unfolding many
   skip-falls h = split (first (stackAt s at)) h λ t ts e. rw (skip-then t ts e, e) (omega arith)
 
+-- ---- one bracket deeper
+
+pub near-in : {s l : List ℕ} {scope : Scope} {loops : Loops} {d : ℕ} {σ : Environment} {js : List ℕ} → Near s l scope loops (suc d) σ js → Near s l scope loops d σ js
+near-in N = record { held = N .held; in-force = N .in-force; few-loops = let w = N .few-loops in omega arith }
+
 -- ---- constants
 
-module _ {s l : List ℕ} {count newest : ℕ} {loops : Mask} {σ : Environment} {js : List ℕ} (N : Near s l count newest loops σ js) where
+module _ {s l : List ℕ} {scope : Scope} {loops : Loops} {d : ℕ} {σ : Environment} {js : List ℕ} (N : Near s l scope loops d σ js) where
   pub expr-first : (us : Trees Run) (x : Syntax.Expr) (e : Script.Expr) → exprIn 33 us ≡ some x → exprOf σ x ≡ some e → plainExpr e ≡ plainFirst us
   expr-first us x e h k = expr-plain σ (N .held .scene .table) (length (N .held .bs)) (N .held .scene .fair) 33 us x e h k
 

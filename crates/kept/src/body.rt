@@ -4,12 +4,13 @@ use crate::walk::stmts;
 use skips::skip;
 use stmtnodes::last::Next;
 use stmtnodes::last::next_at;
+use tables::Scope;
 use tables::no_loops;
 ghost use Rattle.kept.specs.Walks.{KeepsBody};
 
 // All parts of a body, from an offset to the closing bracket.
-pub fn body_kept(text: &[u8], work: &[u32], count: u32, newest: u32, at: usize) -> bool
-    ensures { λ r. ⌜ KeepsBody (now (text .entry)) (now (work .entry)) count newest at r ⌝ }
+pub fn body_kept(text: &[u8], work: &[u32], scope: Scope, at: usize) -> bool
+    ensures { λ r. ⌜ KeepsBody (now (text .entry)) (now (work .entry)) scope at r ⌝ }
 {
     let w = no_loops();
     let mut p = at;
@@ -20,10 +21,10 @@ pub fn body_kept(text: &[u8], work: &[u32], count: u32, newest: u32, at: usize) 
                 return true;
             }
             Next::Handler(q) => {
-                return stmts(text, work, count, newest, w, 33, q);
+                return stmts(text, work, scope, w, 33, q);
             }
             Next::Stmt => {
-                if stmt(text, work, count, newest, w, 33, p) {
+                if stmt(text, work, scope, w, 33, p) {
                     p = skip(text, p);
                 } else {
                     return false;

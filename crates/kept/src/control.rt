@@ -3,20 +3,20 @@ use parts::Part;
 use parts::part_at;
 use plain::plain_part;
 use skips::skip;
-use tables::Mask;
+use tables::Loops;
 use tables::Meaning;
+use tables::Scope;
 use tables::loops_over;
 use tables::meaning_of;
-use tables::with_loop;
 ghost use mathlib.Core.Path.{_≡_};
 ghost use mathlib.Core.Bool.{not};
 ghost use Rattle.tables.specs.Loops.{loopsOver};
 ghost use Rattle.kept.specs.Control.{freeBy, PlainTwo, SkipsTwo, Free, Bounded, StartsBy, Starts};
 ghost use Rattle.kept.specs.Walks.{KeepsAssign};
 
-// A `for` up to its statement: the mask and the offset for that, or a rule is broken.
+// A `for` up to its statement: its control variable and the offset of the statement, or a rule is broken.
 pub enum Start {
-    Fine(Mask, usize),
+    Fine(u32, usize),
     Broken,
 }
 
@@ -40,7 +40,7 @@ fn skip_two(text: &[u8], at: usize) -> usize
 }
 
 // Whether no loop around steps variable i.
-fn unstepped(loops: Mask, i: u32) -> bool
+fn unstepped(loops: Loops, i: u32) -> bool
     ensures { λ r. ⌜ r ≡ not (loopsOver loops i) ⌝ }
 {
     if loops_over(loops, i) {
@@ -50,7 +50,7 @@ fn unstepped(loops: Mask, i: u32) -> bool
 }
 
 // Whether a name that means m is no variable that a loop around steps.
-fn free_by(loops: Mask, m: Meaning) -> bool
+fn free_by(loops: Loops, m: Meaning) -> bool
     ensures { λ r. ⌜ r ≡ freeBy loops m ⌝ }
 {
     match m {
@@ -63,51 +63,43 @@ fn free_by(loops: Mask, m: Meaning) -> bool
 }
 
 // Whether the target at an offset is no variable that a loop around steps; an element or a field may be assigned.
-fn free_at(text: &[u8], work: &[u32], count: u32, newest: u32, loops: Mask, at: usize) -> bool
-    ensures { λ r. ⌜ Free (now (text .entry)) (now (work .entry)) count newest loops at r ⌝ }
+fn free_at(text: &[u8], work: &[u32], scope: Scope, loops: Loops, at: usize) -> bool
+    ensures { λ r. ⌜ Free (now (text .entry)) (now (work .entry)) scope loops at r ⌝ }
 {
     let part = part_at(text, at);
     match part {
-        Part::Leaf(_, p, _) => free_by(loops, meaning_of(text, work, count, newest, p)),
+        Part::Leaf(_, p, _) => free_by(loops, meaning_of(text, work, scope, p)),
         Part::Form(_) => true,
         Part::Shut(_) => true,
     }
 }
 
 // The rules of an assignment, from past the head word on.
-pub fn assign_kept(
-    text: &[u8],
-    work: &[u32],
-    count: u32,
-    newest: u32,
-    loops: Mask,
-    at: usize,
-) -> bool
-    ensures { λ r. ⌜ KeepsAssign (now (text .entry)) (now (work .entry)) count newest loops at r ⌝ }
+pub fn assign_kept(text: &[u8], work: &[u32], scope: Scope, loops: Loops, at: usize) -> bool
+    ensures { λ r. ⌜ KeepsAssign (now (text .entry)) (now (work .entry)) scope loops at r ⌝ }
 {
     if plain_two(text, at) {
-        return free_at(text, work, count, newest, loops, at);
+        return free_at(text, work, scope, loops, at);
     }
     false
 }
 
 // The bounds of a `for` over variable i, and its statement's offset.
-fn bounds_at(text: &[u8], loops: Mask, i: u32, at: usize) -> Start
+fn bounds_at(text: &[u8], loops: Loops, i: u32, at: usize) -> Start
     ensures { λ r. ⌜ Bounded (now (text .entry)) loops i at r ⌝ }
 {
     if plain_two(text, at) {
         if loops_over(loops, i) {
             return Start::Broken;
         }
-        let w = with_loop(loops, i);
         let q = skip_two(text, at);
-        return Start::Fine(w, q);
+        return Start::Fine(i, q);
     }
     Start::Broken
 }
 
 // A `for` whose control variable's name means m.
-fn start_by(text: &[u8], loops: Mask, m: Meaning, at: usize) -> Start
+fn start_by(text: &[u8], loops: Loops, m: Meaning, at: usize) -> Start
     ensures { λ r. ⌜ StartsBy (now (text .entry)) loops m at r ⌝ }
 {
     match m {
@@ -120,12 +112,12 @@ fn start_by(text: &[u8], loops: Mask, m: Meaning, at: usize) -> Start
 }
 
 // A `for` up to its statement, from past the head word on.
-pub fn start_at(text: &[u8], work: &[u32], count: u32, newest: u32, loops: Mask, at: usize) -> Start
-    ensures { λ r. ⌜ Starts (now (text .entry)) (now (work .entry)) count newest loops at r ⌝ }
+pub fn start_at(text: &[u8], work: &[u32], scope: Scope, loops: Loops, at: usize) -> Start
+    ensures { λ r. ⌜ Starts (now (text .entry)) (now (work .entry)) scope loops at r ⌝ }
 {
     let part = part_at(text, at);
     match part {
-        Part::Leaf(_, p, q) => start_by(text, loops, meaning_of(text, work, count, newest, p), q),
+        Part::Leaf(_, p, q) => start_by(text, loops, meaning_of(text, work, scope, p), q),
         Part::Form(_) => Start::Broken,
         Part::Shut(_) => Start::Broken,
     }

@@ -15,21 +15,15 @@ use shapes::verb_of;
 use skips::skip;
 use statements::arms::NextArm;
 use statements::arms::arm_at;
-use tables::Mask;
+use tables::Loops;
+use tables::Scope;
+use tables::with_loop;
 ghost use Rattle.shapes.specs.declared.Verb.the-variants.{Begin, If, While, For, Case};
 ghost use Rattle.kept.specs.Walks.{KeepsStmt, KeepsInner, KeepsVerb, KeepsThen, KeepsElse, KeepsStmts, KeepsCases, KeepsArms, KeepsArm};
 
 // A statement at most `depth` deep.
-pub fn stmt(
-    text: &[u8],
-    work: &[u32],
-    count: u32,
-    newest: u32,
-    loops: Mask,
-    depth: usize,
-    at: usize,
-) -> bool
-    ensures { λ r. ⌜ KeepsStmt (now (text .entry)) (now (work .entry)) count newest loops depth at r ⌝ }
+pub fn stmt(text: &[u8], work: &[u32], scope: Scope, loops: Loops, depth: usize, at: usize) -> bool
+    ensures { λ r. ⌜ KeepsStmt (now (text .entry)) (now (work .entry)) scope loops depth at r ⌝ }
 {
     if depth == 0 {
         return true;
@@ -37,28 +31,20 @@ pub fn stmt(
     let part = part_at(text, at);
     match part {
         Part::Leaf(_, _, _) => true,
-        Part::Form(p) => inner(text, work, count, newest, loops, depth - 1, p),
+        Part::Form(p) => inner(text, work, scope, loops, depth - 1, p),
         Part::Shut(_) => true,
     }
 }
 
 // All parts of its form, from past the opening bracket.
-fn inner(
-    text: &[u8],
-    work: &[u32],
-    count: u32,
-    newest: u32,
-    loops: Mask,
-    depth: usize,
-    at: usize,
-) -> bool
-    ensures { λ r. ⌜ KeepsInner (now (text .entry)) (now (work .entry)) count newest loops depth at r ⌝ }
+fn inner(text: &[u8], work: &[u32], scope: Scope, loops: Loops, depth: usize, at: usize) -> bool
+    ensures { λ r. ⌜ KeepsInner (now (text .entry)) (now (work .entry)) scope loops depth at r ⌝ }
 {
     let part = part_at(text, at);
     match part {
         Part::Leaf(w, _, q) => {
             let v = verb_of(w);
-            headed(text, work, count, newest, loops, v, depth, q)
+            headed(text, work, scope, loops, v, depth, q)
         }
         Part::Form(_) => true,
         Part::Shut(_) => true,
@@ -69,22 +55,21 @@ fn inner(
 fn headed(
     text: &[u8],
     work: &[u32],
-    count: u32,
-    newest: u32,
-    loops: Mask,
+    scope: Scope,
+    loops: Loops,
     verb: Verb,
     depth: usize,
     at: usize,
 ) -> bool
-    ensures { λ r. ⌜ KeepsVerb (now (text .entry)) (now (work .entry)) count newest loops verb depth at r ⌝ }
+    ensures { λ r. ⌜ KeepsVerb (now (text .entry)) (now (work .entry)) scope loops verb depth at r ⌝ }
 {
     match verb {
-        Verb::Assign => assign_kept(text, work, count, newest, loops, at),
-        Verb::Begin => stmts(text, work, count, newest, loops, depth, at),
-        Verb::If => if_else(text, work, count, newest, loops, depth, at),
-        Verb::While => while_loop(text, work, count, newest, loops, depth, at),
-        Verb::For => for_loop(text, work, count, newest, loops, depth, at),
-        Verb::Case => case_of(text, work, count, newest, loops, depth, at),
+        Verb::Assign => assign_kept(text, work, scope, loops, at),
+        Verb::Begin => stmts(text, work, scope, loops, depth, at),
+        Verb::If => if_else(text, work, scope, loops, depth, at),
+        Verb::While => while_loop(text, work, scope, loops, depth, at),
+        Verb::For => for_loop(text, work, scope, loops, depth, at),
+        Verb::Case => case_of(text, work, scope, loops, depth, at),
         Verb::Call => true,
         Verb::Raise => plain_part(text, at),
         Verb::Nothing => true,
@@ -95,108 +80,67 @@ fn headed(
 fn while_loop(
     text: &[u8],
     work: &[u32],
-    count: u32,
-    newest: u32,
-    loops: Mask,
+    scope: Scope,
+    loops: Loops,
     depth: usize,
     at: usize,
 ) -> bool
-    ensures { λ r. ⌜ KeepsVerb (now (text .entry)) (now (work .entry)) count newest loops While depth at r ⌝ }
+    ensures { λ r. ⌜ KeepsVerb (now (text .entry)) (now (work .entry)) scope loops While depth at r ⌝ }
 {
     if plain_part(text, at) {
         let q = skip(text, at);
-        return stmt(text, work, count, newest, loops, depth, q);
+        return stmt(text, work, scope, loops, depth, q);
     }
     false
 }
 
 // An `if`.
-fn if_else(
-    text: &[u8],
-    work: &[u32],
-    count: u32,
-    newest: u32,
-    loops: Mask,
-    depth: usize,
-    at: usize,
-) -> bool
-    ensures { λ r. ⌜ KeepsVerb (now (text .entry)) (now (work .entry)) count newest loops If depth at r ⌝ }
+fn if_else(text: &[u8], work: &[u32], scope: Scope, loops: Loops, depth: usize, at: usize) -> bool
+    ensures { λ r. ⌜ KeepsVerb (now (text .entry)) (now (work .entry)) scope loops If depth at r ⌝ }
 {
     if plain_part(text, at) {
         let q = skip(text, at);
-        return if_then(text, work, count, newest, loops, depth, q);
+        return if_then(text, work, scope, loops, depth, q);
     }
     false
 }
 
 // The parts of an `if` after its test.
-fn if_then(
-    text: &[u8],
-    work: &[u32],
-    count: u32,
-    newest: u32,
-    loops: Mask,
-    depth: usize,
-    at: usize,
-) -> bool
-    ensures { λ r. ⌜ KeepsThen (now (text .entry)) (now (work .entry)) count newest loops depth at r ⌝ }
+fn if_then(text: &[u8], work: &[u32], scope: Scope, loops: Loops, depth: usize, at: usize) -> bool
+    ensures { λ r. ⌜ KeepsThen (now (text .entry)) (now (work .entry)) scope loops depth at r ⌝ }
 {
-    if stmt(text, work, count, newest, loops, depth, at) {
+    if stmt(text, work, scope, loops, depth, at) {
         let q = skip(text, at);
-        return else_part(text, work, count, newest, loops, depth, q);
+        return else_part(text, work, scope, loops, depth, q);
     }
     false
 }
 
 // The third part of an `if`, which may be missing.
-fn else_part(
-    text: &[u8],
-    work: &[u32],
-    count: u32,
-    newest: u32,
-    loops: Mask,
-    depth: usize,
-    at: usize,
-) -> bool
-    ensures { λ r. ⌜ KeepsElse (now (text .entry)) (now (work .entry)) count newest loops depth at r ⌝ }
+fn else_part(text: &[u8], work: &[u32], scope: Scope, loops: Loops, depth: usize, at: usize) -> bool
+    ensures { λ r. ⌜ KeepsElse (now (text .entry)) (now (work .entry)) scope loops depth at r ⌝ }
 {
     let e = end_at(text, at);
     match e {
         End::Past(_) => true,
-        End::More => stmt(text, work, count, newest, loops, depth, at),
+        End::More => stmt(text, work, scope, loops, depth, at),
     }
 }
 
 // A `for`.
-fn for_loop(
-    text: &[u8],
-    work: &[u32],
-    count: u32,
-    newest: u32,
-    loops: Mask,
-    depth: usize,
-    at: usize,
-) -> bool
-    ensures { λ r. ⌜ KeepsVerb (now (text .entry)) (now (work .entry)) count newest loops For depth at r ⌝ }
+fn for_loop(text: &[u8], work: &[u32], scope: Scope, loops: Loops, depth: usize, at: usize) -> bool
+    ensures { λ r. ⌜ KeepsVerb (now (text .entry)) (now (work .entry)) scope loops For depth at r ⌝ }
 {
-    let x = start_at(text, work, count, newest, loops, at);
+    let x = start_at(text, work, scope, loops, at);
     match x {
-        Start::Fine(w, q) => stmt(text, work, count, newest, w, depth, q),
+        Start::Fine(i, q) => stmt(text, work, scope, with_loop(loops, i), depth, q),
         Start::Broken => false,
     }
 }
 
 // Statements up to the closing bracket, as those of a `begin`.
-pub fn stmts(
-    text: &[u8],
-    work: &[u32],
-    count: u32,
-    newest: u32,
-    loops: Mask,
-    depth: usize,
-    at: usize,
-) -> bool
-    ensures { λ r. ⌜ KeepsStmts (now (text .entry)) (now (work .entry)) count newest loops depth at r ⌝ }
+pub fn stmts(text: &[u8], work: &[u32], scope: Scope, loops: Loops, depth: usize, at: usize) -> bool
+    ensures { λ r. ⌜ KeepsStmts (now (text .entry)) (now (work .entry)) scope loops depth at r ⌝ }
 {
     let mut p = at;
     loop {
@@ -206,7 +150,7 @@ pub fn stmts(
                 return true;
             }
             End::More => {
-                if stmt(text, work, count, newest, loops, depth, p) {
+                if stmt(text, work, scope, loops, depth, p) {
                     p = skip(text, p);
                 } else {
                     return false;
@@ -217,53 +161,29 @@ pub fn stmts(
 }
 
 // A `case`.
-fn case_of(
-    text: &[u8],
-    work: &[u32],
-    count: u32,
-    newest: u32,
-    loops: Mask,
-    depth: usize,
-    at: usize,
-) -> bool
-    ensures { λ r. ⌜ KeepsVerb (now (text .entry)) (now (work .entry)) count newest loops Case depth at r ⌝ }
+fn case_of(text: &[u8], work: &[u32], scope: Scope, loops: Loops, depth: usize, at: usize) -> bool
+    ensures { λ r. ⌜ KeepsVerb (now (text .entry)) (now (work .entry)) scope loops Case depth at r ⌝ }
 {
     if plain_part(text, at) {
         let q = skip(text, at);
-        return case_arms(text, work, count, newest, loops, depth, q);
+        return case_arms(text, work, scope, loops, depth, q);
     }
     false
 }
 
 // The arms of a case, whose labels differ.
-fn case_arms(
-    text: &[u8],
-    work: &[u32],
-    count: u32,
-    newest: u32,
-    loops: Mask,
-    depth: usize,
-    at: usize,
-) -> bool
-    ensures { λ r. ⌜ KeepsCases (now (text .entry)) (now (work .entry)) count newest loops depth at r ⌝ }
+fn case_arms(text: &[u8], work: &[u32], scope: Scope, loops: Loops, depth: usize, at: usize) -> bool
+    ensures { λ r. ⌜ KeepsCases (now (text .entry)) (now (work .entry)) scope loops depth at r ⌝ }
 {
-    if all_arms(text, work, count, newest, loops, depth, at) {
-        return labels_differ(text, work, count, newest, at);
+    if all_arms(text, work, scope, loops, depth, at) {
+        return labels_differ(text, work, scope, at);
     }
     false
 }
 
 // Each arm by itself, up to the closing bracket.
-fn all_arms(
-    text: &[u8],
-    work: &[u32],
-    count: u32,
-    newest: u32,
-    loops: Mask,
-    depth: usize,
-    at: usize,
-) -> bool
-    ensures { λ r. ⌜ KeepsArms (now (text .entry)) (now (work .entry)) count newest loops depth at r ⌝ }
+fn all_arms(text: &[u8], work: &[u32], scope: Scope, loops: Loops, depth: usize, at: usize) -> bool
+    ensures { λ r. ⌜ KeepsArms (now (text .entry)) (now (work .entry)) scope loops depth at r ⌝ }
 {
     let mut p = at;
     loop {
@@ -273,13 +193,13 @@ fn all_arms(
                 return true;
             }
             NextArm::Else(q) => {
-                return stmt(text, work, count, newest, loops, depth, q);
+                return stmt(text, work, scope, loops, depth, q);
             }
             NextArm::Nothing => {
                 return true;
             }
             NextArm::Arm(q) => {
-                if arm(text, work, count, newest, loops, depth, q) {
+                if arm(text, work, scope, loops, depth, q) {
                     p = skip(text, p);
                 } else {
                     return false;
@@ -290,20 +210,12 @@ fn all_arms(
 }
 
 // An arm after its head word.
-fn arm(
-    text: &[u8],
-    work: &[u32],
-    count: u32,
-    newest: u32,
-    loops: Mask,
-    depth: usize,
-    at: usize,
-) -> bool
-    ensures { λ r. ⌜ KeepsArm (now (text .entry)) (now (work .entry)) count newest loops depth at r ⌝ }
+fn arm(text: &[u8], work: &[u32], scope: Scope, loops: Loops, depth: usize, at: usize) -> bool
+    ensures { λ r. ⌜ KeepsArm (now (text .entry)) (now (work .entry)) scope loops depth at r ⌝ }
 {
     let x = after_labels(text, at);
     match x {
-        AfterArm::Stmt(p) => stmt(text, work, count, newest, loops, depth, p),
+        AfterArm::Stmt(p) => stmt(text, work, scope, loops, depth, p),
         AfterArm::Broken => false,
         AfterArm::Nothing => true,
     }

@@ -20,23 +20,24 @@ use Rattle.semantics.specs.Syntax as Syntax
 use Rattle.semantics.specs.Trees.{nodesIn, first, wordAt, stackAt}
 use Rattle.semantics.proofs.LayoutRegions.{Same, lay-l}
 use Rattle.semantics.proofs.LinesKeep.{Keeps}
+use Rattle.symbols.specs.Keys.{keyed}
+use Rattle.tables.specs.Scene.{meaningHere}
 use Rattle.tables.specs.declared.Fault.{Fault}
 use Rattle.tables.specs.declared.Fault.the-variants.{Clear, Name as Unnamed}
 use Rattle.tables.specs.declared.Meaning.{Meaning}
 use Rattle.tables.proofs.Telling.{meant}
 use Rattle.parts.specs.Got.{lowest, faultOf}
-use Rattle.atoms.specs.Answers.{meaningHere}
 use Rattle.shapes.specs.Parts.{bodyIn}
 use Rattle.statements.specs.Walks.{bare}
 use Rattle.worklist.specs.Laid.{Laid}
 use Rattle.declarations.specs.Lines.{entryStaged}
 use Rattle.declarations.specs.Names.{newFault}
-use Rattle.declarations.specs.State.{Holds}
+use Rattle.declarations.specs.State.{Holds, bodyState}
 use Rattle.declarations.proofs.Growing.{laid-same}
 use Rattle.bodies.specs.Table.{upTo}
 use Rattle.bodies.proofs.Calling.{length-up}
 use Rattle.judgements.specs.declared.Known.{Known}
-use Rattle.judge.specs.Answers.{bodyState, procState}
+use Rattle.judge.specs.Answers.{procState}
 use Rattle.judge.specs.Entering.{lastOf}
 use Rattle.judge.specs.Whole.{headIn}
 use Rattle.judge.proofs.Bodies.{mainOf, procOf, main-shape}
@@ -103,7 +104,7 @@ module _ {s l ts tb : List ℕ} {kn : Known} {k : Declared} (S : LooseStanding s
   module _ (at : ℕ) (few : k .stmts + nodesIn (first (stackAt s at)) ≤ 65535) (b : Eased) (l′ : List ℕ) (B : GivesEased s l ts kn at b l′) where
     body-told : BodyEased (k .env) (bodyIn (k .stmts) (first (stackAt s at))) b
     body-told = subst (λ (n : ℕ). BodyEased (k .env) (bodyIn n (first (stackAt s at))) b) (S .stmts-are)
-        (B .says (k .env) (upTo (length (k .bodies))) (S .holds .scene) (omega (arith, S .holds .few-vars, S .holds .vars-are)) (omega (arith, S .stmts-are)))
+        (B .says (k .env) (upTo (length (k .bodies))) (S .holds .scene) (omega (arith, S .stmts-are)))
 
     -- ---- `main`
 
@@ -143,24 +144,23 @@ module _ {s l ts tb : List ℕ} {kn : Known} {k : Declared} (S : LooseStanding s
 
       -- ---- `proc`: a new name at p, and the body after it
 
-      module _ (p : ℕ) (inside : p < length s) (x : Meaning) (X : x ≡ meaningHere s l (kn .state .count) (kn .state .newest) p) (f : Fault) (F : f ≡ lowest (b .fault) (newFault Clear x))
-          (u : ℕ) (l″ : List ℕ) (L : Laid (lay (p % 32768 ∷ (2 + 4 * (kn .state .procs % 16384)) ∷ kn .state .procs ∷ kn .state .newest ∷ []) (kn .state .top) l′) u l″) where
+      module _ (p : ℕ) (inside : p < length s) (x : Meaning) (X : x ≡ meaningHere s l (kn .state .scope) p) (f : Fault) (F : f ≡ lowest (b .fault) (newFault Clear x))
+          (u : ℕ) (l″ : List ℕ) (L : Laid (lay (keyed s p ∷ (2 + 4 * (kn .state .procs % 16384)) ∷ kn .state .procs ∷ kn .state .scope .newest ∷ []) (kn .state .top) l′) u l″) where
         abbrev w : Name
         w = map small (wordAt s p)
 
-        numbers-are : (p % 32768 ∷ (2 + 4 * (kn .state .procs % 16384)) ∷ kn .state .procs ∷ kn .state .newest ∷ []) ≡ (p ∷ (2 + 4 * length (upTo (length (k .bodies)))) ∷ length (k .bodies) ∷ kn .state .newest ∷ [])
+        numbers-are : (keyed s p ∷ (2 + 4 * (kn .state .procs % 16384)) ∷ kn .state .procs ∷ kn .state .scope .newest ∷ []) ≡ (keyed s p ∷ (2 + 4 * length (upTo (length (k .bodies)))) ∷ length (k .bodies) ∷ kn .state .scope .newest ∷ [])
         numbers-are =
-            let a : p % 32768 ≡ p = mod-eq-of-lt (omega (arith, S .holds .short-text)) in
             let c : kn .state .procs % 16384 ≡ length (k .bodies) = ap (λ (n : ℕ). n % 16384) procs-here ∙ mod-eq-of-lt (omega (arith, procs-few)) in
-            rw (a, c, procs-here, length-up (length (k .bodies))) refl
+            rw (c, procs-here, length-up (length (k .bodies))) refl
 
         proc-here : (o : Syntax.Body × ℕ) (y : Body) → bodyIn (k .stmts) (first (stackAt s at)) ≡ some o → bodyOf (k .env) (o .0) ≡ some y → kn .state .top + symbolSize (newProc w y) ≤ 16384
             → o .1 ≤ 65535 → (nn : ℕ) → Keeps (declareLine k (newProc w y) (o .1) nn) → LooseStands s l″ ts (noted s kn at tb) (kn .state .top) (looseProc kn f (b .stmts) u) k (newProc w y) (o .1) nn
         unfolding symbolSize declareLine
         proc-here o y ho hy h hn nn K =
-            let N = p ∷ (2 + 4 * length (upTo (length (k .bodies)))) ∷ length (k .bodies) ∷ kn .state .newest ∷ [] in
+            let N = keyed s p ∷ (2 + 4 * length (upTo (length (k .bodies)))) ∷ length (k .bodies) ∷ kn .state .scope .newest ∷ [] in
             let v : lay N (kn .state .top) l′ .top ≡ kn .state .top + 4 = lay-l N (kn .state .top) l′ .top-is (omega arith) in
-            let H = proc-holds (S .holds) (omega (arith, procs-here, procs-few)) y (o .1) nn (B .keeps) long (kn .state .top) (omega arith) (omega arith) (length (k .bodies)) p K in
+            let H = proc-holds (S .holds) (omega (arith, procs-here, procs-few)) y (o .1) nn (B .keeps) long (kn .state .top) (omega arith) (omega arith) (length (k .bodies)) p (omega (arith, inside, S .holds .short-text)) K in
             let e : length (k .bodies ++ withBody (k .env) y ∷ []) ≡ suc (length (k .bodies)) = length-append (k .bodies) (withBody (k .env) y ∷ []) ∙ omega arith in
             let below : Same 0 (kn .state .top) (lay N (kn .state .top) l′ .list) l =
             record { at = λ i a c. laid-same N (kn .state .top) l′ _ refl .at i a c ∙ B .keeps .at i a c } in
@@ -178,7 +178,6 @@ module _ {s l ts tb : List ℕ} {kn : Known} {k : Declared} (S : LooseStanding s
         last-proc o q h = rw h refl
 
         fault-here : f ≡ faultOf (entryStaged k (bare (bodyIn (k .stmts) (first (stackAt s at)) >>= λ b. some (procOf (map small (wordAt s p)) b))))
-        unfolding meaningHere
         fault-here =
             let T = meant (S .holds .scene) (map small (wordAt s p)) in
             let e : newFault Clear x ≡ cond (newNames (k .env) (map small (wordAt s p) ∷ [])) Clear Unnamed = ap (newFault Clear) X ∙ new-name (k .env) (upTo (length (k .bodies))) _ (map small (wordAt s p)) T in

@@ -24,6 +24,8 @@ use Rattle.framing.specs.Passes.{lineAt, balancedFrom}
 use Rattle.reader.specs.Passes.{knownAll, nodesAll}
 use Rattle.framing.proofs.Ties.{formed, unformed}
 use Rattle.reader.proofs.Ties.{worded-some, worded-none, line-known, line-nodes as tie-nodes}
+use Rattle.symbols.specs.Keys.{keyed}
+use Rattle.tables.specs.Scene.{meaningHere}
 use Rattle.tables.specs.declared.Fault.{Fault}
 use Rattle.tables.specs.declared.Fault.the-variants.{Clear, Form}
 use Rattle.parts.specs.declared.Part.{Part}
@@ -35,7 +37,6 @@ use Rattle.shapes.specs.declared.LineHead.{LineHead}
 use Rattle.shapes.specs.declared.LineHead.the-variants as LH
 use Rattle.shapes.specs.Heads.{lineHeadOf, lineHeadMeant}
 use Rattle.shapes.specs.Parts.{rest, nameIn, bodyIn}
-use Rattle.atoms.specs.Answers.{meaningHere}
 use Rattle.declarations.specs.declared.Lined.{Lined}
 use Rattle.declarations.specs.declared.Naming.{Naming}
 use Rattle.declarations.specs.declared.Naming.the-variants as naming
@@ -65,6 +66,9 @@ use Rattle.noting.proofs.Notes.{noted-long}
 use Rattle.loosely.proofs.BodyLines.{main-told, proc-told}
 use Rattle.loosely.proofs.Declarations.{declared-enters}
 use Rattle.loosely.proofs.Rows.{line-judged, line-answer}
+use Rattle.declarations.specs.State.{withNames, bodyState}
+use Rattle.declarations.specs.declared.State.{State}
+use lib.Dec.{ltb}
 
 -- ---- lines with a body
 
@@ -75,16 +79,16 @@ main-enters s l ts tb kn at b l′ tb′ g B t e = rw (t, e) (record {
   says = λ k S i n. rw (some-first isMain (λ x. headIn x (k .stmts) (first (stackAt s at)))) (main-told S i at n b l′ B (B .long));
 })
 
-pub proc-declared : (kn : Known) (f : Fault) (n p : ℕ) (l : List ℕ) (m u : ℕ) (g : Entered) (l′ : List ℕ) → m ≡ p % 32768
-    → Laid (lay (m ∷ (2 + 4 * (kn .state .procs % 16384)) ∷ kn .state .procs ∷ kn .state .newest ∷ []) (kn .state .top) l) u l′ → g ≡ looseProc kn f n u → ProcDeclared kn f n p l g l′
-proc-declared kn f n p l m u g l′ M L e = record { free = u; laid = rw (← M) L; given = e }
+pub proc-declared : (kn : Known) (f : Fault) (n m : ℕ) (l : List ℕ) (u : ℕ) (g : Entered) (l′ : List ℕ)
+    → Laid (lay (m ∷ (2 + 4 * (kn .state .procs % 16384)) ∷ kn .state .procs ∷ kn .state .scope .newest ∷ []) (kn .state .top) l) u l′ → g ≡ looseProc kn f n u → ProcDeclared kn f n m l g l′
+proc-declared kn f n m l u g l′ L e = record { free = u; laid = L; given = e }
 
 pub proc-enters : (s l ts tb : List ℕ) (kn : Known) (p at : ℕ) (n : Fault) (b : Eased) (l₁ tb′ l′ : List ℕ) (f : Fault) (g : Entered)
-    → n ≡ newFault Clear (meaningHere s l (kn .state .count) (kn .state .newest) p) → GivesEased s l ts kn at b l₁ → tb′ ≡ noted s kn at tb → f ≡ lowest (b .fault) n
-    → ProcDeclared kn f (b .stmts) p l₁ g l′ → ProcLoosely s l ts tb kn p at g l′ tb′
-proc-enters s l ts tb kn p at n b l₁ tb′ l′ f g N B t F D = rw (t, D .given) (record {
+    → n ≡ newFault Clear (meaningHere s l (kn .state .scope) p) → GivesEased s l ts kn at b l₁ → tb′ ≡ noted s kn at tb → f ≡ lowest (b .fault) n
+    → (m : ℕ) → m ≡ keyed s p → ProcDeclared kn f (b .stmts) m l₁ g l′ → ProcLoosely s l ts tb kn p at g l′ tb′
+proc-enters s l ts tb kn p at n b l₁ tb′ l′ f g N B t F m M D = rw (t, D .given) (record {
   long = noted-long s kn at tb;
-  says = λ k S i q w. proc-told S i at w b l₁ B (B .long) p q (meaningHere s l (kn .state .count) (kn .state .newest) p) refl f (F ∙ ap (lowest (b .fault)) N) (D .free) l′ (D .laid);
+  says = λ k S i q w. proc-told S i at w b l₁ B (B .long) p q (meaningHere s l (kn .state .scope) p) refl f (F ∙ ap (lowest (b .fault)) N) (D .free) l′ (rw M at (D .laid));
 })
 
 none-first : {A B : Type 0} (f : A → Option B) → (none >>= f) ≡ none
@@ -228,3 +232,13 @@ module _ (s l ts tb : List ℕ) (kn : Known) (at : ℕ) (j : Judgement) where
 pub ruleset known-laws = (known-ended, known-leaf, known-shut, known-form)
 
 pub ruleset line-laws = (line-unbalanced, line-unknown, line-known-so)
+
+-- ---- the answers for a line with a body
+
+pub main-entry-is : (kn : Known) (b : Eased) (st : State) → st ≡ bodyState (kn .state) (kn .state .top)
+    → record { fault = b .fault; within = true; state = st; stmts = b .stmts; ended = true; main = 0 } ≡ looseMain kn b
+main-entry-is kn b st e = rw e refl
+
+pub proc-entry-is : (kn : Known) (f : Fault) (n u : ℕ) (a b : State) → a ≡ withNames (kn .state) 1 (kn .state .top) u → b ≡ bodyState a u
+    → record { fault = f; within = ltb (kn .state .procs) 32; state = b; stmts = n; ended = false; main = 0 } ≡ looseProc kn f n u
+proc-entry-is kn f n u a b d e = rw (e, d) refl

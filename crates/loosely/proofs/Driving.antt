@@ -15,7 +15,7 @@ use Rattle.semantics.specs.Verdict.{Verdict, Judged, good, bad, Read, has, acce
 use Rattle.semantics.proofs.TypeSizes.{small-start}
 use Rattle.framing.specs.Passes.{lineAt, afterLine, lineOr}
 use Rattle.framing.proofs.Ties.{lines-at}
-use Rattle.declarations.specs.State.{startState}
+use Rattle.declarations.specs.State.{notes, startState}
 use Rattle.declarations.proofs.Starting.{holds-start}
 use Rattle.bodies.specs.Table.{upTo}
 use Rattle.judgements.specs.declared.Known.{Known}
@@ -126,7 +126,7 @@ pub ruleset drive-laws = (drive-refuses, drive-on, drive-ends)
 
 -- ---- before any line
 
-standing-start : (s l ts tb : List ℕ) → length s ≤ 32768 → 16384 ≤ length l → 66 ≤ length ts → ((i : ℕ) → getD ts i 0 ≡ 0) → 165 ≤ length tb
+standing-start : (s l ts tb : List ℕ) → length s ≤ 32768 → 16384 ≤ length l → notes ≤ length ts → ((i : ℕ) → getD ts i 0 ≡ 0) → 165 ≤ length tb
     → LooseStanding s l ts tb startKnown nothingDeclared
 unfolding startKnown startState sizeSymbols sizeTypes upTo
 standing-start s l ts tb a b c h d = record {

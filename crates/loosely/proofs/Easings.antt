@@ -41,16 +41,16 @@ eased-is σ (some p) kept h = go (bodyOf σ (p .0)) refl
     go none e = refl
     go (some b) e = ruled-eased (keptBody b) kept (elabBody (σ .types) (σ .vars) b) b (h p b refl e)
 
-pub body-eased : (s l ts : List ℕ) (kn : Known) (at : ℕ) (kept : Bool) (g : Got) (l′ : List ℕ) (f : Fault) → KeepsBody s l (kn .state .count) (kn .state .newest) at kept
-    → GivesBody s l ts (kn .state .count) (kn .state .newest) (kn .state .procs) (kn .stmts) at (kn .state .top) g l′ → f ≡ easedBy (g .fault) kept → length l′ ≡ length l
+pub body-eased : (s l ts : List ℕ) (kn : Known) (at : ℕ) (kept : Bool) (g : Got) (l′ : List ℕ) (f : Fault) → KeepsBody s l (kn .state .scope) at kept
+    → GivesBody s l ts (kn .state .scope) (kn .state .procs) (kn .stmts) at (kn .state .top) g l′ → f ≡ easedBy (g .fault) kept → length l′ ≡ length l
     → GivesEased s l ts kn at (record { fault = f; stmts = g .kind }) l′
 body-eased s l ts kn at kept g l′ f K B e h = record {
   keeps = B .leaves .keeps;
   long = h;
-  says = λ σ bs S v n.
-      let T = B .says σ bs S v n in
+  says = λ σ bs S n.
+      let T = B .says σ bs S n in
       record {
-        fault-is = e ∙ ap (λ (x : Fault). easedBy x kept) (T .fault-is) ∙ eased-is σ (bodyIn (kn .stmts) (first (stackAt s at))) kept (λ p b h i. K .says ts (kn .state .top) σ bs S v (kn .stmts) p b h i);
+        fault-is = e ∙ ap (λ (x : Fault). easedBy x kept) (T .fault-is) ∙ eased-is σ (bodyIn (kn .stmts) (first (stackAt s at))) kept (λ p b h i. K .says ts (kn .state .top) σ bs S (kn .stmts) p b h i);
         number = T .number;
       };
 }

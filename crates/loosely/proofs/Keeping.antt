@@ -12,6 +12,7 @@ use Rattle.semantics.specs.Layout.{bits}
 use Rattle.semantics.specs.Types.{Types, infoAt, undeclared}
 use Rattle.semantics.proofs.LayoutRegions.{Same}
 use Rattle.semantics.proofs.LinesKeep.{Extends}
+use Rattle.tables.specs.declared.Scope.{Scope}
 use Rattle.tables.specs.Descriptions.{shapeNumber, noInfo, infoOf, fieldsAt, Tells, EndsBelow}
 use Rattle.tables.specs.Scene.{Scene}
 use Rattle.tables.proofs.Kept.{scene-kept}
@@ -51,7 +52,7 @@ pub record Telling (s l ts : List ℕ) (top : ℕ) (Γ : Types) : Type 0 where
   pub tells : (k : ℕ) → Tells s l (infoOf l ts k) (infoAt Γ k)
   pub ends : (k : ℕ) → EndsBelow top (infoOf l ts k)
 
-pub scene-tells : {s l ts : List ℕ} {count newest top : ℕ} {σ : Environment} {bs : List ℕ} → Scene s l ts count newest top σ bs → Telling s l ts top (σ .types)
+pub scene-tells : {s l ts : List ℕ} {scope : Scope} {top : ℕ} {σ : Environment} {bs : List ℕ} → Scene s l ts scope top σ bs → Telling s l ts top (σ .types)
 scene-tells S = record { tells = S .types; ends = S .described }
 
 module _ {s l ts : List ℕ} {top : ℕ} {Γ : Types} (T : Telling s l ts top Γ) (Γ₀ : Types) (X : Extends Γ₀ Γ) (two : 2 ≤ length Γ₀) (n : ℕ) (few : n ≡ length Γ₀) where
@@ -73,8 +74,8 @@ module _ {s l ts : List ℕ} {top : ℕ} {Γ : Types} (T : Telling s l ts top Γ
       go (inr h) = rw (clipped-low l ts n k h) (T .ends k)
 
 -- a scene of the list l₀ is one of l for the types that it knows
-pub clipped-scene : {s l₀ ts₀ l ts : List ℕ} {count newest top₀ top : ℕ} {σ : Environment} {bs : List ℕ} {Γ : Types} → Scene s l₀ ts₀ count newest top₀ σ bs → Same 0 top₀ l l₀ → top₀ ≤ top
-    → Telling s l ts top Γ → Extends (σ .types) Γ → 2 ≤ length (σ .types) → (n : ℕ) → n ≡ length (σ .types) → Scene s l (clip n ts) count newest top σ bs
+pub clipped-scene : {s l₀ ts₀ l ts : List ℕ} {scope : Scope} {top₀ top : ℕ} {σ : Environment} {bs : List ℕ} {Γ : Types} → Scene s l₀ ts₀ scope top₀ σ bs → Same 0 top₀ l l₀ → top₀ ≤ top
+    → Telling s l ts top Γ → Extends (σ .types) Γ → 2 ≤ length (σ .types) → (n : ℕ) → n ≡ length (σ .types) → Scene s l (clip n ts) scope top σ bs
 clipped-scene {top = top} {σ = σ} S E h T X two n few =
     let K = scene-kept {top′ = top} S E h in
     record {

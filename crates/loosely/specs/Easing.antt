@@ -42,5 +42,5 @@ pub record BodyEased (σ : Environment) (o : Option (Syntax.Body × ℕ)) (r : E
 pub record GivesEased (s l ts : List ℕ) (kn : Known) (at : ℕ) (r : Eased) (l′ : List ℕ) : Type 0 where
   pub keeps : Same 0 (kn .state .top) l′ l
   pub long : length l′ ≡ length l
-  pub says : (σ : Environment) (bs : List ℕ) → Scene s l ts (kn .state .count) (kn .state .newest) (kn .state .top) σ bs → length (σ .vars) ≤ 128
+  pub says : (σ : Environment) (bs : List ℕ) → Scene s l ts (kn .state .scope) (kn .state .top) σ bs
       → kn .stmts + nodesIn (first (stackAt s at)) ≤ 65535 → BodyEased σ (bodyIn (kn .stmts) (first (stackAt s at))) r

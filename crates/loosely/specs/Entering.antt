@@ -25,11 +25,11 @@ use Rattle.tables.specs.declared.Fault.{Fault}
 use Rattle.statements.specs.Walks.{bare}
 use Rattle.worklist.specs.Laid.{Laid}
 use Rattle.declarations.specs.Lines.{entryStaged}
-use Rattle.declarations.specs.State.{Holds}
+use Rattle.declarations.specs.State.{Holds, bodyState}
 use Rattle.bodies.specs.Table.{upTo}
 use Rattle.judgements.specs.declared.Known.{Known}
 use Rattle.judgements.specs.declared.Entered.{Entered}
-use Rattle.judge.specs.Answers.{bodyState, procState}
+use Rattle.judge.specs.Answers.{procState}
 use Rattle.judge.specs.Entering.{lastOf}
 use Rattle.judge.specs.Whole.{headIn}
 use Rattle.loosely.specs.declared.easing.Eased.{Eased}
@@ -43,10 +43,10 @@ looseMain kn b = record { fault = b .fault; within = true; state = bodyState (kn
 abbrev pub looseProc : Known → Fault → ℕ → ℕ → Entered
 looseProc kn f n u = record { fault = f; within = ltb (kn .state .procs) 32; state = procState (kn .state) (kn .state .top) u; stmts = n; ended = false; main = 0 }
 
--- the entry of its name at p: it means the procedure's number
-pub record ProcDeclared (kn : Known) (f : Fault) (n p : ℕ) (l : List ℕ) (g : Entered) (l′ : List ℕ) : Type 0 where
+-- its entry, by its name's number (symbols, Keys): it means the procedure's number
+pub record ProcDeclared (kn : Known) (f : Fault) (n name : ℕ) (l : List ℕ) (g : Entered) (l′ : List ℕ) : Type 0 where
   pub free : ℕ
-  pub laid : Laid (lay (p % 32768 ∷ (2 + 4 * (kn .state .procs % 16384)) ∷ kn .state .procs ∷ kn .state .newest ∷ []) (kn .state .top) l) free l′
+  pub laid : Laid (lay (name ∷ (2 + 4 * (kn .state .procs % 16384)) ∷ kn .state .procs ∷ kn .state .scope .newest ∷ []) (kn .state .top) l) free l′
   pub given : g ≡ looseProc kn f n free
 
 -- what stands after a line that declares e; k is what the lines before declared, and the free place was top

@@ -2,15 +2,16 @@
 use crate::easing::Eased;
 use crate::easing::loose_body;
 use declarations::Naming;
-use declarations::State;
 use declarations::name_at;
 use declarations::named_fault;
-use declarations::narrow;
+use declarations::with_body;
+use declarations::with_names;
 use judgements::Entered;
 use judgements::Known;
 use noting::note_body;
 use parts::lowest;
 use symbols::declare;
+use symbols::keys::name_number;
 use tables::Fault;
 ghost use mathlib.Core.Path.{_≡_};
 ghost use Rattle.shapes.specs.declared.LineHead.the-variants.{Main, Proc};
@@ -38,16 +39,7 @@ fn main_entry(kn: Known, b: Eased) -> Entered
 {
     let st = kn.state;
     let fault = b.fault;
-    let state = State {
-        count: st.count,
-        newest: st.newest,
-        top: st.top,
-        types: st.types,
-        lines: st.lines,
-        vars: st.vars,
-        cells: st.cells,
-        procs: st.procs % 16384 + 1,
-    };
+    let state = with_body(st, st.top);
     Entered {
         fault: fault,
         within: true,
@@ -79,16 +71,8 @@ fn proc_entry(kn: Known, fault: Fault, n: u32, u: u32) -> Entered
     ensures { λ r. ⌜ r ≡ looseProc kn fault n u ⌝ }
 {
     let st = kn.state;
-    let state = State {
-        count: st.count % 65536 + 1,
-        newest: st.top,
-        top: u,
-        types: st.types,
-        lines: st.lines,
-        vars: st.vars,
-        cells: st.cells,
-        procs: st.procs % 16384 + 1,
-    };
+    let named = with_names(st, 1, st.top, u);
+    let state = with_body(named, u);
     Entered {
         fault: fault,
         within: st.procs < 32,
@@ -99,18 +83,18 @@ fn proc_entry(kn: Known, fault: Fault, n: u32, u: u32) -> Entered
     }
 }
 
-// The entry of a procedure's name at p. That of a faulty line is never read.
-fn proc_end(work: &mut [u32], kn: Known, fault: Fault, n: u32, p: usize) -> Entered
-    ensures { λ r. ⌜ ProcDeclared kn fault n p (now (work .entry)) r (now (work .exit)) ⌝ }
+// The entry of a procedure, by its name's number. That of a faulty line is never read.
+fn proc_end(work: &mut [u32], kn: Known, fault: Fault, n: u32, name: u32) -> Entered
+    ensures { λ r. ⌜ ProcDeclared kn fault n name (now (work .entry)) r (now (work .exit)) ⌝ }
 {
     let st = kn.state;
     let u = declare(
         work,
         st.top,
-        narrow(p),
+        name,
         2 + 4 * (st.procs % 16384),
         st.procs,
-        st.newest,
+        st.scope.newest,
     );
     proc_entry(kn, fault, n, u)
 }
@@ -128,11 +112,12 @@ fn proc_named(
     ensures { λ r. ⌜ ProcLoosely (now (text .entry)) (now (work .entry)) (now (types .entry)) (now (bodies .entry)) kn p at r (now (work .exit)) (now (bodies .exit)) ⌝ }
 {
     let st = kn.state;
-    let n = named_fault(text, work, st.count, st.newest, p, Fault::Clear);
+    let n = named_fault(text, work, st.scope, p, Fault::Clear);
     let b = loose_body(text, work, types, kn, at);
     let f = b.fault;
     note_body(text, bodies, kn, at);
-    proc_end(work, kn, lowest(f, n), b.stmts, p)
+    let name = name_number(text, p);
+    proc_end(work, kn, lowest(f, n), b.stmts, name)
 }
 
 // The parts of `proc`.

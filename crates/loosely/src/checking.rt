@@ -41,7 +41,7 @@ fn check_lines(
     at_end(n, known)
 }
 
-// Rows 1 to 9 of a text; `types` is for the places of the types' descriptions, at least 66 numbers, all 0; `bodies` for the bodies' table, at
+// Rows 1 to 9 of a text; `types` is for the places of the types' descriptions, at least 512 numbers, all 0; `bodies` for the bodies' table, at
 // least 165 numbers.
 pub fn check_loosely(
     text: &[u8],

@@ -29,18 +29,8 @@ pub fn loose_body(text: &[u8], work: &mut [u32], types: &[u32], kn: Known, at: u
     ensures { λ r. ⌜ GivesEased (now (text .entry)) (now (work .entry)) (now (types .entry)) kn at r (now (work .exit)) ⌝ }
 {
     let st = kn.state;
-    let kept = body_kept(text, work, st.count, st.newest, at);
-    let g = body(
-        text,
-        work,
-        types,
-        st.count,
-        st.newest,
-        st.procs,
-        kn.stmts,
-        at,
-        st.top,
-    );
+    let kept = body_kept(text, work, st.scope, at);
+    let g = body(text, work, types, st.scope, st.procs, kn.stmts, at, st.top);
     let f = g.fault;
     let fault = ease(f, kept);
     Eased {

@@ -39,6 +39,7 @@ use Rattle.shapes.proofs.Heads.{name-word, target-word}
 use Rattle.shapes.proofs.Expressions.{name-form}
 use Rattle.skips.specs.Skips.{Skips}
 use Rattle.leaves.specs.Cells.{Addresses}
+use Rattle.tables.specs.declared.Scope.{Scope}
 use Rattle.tables.specs.declared.Info.{Info}
 use Rattle.tables.specs.declared.Meaning.{Meaning}
 use Rattle.tables.specs.Descriptions.{infoOf}
@@ -66,7 +67,7 @@ unfolding markBounds
 bounds-by Γ Δ c u v p q o e f g = rw (e, f, g) refl
 
 module _ (l ts : List ℕ) (g : Reached) (x y : Carried) (k : ℕ) (K : k ≡ hostIn l ts (g .typed)) where
-  module _ {s : List ℕ} {count newest : ℕ} {σ : Environment} (S : Known s l ts count newest σ) (m : Store) (c : Var) (R : Reaches (is (typedPlace (c .type) (c .base))) g) where
+  module _ {s : List ℕ} {scope : Scope} {σ : Environment} (S : Known s l ts scope σ) (m : Store) (c : Var) (R : Reaches (is (typedPlace (c .type) (c .base))) g) where
     host-is : k ≡ hostOf (σ .types) (c .type)
     host-is = K ∙ host-in (S .scene) (g .typed) ∙ ap (hostOf (σ .types)) (R .type-is (typedPlace (c .type) (c .base)) refl)
 
@@ -83,21 +84,21 @@ module _ (l ts : List ℕ) (g : Reached) (x y : Carried) (k : ℕ) (K : k ≡ ho
 
   pub join-left : ((k ≡ x .kind) → ⊥) → Joins l ts g x y (span.Halted noResult)
   join-left h = record {
-    says = λ s count newest σ S m i c hc R u v C D.
+    says = λ s scope σ S m i c hc R u v C D.
         sticks-so σ c u v (bounds-by (σ .types) (σ .vars) c u v false (eqb (hostOf (σ .types) (c .type)) (v .kind)) (ordinal? (σ .types) (c .type)) (other-kind S m c R x u C h) refl refl);
   }
 
   module _ (h : k ≡ x .kind) where
     pub join-right : ((k ≡ y .kind) → ⊥) → Joins l ts g x y (span.Halted noResult)
     join-right j = record {
-      says = λ s count newest σ S m i c hc R u v C D.
+      says = λ s scope σ S m i c hc R u v C D.
           sticks-so σ c u v (bounds-by (σ .types) (σ .vars) c u v true false (ordinal? (σ .types) (c .type)) (fits-kind S m c R x u C h) (other-kind S m c R y v D j) refl);
     }
 
     module _ (j : k ≡ y .kind) (i : Info) (I : i ≡ infoOf l ts (g .typed)) where
       pub join-shape : ((i .shape ≡ 0) → ⊥) → Joins l ts g x y (span.Halted noResult)
       join-shape t = record {
-        says = λ s count newest σ S m n c hc R u v C D.
+        says = λ s scope σ S m n c hc R u v C D.
             let o : ordinal? (σ .types) (c .type) ≡ false = ap (ordinal? (σ .types)) (sym (R .type-is (typedPlace (c .type) (c .base)) refl)) ∙ ordinal-no S (g .typed) (λ p. t (ap (λ (z : Info). z .shape) I ∙ p)) in
             sticks-so σ c u v (bounds-by (σ .types) (σ .vars) c u v true true false (fits-kind S m c R x u C h) (fits-kind S m c R y v D j) o);
       }
@@ -106,7 +107,7 @@ module _ (l ts : List ℕ) (g : Reached) (x y : Carried) (k : ℕ) (K : k ≡ ho
           → SFits w64 (g .word) → SFits w64 (x .word) → SFits w64 (y .word) → SFits w64 lo → SFits w64 hi
           → Joins l ts g x y (span.Over a (wire lo) (wire hi) (wire (x .word)) (wire (y .word)))
       join-over t a lo hi A L U fg fx fy fl fh = record {
-        says = λ s count newest σ S m n c hc R u v C D.
+        says = λ s scope σ S m n c hc R u v C D.
             let e : g .typed ≡ c .type = R .type-is (typedPlace (c .type) (c .base)) refl in
             let o : ordinal? (σ .types) (c .type) ≡ true = ap (ordinal? (σ .types)) (sym e) ∙ ordinal-yes S (g .typed) (sym (ap (λ (z : Info). z .shape) I) ∙ t) in
             let b = S .scene .cells n c hc in
@@ -155,7 +156,7 @@ unfolding Base._>>=_
 bind-of o a f h = rw h refl
 
 -- the variable that a name means
-pub var-meant : {P : Type 0} {s l ts : List ℕ} {count newest : ℕ} {σ : Environment} → Known s l ts count newest σ → (w : Name) (i : ℕ) → varOf σ w ≡ some i → ((c : Var) → variable (σ .vars) i ≡ some c → P) → P
+pub var-meant : {P : Type 0} {s l ts : List ℕ} {scope : Scope} {σ : Environment} → Known s l ts scope σ → (w : Name) (i : ℕ) → varOf σ w ≡ some i → ((c : Var) → variable (σ .vars) i ≡ some c → P) → P
 unfolding varOf
 var-meant {P} {σ = σ} S w i h k = bind-some h λ o ho e. go (meant (S .scene) w) ho e
   where
@@ -169,11 +170,11 @@ var-meant {P} {σ = σ} S w i h k = bind-some h λ o ho e. go (meant (S .scene) 
     go unknown f e = none-some f
     go {o = o} (known {m = n} M) f e = by M (ap asVar (some-inj f) ∙ e)
 
-module _ (s l ts : List ℕ) (ws : List ℤ) (count newest at : ℕ) (g : Reached) (G : MarksTarget s l ts ws count newest 1 at g) (p : ℕ) (P : Skips s at p) (x : Carried) (X : MarksExpr s l ts ws count newest 33 p x) (fx : SFits w64 (x .word)) (r : Span) where
+module _ (s l ts : List ℕ) (ws : List ℤ) (scope : Scope) (at : ℕ) (g : Reached) (G : MarksTarget s l ts ws scope 1 at g) (p : ℕ) (P : Skips s at p) (x : Carried) (X : MarksExpr s l ts ws scope 33 p x) (fx : SFits w64 (x .word)) (r : Span) where
   -- by the variable and the first bound
-  bounded : ((σ : Environment) → Known s l ts count newest σ → (m : Store) → Holds ws m → (i : ℕ) (c : Var) → variable (σ .vars) i ≡ some c → Reaches (is (typedPlace (c .type) (c .base))) g
-      → (u v : Result TypedValue) → Carries (σ .types) m u x → ((y : Carried) (q : ℕ) → Skips s p q → MarksExpr s l ts ws count newest 33 q y → Carries (σ .types) m v y)
-      → SpanIs (σ .types) (joined (σ .types) (σ .vars) c u v) r) → Bounding s l ts ws count newest at r
+  bounded : ((σ : Environment) → Known s l ts scope σ → (m : Store) → Holds ws m → (i : ℕ) (c : Var) → variable (σ .vars) i ≡ some c → Reaches (is (typedPlace (c .type) (c .base))) g
+      → (u v : Result TypedValue) → Carries (σ .types) m u x → ((y : Carried) (q : ℕ) → Skips s p q → MarksExpr s l ts ws scope 33 q y → Carries (σ .types) m v y)
+      → SpanIs (σ .types) (joined (σ .types) (σ .vars) c u v) r) → Bounding s l ts ws scope at r
   unfolding markTarget targetOf
   bounded k = record {
     says = λ σ S w a b i y z hw ha hb hi hy hz m H. var-meant S w i hi λ c hc.
@@ -187,19 +188,19 @@ module _ (s l ts : List ℕ) (ws : List ℤ) (count newest at : ℕ) (g : Reache
         (λ e q Q E. E .says σ S .says b z (ap (exprIn 33) (skip-rest s p q Q (expr-there 33 (first (stackAt s p)) a ha′) ∙ ap rest n) ∙ hb) hz m H));
   }
 
-  pub bounds-from : ltZ greatest (wire (x .word)) ≡ true → r ≡ span.Halted (wire (x .word)) → Bounding s l ts ws count newest at r
+  pub bounds-from : ltZ greatest (wire (x .word)) ≡ true → r ≡ span.Halted (wire (x .word)) → Bounding s l ts ws scope at r
   bounds-from h e = bounded (λ σ S m H i c hc R u v C D. rw (e, toZ-ofZ fx)
       (record { says = broken-bind (λ a. v >>= λ b. markBounds (σ .types) (σ .vars) c a b >>= λ q. is (c, q)) (carried-broken C (rw (toZ-ofZ fx) at h)) }))
 
-  module _ (h : ltZ greatest (wire (x .word)) ≡ false) (q : ℕ) (Q : Skips s p q) (y : Carried) (Y : MarksExpr s l ts ws count newest 33 q y) (fy : SFits w64 (y .word)) where
-    pub bounds-to : ltZ greatest (wire (y .word)) ≡ true → r ≡ span.Halted (wire (y .word)) → Bounding s l ts ws count newest at r
+  module _ (h : ltZ greatest (wire (x .word)) ≡ false) (q : ℕ) (Q : Skips s p q) (y : Carried) (Y : MarksExpr s l ts ws scope 33 q y) (fy : SFits w64 (y .word)) where
+    pub bounds-to : ltZ greatest (wire (y .word)) ≡ true → r ≡ span.Halted (wire (y .word)) → Bounding s l ts ws scope at r
     bounds-to j e = bounded (λ σ S m H i c hc R u v C D. carried-value C (rw (toZ-ofZ fx) at h) (λ a ha w t k. rw (e, toZ-ofZ fy, ha)
         (record { says = broken-bind (λ b. markBounds (σ .types) (σ .vars) c a b >>= λ q. is (c, q)) (carried-broken (D y q Q Y) (rw (toZ-ofZ fy) at j)) })))
 
-    pub bounds-join : ltZ greatest (wire (y .word)) ≡ false → Joins l ts g x y r → Bounding s l ts ws count newest at r
+    pub bounds-join : ltZ greatest (wire (y .word)) ≡ false → Joins l ts g x y r → Bounding s l ts ws scope at r
     bounds-join j J = bounded (λ σ S m H i c hc R u v C D. carried-value C (rw (toZ-ofZ fx) at h) (λ a ha w t k. carried-value (D y q Q Y) (rw (toZ-ofZ fy) at j) (λ b hb w′ t′ k′.
         subst (λ (o : Result TypedValue). SpanIs (σ .types) (joined (σ .types) (σ .vars) c o v) r) (sym ha)
         (subst (λ (o : Result TypedValue). SpanIs (σ .types) (joined (σ .types) (σ .vars) c (is a) o) r) (sym hb)
-        (J .says s count newest σ S m i c hc R a b (subst (λ (o : Result TypedValue). Carries (σ .types) m o x) ha C) (subst (λ (o : Result TypedValue). Carries (σ .types) m o y) hb (D y q Q Y)))))))
+        (J .says s scope σ S m i c hc R a b (subst (λ (o : Result TypedValue). Carries (σ .types) m o x) ha C) (subst (λ (o : Result TypedValue). Carries (σ .types) m o y) hb (D y q Q Y)))))))
 
 pub ruleset bounds-laws = (bounds-from, bounds-to, bounds-join, sfits-of)

@@ -22,6 +22,7 @@ use Rattle.calc.specs.Words.{InRange, Holds, allValues, wordOf}
 use Rattle.steps.specs.Stands.{Stands, Ends}
 use Rattle.leaves.specs.Cells.{StoresOrdinal, StoresOne, StoresCells}
 use Rattle.leaves.proofs.Stored.{AllRead, cells-read, cells-fail}
+use Rattle.tables.specs.declared.Scope.{Scope}
 use Rattle.tables.specs.declared.Info.{Info}
 use Rattle.tables.specs.Descriptions.{infoOf, shapeNumber}
 use Rattle.tables.specs.Sides.{hostIn}
@@ -78,7 +79,7 @@ read-all ws m H n a zs h = go (allValues ws a n) refl
 module _ (l ts : List ℕ) (n : ℕ) (x : Carried) (w : ℤ) (ws : List ℤ) (s : ℕ) (ws′ : List ℤ) (r : ℕ) (i : Info) (I : i ≡ infoOf l ts (x .kind)) (fw : SFits w64 w) where
   pub whole-one : i .shape < 2 → SFits w64 (x .word) → StoresOne n (wire w) (wire (x .word)) ws s ws′ r → Wholly l ts n x w ws s ws′ r
   whole-one h fx O = record {
-    says = λ s₀ count newest σ K m v a C e S.
+    says = λ s₀ scope σ K m v a C e S.
         let p : (x .word ≡ sole (v .cells)) × InRange (sole (v .cells)) = value-word (C .word-is) in
         let j : simple? (σ .types) (x .kind) ≡ true = simple-low (infoAt (σ .types) (x .kind) .shape) (subst (λ (t : ℕ). t < 2) (ap (λ (k : Info). k .shape) I ∙ shape-told (K .scene) (x .kind)) h) in
         let c : v .cells ≡ (sole (v .cells) ∷ []) = C .single v refl (ap (simple? (σ .types)) (sym (C .kind-is v refl)) ∙ j) in
@@ -90,7 +91,7 @@ module _ (l ts : List ℕ) (n : ℕ) (x : Carried) (w : ℤ) (ws : List ℤ) (s 
 
   pub whole-cells : 2 ≤ i .shape → StoresCells n (x .from) (i .size) (wire w) ws s ws′ r → Wholly l ts n x w ws s ws′ r
   whole-cells h O = record {
-    says = λ s₀ count newest σ K m v a C e S.
+    says = λ s₀ scope σ K m v a C e S.
         let j : simple? (σ .types) (x .kind) ≡ false = simple-high (infoAt (σ .types) (x .kind) .shape) (subst (λ (t : ℕ). 2 ≤ t) (ap (λ (k : Info). k .shape) I ∙ shape-told (K .scene) (x .kind)) h) in
         let k : x .kind ≡ v .kind = C .kind-is v refl in
         let q : i .size ≡ sizeOf (σ .types) (v .kind) = ap (λ (y : Info). y .size) I ∙ size-told (K .scene) (x .kind) ∙ ap (sizeOf (σ .types)) k in
@@ -106,7 +107,7 @@ pub ruleset whole-laws = (whole-one, whole-cells, sfits-of)
 -- ---- `store_value`
 
 module _ (l ts : List ℕ) (n : ℕ) (x : Carried) (g : Reached) (ws : List ℤ) (s r : ℕ) (k : ℕ) (K : k ≡ hostIn l ts (g .typed)) where
-  module _ {s₀ : List ℕ} {count newest : ℕ} {σ : Environment} (S : Known s₀ l ts count newest σ) {m : Store} {v : TypedValue} {w : TypedPlace} (C : Carries (σ .types) m (is v) x) (G : Reaches (is w) g) where
+  module _ {s₀ : List ℕ} {scope : Scope} {σ : Environment} (S : Known s₀ l ts scope σ) {m : Store} {v : TypedValue} {w : TypedPlace} (C : Carries (σ .types) m (is v) x) (G : Reaches (is w) g) where
     host-is : k ≡ hostOf (σ .types) (w .type)
     host-is = K ∙ host-in (S .scene) (g .typed) ∙ ap (hostOf (σ .types)) (G .type-is w refl)
 
@@ -115,7 +116,7 @@ module _ (l ts : List ℕ) (n : ℕ) (x : Carried) (g : Reached) (ws : List ℤ)
 
   pub value-misfit : ((k ≡ x .kind) → ⊥) → r ≡ stuckWord s → Stores l ts n x g ws s ws r
   value-misfit h e = record {
-    says = λ s₀ count newest σ S m v w C G T.
+    says = λ s₀ scope σ S m v w C G T.
         subst (λ (b : Bool). MarkEnds (withResult n (state m s) (require b (is (v .cells))) λ zs. markStore (σ .types) (σ .vars) n w zs (state m s)) ws r)
         (sym (ne-eqb (hostOf (σ .types) (w .type)) (v .kind) (λ q. h (host-is S C G ∙ q ∙ sym (kind-is S C G)))))
         (stuck-marks ws s m T r e);
@@ -124,7 +125,7 @@ module _ (l ts : List ℕ) (n : ℕ) (x : Carried) (g : Reached) (ws : List ℤ)
 
   module _ (h : k ≡ x .kind) (ws′ : List ℤ) (i : Info) (I : i ≡ infoOf l ts (g .typed)) (fg : SFits w64 (g .word)) where
     -- the kinds fit
-    fitting : {s₀ : List ℕ} {count newest : ℕ} {σ : Environment} (S : Known s₀ l ts count newest σ) {m : Store} {v : TypedValue} {w : TypedPlace} (C : Carries (σ .types) m (is v) x) (G : Reaches (is w) g)
+    fitting : {s₀ : List ℕ} {scope : Scope} {σ : Environment} (S : Known s₀ l ts scope σ) {m : Store} {v : TypedValue} {w : TypedPlace} (C : Carries (σ .types) m (is v) x) (G : Reaches (is w) g)
         → MarkEnds (markStore (σ .types) (σ .vars) n w (v .cells) (state m s)) ws′ r
         → MarkEnds (withResult n (state m s) (require (eqb (hostOf (σ .types) (w .type)) (v .kind)) (is (v .cells))) λ zs. markStore (σ .types) (σ .vars) n w zs (state m s)) ws′ r
     fitting {σ = σ} S {m} {v} {w} C G E =
@@ -137,7 +138,7 @@ module _ (l ts : List ℕ) (n : ℕ) (x : Carried) (g : Reached) (ws : List ℤ)
     pub value-ordinal : (lo hi : ℤ) → i .shape ≡ 0 → SFits w64 (x .word) → lo ≡ signed (i .low) → SFits w64 lo → hi ≡ signed (i .high) → SFits w64 hi
         → StoresOrdinal n (wire lo) (wire hi) (wire (g .word)) (wire (x .word)) ws s ws′ r → Stores l ts n x g ws s ws′ r
     value-ordinal lo hi j fx L fl H fh O = record {
-      says = λ s₀ count newest σ S m v w C G T.
+      says = λ s₀ scope σ S m v w C G T.
           let t : g .typed ≡ w .type = G .type-is w refl in
           let z : (x .word ≡ sole (v .cells)) × InRange (sole (v .cells)) = value-word (C .word-is) in
           let least-is : wire lo ≡ infoAt (σ .types) (w .type) .low = toZ-ofZ fl ∙ L ∙ ap (λ (y : Info). signed (y .low)) I ∙ low-signed S (g .typed) ∙ ap (λ (y : ℕ). infoAt (σ .types) y .low) t in
@@ -155,12 +156,12 @@ module _ (l ts : List ℕ) (n : ℕ) (x : Carried) (g : Reached) (ws : List ℤ)
 
     pub value-whole : ((i .shape ≡ 0) → ⊥) → Wholly l ts n x (wire (g .word)) ws s ws′ r → Stores l ts n x g ws s ws′ r
     value-whole j W = record {
-      says = λ s₀ count newest σ S m v w C G T.
+      says = λ s₀ scope σ S m v w C G T.
           let t : g .typed ≡ w .type = G .type-is w refl in
           let o : ordinal? (σ .types) (w .type) ≡ false = ap (ordinal? (σ .types)) (sym t) ∙ ordinal-no S (g .typed) (λ q. j (ap (λ (y : Info). y .shape) I ∙ q)) in
           fitting S C G
           (subst (λ (b : Bool). MarkEnds (branch b (storeOrdinal n (w .addr) (infoAt (σ .types) (w .type) .low) (infoAt (σ .types) (w .type) .high) (sole (v .cells))) (storeWhole n (w .addr) (v .cells)) (state m s)) ws′ r) (sym o)
-          (W .says s₀ count newest σ S m v (w .addr) C (place-word G) T));
+          (W .says s₀ scope σ S m v (w .addr) C (place-word G) T));
       fewer = W .fewer;
     }
 

@@ -22,6 +22,7 @@ use Rattle.carried.specs.Values.{Carries, Reaches, Known}
 use Rattle.carried.proofs.Carrying.{Broken}
 use Rattle.markacts.specs.declared.bounds.Span.{Span}
 use Rattle.markacts.specs.declared.bounds.Span.the-variants as span
+use Rattle.tables.specs.declared.Scope.{Scope}
 
 -- a variable, and from where to where it counts
 abbrev pub Counted : Type 0
@@ -53,11 +54,11 @@ pub record SpanIs (Γ : Types) (v : Result Counted) (r : Span) : Type 0 where
 
 -- a control variable and two bounds that are values
 pub record Joins (l ts : List ℕ) (g : Reached) (x y : Carried) (r : Span) : Type 0 where
-  pub says : (s : List ℕ) (count newest : ℕ) (σ : Environment) → Known s l ts count newest σ → (m : Store) (i : ℕ) (c : Var) → variable (σ .vars) i ≡ some c → Reaches (is (typedPlace (c .type) (c .base))) g
+  pub says : (s : List ℕ) (scope : Scope) (σ : Environment) → Known s l ts scope σ → (m : Store) (i : ℕ) (c : Var) → variable (σ .vars) i ≡ some c → Reaches (is (typedPlace (c .type) (c .base))) g
       → (u v : TypedValue) → Carries (σ .types) m (is u) x → Carries (σ .types) m (is v) y → SpanIs (σ .types) (joined (σ .types) (σ .vars) c (is u) (is v)) r
 
 -- the parts of a `for` at an offset
-pub record Bounding (s l ts : List ℕ) (ws : List ℤ) (count newest at : ℕ) (r : Span) : Type 0 where
-  pub says : (σ : Environment) → Known s l ts count newest σ → (w : Name) (a b : Syntax.Expr) (i : ℕ) (x y : Expr)
+pub record Bounding (s l ts : List ℕ) (ws : List ℤ) (scope : Scope) (at : ℕ) (r : Span) : Type 0 where
+  pub says : (σ : Environment) → Known s l ts scope σ → (w : Name) (a b : Syntax.Expr) (i : ℕ) (x y : Expr)
       → nameIn (first (stackAt s at)) ≡ some w → exprIn 33 (rest (first (stackAt s at))) ≡ some a → exprIn 33 (rest (rest (first (stackAt s at)))) ≡ some b
       → varOf σ w ≡ some i → exprOf σ a ≡ some x → exprOf σ b ≡ some y → (m : Store) → Holds ws m → SpanIs (σ .types) (counted (σ .types) (σ .vars) i x y m) r

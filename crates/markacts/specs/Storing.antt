@@ -14,15 +14,16 @@ use Rattle.carried.specs.declared.values.Carried.{Carried}
 use Rattle.carried.specs.declared.places.Reached.{Reached}
 use Rattle.carried.specs.Values.{Carries, Reaches, Known}
 use Rattle.markacts.specs.Ends.{MarkEnds}
+use Rattle.tables.specs.declared.Scope.{Scope}
 
 -- all cells of x stored from the cell whose word is w on, in statement n
 pub record Wholly (l ts : List ℕ) (n : ℕ) (x : Carried) (w : ℤ) (ws : List ℤ) (left : ℕ) (ws′ : List ℤ) (r : ℕ) : Type 0 where
-  pub says : (s : List ℕ) (count newest : ℕ) (σ : Environment) → Known s l ts count newest σ → (m : Store) (v : TypedValue) (a : ℕ) → Carries (σ .types) m (is v) x → w ≡ pos (min a 4294967295)
+  pub says : (s : List ℕ) (scope : Scope) (σ : Environment) → Known s l ts scope σ → (m : Store) (v : TypedValue) (a : ℕ) → Carries (σ .types) m (is v) x → w ≡ pos (min a 4294967295)
       → Stands ws left m → MarkEnds (storeWhole n a (v .cells) (state m left)) ws′ r
   pub fewer : leftIn r ≤ left
 
 -- x stored at g, in statement n
 pub record Stores (l ts : List ℕ) (n : ℕ) (x : Carried) (g : Reached) (ws : List ℤ) (left : ℕ) (ws′ : List ℤ) (r : ℕ) : Type 0 where
-  pub says : (s : List ℕ) (count newest : ℕ) (σ : Environment) → Known s l ts count newest σ → (m : Store) (v : TypedValue) (w : TypedPlace) → Carries (σ .types) m (is v) x → Reaches (is w) g
+  pub says : (s : List ℕ) (scope : Scope) (σ : Environment) → Known s l ts scope σ → (m : Store) (v : TypedValue) (w : TypedPlace) → Carries (σ .types) m (is v) x → Reaches (is w) g
       → Stands ws left m → MarkEnds (withResult n (state m left) (wanted (hostOf (σ .types) (w .type)) v) λ zs. markStore (σ .types) (σ .vars) n w zs (state m left)) ws′ r
   pub fewer : leftIn r ≤ left

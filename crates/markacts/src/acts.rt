@@ -2,7 +2,7 @@
 use crate::ends::halting;
 use crate::storing::store_value;
 use calc::words::GREATEST;
-use calc::words::WORDS;
+use calc::words::Store;
 use carried::values::Carried;
 use carried::values::STUCK;
 use carried::values::value;
@@ -11,6 +11,7 @@ use markexprs::walk::mark_expr;
 use markexprs::walk::mark_target;
 use skips::skip;
 use steps::ends::raise_number;
+use tables::Scope;
 use tables::describe;
 ghost use Rattle.markacts.specs.Acts.{Assigns, Raising, Conditions, Selects};
 
@@ -19,21 +20,20 @@ pub fn assign(
     text: &[u8],
     work: &[u32],
     types: &[u32],
-    count: u32,
-    newest: u32,
-    store: &mut [i64; WORDS],
+    scope: Scope,
+    store: &mut Store,
     left: u64,
     n: u32,
     at: usize,
 ) -> u64
-    ensures { λ r. ⌜ Assigns (now (text .entry)) (now (work .entry)) (now (types .entry)) count newest n at (now (store .entry)) left (now (store .exit)) r ⌝ }
+    ensures { λ r. ⌜ Assigns (now (text .entry)) (now (work .entry)) (now (types .entry)) scope n at (now (store .entry)) left (now (store .exit)) r ⌝ }
 {
-    let x = mark_expr(text, work, types, count, newest, store, 33, skip(text, at));
+    let x = mark_expr(text, work, types, scope, store, 33, skip(text, at));
     let v = x.word;
     if v > GREATEST {
         return halting(store, left, v, n);
     }
-    let g = mark_target(text, work, types, count, newest, store, 33, at);
+    let g = mark_target(text, work, types, scope, store, 33, at);
     let a = g.word;
     if a > GREATEST {
         return halting(store, left, a, n);
@@ -46,19 +46,15 @@ pub fn raise(
     text: &[u8],
     work: &[u32],
     types: &[u32],
-    count: u32,
-    newest: u32,
-    store: &mut [i64; WORDS],
+    scope: Scope,
+    store: &mut Store,
     left: u64,
     n: u32,
     at: usize,
 ) -> u64
-    ensures { λ r. ⌜ Raising (now (text .entry)) (now (work .entry)) (now (types .entry)) count newest n at (now (store .entry)) left (now (store .exit)) r ⌝ }
+    ensures { λ r. ⌜ Raising (now (text .entry)) (now (work .entry)) (now (types .entry)) scope n at (now (store .entry)) left (now (store .exit)) r ⌝ }
 {
-    let z = wanted(
-        0,
-        mark_expr(text, work, types, count, newest, store, 33, at),
-    );
+    let z = wanted(0, mark_expr(text, work, types, scope, store, 33, at));
     if z > GREATEST {
         return halting(store, left, z, n);
     }
@@ -70,17 +66,13 @@ pub fn condition(
     text: &[u8],
     work: &[u32],
     types: &[u32],
-    count: u32,
-    newest: u32,
-    store: &[i64; WORDS],
+    scope: Scope,
+    store: &Store,
     at: usize,
 ) -> i64
-    ensures { λ r. ⌜ Conditions (now (text .entry)) (now (work .entry)) (now (types .entry)) (now (store .entry)) count newest at r ⌝ }
+    ensures { λ r. ⌜ Conditions (now (text .entry)) (now (work .entry)) (now (types .entry)) (now (store .entry)) scope at r ⌝ }
 {
-    wanted(
-        1,
-        mark_expr(text, work, types, count, newest, store, 33, at),
-    )
+    wanted(1, mark_expr(text, work, types, scope, store, 33, at))
 }
 
 // The selector of a case at an offset, which must be an ordinal.
@@ -88,14 +80,13 @@ pub fn selector(
     text: &[u8],
     work: &[u32],
     types: &[u32],
-    count: u32,
-    newest: u32,
-    store: &[i64; WORDS],
+    scope: Scope,
+    store: &Store,
     at: usize,
 ) -> Carried
-    ensures { λ r. ⌜ Selects (now (text .entry)) (now (work .entry)) (now (types .entry)) (now (store .entry)) count newest at r ⌝ }
+    ensures { λ r. ⌜ Selects (now (text .entry)) (now (work .entry)) (now (types .entry)) (now (store .entry)) scope at r ⌝ }
 {
-    let x = mark_expr(text, work, types, count, newest, store, 33, at);
+    let x = mark_expr(text, work, types, scope, store, 33, at);
     let w = x.word;
     if w > GREATEST {
         return value(0, w);

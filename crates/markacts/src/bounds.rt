@@ -1,6 +1,6 @@
 // The control variable and the bounds of a `for`: they are met after both bounds are worked out.
 use calc::words::GREATEST;
-use calc::words::WORDS;
+use calc::words::Store;
 use calc::words::signed_of;
 use carried::places::Reached;
 use carried::values::Carried;
@@ -9,6 +9,7 @@ use leaves::cells::address;
 use markexprs::walk::mark_expr;
 use markexprs::walk::mark_target;
 use skips::skip;
+use tables::Scope;
 use tables::describe;
 use tables::host_of;
 ghost use Rattle.markacts.specs.Bounds.{Joins, Bounding};
@@ -43,21 +44,20 @@ pub fn bounds(
     text: &[u8],
     work: &[u32],
     types: &[u32],
-    count: u32,
-    newest: u32,
-    store: &[i64; WORDS],
+    scope: Scope,
+    store: &Store,
     at: usize,
 ) -> Span
-    ensures { λ r. ⌜ Bounding (now (text .entry)) (now (work .entry)) (now (types .entry)) (now (store .entry)) count newest at r ⌝ }
+    ensures { λ r. ⌜ Bounding (now (text .entry)) (now (work .entry)) (now (types .entry)) (now (store .entry)) scope at r ⌝ }
 {
-    let g = mark_target(text, work, types, count, newest, store, 1, at);
+    let g = mark_target(text, work, types, scope, store, 1, at);
     let p = skip(text, at);
-    let x = mark_expr(text, work, types, count, newest, store, 33, p);
+    let x = mark_expr(text, work, types, scope, store, 33, p);
     let v = x.word;
     if v > GREATEST {
         return Span::Halted(v);
     }
-    let y = mark_expr(text, work, types, count, newest, store, 33, skip(text, p));
+    let y = mark_expr(text, work, types, scope, store, 33, skip(text, p));
     let w = y.word;
     if w > GREATEST {
         return Span::Halted(w);

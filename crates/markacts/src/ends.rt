@@ -1,5 +1,5 @@
 // How a statement of the marking machine ends: as the runner's do (steps), or it sticks.
-use calc::words::WORDS;
+use calc::words::Store;
 use carried::values::STUCK;
 use steps::ends::failing;
 ghost use mathlib.Core.Path.{_≡_};
@@ -16,7 +16,7 @@ pub fn sticking(left: u64) -> u64
 }
 
 // What the word of no value does in statement n: a fault raises, and STUCK sticks.
-pub fn halting(store: &mut [i64; WORDS], left: u64, w: i64, n: u32) -> u64
+pub fn halting(store: &mut Store, left: u64, w: i64, n: u32) -> u64
     ensures { λ r. ⌜ Halts w n (now (store .entry)) left (now (store .exit)) r ⌝ }
 {
     if w == STUCK {

@@ -1,6 +1,6 @@
 // A value stored at a place, both with their types: the kinds are met, then the range is tested.
 use crate::ends::sticking;
-use calc::words::WORDS;
+use calc::words::Store;
 use calc::words::signed_of;
 use carried::places::Reached;
 use carried::values::Carried;
@@ -15,7 +15,7 @@ ghost use Rattle.markacts.specs.Storing.{Wholly, Stores};
 fn store_whole(
     work: &[u32],
     types: &[u32],
-    store: &mut [i64; WORDS],
+    store: &mut Store,
     left: u64,
     n: u32,
     x: Carried,
@@ -34,7 +34,7 @@ fn store_whole(
 pub fn store_value(
     work: &[u32],
     types: &[u32],
-    store: &mut [i64; WORDS],
+    store: &mut Store,
     left: u64,
     n: u32,
     x: Carried,

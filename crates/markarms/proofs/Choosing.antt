@@ -45,6 +45,7 @@ use Rattle.markarms.specs.declared.Turn.the-variants as turn
 use Rattle.markarms.specs.declared.Arm.the-variants as chosen
 use Rattle.markarms.specs.Arms.{many, EndsAt, fitOf, Meets, NoArm, EntersForm, ArmAt, Enters, ArmsLeft, StmtLeft, Sticks, Turns, Chooses}
 use Rattle.markarms.proofs.Reading.{arm-labels, arm-last}
+use Rattle.tables.specs.declared.Scope.{Scope}
 
 -- ---- `entry_in`, `entry_at`
 
@@ -146,10 +147,10 @@ opened s σ d k z m at q f A L =
 
 -- ---- what an arm says
 
-module _ (s l : List ℕ) (count newest k : ℕ) (z : ℤ) (at : ℕ) where
+module _ (s l : List ℕ) (scope : Scope) (k : ℕ) (z : ℤ) (at : ℕ) where
   module _ (q : ℕ) (A : ArmAt s at isArm q) where
     -- what the labels come to
-    labels-are : (r : Fit) → Meets s l count newest k z q r → (σ : Environment) → Held s l count newest σ → (d m : ℕ) (f : Procs → ℕ → State → Answer)
+    labels-are : (r : Fit) → Meets s l scope k z q r → (σ : Environment) → Held s l scope σ → (d m : ℕ) (f : Procs → ℕ → State → Answer)
         → (O : Opened s σ d k z m (form (A .parts)) q (A .others) f) → markLabels (σ .types) (σ .vars) k z (O .labels) ≡ fitOf r
     labels-are r M σ H d m f O = M .says σ H (markLabels (σ .types) (σ .vars) k z (O .labels)) (record {
       constants = O .constants;
@@ -164,13 +165,13 @@ module _ (s l : List ℕ) (count newest k : ℕ) (z : ℤ) (at : ℕ) where
         let i = arms-number d (m + verbs (form (A .parts))) (A .others) (O .others) (O .others-read) in
         omega (arith, i, O .few)
 
-    hit : (r : ℕ) → Meets s l count newest k z q fit.Hit → EndsAt s q r → Turns s l count newest k z at (turn.Taken r)
+    hit : (r : ℕ) → Meets s l scope k z q fit.Hit → EndsAt s q r → Turns s l scope k z at (turn.Taken r)
     hit r M E = record {
       falls = tt;
       says = λ σ H d m f L. go σ H d m f (opened s σ d k z m at q f A L);
     }
       where
-        go : (σ : Environment) → Held s l count newest σ → (d m : ℕ) (f : Procs → ℕ → State → Answer) → Opened s σ d k z m (form (A .parts)) q (A .others) f → StmtLeft s σ d m r f
+        go : (σ : Environment) → Held s l scope σ → (d m : ℕ) (f : Procs → ℕ → State → Answer) → Opened s σ d k z m (form (A .parts)) q (A .others) f → StmtLeft s σ d m r f
         go σ H d m f O = record {
           read = (O .read, m + verbs (form (A .parts)));
           stmt = O .stmt;
@@ -180,13 +181,13 @@ module _ (s l : List ℕ) (count newest k : ℕ) (z : ℤ) (at : ℕ) where
           same = λ ps n u. O .same ps n u ∙ rw (labels-are fit.Hit M σ H d m f O) refl;
         }
 
-    stops : Meets s l count newest k z q fit.Stuck → Turns s l count newest k z at turn.Stuck
+    stops : Meets s l scope k z q fit.Stuck → Turns s l scope k z at turn.Stuck
     stops M = record {
       falls = tt;
       says = λ σ H d m f L. go σ H d m f (opened s σ d k z m at q f A L);
     }
       where
-        go : (σ : Environment) → Held s l count newest σ → (d m : ℕ) (f : Procs → ℕ → State → Answer) → Opened s σ d k z m (form (A .parts)) q (A .others) f → Sticks f
+        go : (σ : Environment) → Held s l scope σ → (d m : ℕ) (f : Procs → ℕ → State → Answer) → Opened s σ d k z m (form (A .parts)) q (A .others) f → Sticks f
         go σ H d m f O = record { same = λ ps n u. O .same ps n u ∙ rw (labels-are fit.Stuck M σ H d m f O) refl }
 
     module _ (p : ℕ) (K : Skips s at p) where
@@ -196,7 +197,7 @@ module _ (s l : List ℕ) (count newest k : ℕ) (z : ℤ) (at : ℕ) where
       others-at : A .others ≡ first (stackAt s p)
       others-at = ap rest (sym (A .here) ∙ past .here)
 
-      on : Meets s l count newest k z q fit.Miss → Turns s l count newest k z at (turn.On p)
+      on : Meets s l scope k z q fit.Miss → Turns s l scope k z at (turn.On p)
       unfolding many
       on M = record {
         falls = fewer (ap many (past .here));
@@ -206,7 +207,7 @@ module _ (s l : List ℕ) (count newest k : ℕ) (z : ℤ) (at : ℕ) where
           fewer : many (first (stackAt s at)) ≡ many (form (A .parts) then first (stackAt s p)) → many (first (stackAt s p)) < many (first (stackAt s at))
           fewer e = omega (arith, e)
 
-          go : (σ : Environment) → Held s l count newest σ → (d m : ℕ) (f : Procs → ℕ → State → Answer) → Opened s σ d k z m (form (A .parts)) q (A .others) f → (c : ℕ) → c ≡ verbs (form (A .parts))
+          go : (σ : Environment) → Held s l scope σ → (d m : ℕ) (f : Procs → ℕ → State → Answer) → Opened s σ d k z m (form (A .parts)) q (A .others) f → (c : ℕ) → c ≡ verbs (form (A .parts))
               → ArmsLeft σ d k z (m + c) (first (stackAt s p)) f
           go σ H d m f O c e = record {
             read = O .others;
@@ -228,7 +229,7 @@ module _ (s l : List ℕ) (count newest k : ℕ) (z : ℤ) (at : ℕ) where
       go a ha end e = g a ha (some-inj e)
       go a ha (t then ts) e = none-some e
 
-  else-taken : (q : ℕ) → ArmAt s at isElse q → Turns s l count newest k z at (turn.Taken q)
+  else-taken : (q : ℕ) → ArmAt s at isElse q → Turns s l scope k z at (turn.Taken q)
   unfolding armsIn armsOf markArms
   else-taken q A = record {
     falls = tt;
@@ -244,7 +245,7 @@ module _ (s l : List ℕ) (count newest k : ℕ) (z : ℤ) (at : ℕ) where
         };
   }
 
-  none-left : NoArm (first (stackAt s at)) → Turns s l count newest k z at turn.Absent
+  none-left : NoArm (first (stackAt s at)) → Turns s l scope k z at turn.Absent
   unfolding armsOf markArms
   none-left N = record {
     falls = tt;
@@ -256,62 +257,62 @@ module _ (s l : List ℕ) (count newest k : ℕ) (z : ℤ) (at : ℕ) where
 
 -- ---- `turn_at`
 
-module _ (s l : List ℕ) (count newest k : ℕ) (z : ℤ) (at : ℕ) (e : Entry) (E : Enters s at e) where
-  module _ (fz : SFits w64 z) (q : ℕ) (h : e ≡ entry.Labelled q) (g : Fit) (M : Meets s l count newest k (wire z) q g) where
-    met-as : (r : Fit) → g ≡ r → Meets s l count newest k z q r
-    met-as r i = subst (λ (y : ℤ). Meets s l count newest k y q r) (toZ-ofZ fz) (subst (Meets s l count newest k (wire z) q) i M)
+module _ (s l : List ℕ) (scope : Scope) (k : ℕ) (z : ℤ) (at : ℕ) (e : Entry) (E : Enters s at e) where
+  module _ (fz : SFits w64 z) (q : ℕ) (h : e ≡ entry.Labelled q) (g : Fit) (M : Meets s l scope k (wire z) q g) where
+    met-as : (r : Fit) → g ≡ r → Meets s l scope k z q r
+    met-as r i = subst (λ (y : ℤ). Meets s l scope k y q r) (toZ-ofZ fz) (subst (Meets s l scope k (wire z) q) i M)
 
-    pub turn-hit : (r : ℕ) → g ≡ fit.Hit → EndsAt s q r → Turns s l count newest k z at (turn.Taken r)
-    turn-hit r i N = hit s l count newest k z at q (rw h at (E .says)) r (met-as fit.Hit i) N
+    pub turn-hit : (r : ℕ) → g ≡ fit.Hit → EndsAt s q r → Turns s l scope k z at (turn.Taken r)
+    turn-hit r i N = hit s l scope k z at q (rw h at (E .says)) r (met-as fit.Hit i) N
 
-    pub turn-stuck : g ≡ fit.Stuck → Turns s l count newest k z at turn.Stuck
-    turn-stuck i = stops s l count newest k z at q (rw h at (E .says)) (met-as fit.Stuck i)
+    pub turn-stuck : g ≡ fit.Stuck → Turns s l scope k z at turn.Stuck
+    turn-stuck i = stops s l scope k z at q (rw h at (E .says)) (met-as fit.Stuck i)
 
-    pub turn-on : (p : ℕ) → g ≡ fit.Miss → Skips s at p → Turns s l count newest k z at (turn.On p)
-    turn-on p i K = on s l count newest k z at q (rw h at (E .says)) p K (met-as fit.Miss i)
+    pub turn-on : (p : ℕ) → g ≡ fit.Miss → Skips s at p → Turns s l scope k z at (turn.On p)
+    turn-on p i K = on s l scope k z at q (rw h at (E .says)) p K (met-as fit.Miss i)
 
-  pub turn-else : (q : ℕ) → e ≡ entry.Other q → Turns s l count newest k z at (turn.Taken q)
-  turn-else q h = else-taken s l count newest k z at q (rw h at (E .says))
+  pub turn-else : (q : ℕ) → e ≡ entry.Other q → Turns s l scope k z at (turn.Taken q)
+  turn-else q h = else-taken s l scope k z at q (rw h at (E .says))
 
-  pub turn-none : e ≡ entry.Over → Turns s l count newest k z at turn.Absent
-  turn-none h = none-left s l count newest k z at (rw h at (E .says))
+  pub turn-none : e ≡ entry.Over → Turns s l scope k z at turn.Absent
+  turn-none h = none-left s l scope k z at (rw h at (E .says))
 
 pub ruleset turn-laws = (turn-hit, turn-stuck, turn-on, turn-else, turn-none, sfits-of)
 
 -- ---- `choose_arm`
 
 -- the arms from p on are left; m is the number of the last statement before them
-pub record Choosing (s l : List ℕ) (count newest k : ℕ) (z : ℤ) (n at m p : ℕ) : Type 0 where
-  pub says : (σ : Environment) → Held s l count newest σ → (d : ℕ) (f : Procs → ℕ → State → Answer) → ArmsLeft σ d k z n (first (stackAt s at)) f → ArmsLeft σ d k z m (first (stackAt s p)) f
+pub record Choosing (s l : List ℕ) (scope : Scope) (k : ℕ) (z : ℤ) (n at m p : ℕ) : Type 0 where
+  pub says : (σ : Environment) → Held s l scope σ → (d : ℕ) (f : Procs → ℕ → State → Answer) → ArmsLeft σ d k z n (first (stackAt s at)) f → ArmsLeft σ d k z m (first (stackAt s p)) f
 
-pub choose-start : (s l : List ℕ) (count newest k : ℕ) (z : ℤ) (n at : ℕ) → Choosing s l count newest k z n at n at
-choose-start s l count newest k z n at = record { says = λ σ H d f L. L }
+pub choose-start : (s l : List ℕ) (scope : Scope) (k : ℕ) (z : ℤ) (n at : ℕ) → Choosing s l scope k z n at n at
+choose-start s l scope k z n at = record { says = λ σ H d f L. L }
 
-module _ (s l : List ℕ) (count newest k : ℕ) (z : ℤ) (n at m p : ℕ) (fz : SFits w64 z) (I : Choosing s l count newest k (wire z) n at m p) (t : Turn) (T : Turns s l count newest k (wire z) p t) where
-  so-far : Choosing s l count newest k z n at m p
-  so-far = subst (λ (y : ℤ). Choosing s l count newest k y n at m p) (toZ-ofZ fz) I
+module _ (s l : List ℕ) (scope : Scope) (k : ℕ) (z : ℤ) (n at m p : ℕ) (fz : SFits w64 z) (I : Choosing s l scope k (wire z) n at m p) (t : Turn) (T : Turns s l scope k (wire z) p t) where
+  so-far : Choosing s l scope k z n at m p
+  so-far = subst (λ (y : ℤ). Choosing s l scope k y n at m p) (toZ-ofZ fz) I
 
-  turns-as : (r : Turn) → t ≡ r → Turns s l count newest k z p r
-  turns-as r e = subst (λ (y : ℤ). Turns s l count newest k y p r) (toZ-ofZ fz) (subst (Turns s l count newest k (wire z) p) e T)
+  turns-as : (r : Turn) → t ≡ r → Turns s l scope k z p r
+  turns-as r e = subst (λ (y : ℤ). Turns s l scope k y p r) (toZ-ofZ fz) (subst (Turns s l scope k (wire z) p) e T)
 
-  pub choose-taken : (q : ℕ) → t ≡ turn.Taken q → Chooses s l count newest k z n at (chosen.Taken q m)
+  pub choose-taken : (q : ℕ) → t ≡ turn.Taken q → Chooses s l scope k z n at (chosen.Taken q m)
   choose-taken q e = record { says = λ σ H d f L. turns-as (turn.Taken q) e .says σ H d m f (so-far .says σ H d f L) }
 
-  pub choose-absent : t ≡ turn.Absent → Chooses s l count newest k z n at chosen.Absent
+  pub choose-absent : t ≡ turn.Absent → Chooses s l scope k z n at chosen.Absent
   choose-absent e = record { says = λ σ H d f L. turns-as turn.Absent e .says σ H d m f (so-far .says σ H d f L) }
 
-  pub choose-stuck : t ≡ turn.Stuck → Chooses s l count newest k z n at chosen.Stuck
+  pub choose-stuck : t ≡ turn.Stuck → Chooses s l scope k z n at chosen.Stuck
   choose-stuck e = record { says = λ σ H d f L. turns-as turn.Stuck e .says σ H d m f (so-far .says σ H d f L) }
 
-  pub choose-on : (q c o : ℕ) → t ≡ turn.On q → CountsStatements s p c → (m + c ≤ 4294967295 → o ≡ m + c) → Choosing s l count newest k (wire z) n at o q
-  choose-on q c o e C g = subst (λ (y : ℤ). Choosing s l count newest k y n at o q) (sym (toZ-ofZ fz)) (record { says = λ σ H d f L. go σ d f (turns-as (turn.On q) e .says σ H d m f (so-far .says σ H d f L) c C) })
+  pub choose-on : (q c o : ℕ) → t ≡ turn.On q → CountsStatements s p c → (m + c ≤ 4294967295 → o ≡ m + c) → Choosing s l scope k (wire z) n at o q
+  choose-on q c o e C g = subst (λ (y : ℤ). Choosing s l scope k y n at o q) (sym (toZ-ofZ fz)) (record { says = λ σ H d f L. go σ d f (turns-as (turn.On q) e .says σ H d m f (so-far .says σ H d f L) c C) })
     where
       go : (σ : Environment) (d : ℕ) (f : Procs → ℕ → State → Answer) → ArmsLeft σ d k z (m + c) (first (stackAt s q)) f → ArmsLeft σ d k z o (first (stackAt s q)) f
       go σ d f L =
           let i = arms-number d (m + c) (first (stackAt s q)) (L .read) (L .reads) in
           subst (λ (j : ℕ). ArmsLeft σ d k z j (first (stackAt s q)) f) (sym (g (omega (arith, i, L .few)))) L
 
-pub choose-falls : (s l : List ℕ) (count newest k : ℕ) (z : ℤ) (p q : ℕ) (t : Turn) → Turns s l count newest k z p t → t ≡ turn.On q → many (first (stackAt s q)) < many (first (stackAt s p))
-choose-falls s l count newest k z p q t T e = rw e at (T .falls)
+pub choose-falls : (s l : List ℕ) (scope : Scope) (k : ℕ) (z : ℤ) (p q : ℕ) (t : Turn) → Turns s l scope k z p t → t ≡ turn.On q → many (first (stackAt s q)) < many (first (stackAt s p))
+choose-falls s l scope k z p q t T e = rw e at (T .falls)
 
 pub ruleset choose-laws = (choose-taken, choose-absent, choose-stuck, choose-on, sfits-of)

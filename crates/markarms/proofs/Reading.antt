@@ -51,6 +51,7 @@ use Rattle.counts.proofs.Items.{bind-of}
 use Rattle.markarms.specs.declared.Spot.{Spot}
 use Rattle.markarms.specs.declared.Spot.the-variants as spot
 use Rattle.markarms.specs.Arms.{many, labelsIn, lastIn, Marks, Spots, Labels, EndsAt}
+use Rattle.tables.specs.declared.Scope.{Scope}
 
 -- ---- an arm's labels and statement
 
@@ -118,7 +119,7 @@ module _ (σ : Environment) where
   form-past (EH.One n) us c x h k f = none-some h
   form-past EH.Nothing us c x h k f = none-some h
 
-pub constant-past : {s l : List ℕ} {count newest : ℕ} {σ : Environment} → Held s l count newest σ → (us : Trees Run) (c : Constant) (x : Const) → constantIn us ≡ some c → constantOf σ c ≡ some x
+pub constant-past : {s l : List ℕ} {scope : Scope} {σ : Environment} → Held s l scope σ → (us : Trees Run) (c : Constant) (x : Const) → constantIn us ≡ some c → constantOf σ c ≡ some x
     → plain x ≡ false → x ≡ constOf 0 (pos 2147483648)
 unfolding constantIn partOf _>>=_ plainFirst plainTree
 constant-past H end c x h k f = none-some h
@@ -145,8 +146,8 @@ staged-is : (σ : Environment) (us : Trees Run) (c : Constant) (x : Const) → c
 unfolding staged named
 staged-is σ us c x h k = rw (h, k) refl
 
-module _ (s l : List ℕ) (count newest at : ℕ) (v : Valued) (G : GivesConstant s l count newest at v) where
-  pub label-clear : (b : Bool) → b ≡ isClear (v .fault) → b ≡ true → SFits w64 (v .value) → Labels s l count newest at (record { kind = v .kind; value = wire (v .value) })
+module _ (s l : List ℕ) (scope : Scope) (at : ℕ) (v : Valued) (G : GivesConstant s l scope at v) where
+  pub label-clear : (b : Bool) → b ≡ isClear (v .fault) → b ≡ true → SFits w64 (v .value) → Labels s l scope at (record { kind = v .kind; value = wire (v .value) })
   label-clear b g f e = record {
     says = λ σ H c x h k.
         let T = G .says (H .ts) (H .top) σ (H .bs) (H .scene) in
@@ -155,7 +156,7 @@ module _ (s l : List ℕ) (count newest at : ℕ) (v : Valued) (G : GivesConstan
         (w .0, toZ-ofZ e ∙ w .1);
   }
 
-  pub label-past : (b : Bool) → b ≡ isClear (v .fault) → b ≡ false → Labels s l count newest at (record { kind = 0; value = pos 2147483648 })
+  pub label-past : (b : Bool) → b ≡ isClear (v .fault) → b ≡ false → Labels s l scope at (record { kind = 0; value = pos 2147483648 })
   label-past b g f = record {
     says = λ σ H c x h k.
         let T = G .says (H .ts) (H .top) σ (H .bs) (H .scene) in

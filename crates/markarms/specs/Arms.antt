@@ -32,6 +32,7 @@ use Rattle.markarms.specs.declared.Turn.{Turn}
 use Rattle.markarms.specs.declared.Turn.the-variants as turn
 use Rattle.markarms.specs.declared.Arm.{Arm}
 use Rattle.markarms.specs.declared.Arm.the-variants as chosen
+use Rattle.tables.specs.declared.Scope.{Scope}
 
 -- ---- an arm's parts, after its head
 
@@ -66,8 +67,8 @@ pub record Spots (s : List ℕ) (at : ℕ) (r : Spot) : Type 0 where
   pub says : SpotsBy s at r
 
 -- r is the label at an offset
-pub record Labels (s l : List ℕ) (count newest at : ℕ) (r : Label) : Type 0 where
-  pub says : (σ : Environment) → Held s l count newest σ → (c : Constant) (x : Const) → constantIn (first (stackAt s at)) ≡ some c → constantOf σ c ≡ some x
+pub record Labels (s l : List ℕ) (scope : Scope) (at : ℕ) (r : Label) : Type 0 where
+  pub says : (σ : Environment) → Held s l scope σ → (c : Constant) (x : Const) → constantIn (first (stackAt s at)) ≡ some c → constantOf σ c ≡ some x
       → (r .kind ≡ x .kind) × (r .value ≡ x .value)
 
 -- the last part stands at r
@@ -89,8 +90,8 @@ pub record LabelsLeft (σ : Environment) (k : ℕ) (z : ℤ) (us : Trees Run) (v
   pub known : each (constantOf σ) constants ≡ some values
   pub same : v ≡ markLabels (σ .types) (σ .vars) k z values
 
-pub record Meets (s l : List ℕ) (count newest k : ℕ) (z : ℤ) (at : ℕ) (r : Fit) : Type 0 where
-  pub says : (σ : Environment) → Held s l count newest σ → (v : Result Bool) → LabelsLeft σ k z (first (stackAt s at)) v → v ≡ fitOf r
+pub record Meets (s l : List ℕ) (scope : Scope) (k : ℕ) (z : ℤ) (at : ℕ) (r : Fit) : Type 0 where
+  pub says : (σ : Environment) → Held s l scope σ → (v : Result Bool) → LabelsLeft σ k z (first (stackAt s at)) v → v ≡ fitOf r
 
 -- ---- arms
 
@@ -165,9 +166,9 @@ Falls s at turn.Absent = Unit {0}
 Falls s at turn.Stuck = Unit {0}
 Falls s at (turn.On q) = many (first (stackAt s q)) < many (first (stackAt s at))
 
-pub record Turns (s l : List ℕ) (count newest k : ℕ) (z : ℤ) (at : ℕ) (r : Turn) : Type 0 where
+pub record Turns (s l : List ℕ) (scope : Scope) (k : ℕ) (z : ℤ) (at : ℕ) (r : Turn) : Type 0 where
   pub falls : Falls s at r
-  pub says : (σ : Environment) → Held s l count newest σ → (d m : ℕ) (f : Procs → ℕ → State → Answer) → ArmsLeft σ d k z m (first (stackAt s at)) f → TurnsBy s σ d k z m at f r
+  pub says : (σ : Environment) → Held s l scope σ → (d m : ℕ) (f : Procs → ℕ → State → Answer) → ArmsLeft σ d k z m (first (stackAt s at)) f → TurnsBy s σ d k z m at f r
 
 -- ---- the choice
 
@@ -177,5 +178,5 @@ ChoosesBy s σ d f chosen.Absent = RaisesCase f
 ChoosesBy s σ d f chosen.Stuck = Sticks f
 
 -- what arms come to for z, which is of kind k; n is the number of the last statement before them
-pub record Chooses (s l : List ℕ) (count newest k : ℕ) (z : ℤ) (n at : ℕ) (r : Arm) : Type 0 where
-  pub says : (σ : Environment) → Held s l count newest σ → (d : ℕ) (f : Procs → ℕ → State → Answer) → ArmsLeft σ d k z n (first (stackAt s at)) f → ChoosesBy s σ d f r
+pub record Chooses (s l : List ℕ) (scope : Scope) (k : ℕ) (z : ℤ) (n at : ℕ) (r : Arm) : Type 0 where
+  pub says : (σ : Environment) → Held s l scope σ → (d : ℕ) (f : Procs → ℕ → State → Answer) → ArmsLeft σ d k z n (first (stackAt s at)) f → ChoosesBy s σ d f r

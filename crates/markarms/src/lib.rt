@@ -9,6 +9,7 @@ use parts::part_at;
 use shapes::ArmHead;
 use shapes::arm_head;
 use skips::skip;
+use tables::Scope;
 ghost use mathlib.Core.Path.{_≡_};
 ghost use Prim.Native.Nat.{_+_, _≤_};
 ghost use Rattle.markarms.specs.Arms.{Labels, Spots, Meets, EndsAt, EntersForm, Enters, Turns, Chooses};
@@ -55,10 +56,10 @@ pub enum Arm {
 }
 
 // The label at an offset. `(- #80000000)` is the only constant past the integers.
-fn label_at(text: &[u8], work: &[u32], count: u32, newest: u32, at: usize) -> Label
-    ensures { λ r. ⌜ Labels (now (text .entry)) (now (work .entry)) count newest at r ⌝ }
+fn label_at(text: &[u8], work: &[u32], scope: Scope, at: usize) -> Label
+    ensures { λ r. ⌜ Labels (now (text .entry)) (now (work .entry)) scope at r ⌝ }
 {
-    let v = constant(text, work, count, newest, at);
+    let v = constant(text, work, scope, at);
     let f = v.fault;
     if is_clear(f) {
         return Label {
@@ -91,15 +92,15 @@ fn spot_at(text: &[u8], at: usize) -> Spot
 }
 
 // Whether z, of a kind, is a label of the arm whose labels begin at an offset.
-fn fit_at(text: &[u8], work: &[u32], count: u32, newest: u32, kind: u32, z: i64, at: usize) -> Fit
-    ensures { λ r. ⌜ Meets (now (text .entry)) (now (work .entry)) count newest kind z at r ⌝ }
+fn fit_at(text: &[u8], work: &[u32], scope: Scope, kind: u32, z: i64, at: usize) -> Fit
+    ensures { λ r. ⌜ Meets (now (text .entry)) (now (work .entry)) scope kind z at r ⌝ }
 {
     let mut p = at;
     loop {
         let x = spot_at(text, p);
         match x {
             Spot::Marked(q) => {
-                let v = label_at(text, work, count, newest, p);
+                let v = label_at(text, work, scope, p);
                 if v.kind != kind {
                     return Fit::Stuck;
                 }
@@ -165,13 +166,13 @@ fn entry_at(text: &[u8], at: usize) -> Entry
 }
 
 // What the arm at an offset says of z, which is of a kind.
-fn turn_at(text: &[u8], work: &[u32], count: u32, newest: u32, kind: u32, z: i64, at: usize) -> Turn
-    ensures { λ r. ⌜ Turns (now (text .entry)) (now (work .entry)) count newest kind z at r ⌝ }
+fn turn_at(text: &[u8], work: &[u32], scope: Scope, kind: u32, z: i64, at: usize) -> Turn
+    ensures { λ r. ⌜ Turns (now (text .entry)) (now (work .entry)) scope kind z at r ⌝ }
 {
     let e = entry_at(text, at);
     match e {
         Entry::Labelled(q) => {
-            let f = fit_at(text, work, count, newest, kind, z, q);
+            let f = fit_at(text, work, scope, kind, z, q);
             match f {
                 Fit::Hit => Turn::Taken(last_part(text, q)),
                 Fit::Miss => Turn::On(skip(text, at)),
@@ -201,19 +202,18 @@ pub fn later(n: u32, k: usize) -> u32
 pub fn choose_arm(
     text: &[u8],
     work: &[u32],
-    count: u32,
-    newest: u32,
+    scope: Scope,
     kind: u32,
     z: i64,
     n: u32,
     at: usize,
 ) -> Arm
-    ensures { λ r. ⌜ Chooses (now (text .entry)) (now (work .entry)) count newest kind z n at r ⌝ }
+    ensures { λ r. ⌜ Chooses (now (text .entry)) (now (work .entry)) scope kind z n at r ⌝ }
 {
     let mut p = at;
     let mut m = n;
     loop {
-        let t = turn_at(text, work, count, newest, kind, z, p);
+        let t = turn_at(text, work, scope, kind, z, p);
         match t {
             Turn::Taken(q) => {
                 return Arm::Taken(q, m);

@@ -3,6 +3,7 @@ use answers::Ending;
 use answers::Marked;
 use calc::words::LATEST;
 use calc::words::PLACE;
+use calc::words::Store;
 use calc::words::WORDS;
 use leaves::cells::address;
 use markstmts::walk::mark_body;
@@ -14,7 +15,7 @@ ghost use Rattle.marker.specs.Answers.{MarksLent};
 ghost use Rattle.marker.specs.Lending.{MarkTells, MarksIn};
 
 // How a word, with the store's array, says that a run ended.
-fn told(w: u64, store: &[i64; WORDS]) -> Ending
+fn told(w: u64, store: &Store) -> Ending
     ensures { λ r. ⌜ MarkTells w (now (store .entry)) r ⌝ }
 {
     if w < 4294967296 {
@@ -39,7 +40,7 @@ fn mark_with(
     values: &mut [i64],
     marks: &mut [u8],
     budget: u32,
-    store: &mut [i64; WORDS],
+    store: &mut Store,
 ) -> Marked
     ensures { λ r. ⌜ MarksIn (now (store .entry)) (now (text .entry)) (now (work .entry)) (now (types .entry)) (now (bodies .entry)) q (now (values .entry)) (now (marks .entry)) budget r (now (values .exit)) (now (marks .exit)) ⌝ }
 {

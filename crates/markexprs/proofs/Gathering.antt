@@ -39,6 +39,7 @@ use Rattle.carried.specs.Steps.{admitted, Admits}
 use Rattle.carried.proofs.Carrying.{Broken, broken-bind, broken-means, view-broken, view-value, means-value}
 use Rattle.markexprs.specs.Marks.{MarksExpr, MarksMembers}
 use Rattle.markexprs.proofs.Inverting.{past-expr}
+use Rattle.tables.specs.declared.Scope.{Scope}
 
 -- ---- one member more
 
@@ -80,16 +81,16 @@ pub record Left (σ : Environment) (t d : ℕ) (us : Trees Run) (es : Exprs) (m 
   pub known : exprsOf σ forms ≡ some exprs
   pub whole : markMembers (σ .types) (σ .vars) t es m ≡ (markMembers (σ .types) (σ .vars) t exprs m >>= λ y. is (seen y))
 
-pub record Sofar (s l ts : List ℕ) (ws : List ℤ) (count newest t d at next set : ℕ) : Type 0 where
+pub record Sofar (s l ts : List ℕ) (ws : List ℤ) (scope : Scope) (t d at next set : ℕ) : Type 0 where
   pub small-set : set < 4294967296
   pub seen : ℤ → ℤ
   pub set-is : pos set ≡ seen (pos 0)
   pub turns : (z y : ℤ) → seen (joined z y) ≡ joined z (seen y)
-  pub left : (σ : Environment) → Known s l ts count newest σ → (xs : Syntax.Exprs) (es : Exprs) → exprsIn d (first (stackAt s at)) ≡ some xs → exprsOf σ xs ≡ some es
+  pub left : (σ : Environment) → Known s l ts scope σ → (xs : Syntax.Exprs) (es : Exprs) → exprsIn d (first (stackAt s at)) ≡ some xs → exprsOf σ xs ≡ some es
       → (m : Store) → Holds ws m → Left σ t d (first (stackAt s next)) es m seen
 
-module _ (s l ts : List ℕ) (ws : List ℤ) (count newest t d at : ℕ) where
-  pub sofar-start : Sofar s l ts ws count newest t d at at 0
+module _ (s l ts : List ℕ) (ws : List ℤ) (scope : Scope) (t d at : ℕ) where
+  pub sofar-start : Sofar s l ts ws scope t d at at 0
   sofar-start = record {
     small-set = omega arith;
     seen = λ y. y;
@@ -98,8 +99,8 @@ module _ (s l ts : List ℕ) (ws : List ℤ) (count newest t d at : ℕ) where
     left = λ σ S xs es h k m H. record { forms = xs; exprs = es; read = h; known = k; whole = bind-id (markMembers (σ .types) (σ .vars) t es m) };
   }
 
-  module _ (next set : ℕ) (F : Sofar s l ts ws count newest t d at next set) (e : End) (E : Shuts s next e) where
-    pub members-done : (q : ℕ) (z : ℤ) → e ≡ ending.Past q → z ≡ pos (valueOf (members set)) → SFits w64 z → MarksMembers s l ts ws count newest t d at (wire z)
+  module _ (next set : ℕ) (F : Sofar s l ts ws scope t d at next set) (e : End) (E : Shuts s next e) where
+    pub members-done : (q : ℕ) (z : ℤ) → e ≡ ending.Past q → z ≡ pos (valueOf (members set)) → SFits w64 z → MarksMembers s l ts ws scope t d at (wire z)
     unfolding exprsOf markMembers
     members-done q z h g f = rw (toZ-ofZ f, g, value-is set (F .small-set)) (record {
       says = λ σ S. record {
@@ -112,7 +113,7 @@ module _ (s l ts : List ℕ) (ws : List ℤ) (count newest t d at : ℕ) where
       };
     })
 
-    module _ (h : e ≡ ending.More) (x : Carried) (X : MarksExpr s l ts ws count newest d next x) (z : ℤ) (A : Admits l ts t x z) (fz : SFits w64 z) where
+    module _ (h : e ≡ ending.More) (x : Carried) (X : MarksExpr s l ts ws scope d next x) (z : ℤ) (A : Admits l ts t x z) (fz : SFits w64 z) where
       not-end : first (stackAt s next) ≡ end → ⊥
       not-end = rw h at (E .says)
 
@@ -129,7 +130,7 @@ module _ (s l ts : List ℕ) (ws : List ℤ) (count newest t d at : ℕ) where
         whole : markMembers (σ .types) (σ .vars) t es m ≡ (((markExpr (σ .types) (σ .vars) expr m >>= wanted (baseOf (σ .types) t)) >>= λ u. admitted (σ .types) t u >>= λ y.
             markMembers (σ .types) (σ .vars) t exprs m >>= λ ys. is (joined y ys)) >>= λ y. is (F .seen y))
 
-      taken : (σ : Environment) → Known s l ts count newest σ → (xs : Syntax.Exprs) (es : Exprs) → exprsIn d (first (stackAt s at)) ≡ some xs → exprsOf σ xs ≡ some es → (m : Store) → Holds ws m → Next σ es m
+      taken : (σ : Environment) → Known s l ts scope σ → (xs : Syntax.Exprs) (es : Exprs) → exprsIn d (first (stackAt s at)) ≡ some xs → exprsOf σ xs ≡ some es → (m : Store) → Holds ws m → Next σ es m
       unfolding exprsOf markMembers
       taken σ S xs es i k m H =
           let L = F .left σ S xs es i k m H in
@@ -142,11 +143,11 @@ module _ (s l ts : List ℕ) (ws : List ℤ) (count newest t d at : ℕ) where
             here = hy;
             read = hys;
             known = hvs;
-            means = A .says s count newest σ S m (markExpr (σ .types) (σ .vars) v m) (X .says σ S .says y v hy hv m H);
+            means = A .says s scope σ S m (markExpr (σ .types) (σ .vars) v m) (X .says σ S .says y v hy hv m H);
             whole = L .whole ∙ ap (λ (ws : Exprs). markMembers (σ .types) (σ .vars) t ws m >>= λ y. is (F .seen y)) (sym (some-inj p));
           })))
 
-      pub members-fault : ltZ greatest (wire z) ≡ true → MarksMembers s l ts ws count newest t d at (wire z)
+      pub members-fault : ltZ greatest (wire z) ≡ true → MarksMembers s l ts ws scope t d at (wire z)
       members-fault g = rw (toZ-ofZ fz) (record {
         says = λ σ S. record {
           says = λ xs es i k m H.
@@ -166,7 +167,7 @@ module _ (s l ts : List ℕ) (ws : List ℤ) (count newest t d at : ℕ) where
             go end i = absurd (not-end i)
             go (u then us) i = let b : us ≡ first (stackAt s q) = ap rest (sym i ∙ Q .says u us i .here) in rw b (omega arith)
 
-        pub members-next : (set′ : ℕ) → ltZ greatest (wire z) ≡ false → set′ ≡ valueOf (added (wire z) (members set)) → Fits w32 set′ → Sofar s l ts ws count newest t d at q set′
+        pub members-next : (set′ : ℕ) → ltZ greatest (wire z) ≡ false → set′ ≡ valueOf (added (wire z) (members set)) → Fits w32 set′ → Sofar s l ts ws scope t d at q set′
         members-next set′ g i f = record {
           small-set = omega (arith, f .fits);
           seen = λ y. F .seen (joined z y);

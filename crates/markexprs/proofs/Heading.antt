@@ -24,6 +24,7 @@ use Rattle.carried.specs.declared.values.Carried.{Carried}
 use Rattle.carried.specs.declared.places.Reached.{Reached}
 use Rattle.markexprs.specs.Marks.{MarksExpr, MarksTarget, MarksForm, MarksPlace, MarksInner, MarksInnerPlace, MarksWord, MarksVar}
 use Rattle.markexprs.proofs.Naming.{no-expr, no-target}
+use Rattle.tables.specs.declared.Scope.{Scope}
 
 fuel : (d : ℕ) → ((d ≡ 0) → ⊥) → suc (d - 1) ≡ d
 fuel zero h = absurd (h refl)
@@ -38,63 +39,63 @@ target-alone : (d : ℕ) (us ts : Trees Run) → targetIn d (form us then ts) �
 unfolding targetIn partOf
 target-alone d us ts = refl
 
-module _ (s l ts : List ℕ) (ws : List ℤ) (count newest d at : ℕ) where
-  pub expr-deep : (r : Carried) → d ≡ 0 → MarksExpr s l ts ws count newest d at r
+module _ (s l ts : List ℕ) (ws : List ℤ) (scope : Scope) (d at : ℕ) where
+  pub expr-deep : (r : Carried) → d ≡ 0 → MarksExpr s l ts ws scope d at r
   expr-deep r h = record { says = λ σ S. no-expr (rw h (expr-zero (first (stackAt s at)))) }
 
-  pub target-deep : (r : Reached) → d ≡ 0 → MarksTarget s l ts ws count newest d at r
+  pub target-deep : (r : Reached) → d ≡ 0 → MarksTarget s l ts ws scope d at r
   target-deep r h = record { says = λ σ S. no-target (rw h (target-zero (first (stackAt s at)))) }
 
   module _ (x : Part) (c : Stands s at x) where
-    pub expr-shut : (q : ℕ) (r : Carried) → x ≡ part.Shut q → MarksExpr s l ts ws count newest d at r
+    pub expr-shut : (q : ℕ) (r : Carried) → x ≡ part.Shut q → MarksExpr s l ts ws scope d at r
     expr-shut q r h = let f = rw h at (c .says) in record { says = λ σ S. no-expr (rw (f .here) (expr-end d)) }
 
-    pub target-shut : (q : ℕ) (r : Reached) → x ≡ part.Shut q → MarksTarget s l ts ws count newest d at r
+    pub target-shut : (q : ℕ) (r : Reached) → x ≡ part.Shut q → MarksTarget s l ts ws scope d at r
     target-shut q r h = let f = rw h at (c .says) in record { says = λ σ S. no-target (rw (f .here) (target-end d)) }
 
-    pub expr-leaf : (w : Word) (p q : ℕ) (r : Carried) → ((d ≡ 0) → ⊥) → x ≡ part.Leaf w p q → MarksWord s l ts ws count newest w p r → MarksExpr s l ts ws count newest d at r
+    pub expr-leaf : (w : Word) (p q : ℕ) (r : Carried) → ((d ≡ 0) → ⊥) → x ≡ part.Leaf w p q → MarksWord s l ts ws scope w p r → MarksExpr s l ts ws scope d at r
     expr-leaf w p q r n h W =
         let f = rw h at (c .says) in
         record { says = λ σ S. rw (f .0 .leaf .here, ← fuel d n, expr-word (d - 1) (wordAt s p) (first (stackAt s q)), ← f .1) (W .says σ S (f .1)) }
 
-    pub target-leaf : (w : Word) (p q : ℕ) (r : Reached) → ((d ≡ 0) → ⊥) → x ≡ part.Leaf w p q → MarksVar s l count newest w p r → MarksTarget s l ts ws count newest d at r
+    pub target-leaf : (w : Word) (p q : ℕ) (r : Reached) → ((d ≡ 0) → ⊥) → x ≡ part.Leaf w p q → MarksVar s l scope w p r → MarksTarget s l ts ws scope d at r
     target-leaf w p q r n h W =
         let f = rw h at (c .says) in
         record { says = λ σ S. rw (f .0 .leaf .here, ← fuel d n, target-word (d - 1) (wordAt s p) (first (stackAt s q)), ← f .1) (W .says ts ws σ S (f .1)) }
 
-    pub expr-inner : (p : ℕ) (r : Carried) → ((d ≡ 0) → ⊥) → x ≡ part.Form p → MarksInner s l ts ws count newest (d - 1) p r → MarksExpr s l ts ws count newest d at r
+    pub expr-inner : (p : ℕ) (r : Carried) → ((d ≡ 0) → ⊥) → x ≡ part.Form p → MarksInner s l ts ws scope (d - 1) p r → MarksExpr s l ts ws scope d at r
     expr-inner p r n h I =
         let f = rw h at (c .says) in
         record { says = λ σ S. rw (f .here, ← fuel d n, expr-alone (suc (d - 1)) (first (stackAt s p)) (first (later (stackAt s p)))) (I .says σ S) }
 
-    pub target-inner : (p : ℕ) (r : Reached) → ((d ≡ 0) → ⊥) → x ≡ part.Form p → MarksInnerPlace s l ts ws count newest (d - 1) p r → MarksTarget s l ts ws count newest d at r
+    pub target-inner : (p : ℕ) (r : Reached) → ((d ≡ 0) → ⊥) → x ≡ part.Form p → MarksInnerPlace s l ts ws scope (d - 1) p r → MarksTarget s l ts ws scope d at r
     target-inner p r n h I =
         let f = rw h at (c .says) in
         record { says = λ σ S. rw (f .here, ← fuel d n, target-alone (suc (d - 1)) (first (stackAt s p)) (first (later (stackAt s p)))) (I .says σ S) }
 
     -- ---- the head word
 
-    pub inner-shut : (q : ℕ) (r : Carried) → x ≡ part.Shut q → MarksInner s l ts ws count newest d at r
+    pub inner-shut : (q : ℕ) (r : Carried) → x ≡ part.Shut q → MarksInner s l ts ws scope d at r
     inner-shut q r h = let f = rw h at (c .says) in record { says = λ σ S. no-expr (rw (f .here) (expr-empty (suc d) end)) }
 
-    pub inner-form : (p : ℕ) (r : Carried) → x ≡ part.Form p → MarksInner s l ts ws count newest d at r
+    pub inner-form : (p : ℕ) (r : Carried) → x ≡ part.Form p → MarksInner s l ts ws scope d at r
     inner-form p r h = let f = rw h at (c .says) in record { says = λ σ S. no-expr (rw (f .here) (expr-headless (suc d) (first (stackAt s p)) (first (later (stackAt s p))) end)) }
 
-    pub place-shut : (q : ℕ) (r : Reached) → x ≡ part.Shut q → MarksInnerPlace s l ts ws count newest d at r
+    pub place-shut : (q : ℕ) (r : Reached) → x ≡ part.Shut q → MarksInnerPlace s l ts ws scope d at r
     place-shut q r h = let f = rw h at (c .says) in record { says = λ σ S. no-target (rw (f .here) (target-empty (suc d) end)) }
 
-    pub place-form : (p : ℕ) (r : Reached) → x ≡ part.Form p → MarksInnerPlace s l ts ws count newest d at r
+    pub place-form : (p : ℕ) (r : Reached) → x ≡ part.Form p → MarksInnerPlace s l ts ws scope d at r
     place-form p r h = let f = rw h at (c .says) in record { says = λ σ S. no-target (rw (f .here) (target-headless (suc d) (first (stackAt s p)) (first (later (stackAt s p))) end)) }
 
     module _ (w : Word) (p q : ℕ) (h : x ≡ part.Leaf w p q) (k : ExprHead) (i : k ≡ exprHeadOf w) where
-      pub inner-head : (r : Carried) → MarksForm s l ts ws count newest k d q r → MarksInner s l ts ws count newest d at r
+      pub inner-head : (r : Carried) → MarksForm s l ts ws scope k d q r → MarksInner s l ts ws scope d at r
       unfolding formIn
       inner-head r F =
           let f = rw h at (c .says) in
           let j : k ≡ exprHeadOf (wordOf (wordAt s p)) = i ∙ ap exprHeadOf (f .1) in
           record { says = λ σ S. rw (f .0 .leaf .here, expr-form d (wordAt s p) (first (stackAt s q)) end, expr-head-is (wordAt s p), ← j) (F .says σ S) }
 
-      pub place-head : (r : Reached) → MarksPlace s l ts ws count newest k d q r → MarksInnerPlace s l ts ws count newest d at r
+      pub place-head : (r : Reached) → MarksPlace s l ts ws scope k d q r → MarksInnerPlace s l ts ws scope d at r
       place-head r F =
           let f = rw h at (c .says) in
           let j : k ≡ exprHeadOf (wordOf (wordAt s p)) = i ∙ ap exprHeadOf (f .1) in
@@ -110,47 +111,47 @@ pub ruleset inner-place-laws = (place-shut, place-form, place-head)
 
 -- ---- by the head word
 
-module _ (s l ts : List ℕ) (ws : List ℤ) (count newest : ℕ) (k : ExprHead) (d at : ℕ) where
-  pub by-form : (r : Carried) (h : ExprHead) → k ≡ h → MarksForm s l ts ws count newest h d at r → MarksForm s l ts ws count newest k d at r
+module _ (s l ts : List ℕ) (ws : List ℤ) (scope : Scope) (k : ExprHead) (d at : ℕ) where
+  pub by-form : (r : Carried) (h : ExprHead) → k ≡ h → MarksForm s l ts ws scope h d at r → MarksForm s l ts ws scope k d at r
   by-form r h e F = rw e F
 
-  pub by-nothing : (r : Carried) → k ≡ EH.Nothing → MarksForm s l ts ws count newest k d at r
+  pub by-nothing : (r : Carried) → k ≡ EH.Nothing → MarksForm s l ts ws scope k d at r
   unfolding formIn _>>=_
   by-nothing r h = rw h (record { says = λ σ S. no-expr refl })
 
-  pub by-place : (r : Reached) (h : ExprHead) → k ≡ h → MarksPlace s l ts ws count newest h d at r → MarksPlace s l ts ws count newest k d at r
+  pub by-place : (r : Reached) (h : ExprHead) → k ≡ h → MarksPlace s l ts ws scope h d at r → MarksPlace s l ts ws scope k d at r
   by-place r h e F = rw e F
 
   -- any other head is that of no target
   module _ (r : Reached) where
-    no-place : targetBy k d (first (stackAt s at)) ≡ none → MarksPlace s l ts ws count newest k d at r
+    no-place : targetBy k d (first (stackAt s at)) ≡ none → MarksPlace s l ts ws scope k d at r
     no-place h = record { says = λ σ S. no-target h }
 
-    pub place-members : k ≡ EH.Members → MarksPlace s l ts ws count newest k d at r
+    pub place-members : k ≡ EH.Members → MarksPlace s l ts ws scope k d at r
     unfolding targetBy
     place-members h = no-place (rw h refl)
 
-    pub place-minus : k ≡ EH.Minus → MarksPlace s l ts ws count newest k d at r
+    pub place-minus : k ≡ EH.Minus → MarksPlace s l ts ws scope k d at r
     unfolding targetBy
     place-minus h = no-place (rw h refl)
 
-    pub place-bound : (b : Bool) → k ≡ EH.Bound b → MarksPlace s l ts ws count newest k d at r
+    pub place-bound : (b : Bool) → k ≡ EH.Bound b → MarksPlace s l ts ws scope k d at r
     unfolding targetBy
     place-bound b h = no-place (rw h refl)
 
-    pub place-short : (b : Bool) → k ≡ EH.Short b → MarksPlace s l ts ws count newest k d at r
+    pub place-short : (b : Bool) → k ≡ EH.Short b → MarksPlace s l ts ws scope k d at r
     unfolding targetBy
     place-short b h = no-place (rw h refl)
 
-    pub place-two : (n : ℕ) → k ≡ EH.Two n → MarksPlace s l ts ws count newest k d at r
+    pub place-two : (n : ℕ) → k ≡ EH.Two n → MarksPlace s l ts ws scope k d at r
     unfolding targetBy
     place-two n h = no-place (rw h refl)
 
-    pub place-one : (n : ℕ) → k ≡ EH.One n → MarksPlace s l ts ws count newest k d at r
+    pub place-one : (n : ℕ) → k ≡ EH.One n → MarksPlace s l ts ws scope k d at r
     unfolding targetBy
     place-one n h = no-place (rw h refl)
 
-    pub place-nothing : k ≡ EH.Nothing → MarksPlace s l ts ws count newest k d at r
+    pub place-nothing : k ≡ EH.Nothing → MarksPlace s l ts ws scope k d at r
     unfolding targetBy
     place-nothing h = no-place (rw h refl)
 

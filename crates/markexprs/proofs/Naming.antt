@@ -31,10 +31,10 @@ use Rattle.shapes.specs.declared.Atom.the-variants as AT
 use Rattle.shapes.specs.declared.ExprHead.the-variants as EH
 use Rattle.shapes.specs.Heads.{atomOf}
 use Rattle.shapes.specs.Parts.{typeNameIn}
-use Rattle.symbols.specs.Chain.{entries, placeIn}
+use Rattle.tables.specs.declared.Scope.{Scope}
 use Rattle.tables.specs.declared.Meaning.{Meaning}
 use Rattle.tables.specs.declared.Meaning.the-variants as meaning
-use Rattle.tables.specs.Scene.{Told, unknown, known, a-type, a-var, a-proc, a-value, meaningAt}
+use Rattle.tables.specs.Scene.{Told, unknown, known, a-type, a-var, a-proc, a-value, meaningHere}
 use Rattle.tables.proofs.Telling.{kinded, meant}
 use Rattle.atoms.specs.declared.Typed.{Typed}
 use Rattle.atoms.specs.Contracts.{GivesType}
@@ -117,7 +117,7 @@ var-reaches σ j v m z e b h = rw e (reaches-place (typedPlace (v .type) (v .bas
 
 module _ (l ts : List ℕ) (ws : List ℤ) (x : Meaning) (r : Carried) where
   name-none : nameless x ≡ true → MarksName l ts ws x r
-  name-none h = record { says = λ s count newest σ S n T e k m H. none-some (sym (told-nameless σ (S .bodies) x n T h) ∙ k) }
+  name-none h = record { says = λ s scope σ S n T e k m H. none-some (sym (told-nameless σ (S .bodies) x n T h) ∙ k) }
 
   pub name-unknown : x ≡ meaning.Unknown → MarksName l ts ws x r
   name-unknown h = name-none (rw h refl)
@@ -131,18 +131,18 @@ module _ (l ts : List ℕ) (ws : List ℤ) (x : Meaning) (r : Carried) where
   pub name-var : (i k a : ℕ) (z : ℤ) (g : Reached) → x ≡ meaning.Var i k a → Fits w32 a → z ≡ pos a → SFits w64 z → g ≡ reachedOf k (wire z) → Loads l ts ws g r → MarksName l ts ws x r
   unfolding markExpr _>>=_
   name-var i k a z g h fa ez fz eg L = record {
-    says = λ s count newest σ S n T e q m H. as-var σ (S .bodies) x n T i k a h (λ j v ev et eb en.
+    says = λ s scope σ S n T e q m H. as-var σ (S .bodies) x n T i k a h (λ j v ev et eb en.
         let p : read (var j) ≡ e = some-inj (rw en at q) in
         let R : Reaches (markTarget (σ .types) (σ .vars) (var j) m) g = rw (eg, toZ-ofZ fz, ← et) (var-reaches σ j v m z ev (omega (arith, eb, fa .fits)) (ez ∙ ap pos (sym eb))) in
-        rw (← p) (L .says s count newest σ S m H (markTarget (σ .types) (σ .vars) (var j) m) R));
+        rw (← p) (L .says s scope σ S m H (markTarget (σ .types) (σ .vars) (var j) m) R));
   }
 
   pub name-value : (k a : ℕ) (z : ℤ) → x ≡ meaning.Value k a → z ≡ pos a → SFits w64 z → Constants l ts k (wire z) r → MarksName l ts ws x r
   unfolding markExpr _>>=_
   name-value k a z h ez fz C = record {
-    says = λ s count newest σ S n T e q m H. as-value σ (S .bodies) x n T k a h (λ en.
+    says = λ s scope σ S n T e q m H. as-value σ (S .bodies) x n T k a h (λ en.
         let p : const (constOf k (pos a)) ≡ e = some-inj (rw en at q) in
-        rw (← p, ← ez, ← toZ-ofZ fz) (C .says s count newest σ S m));
+        rw (← p, ← ez, ← toZ-ofZ fz) (C .says s scope σ S m));
   }
 
 pub ruleset name-laws = (name-unknown, name-type, name-proc, name-var, name-value, sfits-of)
@@ -175,30 +175,30 @@ pub ruleset place-laws = (place-unknown, place-type, place-proc, place-value, pl
 
 -- ---- words
 
-module _ (s l ts : List ℕ) (ws : List ℤ) (count newest : ℕ) (w : Word) (p : ℕ) (a : Atom) (ea : a ≡ atomOf w) (r : Carried) where
-  pub word-number : (z : ℤ) → a ≡ AT.Number z → SFits w64 z → Constants l ts 0 (wire z) r → MarksWord s l ts ws count newest w p r
+module _ (s l ts : List ℕ) (ws : List ℤ) (scope : Scope) (w : Word) (p : ℕ) (a : Atom) (ea : a ≡ atomOf w) (r : Carried) where
+  pub word-number : (z : ℤ) → a ≡ AT.Number z → SFits w64 z → Constants l ts 0 (wire z) r → MarksWord s l ts ws scope w p r
   unfolding exprOf atomMeant markExpr
   word-number z h f C = record {
     says = λ σ S e. record {
       says = λ x y g k m H.
           let q : Syntax.const (Syntax.number z) ≡ x = some-inj (rw (← ea, h) at g) in
           let t : const (constOf 0 z) ≡ y = some-inj (rw (← q) at k) in
-          rw (← t, ← toZ-ofZ f) (C .says s count newest σ S m);
+          rw (← t, ← toZ-ofZ f) (C .says s scope σ S m);
     };
   }
 
-  pub word-truth : (b : Bool) (z : ℤ) → a ≡ AT.Truth b → z ≡ Calculate.truth b → SFits w64 z → Constants l ts 1 (wire z) r → MarksWord s l ts ws count newest w p r
+  pub word-truth : (b : Bool) (z : ℤ) → a ≡ AT.Truth b → z ≡ Calculate.truth b → SFits w64 z → Constants l ts 1 (wire z) r → MarksWord s l ts ws scope w p r
   unfolding exprOf atomMeant markExpr
   word-truth b z h ez f C = record {
     says = λ σ S e. record {
       says = λ x y g k m H.
           let q : Syntax.const (Syntax.truth b) ≡ x = some-inj (rw (← ea, h) at g) in
           let t : const (constOf 1 (Calculate.truth b)) ≡ y = some-inj (rw (← q) at k) in
-          rw (← t, ← ez, ← toZ-ofZ f) (C .says s count newest σ S m);
+          rw (← t, ← ez, ← toZ-ofZ f) (C .says s scope σ S m);
     };
   }
 
-  pub word-error : a ≡ AT.ErrorNumber → Latest ws r → MarksWord s l ts ws count newest w p r
+  pub word-error : a ≡ AT.ErrorNumber → Latest ws r → MarksWord s l ts ws scope w p r
   unfolding exprOf markExpr
   word-error h L = record {
     says = λ σ S e. record {
@@ -209,41 +209,41 @@ module _ (s l ts : List ℕ) (ws : List ℤ) (count newest : ℕ) (w : Word) (p 
     };
   }
 
-  pub word-base : (k : ℕ) → a ≡ AT.Base k → MarksWord s l ts ws count newest w p r
+  pub word-base : (k : ℕ) → a ≡ AT.Base k → MarksWord s l ts ws scope w p r
   word-base k h = record { says = λ σ S e. no-expr (rw (← ea, h) refl) }
 
-  pub word-nothing : a ≡ AT.Nothing → MarksWord s l ts ws count newest w p r
+  pub word-nothing : a ≡ AT.Nothing → MarksWord s l ts ws scope w p r
   word-nothing h = record { says = λ σ S e. no-expr (rw (← ea, h) refl) }
 
-  pub word-named : (x : Meaning) → a ≡ AT.Named → x ≡ meaningAt l (placeIn s l (entries count l newest) (map small (wordAt s p))) → MarksName l ts ws x r → MarksWord s l ts ws count newest w p r
+  pub word-named : (x : Meaning) → a ≡ AT.Named → x ≡ meaningHere s l scope p → MarksName l ts ws x r → MarksWord s l ts ws scope w p r
   unfolding exprOf atomMeant
   word-named x h ex N = record {
     says = λ σ S e. record {
       says = λ v y g k m H.
           let q : Syntax.const (Syntax.named (map small (wordAt s p))) ≡ v = some-inj (rw (← ea, h) at g) in
-          N .says s count newest σ S (find (σ .names) (map small (wordAt s p))) (rw ex (meant (S .scene) (map small (wordAt s p)))) y (rw (← q) at k) m H;
+          N .says s scope σ S (find (σ .names) (map small (wordAt s p))) (rw ex (meant (S .scene) (map small (wordAt s p)))) y (rw (← q) at k) m H;
     };
   }
 
 pub ruleset word-laws = (word-number, word-truth, word-error, word-base, word-nothing, word-named, sfits-of)
 
-module _ (s l : List ℕ) (count newest : ℕ) (w : Word) (p : ℕ) (a : Atom) (ea : a ≡ atomOf w) (r : Reached) where
-  pub var-number : (z : ℤ) → a ≡ AT.Number z → MarksVar s l count newest w p r
+module _ (s l : List ℕ) (scope : Scope) (w : Word) (p : ℕ) (a : Atom) (ea : a ≡ atomOf w) (r : Reached) where
+  pub var-number : (z : ℤ) → a ≡ AT.Number z → MarksVar s l scope w p r
   var-number z h = record { says = λ ts ws σ S e. no-target (rw (← ea, h) refl) }
 
-  pub var-truth : (b : Bool) → a ≡ AT.Truth b → MarksVar s l count newest w p r
+  pub var-truth : (b : Bool) → a ≡ AT.Truth b → MarksVar s l scope w p r
   var-truth b h = record { says = λ ts ws σ S e. no-target (rw (← ea, h) refl) }
 
-  pub var-error : a ≡ AT.ErrorNumber → MarksVar s l count newest w p r
+  pub var-error : a ≡ AT.ErrorNumber → MarksVar s l scope w p r
   var-error h = record { says = λ ts ws σ S e. no-target (rw (← ea, h) refl) }
 
-  pub var-base : (k : ℕ) → a ≡ AT.Base k → MarksVar s l count newest w p r
+  pub var-base : (k : ℕ) → a ≡ AT.Base k → MarksVar s l scope w p r
   var-base k h = record { says = λ ts ws σ S e. no-target (rw (← ea, h) refl) }
 
-  pub var-nothing : a ≡ AT.Nothing → MarksVar s l count newest w p r
+  pub var-nothing : a ≡ AT.Nothing → MarksVar s l scope w p r
   var-nothing h = record { says = λ ts ws σ S e. no-target (rw (← ea, h) refl) }
 
-  pub var-named : (x : Meaning) → a ≡ AT.Named → x ≡ meaningAt l (placeIn s l (entries count l newest) (map small (wordAt s p))) → MarksPlaceName x r → MarksVar s l count newest w p r
+  pub var-named : (x : Meaning) → a ≡ AT.Named → x ≡ meaningHere s l scope p → MarksPlaceName x r → MarksVar s l scope w p r
   unfolding targetOf varOf
   var-named x h ex N = record {
     says = λ ts ws σ S e. record {
@@ -259,17 +259,17 @@ pub ruleset var-laws = (var-number, var-truth, var-error, var-base, var-nothing,
 -- ---- `first` and `last`
 
 -- the type that is named
-pub named-type : {s l ts : List ℕ} {count newest at : ℕ} {t : Typed} {σ : Environment} → GivesType s l count newest at t → Known s l ts count newest σ
+pub named-type : {s l ts : List ℕ} {scope : Scope} {at : ℕ} {t : Typed} {σ : Environment} → GivesType s l scope at t → Known s l ts scope σ
     → (x : Syntax.TypeName) (n : ℕ) → typeNameIn (first (stackAt s at)) ≡ some x → typeOf σ x ≡ some n → t .kind ≡ n
 unfolding staged named ruled
 named-type {ts = ts} {σ = σ} G S x n h k = G .says ts (S .top) σ (S .bodies) (S .scene) .kind-is n (rw h (rw k refl))
 
-pub bound-is : (s l ts : List ℕ) (ws : List ℤ) (count newest : ℕ) (last : Bool) (d at : ℕ) (t : Typed) (r : Carried) → GivesType s l count newest at t → Ends l ts last (t .kind) r
-    → MarksForm s l ts ws count newest (EH.Bound last) d at r
+pub bound-is : (s l ts : List ℕ) (ws : List ℤ) (scope : Scope) (last : Bool) (d at : ℕ) (t : Typed) (r : Carried) → GivesType s l scope at t → Ends l ts last (t .kind) r
+    → MarksForm s l ts ws scope (EH.Bound last) d at r
 unfolding exprOf markExpr
-bound-is s l ts ws count newest last d at t r G E = record {
+bound-is s l ts ws scope last d at t r G E = record {
   says = λ σ S. record {
     says = λ x y h k m H. bound-part d (first (stackAt s at)) x last h (λ n hn q. bind-some (rw (← q) at k) (λ c hc i.
-        rw (← some-inj i, ← named-type G S n c hn hc) (E .says s count newest σ S m)));
+        rw (← some-inj i, ← named-type G S n c hn hc) (E .says s scope σ S m)));
   };
 }

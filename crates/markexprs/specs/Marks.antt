@@ -22,6 +22,7 @@ use Rattle.shapes.specs.declared.ExprHead.{ExprHead}
 use Rattle.shapes.specs.declared.ExprHead.the-variants.{Minus}
 use Rattle.shapes.specs.Heads.{atomExpr, atomTarget, atomOf}
 use Rattle.shapes.specs.Parts.{exprIn, targetIn, targetBy, exprsIn}
+use Rattle.tables.specs.declared.Scope.{Scope}
 use Rattle.tables.specs.declared.Meaning.{Meaning}
 use Rattle.tables.specs.Scene.{Told}
 use Rattle.exprleaves.specs.declared.words.Alone.the-variants.{No}
@@ -47,28 +48,28 @@ pub record MarkedSet (σ : Environment) (ws : List ℤ) (t : ℕ) (o : Option Sy
 
 -- ---- the promises
 
-module _ (s l ts : List ℕ) (ws : List ℤ) (count newest : ℕ) where
+module _ (s l ts : List ℕ) (ws : List ℤ) (scope : Scope) where
   -- an expression, at most d deep
   pub record MarksExpr (d at : ℕ) (r : Carried) : Type 0 where
-    pub says : (σ : Environment) → Known s l ts count newest σ → Marked σ ws (exprIn d (first (stackAt s at))) r
+    pub says : (σ : Environment) → Known s l ts scope σ → Marked σ ws (exprIn d (first (stackAt s at))) r
 
   -- a target
   pub record MarksTarget (d at : ℕ) (r : Reached) : Type 0 where
-    pub says : (σ : Environment) → Known s l ts count newest σ → MarkedPlace σ ws (targetIn d (first (stackAt s at))) r
+    pub says : (σ : Environment) → Known s l ts scope σ → MarkedPlace σ ws (targetIn d (first (stackAt s at))) r
 
   -- the parts of a form after its head word
   pub record MarksForm (h : ExprHead) (d at : ℕ) (r : Carried) : Type 0 where
-    pub says : (σ : Environment) → Known s l ts count newest σ → Marked σ ws (formIn h d (first (stackAt s at))) r
+    pub says : (σ : Environment) → Known s l ts scope σ → Marked σ ws (formIn h d (first (stackAt s at))) r
 
   pub record MarksPlace (h : ExprHead) (d at : ℕ) (r : Reached) : Type 0 where
-    pub says : (σ : Environment) → Known s l ts count newest σ → MarkedPlace σ ws (targetBy h d (first (stackAt s at))) r
+    pub says : (σ : Environment) → Known s l ts scope σ → MarkedPlace σ ws (targetBy h d (first (stackAt s at))) r
 
   -- all parts of a form, from past its opening bracket
   pub record MarksInner (d at : ℕ) (r : Carried) : Type 0 where
-    pub says : (σ : Environment) → Known s l ts count newest σ → Marked σ ws (exprIn (suc d) (form (first (stackAt s at)) then end)) r
+    pub says : (σ : Environment) → Known s l ts scope σ → Marked σ ws (exprIn (suc d) (form (first (stackAt s at)) then end)) r
 
   pub record MarksInnerPlace (d at : ℕ) (r : Reached) : Type 0 where
-    pub says : (σ : Environment) → Known s l ts count newest σ → MarkedPlace σ ws (targetIn (suc d) (form (first (stackAt s at)) then end)) r
+    pub says : (σ : Environment) → Known s l ts scope σ → MarkedPlace σ ws (targetIn (suc d) (form (first (stackAt s at)) then end)) r
 
   -- `-` where it is no negative number
   pub record MarksMinus (d at : ℕ) (r : Carried) : Type 0 where
@@ -76,19 +77,19 @@ module _ (s l ts : List ℕ) (ws : List ℤ) (count newest : ℕ) where
 
   -- members of a set of type t up to the closing bracket
   pub record MarksMembers (t d at : ℕ) (r : ℤ) : Type 0 where
-    pub says : (σ : Environment) → Known s l ts count newest σ → MarkedSet σ ws t (exprsIn d (first (stackAt s at))) r
+    pub says : (σ : Environment) → Known s l ts scope σ → MarkedSet σ ws t (exprsIn d (first (stackAt s at))) r
 
   -- a word w at p
   pub record MarksWord (w : Word) (p : ℕ) (r : Carried) : Type 0 where
-    pub says : (σ : Environment) → Known s l ts count newest σ → w ≡ wordOf (wordAt s p) → Marked σ ws (atomExpr (atomOf w) (map small (wordAt s p))) r
+    pub says : (σ : Environment) → Known s l ts scope σ → w ≡ wordOf (wordAt s p) → Marked σ ws (atomExpr (atomOf w) (map small (wordAt s p))) r
 
 -- as a target it has no value, so that no store matters
-pub record MarksVar (s l : List ℕ) (count newest : ℕ) (w : Word) (p : ℕ) (r : Reached) : Type 0 where
-  pub says : (ts : List ℕ) (ws : List ℤ) (σ : Environment) → Known s l ts count newest σ → w ≡ wordOf (wordAt s p) → MarkedPlace σ ws (atomTarget (atomOf w) (map small (wordAt s p))) r
+pub record MarksVar (s l : List ℕ) (scope : Scope) (w : Word) (p : ℕ) (r : Reached) : Type 0 where
+  pub says : (ts : List ℕ) (ws : List ℤ) (σ : Environment) → Known s l ts scope σ → w ≡ wordOf (wordAt s p) → MarkedPlace σ ws (atomTarget (atomOf w) (map small (wordAt s p))) r
 
 -- a name by its meaning
 pub record MarksName (l ts : List ℕ) (ws : List ℤ) (x : Meaning) (r : Carried) : Type 0 where
-  pub says : (s : List ℕ) (count newest : ℕ) (σ : Environment) (S : Known s l ts count newest σ) (n : Option NameSort) → Told σ (S .bodies) x n
+  pub says : (s : List ℕ) (scope : Scope) (σ : Environment) (S : Known s l ts scope σ) (n : Option NameSort) → Told σ (S .bodies) x n
       → (e : Expr) → (n >>= asExpr) ≡ some e → (m : Store) → Holds ws m → Carries (σ .types) m (markExpr (σ .types) (σ .vars) e m) r
 
 pub record MarksPlaceName (x : Meaning) (r : Reached) : Type 0 where

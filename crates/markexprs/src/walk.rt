@@ -5,7 +5,7 @@ use crate::words::variable;
 use crate::words::word;
 use atoms::type_name;
 use calc::words::GREATEST;
-use calc::words::WORDS;
+use calc::words::Store;
 use carried::constants::negative;
 use carried::members::is_set;
 use carried::members::member;
@@ -31,6 +31,7 @@ use parts::part_at;
 use shapes::ExprHead;
 use shapes::expr_head;
 use skips::skip;
+use tables::Scope;
 ghost use Rattle.shapes.specs.declared.ExprHead.the-variants.{At, Dot, Members, Minus, Short, Two, One};
 ghost use Rattle.markexprs.specs.Marks.{MarksExpr, MarksTarget, MarksInner, MarksInnerPlace, MarksForm, MarksPlace, MarksMinus, MarksMembers};
 
@@ -39,21 +40,20 @@ pub fn mark_expr(
     text: &[u8],
     work: &[u32],
     types: &[u32],
-    count: u32,
-    newest: u32,
-    store: &[i64; WORDS],
+    scope: Scope,
+    store: &Store,
     depth: usize,
     at: usize,
 ) -> Carried
-    ensures { λ r. ⌜ MarksExpr (now (text .entry)) (now (work .entry)) (now (types .entry)) (now (store .entry)) count newest depth at r ⌝ }
+    ensures { λ r. ⌜ MarksExpr (now (text .entry)) (now (work .entry)) (now (types .entry)) (now (store .entry)) scope depth at r ⌝ }
 {
     if depth == 0 {
         return value(0, STUCK);
     }
     let p = part_at(text, at);
     match p {
-        Part::Leaf(w, p, _) => word(text, work, types, count, newest, store, w, p),
-        Part::Form(p) => inner(text, work, types, count, newest, store, depth - 1, p),
+        Part::Leaf(w, p, _) => word(text, work, types, scope, store, w, p),
+        Part::Form(p) => inner(text, work, types, scope, store, depth - 1, p),
         Part::Shut(_) => value(0, STUCK),
     }
 }
@@ -63,27 +63,16 @@ fn inner(
     text: &[u8],
     work: &[u32],
     types: &[u32],
-    count: u32,
-    newest: u32,
-    store: &[i64; WORDS],
+    scope: Scope,
+    store: &Store,
     depth: usize,
     at: usize,
 ) -> Carried
-    ensures { λ r. ⌜ MarksInner (now (text .entry)) (now (work .entry)) (now (types .entry)) (now (store .entry)) count newest depth at r ⌝ }
+    ensures { λ r. ⌜ MarksInner (now (text .entry)) (now (work .entry)) (now (types .entry)) (now (store .entry)) scope depth at r ⌝ }
 {
     let p = part_at(text, at);
     match p {
-        Part::Leaf(w, _, q) => headed(
-            text,
-            work,
-            types,
-            count,
-            newest,
-            store,
-            expr_head(w),
-            depth,
-            q,
-        ),
+        Part::Leaf(w, _, q) => headed(text, work, types, scope, store, expr_head(w), depth, q),
         Part::Form(_) => value(0, STUCK),
         Part::Shut(_) => value(0, STUCK),
     }
@@ -94,34 +83,23 @@ fn headed(
     text: &[u8],
     work: &[u32],
     types: &[u32],
-    count: u32,
-    newest: u32,
-    store: &[i64; WORDS],
+    scope: Scope,
+    store: &Store,
     head: ExprHead,
     depth: usize,
     at: usize,
 ) -> Carried
-    ensures { λ r. ⌜ MarksForm (now (text .entry)) (now (work .entry)) (now (types .entry)) (now (store .entry)) count newest head depth at r ⌝ }
+    ensures { λ r. ⌜ MarksForm (now (text .entry)) (now (work .entry)) (now (types .entry)) (now (store .entry)) scope head depth at r ⌝ }
 {
     match head {
-        ExprHead::At => load_at(text, work, types, count, newest, store, depth, at),
-        ExprHead::Dot => load_dot(text, work, types, count, newest, store, depth, at),
-        ExprHead::Members => set_form(text, work, types, count, newest, store, depth, at),
-        ExprHead::Minus => minus(text, work, types, count, newest, store, depth, at),
-        ExprHead::Bound(last) => bound(text, work, types, count, newest, store, last, depth, at),
-        ExprHead::Short(every) => short_form(
-            text,
-            work,
-            types,
-            count,
-            newest,
-            store,
-            every,
-            depth,
-            at,
-        ),
-        ExprHead::Two(op) => two(text, work, types, count, newest, store, op, depth, at),
-        ExprHead::One(f) => one(text, work, types, count, newest, store, f, depth, at),
+        ExprHead::At => load_at(text, work, types, scope, store, depth, at),
+        ExprHead::Dot => load_dot(text, work, types, scope, store, depth, at),
+        ExprHead::Members => set_form(text, work, types, scope, store, depth, at),
+        ExprHead::Minus => minus(text, work, types, scope, store, depth, at),
+        ExprHead::Bound(last) => bound(text, work, types, scope, store, last, depth, at),
+        ExprHead::Short(every) => short_form(text, work, types, scope, store, every, depth, at),
+        ExprHead::Two(op) => two(text, work, types, scope, store, op, depth, at),
+        ExprHead::One(f) => one(text, work, types, scope, store, f, depth, at),
         ExprHead::Nothing => value(0, STUCK),
     }
 }
@@ -131,26 +109,16 @@ fn two(
     text: &[u8],
     work: &[u32],
     types: &[u32],
-    count: u32,
-    newest: u32,
-    store: &[i64; WORDS],
+    scope: Scope,
+    store: &Store,
     op: usize,
     depth: usize,
     at: usize,
 ) -> Carried
-    ensures { λ r. ⌜ MarksForm (now (text .entry)) (now (work .entry)) (now (types .entry)) (now (store .entry)) count newest (Two op) depth at r ⌝ }
+    ensures { λ r. ⌜ MarksForm (now (text .entry)) (now (work .entry)) (now (types .entry)) (now (store .entry)) scope (Two op) depth at r ⌝ }
 {
-    let a = mark_expr(text, work, types, count, newest, store, depth, at);
-    let b = mark_expr(
-        text,
-        work,
-        types,
-        count,
-        newest,
-        store,
-        depth,
-        skip(text, at),
-    );
+    let a = mark_expr(text, work, types, scope, store, depth, at);
+    let b = mark_expr(text, work, types, scope, store, depth, skip(text, at));
     operate(work, types, op, a, b)
 }
 
@@ -159,26 +127,16 @@ fn short_form(
     text: &[u8],
     work: &[u32],
     types: &[u32],
-    count: u32,
-    newest: u32,
-    store: &[i64; WORDS],
+    scope: Scope,
+    store: &Store,
     every: bool,
     depth: usize,
     at: usize,
 ) -> Carried
-    ensures { λ r. ⌜ MarksForm (now (text .entry)) (now (work .entry)) (now (types .entry)) (now (store .entry)) count newest (Short every) depth at r ⌝ }
+    ensures { λ r. ⌜ MarksForm (now (text .entry)) (now (work .entry)) (now (types .entry)) (now (store .entry)) scope (Short every) depth at r ⌝ }
 {
-    let a = mark_expr(text, work, types, count, newest, store, depth, at);
-    let b = mark_expr(
-        text,
-        work,
-        types,
-        count,
-        newest,
-        store,
-        depth,
-        skip(text, at),
-    );
+    let a = mark_expr(text, work, types, scope, store, depth, at);
+    let b = mark_expr(text, work, types, scope, store, depth, skip(text, at));
     short(every, a, b)
 }
 
@@ -187,16 +145,15 @@ fn one(
     text: &[u8],
     work: &[u32],
     types: &[u32],
-    count: u32,
-    newest: u32,
-    store: &[i64; WORDS],
+    scope: Scope,
+    store: &Store,
     f: usize,
     depth: usize,
     at: usize,
 ) -> Carried
-    ensures { λ r. ⌜ MarksForm (now (text .entry)) (now (work .entry)) (now (types .entry)) (now (store .entry)) count newest (One f) depth at r ⌝ }
+    ensures { λ r. ⌜ MarksForm (now (text .entry)) (now (work .entry)) (now (types .entry)) (now (store .entry)) scope (One f) depth at r ⌝ }
 {
-    let a = mark_expr(text, work, types, count, newest, store, depth, at);
+    let a = mark_expr(text, work, types, scope, store, depth, at);
     apply(work, types, f, a)
 }
 
@@ -205,18 +162,17 @@ fn minus(
     text: &[u8],
     work: &[u32],
     types: &[u32],
-    count: u32,
-    newest: u32,
-    store: &[i64; WORDS],
+    scope: Scope,
+    store: &Store,
     depth: usize,
     at: usize,
 ) -> Carried
-    ensures { λ r. ⌜ MarksForm (now (text .entry)) (now (work .entry)) (now (types .entry)) (now (store .entry)) count newest Minus depth at r ⌝ }
+    ensures { λ r. ⌜ MarksForm (now (text .entry)) (now (work .entry)) (now (types .entry)) (now (store .entry)) scope Minus depth at r ⌝ }
 {
     let n = number_alone(text, at);
     match n {
         Alone::Number(z, _) => negative(work, types, z),
-        Alone::No => minus_parts(text, work, types, count, newest, store, depth, at),
+        Alone::No => minus_parts(text, work, types, scope, store, depth, at),
     }
 }
 
@@ -225,15 +181,14 @@ fn minus_parts(
     text: &[u8],
     work: &[u32],
     types: &[u32],
-    count: u32,
-    newest: u32,
-    store: &[i64; WORDS],
+    scope: Scope,
+    store: &Store,
     depth: usize,
     at: usize,
 ) -> Carried
-    ensures { λ r. ⌜ MarksMinus (now (text .entry)) (now (work .entry)) (now (types .entry)) (now (store .entry)) count newest depth at r ⌝ }
+    ensures { λ r. ⌜ MarksMinus (now (text .entry)) (now (work .entry)) (now (types .entry)) (now (store .entry)) scope depth at r ⌝ }
 {
-    let a = mark_expr(text, work, types, count, newest, store, depth, at);
+    let a = mark_expr(text, work, types, scope, store, depth, at);
     let q = skip(text, at);
     let e = end_at(text, q);
     match e {
@@ -243,7 +198,7 @@ fn minus_parts(
             types,
             1,
             a,
-            mark_expr(text, work, types, count, newest, store, depth, q),
+            mark_expr(text, work, types, scope, store, depth, q),
         ),
     }
 }
@@ -253,22 +208,20 @@ fn set_form(
     text: &[u8],
     work: &[u32],
     types: &[u32],
-    count: u32,
-    newest: u32,
-    store: &[i64; WORDS],
+    scope: Scope,
+    store: &Store,
     depth: usize,
     at: usize,
 ) -> Carried
-    ensures { λ r. ⌜ MarksForm (now (text .entry)) (now (work .entry)) (now (types .entry)) (now (store .entry)) count newest Members depth at r ⌝ }
+    ensures { λ r. ⌜ MarksForm (now (text .entry)) (now (work .entry)) (now (types .entry)) (now (store .entry)) scope Members depth at r ⌝ }
 {
-    let t = type_name(text, work, count, newest, at);
+    let t = type_name(text, work, scope, at);
     if is_set(work, types, t.kind) {
         let w = member_list(
             text,
             work,
             types,
-            count,
-            newest,
+            scope,
             store,
             t.kind,
             depth,
@@ -284,14 +237,13 @@ fn member_list(
     text: &[u8],
     work: &[u32],
     types: &[u32],
-    count: u32,
-    newest: u32,
-    store: &[i64; WORDS],
+    scope: Scope,
+    store: &Store,
     t: u32,
     depth: usize,
     at: usize,
 ) -> i64
-    ensures { λ r. ⌜ MarksMembers (now (text .entry)) (now (work .entry)) (now (types .entry)) (now (store .entry)) count newest t depth at r ⌝ }
+    ensures { λ r. ⌜ MarksMembers (now (text .entry)) (now (work .entry)) (now (types .entry)) (now (store .entry)) scope t depth at r ⌝ }
 {
     let mut next = at;
     let mut set = 0;
@@ -307,7 +259,7 @@ fn member_list(
             work,
             types,
             t,
-            mark_expr(text, work, types, count, newest, store, depth, next),
+            mark_expr(text, work, types, scope, store, depth, next),
         );
         if z > GREATEST {
             return z;
@@ -322,15 +274,14 @@ fn load_at(
     text: &[u8],
     work: &[u32],
     types: &[u32],
-    count: u32,
-    newest: u32,
-    store: &[i64; WORDS],
+    scope: Scope,
+    store: &Store,
     depth: usize,
     at: usize,
 ) -> Carried
-    ensures { λ r. ⌜ MarksForm (now (text .entry)) (now (work .entry)) (now (types .entry)) (now (store .entry)) count newest At depth at r ⌝ }
+    ensures { λ r. ⌜ MarksForm (now (text .entry)) (now (work .entry)) (now (types .entry)) (now (store .entry)) scope At depth at r ⌝ }
 {
-    let g = element(text, work, types, count, newest, store, depth, at);
+    let g = element(text, work, types, scope, store, depth, at);
     load(work, types, store, g)
 }
 
@@ -339,15 +290,14 @@ fn load_dot(
     text: &[u8],
     work: &[u32],
     types: &[u32],
-    count: u32,
-    newest: u32,
-    store: &[i64; WORDS],
+    scope: Scope,
+    store: &Store,
     depth: usize,
     at: usize,
 ) -> Carried
-    ensures { λ r. ⌜ MarksForm (now (text .entry)) (now (work .entry)) (now (types .entry)) (now (store .entry)) count newest Dot depth at r ⌝ }
+    ensures { λ r. ⌜ MarksForm (now (text .entry)) (now (work .entry)) (now (types .entry)) (now (store .entry)) scope Dot depth at r ⌝ }
 {
-    let g = field(text, work, types, count, newest, store, depth, at);
+    let g = field(text, work, types, scope, store, depth, at);
     load(work, types, store, g)
 }
 
@@ -356,21 +306,20 @@ pub fn mark_target(
     text: &[u8],
     work: &[u32],
     types: &[u32],
-    count: u32,
-    newest: u32,
-    store: &[i64; WORDS],
+    scope: Scope,
+    store: &Store,
     depth: usize,
     at: usize,
 ) -> Reached
-    ensures { λ r. ⌜ MarksTarget (now (text .entry)) (now (work .entry)) (now (types .entry)) (now (store .entry)) count newest depth at r ⌝ }
+    ensures { λ r. ⌜ MarksTarget (now (text .entry)) (now (work .entry)) (now (types .entry)) (now (store .entry)) scope depth at r ⌝ }
 {
     if depth == 0 {
         return place(0, STUCK);
     }
     let p = part_at(text, at);
     match p {
-        Part::Leaf(w, p, _) => variable(text, work, count, newest, w, p),
-        Part::Form(p) => inner_place(text, work, types, count, newest, store, depth - 1, p),
+        Part::Leaf(w, p, _) => variable(text, work, scope, w, p),
+        Part::Form(p) => inner_place(text, work, types, scope, store, depth - 1, p),
         Part::Shut(_) => place(0, STUCK),
     }
 }
@@ -380,13 +329,12 @@ fn inner_place(
     text: &[u8],
     work: &[u32],
     types: &[u32],
-    count: u32,
-    newest: u32,
-    store: &[i64; WORDS],
+    scope: Scope,
+    store: &Store,
     depth: usize,
     at: usize,
 ) -> Reached
-    ensures { λ r. ⌜ MarksInnerPlace (now (text .entry)) (now (work .entry)) (now (types .entry)) (now (store .entry)) count newest depth at r ⌝ }
+    ensures { λ r. ⌜ MarksInnerPlace (now (text .entry)) (now (work .entry)) (now (types .entry)) (now (store .entry)) scope depth at r ⌝ }
 {
     let p = part_at(text, at);
     match p {
@@ -394,8 +342,7 @@ fn inner_place(
             text,
             work,
             types,
-            count,
-            newest,
+            scope,
             store,
             expr_head(w),
             depth,
@@ -411,18 +358,17 @@ fn place_headed(
     text: &[u8],
     work: &[u32],
     types: &[u32],
-    count: u32,
-    newest: u32,
-    store: &[i64; WORDS],
+    scope: Scope,
+    store: &Store,
     head: ExprHead,
     depth: usize,
     at: usize,
 ) -> Reached
-    ensures { λ r. ⌜ MarksPlace (now (text .entry)) (now (work .entry)) (now (types .entry)) (now (store .entry)) count newest head depth at r ⌝ }
+    ensures { λ r. ⌜ MarksPlace (now (text .entry)) (now (work .entry)) (now (types .entry)) (now (store .entry)) scope head depth at r ⌝ }
 {
     match head {
-        ExprHead::At => element(text, work, types, count, newest, store, depth, at),
-        ExprHead::Dot => field(text, work, types, count, newest, store, depth, at),
+        ExprHead::At => element(text, work, types, scope, store, depth, at),
+        ExprHead::Dot => field(text, work, types, scope, store, depth, at),
         ExprHead::Members => place(0, STUCK),
         ExprHead::Minus => place(0, STUCK),
         ExprHead::Bound(_) => place(0, STUCK),
@@ -438,25 +384,15 @@ fn element(
     text: &[u8],
     work: &[u32],
     types: &[u32],
-    count: u32,
-    newest: u32,
-    store: &[i64; WORDS],
+    scope: Scope,
+    store: &Store,
     depth: usize,
     at: usize,
 ) -> Reached
-    ensures { λ r. ⌜ MarksPlace (now (text .entry)) (now (work .entry)) (now (types .entry)) (now (store .entry)) count newest At depth at r ⌝ }
+    ensures { λ r. ⌜ MarksPlace (now (text .entry)) (now (work .entry)) (now (types .entry)) (now (store .entry)) scope At depth at r ⌝ }
 {
-    let g = mark_target(text, work, types, count, newest, store, depth, at);
-    let x = mark_expr(
-        text,
-        work,
-        types,
-        count,
-        newest,
-        store,
-        depth,
-        skip(text, at),
-    );
+    let g = mark_target(text, work, types, scope, store, depth, at);
+    let x = mark_expr(text, work, types, scope, store, depth, skip(text, at));
     index(work, types, g, x)
 }
 
@@ -465,15 +401,14 @@ fn field(
     text: &[u8],
     work: &[u32],
     types: &[u32],
-    count: u32,
-    newest: u32,
-    store: &[i64; WORDS],
+    scope: Scope,
+    store: &Store,
     depth: usize,
     at: usize,
 ) -> Reached
-    ensures { λ r. ⌜ MarksPlace (now (text .entry)) (now (work .entry)) (now (types .entry)) (now (store .entry)) count newest Dot depth at r ⌝ }
+    ensures { λ r. ⌜ MarksPlace (now (text .entry)) (now (work .entry)) (now (types .entry)) (now (store .entry)) scope Dot depth at r ⌝ }
 {
-    let g = mark_target(text, work, types, count, newest, store, depth, at);
+    let g = mark_target(text, work, types, scope, store, depth, at);
     let n = sole_name(text, skip(text, at));
     match n {
         Sole::Name(p, _) => select(text, work, types, g, p),

@@ -1,6 +1,6 @@
 // Words as expressions and targets, and `first` and `last` of a type.
 use atoms::type_name;
-use calc::words::WORDS;
+use calc::words::Store;
 use calc::words::truth_of;
 use carried::constants::constant;
 use carried::constants::end_of;
@@ -15,6 +15,7 @@ use lexis::words::Word;
 use shapes::Atom;
 use shapes::atom_of;
 use tables::Meaning;
+use tables::Scope;
 use tables::meaning_of;
 ghost use mathlib.Core.Path.{_≡_};
 ghost use lib.IntN.{pos};
@@ -29,7 +30,7 @@ fn wide(n: u32) -> i64
 }
 
 // A name as an expression, by its meaning.
-fn named(work: &[u32], types: &[u32], store: &[i64; WORDS], m: Meaning) -> Carried
+fn named(work: &[u32], types: &[u32], store: &Store, m: Meaning) -> Carried
     ensures { λ r. ⌜ MarksName (now (work .entry)) (now (types .entry)) (now (store .entry)) m r ⌝ }
 {
     match m {
@@ -59,18 +60,17 @@ pub fn word(
     text: &[u8],
     work: &[u32],
     types: &[u32],
-    count: u32,
-    newest: u32,
-    store: &[i64; WORDS],
+    scope: Scope,
+    store: &Store,
     w: Word,
     p: usize,
 ) -> Carried
-    ensures { λ r. ⌜ MarksWord (now (text .entry)) (now (work .entry)) (now (types .entry)) (now (store .entry)) count newest w p r ⌝ }
+    ensures { λ r. ⌜ MarksWord (now (text .entry)) (now (work .entry)) (now (types .entry)) (now (store .entry)) scope w p r ⌝ }
 {
     let a = atom_of(w);
     match a {
         Atom::Number(z) => constant(work, types, 0, z),
-        Atom::Named => named(work, types, store, meaning_of(text, work, count, newest, p)),
+        Atom::Named => named(work, types, store, meaning_of(text, work, scope, p)),
         Atom::Truth(b) => constant(work, types, 1, truth_of(b)),
         Atom::ErrorNumber => error_number(store),
         Atom::Base(_) => value(0, STUCK),
@@ -79,13 +79,13 @@ pub fn word(
 }
 
 // The word w at p as a target.
-pub fn variable(text: &[u8], work: &[u32], count: u32, newest: u32, w: Word, p: usize) -> Reached
-    ensures { λ r. ⌜ MarksVar (now (text .entry)) (now (work .entry)) count newest w p r ⌝ }
+pub fn variable(text: &[u8], work: &[u32], scope: Scope, w: Word, p: usize) -> Reached
+    ensures { λ r. ⌜ MarksVar (now (text .entry)) (now (work .entry)) scope w p r ⌝ }
 {
     let a = atom_of(w);
     match a {
         Atom::Number(_) => place(0, STUCK),
-        Atom::Named => named_place(meaning_of(text, work, count, newest, p)),
+        Atom::Named => named_place(meaning_of(text, work, scope, p)),
         Atom::Truth(_) => place(0, STUCK),
         Atom::ErrorNumber => place(0, STUCK),
         Atom::Base(_) => place(0, STUCK),
@@ -98,15 +98,14 @@ pub fn bound(
     text: &[u8],
     work: &[u32],
     types: &[u32],
-    count: u32,
-    newest: u32,
-    store: &[i64; WORDS],
+    scope: Scope,
+    store: &Store,
     last: bool,
     depth: usize,
     at: usize,
 ) -> Carried
-    ensures { λ r. ⌜ MarksForm (now (text .entry)) (now (work .entry)) (now (types .entry)) (now (store .entry)) count newest (Bound last) depth at r ⌝ }
+    ensures { λ r. ⌜ MarksForm (now (text .entry)) (now (work .entry)) (now (types .entry)) (now (store .entry)) scope (Bound last) depth at r ⌝ }
 {
-    let t = type_name(text, work, count, newest, at);
+    let t = type_name(text, work, scope, at);
     end_of(work, types, last, t.kind)
 }

@@ -6,6 +6,7 @@ use native.Mathlib.Omega.{arith}
 use borrow.Author.Tests.{eq-eqb, ne-eqb}
 use lib.ListN.{length, take, drop, replicate}
 use lib.Seq.{take-at}
+use Rattle.declarations.specs.State.{notes}
 use Rattle.semantics.specs.Verdict.{Verdict, Read, accepted, refused, judge, loosely}
 use Rattle.semantics.proofs.LinesCover.{judged-covered}
 use Rattle.answers.specs.declared.Counted.{Counted}
@@ -22,7 +23,7 @@ unfolding countedBy cellsTold
 counted-is s l ts tb (accepted q) c h = rw (eq-eqb (c .refusal) 0 (h .0), h .1 .holds .cells-are) refl
 counted-is s l ts tb (refused m n) c h = rw (ne-eqb (c .refusal) 0 (λ e. omega (arith, h .0, h .2)), h .0, h .1) refl
 
-module _ (s l : List ℕ) (n : ℕ) (i : n ≡ min 16384 (length l)) (c : Checked) (l′ ts′ tb′ : List ℕ) (C : Admits s (take n l) (replicate 66 0) (replicate 165 0) c l′ ts′ tb′) where
+module _ (s l : List ℕ) (n : ℕ) (i : n ≡ min 16384 (length l)) (c : Checked) (l′ ts′ tb′ : List ℕ) (C : Admits s (take n l) (replicate notes 0) (replicate 165 0) c l′ ts′ tb′) where
   pub cells-told : (r : Counted) → r ≡ countedBy c → r ≡ cellsTold (judge loosely s (length l))
   cells-told r e = e ∙ counted-is s l′ ts′ tb′ (judge loosely s (length l)) c (judged-here s l n i c l′ ts′ tb′ C)
 

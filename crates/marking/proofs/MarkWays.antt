@@ -8,6 +8,7 @@ use native.Mathlib.Omega.{arith}
 use lib.IntN.{ℤ}
 use lib.ListN.{length, getD, take, drop, replicate}
 use lib.Seq.{take-at}
+use Rattle.declarations.specs.State.{notes}
 use Rattle.semantics.specs.Environment.{PlacedBody}
 use Rattle.semantics.specs.Machine.{Answer, State, state}
 use Rattle.semantics.specs.Script.{done}
@@ -99,13 +100,13 @@ pub ruleset checked-laws = (checked-refused, checked-run)
 -- ---- the whole
 
 module _ (s l : List ℕ) (n : ℕ) (i : n ≡ min 16384 (length l)) (c : Checked) (l′ ts′ tb′ : List ℕ) where
-  pub judged-here : Admits s (take n l) (replicate 66 0) (replicate 165 0) c l′ ts′ tb′ → AdmittedBy s l′ ts′ tb′ (judge loosely s (length l)) c
+  pub judged-here : Admits s (take n l) (replicate notes 0) (replicate 165 0) c l′ ts′ tb′ → AdmittedBy s l′ ts′ tb′ (judge loosely s (length l)) c
   judged-here C =
       let k : n ≡ length (take n l) = part-long l n i in
       let v : judge loosely s (length (take n l)) ≡ judge loosely s (length l) = ap (λ m. judge loosely s m) (sym k ∙ i) ∙ judged-same loosely s (length l) in
-      subst (λ (x : Verdict Read). AdmittedBy s l′ ts′ tb′ x c) v (C .says (omega arith) (zeros 66) (omega arith))
+      subst (λ (x : Verdict Read). AdmittedBy s l′ ts′ tb′ x c) v (C .says (omega arith) (zeros notes) (omega arith))
 
-  pub mark-told : (vs : List ℤ) (ms : List ℕ) (budget : ℕ) (r : MarkReport) (vs′ : List ℤ) (ms′ : List ℕ) → Admits s (take n l) (replicate 66 0) (replicate 165 0) c l′ ts′ tb′ → length l′ ≡ length (take n l)
+  pub mark-told : (vs : List ℤ) (ms : List ℕ) (budget : ℕ) (r : MarkReport) (vs′ : List ℤ) (ms′ : List ℕ) → Admits s (take n l) (replicate notes 0) (replicate 165 0) c l′ ts′ tb′ → length l′ ≡ length (take n l)
       → MarksChecked s (take n (l′ ++ drop n l)) ts′ tb′ c vs ms budget r vs′ ms′ → MarkReports (markOf s (length l) vs ms budget) r vs′ ms′
   unfolding markOf
   mark-told vs ms budget r vs′ ms′ C e R =

@@ -2,6 +2,7 @@
 pub mod owning;
 
 use answers::MarkReport;
+use declarations::NOTES;
 use judgements::Known;
 use loosely::checking::check_loosely;
 use marker::mark_lent;
@@ -79,7 +80,7 @@ pub fn mark(
 ) -> MarkReport
     ensures { λ r. ⌜ MarkReports (markOf (now (text .entry)) (length (now (work .entry))) (now (values .entry)) (now (marks .entry)) budget) r (now (values .exit)) (now (marks .exit)) × (now (work .exit) ≡ workAfter (now (work .entry))) ⌝ }
 {
-    let mut types = [0; 66];
+    let mut types = [0; NOTES];
     let mut bodies = [0; 165];
     let n = working(work.len());
     let c = check_loosely(text, &mut work[..n], &mut types, &mut bodies);

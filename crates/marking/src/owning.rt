@@ -2,6 +2,7 @@
 use answers::Counted;
 use counting::count_of;
 use counting::name_cells;
+use declarations::NOTES;
 use loosely::checking::check_loosely;
 use texts::working;
 use worklist::clear;
@@ -16,7 +17,7 @@ ghost use Rattle.counting.specs.Cells.{Owners};
 pub fn mark_owners(text: &[u8], work: &mut [u32], names: &mut [usize]) -> Counted
     ensures { λ r. ⌜ (r ≡ cellsTold (judge loosely (now (text .entry)) (length (now (work .entry))))) × (now (work .exit) ≡ workAfter (now (work .entry))) × Owners (now (text .entry)) (judge loosely (now (text .entry)) (length (now (work .entry)))) (now (names .exit)) ⌝ }
 {
-    let mut types = [0; 66];
+    let mut types = [0; NOTES];
     let mut bodies = [0; 165];
     let n = working(work.len());
     let c = check_loosely(text, &mut work[..n], &mut types, &mut bodies);

@@ -102,19 +102,19 @@ module _ (Γ : Types) (K : Kinded Γ) (m : Store) where
 
 module _ (l ts : List ℕ) (op : ℕ) (x y r : Carried) (fx : SFits w64 (x .word)) where
   pub operates-left : ltZ greatest (wire (x .word)) ≡ true → r ≡ carriedOf 0 (wire (x .word)) 0 → Operates l ts op x y r
-  operates-left h e = rw (e, toZ-ofZ fx) (record { says = λ s count newest σ S m o n v w X Y. carries-broken (σ .types) m 0 0 (broken-bind (λ a. w >>= λ b. operated (σ .types) o a b) (carried-broken X (rw (toZ-ofZ fx) at h))) })
+  operates-left h e = rw (e, toZ-ofZ fx) (record { says = λ s scope σ S m o n v w X Y. carries-broken (σ .types) m 0 0 (broken-bind (λ a. w >>= λ b. operated (σ .types) o a b) (carried-broken X (rw (toZ-ofZ fx) at h))) })
 
   module _ (fy : SFits w64 (y .word)) (h : ltZ greatest (wire (x .word)) ≡ false) where
     pub operates-right : ltZ greatest (wire (y .word)) ≡ true → r ≡ carriedOf 0 (wire (y .word)) 0 → Operates l ts op x y r
     operates-right g e = rw (e, toZ-ofZ fy) (record {
-      says = λ s count newest σ S m o n v w X Y. carried-value X (rw (toZ-ofZ fx) at h) (λ a q f i k.
+      says = λ s scope σ S m o n v w X Y. carried-value X (rw (toZ-ofZ fx) at h) (λ a q f i k.
           rw q (carries-broken (σ .types) m 0 0 (broken-bind (λ b. operated (σ .types) o a b) (carried-broken Y (rw (toZ-ofZ fy) at g)))));
     })
 
     pub operates-both : (a b : Side) (R : Ruling) → ltZ greatest (wire (y .word)) ≡ false → a ≡ sideIn l ts (x .kind) → b ≡ sideIn l ts (y .kind) → R ≡ ruling2 op a b
         → r ≡ ruledWord R (wire (x .word)) (wire (y .word)) → Operates l ts op x y r
     operates-both a b R g ea eb eR e = rw (e, eR, ea, eb, toZ-ofZ fx, toZ-ofZ fy) (record {
-      says = λ s count newest σ S m o n v w X Y. carried-value X (rw (toZ-ofZ fx) at h) (λ p q f i k. carried-value Y (rw (toZ-ofZ fy) at g) (λ p′ q′ f′ i′ k′.
+      says = λ s scope σ S m o n v w X Y. carried-value X (rw (toZ-ofZ fx) at h) (λ p q f i k. carried-value Y (rw (toZ-ofZ fy) at g) (λ p′ q′ f′ i′ k′.
           rw (q, q′, side-in (S .scene) (x .kind), side-in (S .scene) (y .kind), n, k, k′, two-sided-rule (σ .types) (kinded (S .scene)) (p .kind) (p′ .kind) o, f, f′)
           (told-carries (σ .types) (kinded (S .scene)) m o (p .kind) (p′ .kind) (sole (p .cells)) (sole (p′ .cells)) i i′)));
     })
@@ -149,12 +149,12 @@ module _ (Γ : Types) (K : Kinded Γ) (m : Store) (k : ℕ) (bl : inside least m
 
 module _ (l ts : List ℕ) (f : ℕ) (x r : Carried) (fx : SFits w64 (x .word)) where
   pub applies-fault : ltZ greatest (wire (x .word)) ≡ true → r ≡ carriedOf 0 (wire (x .word)) 0 → Applies l ts f x r
-  applies-fault h e = rw (e, toZ-ofZ fx) (record { says = λ s count newest σ S m o n v X. carries-broken (σ .types) m 0 0 (broken-bind (λ a. applied (σ .types) o a) (carried-broken X (rw (toZ-ofZ fx) at h))) })
+  applies-fault h e = rw (e, toZ-ofZ fx) (record { says = λ s scope σ S m o n v X. carries-broken (σ .types) m 0 0 (broken-bind (λ a. applied (σ .types) o a) (carried-broken X (rw (toZ-ofZ fx) at h))) })
 
   pub applies-value : (i : Info) (a : Side) (R : Ruling) → ltZ greatest (wire (x .word)) ≡ false → i ≡ infoOf l ts (x .kind) → a ≡ sideIn l ts (x .kind) → R ≡ ruling1 f a
       → r ≡ ruledWord1 R (signed (i .low)) (signed (i .high)) (wire (x .word)) → Applies l ts f x r
   applies-value i a R h ei ea eR e = rw (e, eR, ea, ei, toZ-ofZ fx) (record {
-    says = λ s count newest σ S m o n v X. carried-value X (rw (toZ-ofZ fx) at h) (λ p q g z k.
+    says = λ s scope σ S m o n v X. carried-value X (rw (toZ-ofZ fx) at h) (λ p q g z k.
         rw (q, side-in (S .scene) (x .kind), n, low-told (S .scene) (x .kind), high-told (S .scene) (x .kind), k, signed-bits (infoAt (σ .types) (p .kind) .low) (S .small (p .kind) .low .ok), signed-bits (infoAt (σ .types) (p .kind) .high) (S .small (p .kind) .high .ok), one-sided-rule (σ .types) (kinded (S .scene)) (p .kind) o, g)
         (told1-carries (σ .types) (kinded (S .scene)) m (p .kind) (S .small (p .kind) .low .ok) (S .small (p .kind) .high .ok) (sole (p .cells)) z o));
   })

@@ -20,6 +20,7 @@ use Rattle.kinds.specs.declared.Ruling.the-variants.{Misfit, Fits}
 use Rattle.calc.specs.Words.{noResult, wordOf, applied1}
 use Rattle.carried.specs.declared.values.Carried.{Carried}
 use Rattle.carried.specs.Values.{carriedOf, Carries, Known}
+use Rattle.tables.specs.declared.Scope.{Scope}
 
 -- ---- by what an operator comes to: its node's number and the kind of its result
 
@@ -47,11 +48,11 @@ applied Γ f a = orStuck (functionRule Γ f (a .kind)) λ r. typedAs (r .kind) (
 -- ---- the promises
 
 pub record Operates (l ts : List ℕ) (op : ℕ) (x y r : Carried) : Type 0 where
-  pub says : (s : List ℕ) (count newest : ℕ) (σ : Environment) → Known s l ts count newest σ → (m : Store) (o : Op) → op ≡ opNumber o
+  pub says : (s : List ℕ) (scope : Scope) (σ : Environment) → Known s l ts scope σ → (m : Store) (o : Op) → op ≡ opNumber o
       → (v w : Result TypedValue) → Carries (σ .types) m v x → Carries (σ .types) m w y → Carries (σ .types) m (v >>= λ a. w >>= λ b. operated (σ .types) o a b) r
 
 pub record Applies (l ts : List ℕ) (f : ℕ) (x r : Carried) : Type 0 where
-  pub says : (s : List ℕ) (count newest : ℕ) (σ : Environment) → Known s l ts count newest σ → (m : Store) (o : Fun) → f ≡ funNumber o
+  pub says : (s : List ℕ) (scope : Scope) (σ : Environment) → Known s l ts scope σ → (m : Store) (o : Fun) → f ≡ funNumber o
       → (v : Result TypedValue) → Carries (σ .types) m v x → Carries (σ .types) m (v >>= λ a. applied (σ .types) o a) r
 
 -- `and_then` (true) and `or_else` (false)

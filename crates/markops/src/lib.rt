@@ -52,10 +52,10 @@ pub fn operate(work: &[u32], types: &[u32], op: usize, x: Carried, y: Carried) -
 fn at_node(n: u32, low: u32, high: u32, x: i64) -> i64
     ensures { λ r. ⌜ r ≡ nodeWord n (signed low) (signed high) x ⌝ }
 {
-    if n == 38 {
+    if n == ops::expr::PRED {
         return pred(x, signed_of(low), signed_of(high));
     }
-    if n == 39 {
+    if n == ops::expr::SUCC {
         return succ(x, signed_of(low), signed_of(high));
     }
     unary(n, x)

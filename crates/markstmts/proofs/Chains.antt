@@ -35,6 +35,7 @@ use Rattle.markacts.specs.Ends.{MarkEnds, MarkRuns}
 use Rattle.markacts.proofs.Ending.{normal-marks}
 use Rattle.markstmts.specs.Marks.{Found, FoundAll, Frame, frontIn, machine, machines, MarksStmt, MarksStmts, MarksFront}
 use Rattle.markstmts.proofs.Machines.{halted, going, goes-next, stops-there, goes-ends}
+use Rattle.tables.specs.declared.Scope.{Scope}
 
 -- ---- what was found of statements: none, or a first one and others
 
@@ -66,67 +67,67 @@ module _ {σ : Environment} {o : Option (Stmts × ℕ)} (X : FoundAll σ o) wher
 
 -- ---- the statements that are left. R reads them, from a number on
 
-pub record StmtsLeft {s l us ts tb : List ℕ} {count newest calls : ℕ} (F : Frame s l us ts tb count newest calls) (a : Answer) (o : Option (Stmts × ℕ)) (ws : List ℤ) (t : ℕ) : Type 0 where
+pub record StmtsLeft {s l us ts tb : List ℕ} {scope : Scope} {calls : ℕ} (F : Frame s l us ts tb scope calls) (a : Answer) (o : Option (Stmts × ℕ)) (ws : List ℤ) (t : ℕ) : Type 0 where
   pub found : FoundAll (F .env) o
   pub goes : Goes a (machines F (found .stmts)) ws t
 
-pub record Following (R : ℕ → Trees Run → Option (Stmts × ℕ)) (s l us ts tb : List ℕ) (count newest calls : ℕ) (n at : ℕ) (ws : List ℤ) (left : ℕ) (m p : ℕ) (vs : List ℤ) (t : ℕ) : Type 0 where
-  pub goes : (F : Frame s l us ts tb count newest calls) (X : FoundAll (F .env) (R n (first (stackAt s at)))) (k : Store) → Stands ws left k
+pub record Following (R : ℕ → Trees Run → Option (Stmts × ℕ)) (s l us ts tb : List ℕ) (scope : Scope) (calls : ℕ) (n at : ℕ) (ws : List ℤ) (left : ℕ) (m p : ℕ) (vs : List ℤ) (t : ℕ) : Type 0 where
+  pub goes : (F : Frame s l us ts tb scope calls) (X : FoundAll (F .env) (R n (first (stackAt s at)))) (k : Store) → Stands ws left k
       → StmtsLeft F (machines F (X .stmts) (state k left)) (R m (first (stackAt s p))) vs t
   pub fewer : t ≤ left
 
 -- so the walk over them runs
-pub record Walks (R : ℕ → Trees Run → Option (Stmts × ℕ)) (s l us ts tb : List ℕ) (count newest calls : ℕ) (n at : ℕ) (ws : List ℤ) (left : ℕ) (ws′ : List ℤ) (r : ℕ) : Type 0 where
-  pub runs : (F : Frame s l us ts tb count newest calls) (X : FoundAll (F .env) (R n (first (stackAt s at)))) → MarkRuns (machines F (X .stmts)) ws left ws′ r
+pub record Walks (R : ℕ → Trees Run → Option (Stmts × ℕ)) (s l us ts tb : List ℕ) (scope : Scope) (calls : ℕ) (n at : ℕ) (ws : List ℤ) (left : ℕ) (ws′ : List ℤ) (r : ℕ) : Type 0 where
+  pub runs : (F : Frame s l us ts tb scope calls) (X : FoundAll (F .env) (R n (first (stackAt s at)))) → MarkRuns (machines F (X .stmts)) ws left ws′ r
   pub fewer : leftIn r ≤ left
 
-none-left : {s l us ts tb : List ℕ} {count newest calls : ℕ} (F : Frame s l us ts tb count newest calls) (t : State) → machines F Script.done t ≡ answer normal t
+none-left : {s l us ts tb : List ℕ} {scope : Scope} {calls : ℕ} (F : Frame s l us ts tb scope calls) (t : State) → machines F Script.done t ≡ answer normal t
 unfolding markStmts
 none-left F t = refl
 
-first-left : {s l us ts tb : List ℕ} {count newest calls : ℕ} (F : Frame s l us ts tb count newest calls) (y : Script.Stmt) (ys : Script.Stmts) (t : State)
+first-left : {s l us ts tb : List ℕ} {scope : Scope} {calls : ℕ} (F : Frame s l us ts tb scope calls) (y : Script.Stmt) (ys : Script.Stmts) (t : State)
     → machines F (Script._next_ y ys) t ≡ andThen (machine F y t) (machines F ys)
 unfolding markStmts
 first-left F y ys t = refl
 
-module _ (R : ℕ → Trees Run → Option (Stmts × ℕ)) (s l us ts tb : List ℕ) (count newest calls : ℕ) (n at : ℕ) (ws : List ℤ) (left : ℕ) where
-  chain-start : Following R s l us ts tb count newest calls n at ws left n at ws left
+module _ (R : ℕ → Trees Run → Option (Stmts × ℕ)) (s l us ts tb : List ℕ) (scope : Scope) (calls : ℕ) (n at : ℕ) (ws : List ℤ) (left : ℕ) where
+  chain-start : Following R s l us ts tb scope calls n at ws left n at ws left
   chain-start = record { goes = λ F X k S. record { found = X; goes = record { store = k; stands = S; rest = refl } }; fewer = omega arith }
 
-  module _ (m p : ℕ) (vs : List ℤ) (t : ℕ) (G : Following R s l us ts tb count newest calls n at ws left m p vs t) where
-    chain-done : ((x : Stmts × ℕ) → R m (first (stackAt s p)) ≡ some x → x .0 ≡ done) → Walks R s l us ts tb count newest calls n at ws left vs t
+  module _ (m p : ℕ) (vs : List ℤ) (t : ℕ) (G : Following R s l us ts tb scope calls n at ws left m p vs t) where
+    chain-done : ((x : Stmts × ℕ) → R m (first (stackAt s p)) ≡ some x → x .0 ≡ done) → Walks R s l us ts tb scope calls n at ws left vs t
     chain-done h = record { runs = λ F X. record { says = λ k S. go F (G .goes F X k S) }; fewer = omega (arith, left-most t, G .fewer) }
       where
-        go : {a : Answer} (F : Frame s l us ts tb count newest calls) → StmtsLeft F a (R m (first (stackAt s p))) vs t → MarkEnds a vs t
+        go : {a : Answer} (F : Frame s l us ts tb scope calls) → StmtsLeft F a (R m (first (stackAt s p))) vs t → MarkEnds a vs t
         go F Y = goes-ends (Y .goes) (λ k S. subst (λ (x : Answer). MarkEnds x vs t)
             (sym (ap (λ (ys : Script.Stmts). machines F ys (state k t)) (found-done (Y .found) h) ∙ none-left F (state k t))) (normal-marks vs t k S))
 
     module _ (d : ℕ) (b : Option (Stmts × ℕ)) (T : Split (R m (first (stackAt s p))) (stmtIn d m (first (stackAt s p))) b)
-        (os : List ℤ) (o : ℕ) (E : MarksStmt s l us ts tb count newest calls d m p vs t os o) where
+        (os : List ℤ) (o : ℕ) (E : MarksStmt s l us ts tb scope calls d m p vs t os o) where
       -- the first of those that are left, and the others
-      next-left : {a : Answer} (F : Frame s l us ts tb count newest calls) (Y : StmtsLeft F a (R m (first (stackAt s p))) vs t)
+      next-left : {a : Answer} (F : Frame s l us ts tb scope calls) (Y : StmtsLeft F a (R m (first (stackAt s p))) vs t)
           (Z : First (F .env) (stmtIn d m (first (stackAt s p))) b (Y .found .stmts))
           → a ≡ andThen (machine F (Z .head .stmt) (state (Y .goes .store) t)) (machines F (Z .others .stmts))
       next-left F Y Z =
           Y .goes .rest ∙ ap (λ (ys : Script.Stmts). machines F ys (state (Y .goes .store) t)) (Z .same) ∙ first-left F (Z .head .stmt) (Z .others .stmts) (state (Y .goes .store) t)
 
-      chain-stops : 4294967295 < o → Walks R s l us ts tb count newest calls n at ws left os o
+      chain-stops : 4294967295 < o → Walks R s l us ts tb scope calls n at ws left os o
       chain-stops h = record { runs = λ F X. record { says = λ k S. go F (G .goes F X k S) }; fewer = omega (arith, E .fewer, G .fewer) }
         where
-          go : {a : Answer} (F : Frame s l us ts tb count newest calls) → StmtsLeft F a (R m (first (stackAt s p))) vs t → MarkEnds a os o
+          go : {a : Answer} (F : Frame s l us ts tb scope calls) → StmtsLeft F a (R m (first (stackAt s p))) vs t → MarkEnds a os o
           go F Y =
               let Z = found-first (Y .found) (stmtIn d m (first (stackAt s p))) b T in
               subst (λ (x : Answer). MarkEnds x os o) (sym (next-left F Y Z))
               (stops-there (machine F (Z .head .stmt) (state (Y .goes .store) t)) (machines F (Z .others .stmts)) os o (E .runs F (Z .head) .says (Y .goes .store) (Y .goes .stands)) h)
 
-      on-left : o ≤ 4294967295 → {a : Answer} (F : Frame s l us ts tb count newest calls) → StmtsLeft F a (R m (first (stackAt s p))) vs t → StmtsLeft F a b os o
+      on-left : o ≤ 4294967295 → {a : Answer} (F : Frame s l us ts tb scope calls) → StmtsLeft F a (R m (first (stackAt s p))) vs t → StmtsLeft F a b os o
       on-left h F Y =
           let Z = found-first (Y .found) (stmtIn d m (first (stackAt s p))) b T in
           let H = goes-next (machine F (Z .head .stmt) (state (Y .goes .store) t)) (machines F (Z .others .stmts)) os o (E .runs F (Z .head) .says (Y .goes .store) (Y .goes .stands)) h in
           record { found = Z .others; goes = record { store = H .store; stands = H .stands; rest = next-left F Y Z ∙ H .rest } }
 
     chain-next : (d m′ q : ℕ) → Split (R m (first (stackAt s p))) (stmtIn d m (first (stackAt s p))) (R m′ (first (stackAt s q)))
-        → (os : List ℤ) (o : ℕ) → MarksStmt s l us ts tb count newest calls d m p vs t os o → o ≤ 4294967295 → Following R s l us ts tb count newest calls n at ws left m′ q os o
+        → (os : List ℤ) (o : ℕ) → MarksStmt s l us ts tb scope calls d m p vs t os o → o ≤ 4294967295 → Following R s l us ts tb scope calls n at ws left m′ q os o
     chain-next d m′ q T os o E h = record {
       goes = λ F X k S. on-left d (R m′ (first (stackAt s q))) T os o E h F (G .goes F X k S);
       fewer = omega (arith, left-of o h, E .fewer, G .fewer);
@@ -206,49 +207,49 @@ module _ (s : List ℕ) (p m : ℕ) where
       )
 
 -- ---- `stmts`
-module _ (s l us ts tb : List ℕ) (count newest calls d n at : ℕ) (ws : List ℤ) (left : ℕ) where
-  pub stmts-start : Following (stmtsIn d) s l us ts tb count newest calls n at ws left n at ws left
-  stmts-start = chain-start (stmtsIn d) s l us ts tb count newest calls n at ws left
+module _ (s l us ts tb : List ℕ) (scope : Scope) (calls d n at : ℕ) (ws : List ℤ) (left : ℕ) where
+  pub stmts-start : Following (stmtsIn d) s l us ts tb scope calls n at ws left n at ws left
+  stmts-start = chain-start (stmtsIn d) s l us ts tb scope calls n at ws left
 
-  as-stmts : (vs : List ℤ) (r : ℕ) → Walks (stmtsIn d) s l us ts tb count newest calls n at ws left vs r → MarksStmts s l us ts tb count newest calls d n at ws left vs r
+  as-stmts : (vs : List ℤ) (r : ℕ) → Walks (stmtsIn d) s l us ts tb scope calls n at ws left vs r → MarksStmts s l us ts tb scope calls d n at ws left vs r
   as-stmts vs r W = record { runs = W .runs; fewer = W .fewer }
 
-  module _ (m p : ℕ) (vs : List ℤ) (t : ℕ) (G : Following (stmtsIn d) s l us ts tb count newest calls n at ws left m p vs t) (e : End) (E : Shuts s p e) where
-    pub stmts-end : (q : ℕ) → e ≡ ending.Past q → MarksStmts s l us ts tb count newest calls d n at ws left vs t
+  module _ (m p : ℕ) (vs : List ℤ) (t : ℕ) (G : Following (stmtsIn d) s l us ts tb scope calls n at ws left m p vs t) (e : End) (E : Shuts s p e) where
+    pub stmts-end : (q : ℕ) → e ≡ ending.Past q → MarksStmts s l us ts tb scope calls d n at ws left vs t
     unfolding stmtsIn
-    stmts-end q h = as-stmts vs t (chain-done (stmtsIn d) s l us ts tb count newest calls n at ws left m p vs t G
+    stmts-end q h = as-stmts vs t (chain-done (stmtsIn d) s l us ts tb scope calls n at ws left m p vs t G
         (λ x k. ap (λ (y : Stmts × ℕ). y .0) (sym (some-inj (rw ((rw h at (E .says)) .here) at k)))))
 
-    module _ (h : e ≡ ending.More) (os : List ℤ) (o : ℕ) (X : MarksStmt s l us ts tb count newest calls d m p vs t os o) (i : Bool) (I : i ≡ ltb 4294967295 o) where
+    module _ (h : e ≡ ending.More) (os : List ℤ) (o : ℕ) (X : MarksStmt s l us ts tb scope calls d m p vs t os o) (i : Bool) (I : i ≡ ltb 4294967295 o) where
       not-end : (first (stackAt s p) ≡ end) → ⊥
       not-end = rw h at (E .says)
 
-      pub stmts-stop : i ≡ true → MarksStmts s l us ts tb count newest calls d n at ws left os o
+      pub stmts-stop : i ≡ true → MarksStmts s l us ts tb scope calls d n at ws left os o
       stmts-stop k =
           let H = stmts-head s p m d not-end in
-          as-stmts os o (chain-stops (stmtsIn d) s l us ts tb count newest calls n at ws left m p vs t G d (H .0) (H .1) os o X (halted i o I k))
+          as-stmts os o (chain-stops (stmtsIn d) s l us ts tb scope calls n at ws left m p vs t G d (H .0) (H .1) os o X (halted i o I k))
 
       module _ (r m′ q : ℕ) (C : CountsStatements s p r) (M : m + r ≤ 4294967295 → m′ ≡ m + r) (Q : Skips s p q) where
-        pub stmts-next : i ≡ false → Following (stmtsIn d) s l us ts tb count newest calls n at ws left m′ q os o
-        stmts-next k = chain-next (stmtsIn d) s l us ts tb count newest calls n at ws left m p vs t G d m′ q (stmts-split s p q r m m′ Q C M d not-end) os o X (going i o I k)
+        pub stmts-next : i ≡ false → Following (stmtsIn d) s l us ts tb scope calls n at ws left m′ q os o
+        stmts-next k = chain-next (stmtsIn d) s l us ts tb scope calls n at ws left m p vs t G d m′ q (stmts-split s p q r m m′ Q C M d not-end) os o X (going i o I k)
 
 -- ---- `front`
-module _ (s l us ts tb : List ℕ) (count newest calls n at : ℕ) (ws : List ℤ) (left : ℕ) where
-  pub front-start : Following frontIn s l us ts tb count newest calls n at ws left n at ws left
-  front-start = chain-start frontIn s l us ts tb count newest calls n at ws left
+module _ (s l us ts tb : List ℕ) (scope : Scope) (calls n at : ℕ) (ws : List ℤ) (left : ℕ) where
+  pub front-start : Following frontIn s l us ts tb scope calls n at ws left n at ws left
+  front-start = chain-start frontIn s l us ts tb scope calls n at ws left
 
-  as-front : (vs : List ℤ) (r : ℕ) → Walks frontIn s l us ts tb count newest calls n at ws left vs r → MarksFront s l us ts tb count newest calls n at ws left vs r
+  as-front : (vs : List ℤ) (r : ℕ) → Walks frontIn s l us ts tb scope calls n at ws left vs r → MarksFront s l us ts tb scope calls n at ws left vs r
   as-front vs r W = record { runs = W .runs; fewer = W .fewer }
 
-  module _ (m p : ℕ) (vs : List ℤ) (t : ℕ) (G : Following frontIn s l us ts tb count newest calls n at ws left m p vs t) (e : Next) (E : Comes s p e) where
-    pub front-past : (q : ℕ) → e ≡ following.Past q → MarksFront s l us ts tb count newest calls n at ws left vs t
+  module _ (m p : ℕ) (vs : List ℤ) (t : ℕ) (G : Following frontIn s l us ts tb scope calls n at ws left m p vs t) (e : Next) (E : Comes s p e) where
+    pub front-past : (q : ℕ) → e ≡ following.Past q → MarksFront s l us ts tb scope calls n at ws left vs t
     unfolding frontIn bodyIn _>>=_
-    front-past q h = as-front vs t (chain-done frontIn s l us ts tb count newest calls n at ws left m p vs t G
+    front-past q h = as-front vs t (chain-done frontIn s l us ts tb scope calls n at ws left m p vs t G
         (λ x k. ap (λ (y : Stmts × ℕ). y .0) (sym (some-inj (rw ((rw h at (E .says)) .here) at k)))))
 
-    pub front-handler : (q : ℕ) → e ≡ following.Handler q → MarksFront s l us ts tb count newest calls n at ws left vs t
+    pub front-handler : (q : ℕ) → e ≡ following.Handler q → MarksFront s l us ts tb scope calls n at ws left vs t
     unfolding frontIn handlerIn given
-    front-handler q h = as-front vs t (chain-done frontIn s l us ts tb count newest calls n at ws left m p vs t G (λ x k. bind-some k λ y hy f. go x y hy (some-inj f)))
+    front-handler q h = as-front vs t (chain-done frontIn s l us ts tb scope calls n at ws left m p vs t G (λ x k. bind-some k λ y hy f. go x y hy (some-inj f)))
       where
         H : HandlerAt s p q
         H = rw h at (E .says)
@@ -258,18 +259,18 @@ module _ (s l us ts tb : List ℕ) (count newest calls n at : ℕ) (ws : List �
             (rw (H .exception) refl) (ap (bodyIn m) (sym (H .here)) ∙ k) λ u z hu g.
             ap (λ (v : Stmts × ℕ). v .0) (sym f) ∙ ap (λ (v : Body × ℕ). v .0 .stmts) (sym g)
 
-    module _ (h : e ≡ following.Stmt) (os : List ℤ) (o : ℕ) (X : MarksStmt s l us ts tb count newest calls 33 m p vs t os o) (i : Bool) (I : i ≡ ltb 4294967295 o) where
+    module _ (h : e ≡ following.Stmt) (os : List ℤ) (o : ℕ) (X : MarksStmt s l us ts tb scope calls 33 m p vs t os o) (i : Bool) (I : i ≡ ltb 4294967295 o) where
       plainly : PlainAt s p
       plainly = rw h at (E .says)
 
-      pub front-stop : i ≡ true → MarksFront s l us ts tb count newest calls n at ws left os o
+      pub front-stop : i ≡ true → MarksFront s l us ts tb scope calls n at ws left os o
       front-stop k =
           let H = front-head s p m plainly in
-          as-front os o (chain-stops frontIn s l us ts tb count newest calls n at ws left m p vs t G 33 (H .0) (H .1) os o X (halted i o I k))
+          as-front os o (chain-stops frontIn s l us ts tb scope calls n at ws left m p vs t G 33 (H .0) (H .1) os o X (halted i o I k))
 
       module _ (r m′ q : ℕ) (C : CountsStatements s p r) (M : m + r ≤ 4294967295 → m′ ≡ m + r) (Q : Skips s p q) where
-        pub front-next : i ≡ false → Following frontIn s l us ts tb count newest calls n at ws left m′ q os o
-        front-next k = chain-next frontIn s l us ts tb count newest calls n at ws left m p vs t G 33 m′ q (front-split s p q r m m′ Q C M plainly) os o X (going i o I k)
+        pub front-next : i ≡ false → Following frontIn s l us ts tb scope calls n at ws left m′ q os o
+        front-next k = chain-next frontIn s l us ts tb scope calls n at ws left m p vs t G 33 m′ q (front-split s p q r m m′ Q C M plainly) os o X (going i o I k)
 
 pub stmts-falls : (s : List ℕ) (p q : ℕ) (e : End) → Shuts s p e → e ≡ ending.More → Skips s p q → many (first (stackAt s q)) < many (first (stackAt s p))
 stmts-falls s p q e E h Q = falls s p q Q (rw h at (E .says))

@@ -22,10 +22,10 @@ use Rattle.semantics.specs.Syntax.{Body, Stmt, Stmts}
 use Rattle.semantics.specs.Trees.{word, form, Trees, end, _then_, Run, first, later, wordAt, stackAt}
 use Rattle.semantics.proofs.Inversion.{none-some, some-inj}
 use Rattle.shapes.specs.Parts.{rest, nameIn, bodyIn, handlerIn}
-use Rattle.symbols.specs.Chain.{entries, placeIn}
+use Rattle.tables.specs.declared.Scope.{Scope}
 use Rattle.tables.specs.declared.Meaning.{Meaning}
 use Rattle.tables.specs.declared.Meaning.the-variants as meaning
-use Rattle.tables.specs.Scene.{Told, unknown, known, a-type, a-var, a-proc, a-value, meaningAt}
+use Rattle.tables.specs.Scene.{Told, unknown, known, a-type, a-var, a-proc, a-value, meaningHere}
 use Rattle.tables.proofs.Telling.{meant}
 use Rattle.exprleaves.specs.declared.fields.Sole.{Sole}
 use Rattle.exprleaves.specs.declared.fields.Sole.the-variants as sole
@@ -52,7 +52,7 @@ use Rattle.markstmts.specs.Finding.{lineOf, procIn, Callee, HandlesBy, H
 
 -- ---- `line_of`
 pub line-is : (tb : List ℕ) (q a b c d e : ℕ) → a ≡ getD tb (5 * q) 0 → b ≡ getD tb (5 * q + 1) 0 → c ≡ getD tb (5 * q + 2) 0 → d ≡ getD tb (5 * q + 3) 0 → e ≡ getD tb (5 * q + 4) 0
-    → record { start = a; count = b; newest = c; number = d; kinds = e } ≡ lineOf tb q
+    → record { start = a; scope = record { count = b; newest = c }; number = d; kinds = e } ≡ lineOf tb q
 line-is tb q a b c d e ea eb ec ed ee = rw (ea, eb, ec, ed, ee) refl
 
 -- ---- `callee`
@@ -64,17 +64,17 @@ told-proc σ bs _ _ (known (a-var v e)) p h = none-some h
 told-proc σ bs _ _ (known a-proc) p h = ap (λ (k : ℕ). getD bs k 0) (some-inj h)
 told-proc σ bs _ _ (known a-value) p h = none-some h
 
-module _ (s l : List ℕ) (count newest at : ℕ) (n : Sole) (N : SoleName s at n) where
-  pub callee-named : (p q : ℕ) (m : Meaning) (r : ℕ) → n ≡ sole.Name p q → m ≡ meaningAt l (placeIn s l (entries count l newest) (map small (wordAt s p))) → r ≡ procIn m → Callee s l count newest at r
+module _ (s l : List ℕ) (scope : Scope) (at : ℕ) (n : Sole) (N : SoleName s at n) where
+  pub callee-named : (p q : ℕ) (m : Meaning) (r : ℕ) → n ≡ sole.Name p q → m ≡ meaningHere s l scope p → r ≡ procIn m → Callee s l scope at r
   callee-named p q m r e em er = record {
     says = λ ts top σ bs S w hw k hk.
         let f = rw e at (N .says) in
         let a : map small (wordAt s p) ≡ w = some-inj (sym (f .0) ∙ last-part (nameIn (first (stackAt s at))) (rest (first (stackAt s at))) w hw) in
-        er ∙ ap procIn em ∙ told-proc σ bs (meaningAt l (placeIn s l (entries count l newest) (map small (wordAt s p)))) (find (σ .names) (map small (wordAt s p)))
+        er ∙ ap procIn em ∙ told-proc σ bs (meaningHere s l scope p) (find (σ .names) (map small (wordAt s p)))
         (meant S (map small (wordAt s p))) k (ap (λ (v : Name). find (σ .names) v >>= asProc) a ∙ hk);
   }
 
-  pub callee-none : (r : ℕ) → n ≡ sole.Nothing → Callee s l count newest at r
+  pub callee-none : (r : ℕ) → n ≡ sole.Nothing → Callee s l scope at r
   callee-none r e = record { says = λ ts top σ bs S w hw k hk. none-some (sym (rw e at (N .says)) ∙ hw) }
 
 pub ruleset callee-laws = (callee-named, callee-none)

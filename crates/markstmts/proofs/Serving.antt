@@ -25,7 +25,7 @@ use Rattle.steps.specs.Stands.{Stands}
 use Rattle.leaves.proofs.Ending.{left-most}
 use Rattle.markacts.specs.Ends.{MarkEnds, MarkRuns}
 use Rattle.bodies.specs.Procedures.{procsOf}
-use Rattle.bodies.specs.Table.{upTo, clip, Clips, offsetOf, countOf, newestOf, stmtsBefore, typesOf, BodyStands, AllStand}
+use Rattle.bodies.specs.Table.{mostTypes, upTo, clip, Clips, offsetOf, scopeOf, stmtsBefore, typesOf, BodyStands, AllStand}
 use Rattle.bodies.proofs.Calling.{all-is}
 use Rattle.bodies.proofs.Scenes.{scene-types}
 use Rattle.markstmts.specs.declared.finding.Handler.{Handler}
@@ -35,6 +35,7 @@ use Rattle.markstmts.specs.Finding.{lineOf, Handles}
 use Rattle.markstmts.specs.Marks.{FoundAll, FoundBody, Frame, frontIn, machines, serving, MarksStmts, MarksFront, MarksWithin, MarksBody}
 use Rattle.markstmts.proofs.Branching.{runs-as}
 use Rattle.markstmts.proofs.Machines.{not-caught, not-handled, is-caught}
+use Rattle.tables.specs.declared.Scope.{Scope}
 
 -- ---- what was found of a body: its statements, whether it has a handler, and that handler's
 pub record BodyFound (σ : Environment) (b : Body) (x : Script.Body) : Type 0 where
@@ -47,8 +48,8 @@ unfolding bodyOf
 body-found σ b x h = bind-some h λ y hy h. bind-some h λ z hz e. subst (BodyFound σ b) (some-inj e) (record { stmts-are = hy; handler-are = hz; handles-is = refl })
 
 -- ---- `body_from`
-module _ (s l us ts tb : List ℕ) (count newest calls n at : ℕ) (ws : List ℤ) (left : ℕ) (vs : List ℤ) (o : ℕ) (W : MarksFront s l us ts tb count newest calls n at ws left vs o) where
-  module _ (F : Frame s l us ts tb count newest calls) (X : FoundBody (F .env) (bodyIn n (first (stackAt s at)))) where
+module _ (s l us ts tb : List ℕ) (scope : Scope) (calls n at : ℕ) (ws : List ℤ) (left : ℕ) (vs : List ℤ) (o : ℕ) (W : MarksFront s l us ts tb scope calls n at ws left vs o) where
+  module _ (F : Frame s l us ts tb scope calls) (X : FoundBody (F .env) (bodyIn n (first (stackAt s at)))) where
     fronts : FoundAll (F .env) (frontIn n (first (stackAt s at)))
     unfolding frontIn _>>=_
     fronts = record { form = (X .form .0 .stmts, X .form .1); stmts = X .body .stmts; reads = rw (X .reads) refl; names = body-found (F .env) (X .form .0) (X .body) (X .names) .stmts-are; few = X .few }
@@ -58,20 +59,20 @@ module _ (s l us ts tb : List ℕ) (count newest calls n at : ℕ) (ws : List �
     front-ends k S = W .runs F fronts .says k S
 
   -- an end that is no exception's
-  pub within-calm : o < 8589934592 → MarksWithin s l us ts tb count newest calls n at ws left vs o
+  pub within-calm : o < 8589934592 → MarksWithin s l us ts tb scope calls n at ws left vs o
   within-calm h = record {
     runs = λ F X. record { says = λ k S. not-caught (X .body .handles) (machines F (X .body .stmts) (state k left)) (machines F (X .body .handler)) vs o (front-ends F X k S) (inl h) };
     fewer = W .fewer;
   }
 
-  pub within-stuck : 12884901888 ≤ o → MarksWithin s l us ts tb count newest calls n at ws left vs o
+  pub within-stuck : 12884901888 ≤ o → MarksWithin s l us ts tb scope calls n at ws left vs o
   within-stuck h = record {
     runs = λ F X. record { says = λ k S. not-caught (X .body .handles) (machines F (X .body .stmts) (state k left)) (machines F (X .body .handler)) vs o (front-ends F X k S) (inr h) };
     fewer = W .fewer;
   }
 
   module _ (g : Handler) (H : Handles s n at g) where
-    pub within-plain : g ≡ handler.Nothing → MarksWithin s l us ts tb count newest calls n at ws left vs o
+    pub within-plain : g ≡ handler.Nothing → MarksWithin s l us ts tb scope calls n at ws left vs o
     within-plain e = record {
       runs = λ F X. record {
         says = λ k S. not-handled (X .body .handles) (machines F (X .body .stmts) (state k left)) (machines F (X .body .handler)) vs o (front-ends F X k S)
@@ -80,14 +81,14 @@ module _ (s l us ts tb : List ℕ) (count newest calls n at : ℕ) (ws : List �
       fewer = W .fewer;
     }
 
-    pub within-handled : (q m t : ℕ) (ws′ : List ℤ) (r : ℕ) → 8589934592 ≤ o → o < 12884901888 → g ≡ handler.From q m → t ≡ leftIn o → MarksStmts s l us ts tb count newest calls 33 m q vs t ws′ r
-        → MarksWithin s l us ts tb count newest calls n at ws left ws′ r
+    pub within-handled : (q m t : ℕ) (ws′ : List ℤ) (r : ℕ) → 8589934592 ≤ o → o < 12884901888 → g ≡ handler.From q m → t ≡ leftIn o → MarksStmts s l us ts tb scope calls 33 m q vs t ws′ r
+        → MarksWithin s l us ts tb scope calls n at ws left ws′ r
     within-handled q m t ws′ r h i e T R = record {
       runs = λ F X. record { says = λ k S. go F X k S (rw e at (H .says (X .form) (X .reads) (X .few))) };
       fewer = omega (arith, R .fewer, T, W .fewer);
     }
       where
-        go : (F : Frame s l us ts tb count newest calls) (X : FoundBody (F .env) (bodyIn n (first (stackAt s at)))) (k : Store) → Stands ws left k
+        go : (F : Frame s l us ts tb scope calls) (X : FoundBody (F .env) (bodyIn n (first (stackAt s at)))) (k : Store) → Stands ws left k
             → (X .form .0 .handles ≡ true) × (stmtsIn 33 m (first (stackAt s q)) ≡ some (X .form .0 .handler, X .form .1)) → MarkEnds (serving F (X .body) (state k left)) ws′ r
         go F X k S Y =
             let B = body-found (F .env) (X .form .0) (X .body) (X .names) in
@@ -99,21 +100,21 @@ module _ (s l us ts tb : List ℕ) (count newest calls n at : ℕ) (ws : List �
 pub ruleset within-laws = (within-calm, within-stuck, within-plain, within-handled)
 
 -- ---- `mark_body`
-module _ (s l us tb : List ℕ) (calls q : ℕ) (ws : List ℤ) (left : ℕ) (ts₀ ts : List ℕ) (C : Clips us (typesOf tb q) ts₀ ts) (L : length ts₀ ≡ 66) (ws′ : List ℤ) (r : ℕ)
-    (W : MarksWithin s l us ts tb (countOf tb q) (newestOf tb q) calls (stmtsBefore tb q) (offsetOf tb q) ws left ws′ r) where
+module _ (s l us tb : List ℕ) (calls q : ℕ) (ws : List ℤ) (left : ℕ) (ts₀ ts : List ℕ) (C : Clips us (typesOf tb q) ts₀ ts) (L : length ts₀ ≡ mostTypes) (ws′ : List ℤ) (r : ℕ)
+    (W : MarksWithin s l us ts tb (scopeOf tb q) calls (stmtsBefore tb q) (offsetOf tb q) ws left ws′ r) where
   module _ (bodies : List PlacedBody) (other : PlacedBody) (A : AllStand s l us tb bodies other) (h : q < length bodies) (g : q ≤ calls) where
     abbrev stood : BodyStands s l us tb (getD bodies q other) q
     stood = A .each q h
 
     -- where the body is run
-    frame : Frame s l us ts tb (countOf tb q) (newestOf tb q) calls
+    frame : Frame s l us ts tb (scopeOf tb q) calls
     frame = record {
       env = stood .env;
       bodies = bodies;
       other = other;
       before = q;
       top = stood .top;
-      scene = scene-types s l (clip (typesOf tb q) us) ts (C .places (omega (arith, L, stood .few-types))) (countOf tb q) (newestOf tb q) (stood .top) (stood .env) (upTo q) (stood .scene);
+      scene = scene-types s l (clip (typesOf tb q) us) ts (C .places (omega (arith, L, stood .few-types))) (scopeOf tb q) (stood .top) (stood .env) (upTo q) (stood .scene);
       small = stood .small;
       all = A;
       few = omega (arith, h);
@@ -139,9 +140,9 @@ module _ (s l us tb : List ℕ) (calls q : ℕ) (ws : List ℤ) (left : ℕ) (ts
   body-marks = record { runs = body-runs; fewer = W .fewer }
 
 -- as the code has the line
-pub body-is : (s l us tb : List ℕ) (calls q : ℕ) (ws : List ℤ) (left : ℕ) (e : Line) (ts : List ℕ) (ws′ : List ℤ) (r : ℕ) → e ≡ lineOf tb q → Clips us (e .kinds) (replicate 66 0) ts
-    → MarksWithin s l us ts tb (e .count) (e .newest) calls (e .number) (e .start) ws left ws′ r → MarksBody s l us tb calls q ws left ws′ r
-body-is s l us tb calls q ws left e ts ws′ r h C W = body-marks s l us tb calls q ws left (replicate 66 0) ts (rw h at C) refl ws′ r (rw h at W)
+pub body-is : (s l us tb : List ℕ) (calls q : ℕ) (ws : List ℤ) (left : ℕ) (e : Line) (ts : List ℕ) (ws′ : List ℤ) (r : ℕ) → e ≡ lineOf tb q → Clips us (e .kinds) (replicate mostTypes 0) ts
+    → MarksWithin s l us ts tb (e .scope) calls (e .number) (e .start) ws left ws′ r → MarksBody s l us tb calls q ws left ws′ r
+body-is s l us tb calls q ws left e ts ws′ r h C W = body-marks s l us tb calls q ws left (replicate mostTypes 0) ts (rw h at C) refl ws′ r (rw h at W)
 
 -- the last body is the script's run
 pub marks-all : (s l us tb : List ℕ) (calls n : ℕ) (ws : List ℤ) (left : ℕ) (ws′ : List ℤ) (r : ℕ) → MarksBody s l us tb calls n ws left ws′ r

@@ -14,10 +14,11 @@ use Rattle.semantics.specs.Names.{asProc}
 use Rattle.semantics.specs.Syntax.{Body}
 use Rattle.semantics.specs.Trees.{first, stackAt}
 use Rattle.shapes.specs.Parts.{rest, closed, nameIn, stmtsIn, bodyIn}
+use Rattle.tables.specs.declared.Scope.{Scope}
 use Rattle.tables.specs.declared.Meaning.{Meaning}
 use Rattle.tables.specs.declared.Meaning.the-variants as meaning
 use Rattle.tables.specs.Scene.{Scene}
-use Rattle.bodies.specs.Table.{offsetOf, countOf, newestOf, stmtsBefore, typesOf}
+use Rattle.bodies.specs.Table.{offsetOf, scopeOf, stmtsBefore, typesOf}
 use Rattle.markacts.specs.declared.bounds.Span.{Span}
 use Rattle.markacts.specs.declared.bounds.Span.the-variants as span
 use Rattle.markstmts.specs.declared.finding.Line.{Line}
@@ -28,7 +29,7 @@ use Rattle.markstmts.specs.declared.finding.Plan.the-variants as plan
 
 -- body q's line in the table
 abbrev pub lineOf : List ℕ → ℕ → Line
-lineOf tb q = record { start = offsetOf tb q; count = countOf tb q; newest = newestOf tb q; number = stmtsBefore tb q; kinds = typesOf tb q }
+lineOf tb q = record { start = offsetOf tb q; scope = scopeOf tb q; number = stmtsBefore tb q; kinds = typesOf tb q }
 
 -- a procedure's number by what a name means
 abbrev pub procIn : Meaning → ℕ
@@ -39,8 +40,8 @@ procIn (meaning.Proc p) = p
 procIn (meaning.Value k n) = 0
 
 -- r is the number of the procedure that the sole name at an offset means; bs holds those numbers
-pub record Callee (s l : List ℕ) (count newest at r : ℕ) : Type 0 where
-  pub says : (ts : List ℕ) (top : ℕ) (σ : Environment) (bs : List ℕ) → Scene s l ts count newest top σ bs
+pub record Callee (s l : List ℕ) (scope : Scope) (at r : ℕ) : Type 0 where
+  pub says : (ts : List ℕ) (top : ℕ) (σ : Environment) (bs : List ℕ) → Scene s l ts scope top σ bs
       → (w : Name) → (nameIn (first (stackAt s at)) >>= λ w. closed (rest (first (stackAt s at))) w) ≡ some w → (p : ℕ) → (find (σ .names) w >>= asProc) ≡ some p → r ≡ getD bs p 0
 
 -- ---- a body's handler

@@ -24,6 +24,7 @@ use Rattle.shapes.specs.declared.Verb.{Verb}
 use Rattle.shapes.specs.Parts.{exprIn, stmtIn, stmtsIn, elseIn, bodyIn}
 use Rattle.steps.specs.Ends.{leftIn}
 use Rattle.steps.specs.Stands.{after}
+use Rattle.tables.specs.declared.Scope.{Scope}
 use Rattle.tables.specs.Scene.{Scene}
 use Rattle.statements.specs.Walks.{verbIn}
 use Rattle.bodies.specs.Procedures.{procsOf}
@@ -66,19 +67,19 @@ frontIn n us = bodyIn n us >>= λ b. some (b .0 .stmts, b .1)
 -- ---- where a statement is run: its environment, the script's bodies and how many are before its own, which it may call. us are the types of the
 -- whole script, ts those that its body sees
 
-pub record Frame (s l us ts tb : List ℕ) (count newest calls : ℕ) : Type 0 where
+pub record Frame (s l us ts tb : List ℕ) (scope : Scope) (calls : ℕ) : Type 0 where
   pub env : Environment
   pub bodies : List PlacedBody
   pub other : PlacedBody
   pub before : ℕ
   pub top : ℕ
-  pub scene : Scene s l ts count newest top env (upTo before)
+  pub scene : Scene s l ts scope top env (upTo before)
   pub small : SmallTypes (env .types)
   pub all : AllStand s l us tb bodies other
   pub few : before ≤ length bodies
   pub deep : before ≤ calls
 
-module _ {s l us ts tb : List ℕ} {count newest calls : ℕ} (F : Frame s l us ts tb count newest calls) where
+module _ {s l us ts tb : List ℕ} {scope : Scope} {calls : ℕ} (F : Frame s l us ts tb scope calls) where
   abbrev pub machine : Script.Stmt → State → Answer
   machine y = markStmt (F .env .types) (F .env .vars) (procsOf (F .other) (F .bodies) (F .before)) y
 
@@ -94,52 +95,52 @@ module _ {s l us ts tb : List ℕ} {count newest calls : ℕ} (F : Frame s l us 
 
 -- ---- the promises
 
-module _ (s l us ts tb : List ℕ) (count newest calls : ℕ) where
+module _ (s l us ts tb : List ℕ) (scope : Scope) (calls : ℕ) where
   -- a statement at most d deep, where n is the number of the last one before
   pub record MarksStmt (d n at : ℕ) (ws : List ℤ) (left : ℕ) (ws′ : List ℤ) (r : ℕ) : Type 0 where
-    pub runs : (F : Frame s l us ts tb count newest calls) (X : Found (F .env) (stmtIn d n (first (stackAt s at)))) → MarkRuns (machine F (X .stmt)) ws left ws′ r
+    pub runs : (F : Frame s l us ts tb scope calls) (X : Found (F .env) (stmtIn d n (first (stackAt s at)))) → MarkRuns (machine F (X .stmt)) ws left ws′ r
     pub fewer : leftIn r ≤ left
 
   -- all parts of its form, from past the opening bracket
   pub record MarksInner (d n at : ℕ) (ws : List ℤ) (left : ℕ) (ws′ : List ℤ) (r : ℕ) : Type 0 where
-    pub runs : (F : Frame s l us ts tb count newest calls) (X : Found (F .env) (stmtIn (suc d) n (form (first (stackAt s at)) then end))) → MarkRuns (machine F (X .stmt)) ws left ws′ r
+    pub runs : (F : Frame s l us ts tb scope calls) (X : Found (F .env) (stmtIn (suc d) n (form (first (stackAt s at)) then end))) → MarkRuns (machine F (X .stmt)) ws left ws′ r
     pub fewer : leftIn r ≤ left
 
   -- the parts after the head word, after the step; n is the statement's number
   pub record MarksVerb (v : Verb) (d n at : ℕ) (ws : List ℤ) (left : ℕ) (ws′ : List ℤ) (r : ℕ) : Type 0 where
-    pub runs : (F : Frame s l us ts tb count newest calls) (X : Found (F .env) (verbIn v d n (first (stackAt s at)))) → MarkRuns (after (machine F (X .stmt))) ws left ws′ r
+    pub runs : (F : Frame s l us ts tb scope calls) (X : Found (F .env) (verbIn v d n (first (stackAt s at)))) → MarkRuns (after (machine F (X .stmt))) ws left ws′ r
     pub fewer : leftIn r ≤ left
 
   -- the third part of an `if`, which may be missing
   pub record MarksElse (d n at : ℕ) (ws : List ℤ) (left : ℕ) (ws′ : List ℤ) (r : ℕ) : Type 0 where
-    pub runs : (F : Frame s l us ts tb count newest calls) (X : Found (F .env) (elseIn d n (first (stackAt s at)))) → MarkRuns (machine F (X .stmt)) ws left ws′ r
+    pub runs : (F : Frame s l us ts tb scope calls) (X : Found (F .env) (elseIn d n (first (stackAt s at)))) → MarkRuns (machine F (X .stmt)) ws left ws′ r
     pub fewer : leftIn r ≤ left
 
   -- the rounds of `while` n, whose test stands at c and whose statement at b
   pub record MarksWhile (d n c b : ℕ) (ws : List ℤ) (left : ℕ) (ws′ : List ℤ) (r : ℕ) : Type 0 where
-    pub runs : (F : Frame s l us ts tb count newest calls) (E : FoundExpr (F .env) (exprIn 33 (first (stackAt s c)))) (X : Found (F .env) (stmtIn d n (first (stackAt s b))))
+    pub runs : (F : Frame s l us ts tb scope calls) (E : FoundExpr (F .env) (exprIn 33 (first (stackAt s c)))) (X : Found (F .env) (stmtIn d n (first (stackAt s b))))
         → (f : ℕ) → left ≤ f → MarkRuns (whileRounds f (testing F n (E .expr)) (machine F (X .stmt))) ws left ws′ r
     pub fewer : leftIn r ≤ left
 
   -- the rounds of `for` n from x to y, in cell a; its statement stands at b
   pub record MarksRounds (d n a : ℕ) (x y : ℤ) (b : ℕ) (ws : List ℤ) (left : ℕ) (ws′ : List ℤ) (r : ℕ) : Type 0 where
-    pub runs : (F : Frame s l us ts tb count newest calls) (X : Found (F .env) (stmtIn d n (first (stackAt s b)))) → leZ x y ≡ true → InRange x → InRange y
+    pub runs : (F : Frame s l us ts tb scope calls) (X : Found (F .env) (stmtIn d n (first (stackAt s b)))) → leZ x y ≡ true → InRange x → InRange y
         → MarkRuns (forRounds (natOf (sucℤ (y -ℤ x))) a (machine F (X .stmt)) x) ws left ws′ r
     pub fewer : leftIn r ≤ left
 
   -- statements to the end of a form
   pub record MarksStmts (d n at : ℕ) (ws : List ℤ) (left : ℕ) (ws′ : List ℤ) (r : ℕ) : Type 0 where
-    pub runs : (F : Frame s l us ts tb count newest calls) (X : FoundAll (F .env) (stmtsIn d n (first (stackAt s at)))) → MarkRuns (machines F (X .stmts)) ws left ws′ r
+    pub runs : (F : Frame s l us ts tb scope calls) (X : FoundAll (F .env) (stmtsIn d n (first (stackAt s at)))) → MarkRuns (machines F (X .stmts)) ws left ws′ r
     pub fewer : leftIn r ≤ left
 
   -- those of a body before its handler
   pub record MarksFront (n at : ℕ) (ws : List ℤ) (left : ℕ) (ws′ : List ℤ) (r : ℕ) : Type 0 where
-    pub runs : (F : Frame s l us ts tb count newest calls) (X : FoundAll (F .env) (frontIn n (first (stackAt s at)))) → MarkRuns (machines F (X .stmts)) ws left ws′ r
+    pub runs : (F : Frame s l us ts tb scope calls) (X : FoundAll (F .env) (frontIn n (first (stackAt s at)))) → MarkRuns (machines F (X .stmts)) ws left ws′ r
     pub fewer : leftIn r ≤ left
 
   -- a body, whose parts begin at an offset
   pub record MarksWithin (n at : ℕ) (ws : List ℤ) (left : ℕ) (ws′ : List ℤ) (r : ℕ) : Type 0 where
-    pub runs : (F : Frame s l us ts tb count newest calls) (X : FoundBody (F .env) (bodyIn n (first (stackAt s at)))) → MarkRuns (serving F (X .body)) ws left ws′ r
+    pub runs : (F : Frame s l us ts tb scope calls) (X : FoundBody (F .env) (bodyIn n (first (stackAt s at)))) → MarkRuns (serving F (X .body)) ws left ws′ r
     pub fewer : leftIn r ≤ left
 
 -- body q of the table, which may call those before it; `calls` is no less than their number

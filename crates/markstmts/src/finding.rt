@@ -10,6 +10,7 @@ use steps::turns::planned;
 use stmtnodes::last::Next;
 use stmtnodes::last::next_at;
 use tables::Meaning;
+use tables::Scope;
 use tables::meaning_of;
 use worklist::at;
 ghost use mathlib.Core.Path.{_≡_};
@@ -18,8 +19,7 @@ ghost use Rattle.markstmts.specs.Finding.{lineOf, procIn, Callee, Handle
 // A body's line in the table: where it begins, the names that it sees, the number of the last statement before it, and how many types it sees.
 pub struct Line {
     pub start: usize,
-    pub count: u32,
-    pub newest: u32,
+    pub scope: Scope,
     pub number: u32,
     pub kinds: u32,
 }
@@ -43,10 +43,13 @@ pub fn line_of(bodies: &[u32], q: u32) -> Line
     ensures { λ r. ⌜ r ≡ lineOf (now (bodies .entry)) q ⌝ }
 {
     let p = 5 * (q as usize);
-    Line {
-        start: at(bodies, p) as usize,
+    let scope = Scope {
         count: at(bodies, p + 1),
         newest: at(bodies, p + 2),
+    };
+    Line {
+        start: at(bodies, p) as usize,
+        scope,
         number: at(bodies, p + 3),
         kinds: at(bodies, p + 4),
     }
@@ -66,12 +69,12 @@ fn proc_in(m: Meaning) -> u32
 }
 
 // The procedure that the name at an offset means.
-pub fn callee(text: &[u8], work: &[u32], count: u32, newest: u32, at: usize) -> u32
-    ensures { λ r. ⌜ Callee (now (text .entry)) (now (work .entry)) count newest at r ⌝ }
+pub fn callee(text: &[u8], work: &[u32], scope: Scope, at: usize) -> u32
+    ensures { λ r. ⌜ Callee (now (text .entry)) (now (work .entry)) scope at r ⌝ }
 {
     let n = sole_name(text, at);
     match n {
-        Sole::Name(p, _) => proc_in(meaning_of(text, work, count, newest, p)),
+        Sole::Name(p, _) => proc_in(meaning_of(text, work, scope, p)),
         Sole::Nothing => 0,
     }
 }

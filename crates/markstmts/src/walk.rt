@@ -6,9 +6,10 @@ use crate::finding::callee;
 use crate::finding::handler_of;
 use crate::finding::line_of;
 use crate::finding::plan_for;
+use bodies::MOST_TYPES;
 use bodies::clip_types;
 use calc::words::GREATEST;
-use calc::words::WORDS;
+use calc::words::Store;
 use counts::count_statements;
 use leaves::cells::put;
 use markacts::acts::assign;
@@ -38,6 +39,7 @@ use steps::turns::at_last;
 use steps::turns::next_of;
 use stmtnodes::last::Next;
 use stmtnodes::last::next_at;
+use tables::Scope;
 ghost use Rattle.shapes.specs.declared.Verb.the-variants.{If, While, For, Case, Call};
 ghost use Rattle.markstmts.specs.Marks.{MarksStmt, MarksInner, MarksVerb, MarksElse, MarksWhile, MarksRounds, MarksStmts, MarksFront, MarksWithin, MarksBody};
 
@@ -48,16 +50,15 @@ fn mark_stmt(
     all: &[u32],
     types: &[u32],
     bodies: &[u32],
-    count: u32,
-    newest: u32,
+    scope: Scope,
     calls: u32,
     depth: usize,
-    store: &mut [i64; WORDS],
+    store: &mut Store,
     left: u64,
     n: u32,
     at: usize,
 ) -> u64
-    ensures { λ r. ⌜ MarksStmt (now (text .entry)) (now (work .entry)) (now (all .entry)) (now (types .entry)) (now (bodies .entry)) count newest calls depth n at (now (store .entry)) left (now (store .exit)) r ⌝ }
+    ensures { λ r. ⌜ MarksStmt (now (text .entry)) (now (work .entry)) (now (all .entry)) (now (types .entry)) (now (bodies .entry)) scope calls depth n at (now (store .entry)) left (now (store .exit)) r ⌝ }
 {
     if depth == 0 {
         return left;
@@ -71,8 +72,7 @@ fn mark_stmt(
             all,
             types,
             bodies,
-            count,
-            newest,
+            scope,
             calls,
             depth - 1,
             store,
@@ -91,16 +91,15 @@ fn inner(
     all: &[u32],
     types: &[u32],
     bodies: &[u32],
-    count: u32,
-    newest: u32,
+    scope: Scope,
     calls: u32,
     depth: usize,
-    store: &mut [i64; WORDS],
+    store: &mut Store,
     left: u64,
     n: u32,
     at: usize,
 ) -> u64
-    ensures { λ r. ⌜ MarksInner (now (text .entry)) (now (work .entry)) (now (all .entry)) (now (types .entry)) (now (bodies .entry)) count newest calls depth n at (now (store .entry)) left (now (store .exit)) r ⌝ }
+    ensures { λ r. ⌜ MarksInner (now (text .entry)) (now (work .entry)) (now (all .entry)) (now (types .entry)) (now (bodies .entry)) scope calls depth n at (now (store .entry)) left (now (store .exit)) r ⌝ }
 {
     let part = part_at(text, at);
     match part {
@@ -115,8 +114,7 @@ fn inner(
                 all,
                 types,
                 bodies,
-                count,
-                newest,
+                scope,
                 calls,
                 depth,
                 store,
@@ -138,28 +136,26 @@ fn headed(
     all: &[u32],
     types: &[u32],
     bodies: &[u32],
-    count: u32,
-    newest: u32,
+    scope: Scope,
     calls: u32,
     depth: usize,
-    store: &mut [i64; WORDS],
+    store: &mut Store,
     left: u64,
     n: u32,
     verb: Verb,
     at: usize,
 ) -> u64
-    ensures { λ r. ⌜ MarksVerb (now (text .entry)) (now (work .entry)) (now (all .entry)) (now (types .entry)) (now (bodies .entry)) count newest calls verb depth n at (now (store .entry)) left (now (store .exit)) r ⌝ }
+    ensures { λ r. ⌜ MarksVerb (now (text .entry)) (now (work .entry)) (now (all .entry)) (now (types .entry)) (now (bodies .entry)) scope calls verb depth n at (now (store .entry)) left (now (store .exit)) r ⌝ }
 {
     match verb {
-        Verb::Assign => assign(text, work, types, count, newest, store, left, n, at),
+        Verb::Assign => assign(text, work, types, scope, store, left, n, at),
         Verb::Begin => stmts(
             text,
             work,
             all,
             types,
             bodies,
-            count,
-            newest,
+            scope,
             calls,
             depth,
             store,
@@ -173,8 +169,7 @@ fn headed(
             all,
             types,
             bodies,
-            count,
-            newest,
+            scope,
             calls,
             depth,
             store,
@@ -188,8 +183,7 @@ fn headed(
             all,
             types,
             bodies,
-            count,
-            newest,
+            scope,
             calls,
             depth,
             store,
@@ -204,8 +198,7 @@ fn headed(
             all,
             types,
             bodies,
-            count,
-            newest,
+            scope,
             calls,
             depth,
             store,
@@ -219,8 +212,7 @@ fn headed(
             all,
             types,
             bodies,
-            count,
-            newest,
+            scope,
             calls,
             depth,
             store,
@@ -234,8 +226,7 @@ fn headed(
             all,
             types,
             bodies,
-            count,
-            newest,
+            scope,
             calls,
             depth,
             store,
@@ -243,7 +234,7 @@ fn headed(
             n,
             at,
         ),
-        Verb::Raise => raise(text, work, types, count, newest, store, left, n, at),
+        Verb::Raise => raise(text, work, types, scope, store, left, n, at),
         Verb::Nothing => left,
     }
 }
@@ -255,16 +246,15 @@ fn stmts(
     all: &[u32],
     types: &[u32],
     bodies: &[u32],
-    count: u32,
-    newest: u32,
+    scope: Scope,
     calls: u32,
     depth: usize,
-    store: &mut [i64; WORDS],
+    store: &mut Store,
     left: u64,
     n: u32,
     at: usize,
 ) -> u64
-    ensures { λ r. ⌜ MarksStmts (now (text .entry)) (now (work .entry)) (now (all .entry)) (now (types .entry)) (now (bodies .entry)) count newest calls depth n at (now (store .entry)) left (now (store .exit)) r ⌝ }
+    ensures { λ r. ⌜ MarksStmts (now (text .entry)) (now (work .entry)) (now (all .entry)) (now (types .entry)) (now (bodies .entry)) scope calls depth n at (now (store .entry)) left (now (store .exit)) r ⌝ }
 {
     let mut t = left;
     let mut m = n;
@@ -282,8 +272,7 @@ fn stmts(
                     all,
                     types,
                     bodies,
-                    count,
-                    newest,
+                    scope,
                     calls,
                     depth,
                     store,
@@ -309,18 +298,17 @@ fn if_else(
     all: &[u32],
     types: &[u32],
     bodies: &[u32],
-    count: u32,
-    newest: u32,
+    scope: Scope,
     calls: u32,
     depth: usize,
-    store: &mut [i64; WORDS],
+    store: &mut Store,
     left: u64,
     n: u32,
     at: usize,
 ) -> u64
-    ensures { λ r. ⌜ MarksVerb (now (text .entry)) (now (work .entry)) (now (all .entry)) (now (types .entry)) (now (bodies .entry)) count newest calls If depth n at (now (store .entry)) left (now (store .exit)) r ⌝ }
+    ensures { λ r. ⌜ MarksVerb (now (text .entry)) (now (work .entry)) (now (all .entry)) (now (types .entry)) (now (bodies .entry)) scope calls If depth n at (now (store .entry)) left (now (store .exit)) r ⌝ }
 {
-    let x = condition(text, work, types, count, newest, store, at);
+    let x = condition(text, work, types, scope, store, at);
     if x > GREATEST {
         return halting(store, left, x, n);
     }
@@ -332,8 +320,7 @@ fn if_else(
             all,
             types,
             bodies,
-            count,
-            newest,
+            scope,
             calls,
             depth,
             store,
@@ -349,8 +336,7 @@ fn if_else(
         all,
         types,
         bodies,
-        count,
-        newest,
+        scope,
         calls,
         depth,
         store,
@@ -367,16 +353,15 @@ fn else_part(
     all: &[u32],
     types: &[u32],
     bodies: &[u32],
-    count: u32,
-    newest: u32,
+    scope: Scope,
     calls: u32,
     depth: usize,
-    store: &mut [i64; WORDS],
+    store: &mut Store,
     left: u64,
     n: u32,
     at: usize,
 ) -> u64
-    ensures { λ r. ⌜ MarksElse (now (text .entry)) (now (work .entry)) (now (all .entry)) (now (types .entry)) (now (bodies .entry)) count newest calls depth n at (now (store .entry)) left (now (store .exit)) r ⌝ }
+    ensures { λ r. ⌜ MarksElse (now (text .entry)) (now (work .entry)) (now (all .entry)) (now (types .entry)) (now (bodies .entry)) scope calls depth n at (now (store .entry)) left (now (store .exit)) r ⌝ }
 {
     let e = end_at(text, at);
     match e {
@@ -387,8 +372,7 @@ fn else_part(
             all,
             types,
             bodies,
-            count,
-            newest,
+            scope,
             calls,
             depth,
             store,
@@ -406,21 +390,20 @@ fn repeat(
     all: &[u32],
     types: &[u32],
     bodies: &[u32],
-    count: u32,
-    newest: u32,
+    scope: Scope,
     calls: u32,
     depth: usize,
-    store: &mut [i64; WORDS],
+    store: &mut Store,
     left: u64,
     n: u32,
     c: usize,
     b: usize,
 ) -> u64
-    ensures { λ r. ⌜ MarksWhile (now (text .entry)) (now (work .entry)) (now (all .entry)) (now (types .entry)) (now (bodies .entry)) count newest calls depth n c b (now (store .entry)) left (now (store .exit)) r ⌝ }
+    ensures { λ r. ⌜ MarksWhile (now (text .entry)) (now (work .entry)) (now (all .entry)) (now (types .entry)) (now (bodies .entry)) scope calls depth n c b (now (store .entry)) left (now (store .exit)) r ⌝ }
 {
     let mut t = left;
     loop {
-        let x = condition(text, work, types, count, newest, store, c);
+        let x = condition(text, work, types, scope, store, c);
         if x > GREATEST {
             return halting(store, t, x, n);
         }
@@ -437,8 +420,7 @@ fn repeat(
             all,
             types,
             bodies,
-            count,
-            newest,
+            scope,
             calls,
             depth,
             store,
@@ -460,18 +442,17 @@ fn count_up(
     all: &[u32],
     types: &[u32],
     bodies: &[u32],
-    count: u32,
-    newest: u32,
+    scope: Scope,
     calls: u32,
     depth: usize,
-    store: &mut [i64; WORDS],
+    store: &mut Store,
     left: u64,
     n: u32,
     at: usize,
 ) -> u64
-    ensures { λ r. ⌜ MarksVerb (now (text .entry)) (now (work .entry)) (now (all .entry)) (now (types .entry)) (now (bodies .entry)) count newest calls For depth n at (now (store .entry)) left (now (store .exit)) r ⌝ }
+    ensures { λ r. ⌜ MarksVerb (now (text .entry)) (now (work .entry)) (now (all .entry)) (now (types .entry)) (now (bodies .entry)) scope calls For depth n at (now (store .entry)) left (now (store .exit)) r ⌝ }
 {
-    let s = bounds(text, work, types, count, newest, store, at);
+    let s = bounds(text, work, types, scope, store, at);
     let p = plan_for(s);
     match p {
         Plan::Rounds(a, x, y) => {
@@ -482,8 +463,7 @@ fn count_up(
                 all,
                 types,
                 bodies,
-                count,
-                newest,
+                scope,
                 calls,
                 depth,
                 store,
@@ -508,11 +488,10 @@ fn rounds(
     all: &[u32],
     types: &[u32],
     bodies: &[u32],
-    count: u32,
-    newest: u32,
+    scope: Scope,
     calls: u32,
     depth: usize,
-    store: &mut [i64; WORDS],
+    store: &mut Store,
     left: u64,
     n: u32,
     a: u32,
@@ -520,7 +499,7 @@ fn rounds(
     y: i64,
     b: usize,
 ) -> u64
-    ensures { λ r. ⌜ MarksRounds (now (text .entry)) (now (work .entry)) (now (all .entry)) (now (types .entry)) (now (bodies .entry)) count newest calls depth n a x y b (now (store .entry)) left (now (store .exit)) r ⌝ }
+    ensures { λ r. ⌜ MarksRounds (now (text .entry)) (now (work .entry)) (now (all .entry)) (now (types .entry)) (now (bodies .entry)) scope calls depth n a x y b (now (store .entry)) left (now (store .exit)) r ⌝ }
 {
     let mut z = x;
     let mut t = left;
@@ -536,8 +515,7 @@ fn rounds(
             all,
             types,
             bodies,
-            count,
-            newest,
+            scope,
             calls,
             depth,
             store,
@@ -563,23 +541,22 @@ fn choose(
     all: &[u32],
     types: &[u32],
     bodies: &[u32],
-    count: u32,
-    newest: u32,
+    scope: Scope,
     calls: u32,
     depth: usize,
-    store: &mut [i64; WORDS],
+    store: &mut Store,
     left: u64,
     n: u32,
     at: usize,
 ) -> u64
-    ensures { λ r. ⌜ MarksVerb (now (text .entry)) (now (work .entry)) (now (all .entry)) (now (types .entry)) (now (bodies .entry)) count newest calls Case depth n at (now (store .entry)) left (now (store .exit)) r ⌝ }
+    ensures { λ r. ⌜ MarksVerb (now (text .entry)) (now (work .entry)) (now (all .entry)) (now (types .entry)) (now (bodies .entry)) scope calls Case depth n at (now (store .entry)) left (now (store .exit)) r ⌝ }
 {
-    let x = selector(text, work, types, count, newest, store, at);
+    let x = selector(text, work, types, scope, store, at);
     let w = x.word;
     if w > GREATEST {
         return halting(store, left, w, n);
     }
-    let a = choose_arm(text, work, count, newest, x.kind, w, n, skip(text, at));
+    let a = choose_arm(text, work, scope, x.kind, w, n, skip(text, at));
     match a {
         Arm::Taken(q, m) => mark_stmt(
             text,
@@ -587,8 +564,7 @@ fn choose(
             all,
             types,
             bodies,
-            count,
-            newest,
+            scope,
             calls,
             depth,
             store,
@@ -608,21 +584,20 @@ fn call(
     all: &[u32],
     types: &[u32],
     bodies: &[u32],
-    count: u32,
-    newest: u32,
+    scope: Scope,
     calls: u32,
     depth: usize,
-    store: &mut [i64; WORDS],
+    store: &mut Store,
     left: u64,
     n: u32,
     at: usize,
 ) -> u64
-    ensures { λ r. ⌜ MarksVerb (now (text .entry)) (now (work .entry)) (now (all .entry)) (now (types .entry)) (now (bodies .entry)) count newest calls Call depth n at (now (store .entry)) left (now (store .exit)) r ⌝ }
+    ensures { λ r. ⌜ MarksVerb (now (text .entry)) (now (work .entry)) (now (all .entry)) (now (types .entry)) (now (bodies .entry)) scope calls Call depth n at (now (store .entry)) left (now (store .exit)) r ⌝ }
 {
     if calls == 0 {
         return left;
     }
-    let q = callee(text, work, count, newest, at);
+    let q = callee(text, work, scope, at);
     mark_body(text, work, all, bodies, calls - 1, store, left, q)
 }
 
@@ -633,15 +608,14 @@ fn front(
     all: &[u32],
     types: &[u32],
     bodies: &[u32],
-    count: u32,
-    newest: u32,
+    scope: Scope,
     calls: u32,
-    store: &mut [i64; WORDS],
+    store: &mut Store,
     left: u64,
     n: u32,
     at: usize,
 ) -> u64
-    ensures { λ r. ⌜ MarksFront (now (text .entry)) (now (work .entry)) (now (all .entry)) (now (types .entry)) (now (bodies .entry)) count newest calls n at (now (store .entry)) left (now (store .exit)) r ⌝ }
+    ensures { λ r. ⌜ MarksFront (now (text .entry)) (now (work .entry)) (now (all .entry)) (now (types .entry)) (now (bodies .entry)) scope calls n at (now (store .entry)) left (now (store .exit)) r ⌝ }
 {
     let mut t = left;
     let mut m = n;
@@ -662,8 +636,7 @@ fn front(
                     all,
                     types,
                     bodies,
-                    count,
-                    newest,
+                    scope,
                     calls,
                     33,
                     store,
@@ -689,15 +662,14 @@ fn body_from(
     all: &[u32],
     types: &[u32],
     bodies: &[u32],
-    count: u32,
-    newest: u32,
+    scope: Scope,
     calls: u32,
-    store: &mut [i64; WORDS],
+    store: &mut Store,
     left: u64,
     n: u32,
     at: usize,
 ) -> u64
-    ensures { λ r. ⌜ MarksWithin (now (text .entry)) (now (work .entry)) (now (all .entry)) (now (types .entry)) (now (bodies .entry)) count newest calls n at (now (store .entry)) left (now (store .exit)) r ⌝ }
+    ensures { λ r. ⌜ MarksWithin (now (text .entry)) (now (work .entry)) (now (all .entry)) (now (types .entry)) (now (bodies .entry)) scope calls n at (now (store .entry)) left (now (store .exit)) r ⌝ }
 {
     let o = front(
         text,
@@ -705,8 +677,7 @@ fn body_from(
         all,
         types,
         bodies,
-        count,
-        newest,
+        scope,
         calls,
         store,
         left,
@@ -727,8 +698,7 @@ fn body_from(
             all,
             types,
             bodies,
-            count,
-            newest,
+            scope,
             calls,
             33,
             store,
@@ -747,14 +717,14 @@ pub fn mark_body(
     types: &[u32],
     bodies: &[u32],
     calls: u32,
-    store: &mut [i64; WORDS],
+    store: &mut Store,
     left: u64,
     q: u32,
 ) -> u64
     ensures { λ r. ⌜ MarksBody (now (text .entry)) (now (work .entry)) (now (types .entry)) (now (bodies .entry)) calls q (now (store .entry)) left (now (store .exit)) r ⌝ }
 {
     let e = line_of(bodies, q);
-    let mut seen = [0u32; 66];
+    let mut seen = [0u32; MOST_TYPES];
     clip_types(types, e.kinds, &mut seen);
     body_from(
         text,
@@ -762,8 +732,7 @@ pub fn mark_body(
         types,
         &seen,
         bodies,
-        e.count,
-        e.newest,
+        e.scope,
         calls,
         store,
         left,

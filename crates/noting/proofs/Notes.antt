@@ -46,8 +46,8 @@ module _ (s : List ℕ) (at : ℕ) where
 pub ruleset offset-laws = (offset-low, offset-past)
 
 module _ (s : List ℕ) (kn : Known) (at : ℕ) (tb : List ℕ) where
-  pub first-noted : (n : ℕ) (t u v : List ℕ) → n ≡ offsetIn s at → t ≡ set tb (5 * (kn .state .procs % 64)) n → u ≡ set t (5 * (kn .state .procs % 64) + 1) (kn .state .count)
-      → v ≡ set u (5 * (kn .state .procs % 64) + 2) (kn .state .newest) → v ≡ notedFirst s kn at tb
+  pub first-noted : (n : ℕ) (t u v : List ℕ) → n ≡ offsetIn s at → t ≡ set tb (5 * (kn .state .procs % 64)) n → u ≡ set t (5 * (kn .state .procs % 64) + 1) (kn .state .scope .count)
+      → v ≡ set u (5 * (kn .state .procs % 64) + 2) (kn .state .scope .newest) → v ≡ notedFirst s kn at tb
   unfolding notedFirst
   first-noted n t u v e f g h = h ∙ rw (g, f, e) refl
 
@@ -117,37 +117,37 @@ module _ (p a b c d e : ℕ) (tb : List ℕ) where
 
 -- the line of body q, which is the next
 module _ (s : List ℕ) (kn : Known) (at : ℕ) (tb : List ℕ) where
-  noted-five : noted s kn at tb ≡ five (5 * (kn .state .procs % 64)) (offsetIn s at) (kn .state .count) (kn .state .newest) (kn .stmts) (kn .state .types) tb
+  noted-five : noted s kn at tb ≡ five (5 * (kn .state .procs % 64)) (offsetIn s at) (kn .state .scope .count) (kn .state .scope .newest) (kn .stmts) (kn .state .types) tb
   unfolding noted notedFirst notedLast five
   noted-five = refl
 
   pub noted-long : length (noted s kn at tb) ≡ length tb
-  noted-long = rw noted-five (long-five (5 * (kn .state .procs % 64)) (offsetIn s at) (kn .state .count) (kn .state .newest) (kn .stmts) (kn .state .types) tb)
+  noted-long = rw noted-five (long-five (5 * (kn .state .procs % 64)) (offsetIn s at) (kn .state .scope .count) (kn .state .scope .newest) (kn .stmts) (kn .state .types) tb)
 
   module _ (q : ℕ) (here : kn .state .procs ≡ q) (few : q ≤ 32) (long : 165 ≤ length tb) where
-    noted-here : noted s kn at tb ≡ five (5 * q) (offsetIn s at) (kn .state .count) (kn .state .newest) (kn .stmts) (kn .state .types) tb
+    noted-here : noted s kn at tb ≡ five (5 * q) (offsetIn s at) (kn .state .scope .count) (kn .state .scope .newest) (kn .stmts) (kn .state .types) tb
     noted-here = let e : kn .state .procs % 64 ≡ q = ap (λ (n : ℕ). n % 64) here ∙ mod-eq-of-lt (omega arith) in noted-five ∙ rw e refl
 
     inside : 5 * q + 4 < length tb
     inside = omega arith
 
     pub noted-offset : offsetOf (noted s kn at tb) q ≡ offsetIn s at
-    noted-offset = rw noted-here (at-0 (5 * q) (offsetIn s at) (kn .state .count) (kn .state .newest) (kn .stmts) (kn .state .types) tb inside)
+    noted-offset = rw noted-here (at-0 (5 * q) (offsetIn s at) (kn .state .scope .count) (kn .state .scope .newest) (kn .stmts) (kn .state .types) tb inside)
 
-    pub noted-count : countOf (noted s kn at tb) q ≡ kn .state .count
-    noted-count = rw noted-here (at-1 (5 * q) (offsetIn s at) (kn .state .count) (kn .state .newest) (kn .stmts) (kn .state .types) tb inside)
+    pub noted-count : countOf (noted s kn at tb) q ≡ kn .state .scope .count
+    noted-count = rw noted-here (at-1 (5 * q) (offsetIn s at) (kn .state .scope .count) (kn .state .scope .newest) (kn .stmts) (kn .state .types) tb inside)
 
-    pub noted-newest : newestOf (noted s kn at tb) q ≡ kn .state .newest
-    noted-newest = rw noted-here (at-2 (5 * q) (offsetIn s at) (kn .state .count) (kn .state .newest) (kn .stmts) (kn .state .types) tb inside)
+    pub noted-newest : newestOf (noted s kn at tb) q ≡ kn .state .scope .newest
+    noted-newest = rw noted-here (at-2 (5 * q) (offsetIn s at) (kn .state .scope .count) (kn .state .scope .newest) (kn .stmts) (kn .state .types) tb inside)
 
     pub noted-stmts : stmtsBefore (noted s kn at tb) q ≡ kn .stmts
-    noted-stmts = rw noted-here (at-3 (5 * q) (offsetIn s at) (kn .state .count) (kn .state .newest) (kn .stmts) (kn .state .types) tb inside)
+    noted-stmts = rw noted-here (at-3 (5 * q) (offsetIn s at) (kn .state .scope .count) (kn .state .scope .newest) (kn .stmts) (kn .state .types) tb inside)
 
     pub noted-types : typesOf (noted s kn at tb) q ≡ kn .state .types
-    noted-types = rw noted-here (at-4 (5 * q) (offsetIn s at) (kn .state .count) (kn .state .newest) (kn .stmts) (kn .state .types) tb inside)
+    noted-types = rw noted-here (at-4 (5 * q) (offsetIn s at) (kn .state .scope .count) (kn .state .scope .newest) (kn .stmts) (kn .state .types) tb inside)
 
     elsewhere : (i : ℕ) → i < 5 * q → getD (noted s kn at tb) i 0 ≡ getD tb i 0
-    elsewhere i h = rw noted-here (other (5 * q) (offsetIn s at) (kn .state .count) (kn .state .newest) (kn .stmts) (kn .state .types) tb i
+    elsewhere i h = rw noted-here (other (5 * q) (offsetIn s at) (kn .state .scope .count) (kn .state .scope .newest) (kn .stmts) (kn .state .types) tb i
         (λ z. absurd (omega (arith, z))) (λ z. absurd (omega (arith, z))) (λ z. absurd (omega (arith, z))) (λ z. absurd (omega (arith, z))) (λ z. absurd (omega (arith, z))))
 
     -- the bodies before have theirs

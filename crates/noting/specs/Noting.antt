@@ -10,7 +10,7 @@ offsetIn s at = min at (length s) % 65536
 
 -- the first three numbers of the next body, whose parts begin at an offset
 unfoldable pub notedFirst : List ℕ → Known → ℕ → List ℕ → List ℕ
-notedFirst s kn at tb = set (set (set tb (5 * (kn .state .procs % 64)) (offsetIn s at)) (5 * (kn .state .procs % 64) + 1) (kn .state .count)) (5 * (kn .state .procs % 64) + 2) (kn .state .newest)
+notedFirst s kn at tb = set (set (set tb (5 * (kn .state .procs % 64)) (offsetIn s at)) (5 * (kn .state .procs % 64) + 1) (kn .state .scope .count)) (5 * (kn .state .procs % 64) + 2) (kn .state .scope .newest)
 
 -- and the other two
 unfoldable pub notedLast : Known → List ℕ → List ℕ

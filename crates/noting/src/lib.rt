@@ -21,8 +21,8 @@ fn note_first(text: &[u8], bodies: &mut [u32], kn: Known, at: usize)
     let st = kn.state;
     let p = 5 * (st.procs % 64) as usize;
     put(bodies, p, offset_in(text, at));
-    put(bodies, p + 1, st.count);
-    put(bodies, p + 2, st.newest);
+    put(bodies, p + 1, st.scope.count);
+    put(bodies, p + 2, st.scope.newest);
 }
 
 // Writes the other two.

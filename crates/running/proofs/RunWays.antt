@@ -8,6 +8,7 @@ use native.Mathlib.Omega.{arith}
 use lib.IntN.{ℤ}
 use lib.ListN.{length, getD, take, drop, replicate}
 use lib.Seq.{take-at}
+use Rattle.declarations.specs.State.{notes}
 use Rattle.semantics.specs.ListMachine.{called}
 use Rattle.semantics.specs.Machine.{Answer, State, state}
 use Rattle.semantics.specs.Store.{faultOf, storeFault}
@@ -100,12 +101,12 @@ pub ruleset checked-laws = (checked-refused, checked-run)
 -- ---- the whole
 
 module _ (s l : List ℕ) (n : ℕ) (i : n ≡ min 16384 (length l)) (c : Checked) (l′ ts′ : List ℕ) (vs : List ℤ) (ms : List ℕ) (budget : ℕ) where
-  pub run-told : (r : Report) (vs′ : List ℤ) (ms′ : List ℕ) → Checks s (take n l) (replicate 66 0) c l′ ts′ → length l′ ≡ length (take n l)
+  pub run-told : (r : Report) (vs′ : List ℤ) (ms′ : List ℕ) → Checks s (take n l) (replicate notes 0) c l′ ts′ → length l′ ≡ length (take n l)
       → RunsChecked (take n (l′ ++ drop n l)) ts′ c vs ms budget r vs′ ms′ → Reports (runOf s (length l) vs ms budget) r vs′ ms′
   unfolding runOf
   run-told r vs′ ms′ C e R =
       let k : n ≡ length (take n l) = part-long l n i in
       let front : take n (l′ ++ drop n l) ≡ l′ = take-at l′ (drop n l) n (e ∙ sym k) in
       let v : verdictOf s (length (take n l)) ≡ verdictOf s (length l) = ap (λ m. verdictOf s m) (sym k ∙ i) ∙ verdict-same s (length l) in
-      let D : CheckedBy s l′ ts′ (verdictOf s (length l)) c = subst (λ (x : Meaning.Verdict Read). CheckedBy s l′ ts′ x c) v (C .says (omega arith) (zeros 66)) in
+      let D : CheckedBy s l′ ts′ (verdictOf s (length l)) c = subst (λ (x : Meaning.Verdict Read). CheckedBy s l′ ts′ x c) v (C .says (omega arith) (zeros notes)) in
       rw front at R .says s (length l) (omega arith) D

@@ -1,6 +1,7 @@
 // A run: the text is checked, the lent store tested, and the code run over it.
 use answers::Report;
 use chair::run as run_code;
+use declarations::NOTES;
 use judgements::Known;
 use stores::store_fault;
 use texts::Checked;
@@ -61,7 +62,7 @@ pub fn run(
 ) -> Report
     ensures { λ r. ⌜ Reports (runOf (now (text .entry)) (length (now (work .entry))) (now (values .entry)) (now (marks .entry)) budget) r (now (values .exit)) (now (marks .exit)) × (now (work .exit) ≡ workAfter (now (work .entry))) ⌝ }
 {
-    let mut types = [0; 66];
+    let mut types = [0; NOTES];
     let n = working(work.len());
     let c = check(text, &mut work[..n], &mut types);
     let r = run_checked(&work[..n], &types, c, values, marks, budget);

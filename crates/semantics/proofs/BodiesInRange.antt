@@ -128,8 +128,13 @@ unfolding storeFault faultOf
 sound-store Γ ts n m e s =
     let lv : length (take n (m .values)) ≡ length ts = length-take-le n (m .values) (omega (arith, e, s .enough, tests-length Γ ts)) ∙ e in
     let lm : length (take n (m .marks)) ≡ length ts = length-take-le n (m .marks) (omega (arith, e, s .enough, s .long, tests-length Γ ts)) ∙ e in
-    rw (lv, lm, eq-eqb (length ts) (length ts) refl, each-cells Γ ts (take n (m .values)) (take n (m .marks))
-    (λ i l. rw (getD-take n (m .values) i (pos 0) (omega (arith, e)), getD-take n (m .marks) i 0 (omega (arith, e))) (s .each i)))
+    rw (
+      lv,
+      lm,
+      eq-eqb (length ts) (length ts) refl,
+      each-cells Γ ts (take n (m .values)) (take n (m .marks))
+          (λ i l. rw (getD-take n (m .values) i (pos 0) (omega (arith, e)), getD-take n (m .marks) i 0 (omega (arith, e))) (s .each i)),
+    )
 
 -- ---- an accepted text
 

@@ -109,6 +109,7 @@ count-n N a lo hi x y h = opened-n N a x h (planned lo hi x y)
 module _ (ps : Procs) (h : (i : ℕ) → Notes (procedureAt ps i)) where
   mutual
     unfolding runAct runActs runCases
+
     run-n : {a : C.Act} → SizedAct a → Notes (runAct ps a)
     run-n (Sized.assignOrdinal {p = p} {lo = lo} {hi = hi} {c = c} N P L H S) =
         step-n (after-n N (λ s. evalCode c (s .store)) λ zs. after-n N (λ s. placeCode p (s .store)) λ a. ordinal-n N a lo hi (sole zs))

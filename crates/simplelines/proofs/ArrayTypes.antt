@@ -31,7 +31,7 @@ use Rattle.tables.specs.declared.Fault.{Fault}
 use Rattle.tables.specs.declared.Fault.the-variants.{Clear, Kind, Form}
 use Rattle.tables.specs.declared.Fault.the-variants as fault
 use Rattle.tables.specs.declared.Info.{Info}
-use Rattle.tables.specs.Descriptions.{infoOf, shapeNumber}
+use Rattle.tables.specs.Descriptions.{infoOf, shapeNumber, noInfo}
 use Rattle.tables.proofs.Telling.{shape-ordinal, low-told, high-told, size-told}
 use Rattle.parts.specs.Got.{isForm, lowest, faultOf}
 use Rattle.parts.specs.Parts.{Before}
@@ -82,9 +82,9 @@ fits-many a b h = rw (le-ltb a 256 h) refl
 
 pub ruleset fits-laws = (fits-few, fits-many)
 
-pub no-shape-is : (q : ℕ) → record { fault = Form; info = record { shape = 0; host = 0; low = 0; high = 0; size = 0; index = 0; element = 0; fields = 0; place = 0 }; within = false; next = q } ≡ noShape q
+pub no-shape-is : (q : ℕ) (x : Info) → x ≡ noInfo → record { fault = Form; info = x; within = false; next = q } ≡ noShape q
 unfolding noShape
-no-shape-is q = refl
+no-shape-is q x e = rw e refl
 
 pub array-shape-is : (f g : Fault) (x y : Info) (i e q : ℕ) (u v o : Fault) (n c : ℕ) (b : Bool) → u ≡ lowest f g → o ≡ ordinalFault (x .shape) → v ≡ lowest u o
     → n ≡ spanOf (x .low) (x .high) → b ≡ arrayFits n (y .size) → c ≡ (n % 256 + 1) * (y .size % 4096)
@@ -187,7 +187,7 @@ no-shape-form q z = false≢true (sym z)
 
 -- ---- `array_of`
 
-module _ (s l ts : List ℕ) (st : State) (at : ℕ) (i : Typed) (G : GivesType s l (st .count) (st .newest) at i) (f : Fault) (hf : f ≡ i .fault) where
+module _ (s l ts : List ℕ) (st : State) (at : ℕ) (i : Typed) (G : GivesType s l (st .scope) at i) (f : Fault) (hf : f ≡ i .fault) where
   abbrev us : Trees Run
   us = first (stackAt s at)
 
@@ -199,7 +199,7 @@ module _ (s l ts : List ℕ) (st : State) (at : ℕ) (i : Typed) (G : GivesType 
         (none-wrong (typeNameIn us) (typeOf (k .env)) (λ _. true) some (sym (sym hf ∙ form-is f (sym hb ∙ j)) ∙ G .says ts (st .top) (k .env) bs (H .scene) .fault-is)));
   })
 
-  module _ (b : Bool) (hb : b ≡ isForm f) (j : b ≡ false) (e : Typed) (E : GivesLastType s l (st .count) (st .newest) (i .next) e) (g : Fault) (hg : g ≡ e .fault)
+  module _ (b : Bool) (hb : b ≡ isForm f) (j : b ≡ false) (e : Typed) (E : GivesLastType s l (st .scope) (i .next) e) (g : Fault) (hg : g ≡ e .fault)
       (x y : Info) (hx : x ≡ infoOf l ts (i .kind)) (hy : y ≡ infoOf l ts (e .kind)) where
     before : (u : Tree Run) × Before s at u (i .next)
     before = G .goes (ap isForm (sym hf) ∙ sym hb ∙ j)

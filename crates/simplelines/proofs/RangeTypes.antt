@@ -33,10 +33,12 @@ use Rattle.semantics.specs.Syntax as Syntax
 use Rattle.semantics.specs.Syntax.{Constant, TypeForm, typeLine}
 use Rattle.semantics.specs.Trees.{Tree, Trees, end, Run, first, stackAt}
 use Rattle.semantics.proofs.Inversion.{and-true}
+use Rattle.tables.specs.declared.Scope.{Scope}
 use Rattle.tables.specs.declared.Fault.{Fault}
 use Rattle.tables.specs.declared.Fault.the-variants.{Clear, Kind, Form}
-use Rattle.tables.specs.Descriptions.{shapeNumber}
+use Rattle.tables.specs.Descriptions.{shapeNumber, ordinalInfo}
 use Rattle.tables.specs.Scene.{Scene}
+use Rattle.tables.specs.declared.Info.{Info}
 use Rattle.parts.specs.Got.{isForm, lowest, faultOf}
 use Rattle.parts.specs.Parts.{Before, ShutAt, Shuts}
 use Rattle.parts.specs.declared.End.{End}
@@ -62,18 +64,18 @@ use Rattle.simplelines.proofs.TwoParts.{two-staged, two-fault, two-made
 
 -- ---- the last constant
 
-no-last : (s l : List ℕ) (count newest at q : ℕ) → ((ts : List ℕ) (top : ℕ) (σ : Environment) (bs : List ℕ) → Scene s l ts count newest top σ bs → lastConstant (first (stackAt s at)) ≡ none)
-    → GivesLastConstant s l count newest at (valued Form 0 (pos 0) q)
+no-last : (s l : List ℕ) (scope : Scope) (at q : ℕ) → ((ts : List ℕ) (top : ℕ) (σ : Environment) (bs : List ℕ) → Scene s l ts scope top σ bs → lastConstant (first (stackAt s at)) ≡ none)
+    → GivesLastConstant s l scope at (valued Form 0 (pos 0) q)
 unfolding staged
-no-last s l count newest at q h = record {
+no-last s l scope at q h = record {
   goes = λ k. absurd (false≢true (sym k));
   says = λ ts top σ bs S. rw (h ts top σ bs S) (record { fault-is = refl; value-is = λ c e. wrong-fits e });
 }
 
-module _ (s l : List ℕ) (count newest at : ℕ) (t : Valued) (G : GivesConstant s l count newest at t) (f : Fault) (d : f ≡ t .fault) (r : Valued) where
-  pub last-form : (b : Bool) → b ≡ isForm f → b ≡ true → r ≡ valued Form 0 (pos 0) at → GivesLastConstant s l count newest at r
+module _ (s l : List ℕ) (scope : Scope) (at : ℕ) (t : Valued) (G : GivesConstant s l scope at t) (f : Fault) (d : f ≡ t .fault) (r : Valued) where
+  pub last-form : (b : Bool) → b ≡ isForm f → b ≡ true → r ≡ valued Form 0 (pos 0) at → GivesLastConstant s l scope at r
   unfolding lastConstant
-  last-form b e i g = rw g (no-last s l count newest at at (λ ts top σ bs S.
+  last-form b e i g = rw g (no-last s l scope at at (λ ts top σ bs S.
       bound-none (constantIn (first (stackAt s at))) _
       (none-wrong (constantIn (first (stackAt s at))) (constantOf σ) plain some (sym (sym d ∙ form-is f (sym e ∙ i)) ∙ G .says ts top σ bs S .fault-is))))
 
@@ -84,14 +86,14 @@ module _ (s l : List ℕ) (count newest at : ℕ) (t : Valued) (G : GivesConstan
     rest-is : rest (first (stackAt s at)) ≡ first (stackAt s (t .next))
     rest-is = ap rest (passed .1 .here)
 
-    pub last-more : x ≡ ending.More → r ≡ valued Form 0 (pos 0) at → GivesLastConstant s l count newest at r
+    pub last-more : x ≡ ending.More → r ≡ valued Form 0 (pos 0) at → GivesLastConstant s l scope at r
     unfolding lastConstant
     last-more j g =
         let m : first (stackAt s (t .next)) ≡ end → ⊥ = rw j at (E .says) in
-        rw g (no-last s l count newest at at (λ ts top σ bs S.
+        rw g (no-last s l scope at at (λ ts top σ bs S.
         bound-nones (constantIn (first (stackAt s at))) _ (λ a. more-closed (rest (first (stackAt s at))) a (λ z. m (sym rest-is ∙ z)))))
 
-    pub last-past : (q : ℕ) → x ≡ ending.Past q → SFits w64 (t .value) → r ≡ valued f (t .kind) (wire (t .value)) q → GivesLastConstant s l count newest at r
+    pub last-past : (q : ℕ) → x ≡ ending.Past q → SFits w64 (t .value) → r ≡ valued f (t .kind) (wire (t .value)) q → GivesLastConstant s l scope at r
     unfolding lastConstant closed
     last-past q j p g =
         let m : ShutAt s (t .next) q = rw j at (E .says) in
@@ -159,12 +161,12 @@ module _ (a : ℕ) (y : ℤ) (b : ℕ) (z : ℤ) where
 pub ruleset fault-laws = (fault-kinds, fault-none, fault-reversed)
 
 pub shape-is : (f g : Fault) (a : ℕ) (y : ℤ) (b : ℕ) (z : ℤ) (q : ℕ) → SFits w64 y → SFits w64 z → (u : Fault) → u ≡ lowest f g → (o : Fault) → o ≡ rangeFault a (wire y) b (wire z)
-    → (v : Fault) → v ≡ lowest u o → (m : ℕ) → IsBits (wire y) m → (n : ℕ) → IsBits (wire z) n
-    → GivesRange f g a y b z q (record { fault = v; info = record { shape = 0; host = a; low = m; high = n; size = 1; index = 0; element = 0; fields = 0; place = 0 }; within = true; next = q })
+    → (v : Fault) → v ≡ lowest u o → (m : ℕ) → IsBits (wire y) m → (n : ℕ) → IsBits (wire z) n → (x : Info) → x ≡ ordinalInfo a m n
+    → GivesRange f g a y b z q (record { fault = v; info = x; within = true; next = q })
 unfolding rangeShaped
-shape-is f g a y b z q py pz u hu o ho v hv m hm n hn =
+shape-is f g a y b z q py pz u hu o ho v hv m hm n hn x hx =
     let i : o ≡ rangeFault a y b z = ho ∙ rw (toZ-ofZ py, toZ-ofZ pz) refl in
-    record { m = m; n = n; low-is = rw (toZ-ofZ py) at hm; high-is = rw (toZ-ofZ pz) at hn; answer = rw (hv, hu, i) refl }
+    record { m = m; n = n; low-is = rw (toZ-ofZ py) at hm; high-is = rw (toZ-ofZ pz) at hn; answer = rw (hv, hu, i, hx) refl }
 
 -- ---- stages
 
@@ -217,7 +219,7 @@ range-faults a y b z = go (eqb a b && leZ y z)
 
 -- ---- `range_of`
 
-module _ (s l ts : List ℕ) (st : State) (at : ℕ) (a : Valued) (G : GivesConstant s l (st .count) (st .newest) at a) (f : Fault) (hf : f ≡ a .fault) where
+module _ (s l ts : List ℕ) (st : State) (at : ℕ) (a : Valued) (G : GivesConstant s l (st .scope) at a) (f : Fault) (hf : f ≡ a .fault) where
   abbrev us : Trees Run
   us = first (stackAt s at)
 
@@ -229,7 +231,7 @@ module _ (s l ts : List ℕ) (st : State) (at : ℕ) (a : Valued) (G : GivesCons
         (none-wrong (constantIn us) (constantOf (k .env)) plain some (sym (sym hf ∙ form-is f (sym ht ∙ j)) ∙ G .says ts (st .top) (k .env) bs (H .scene) .fault-is)));
   })
 
-  module _ (t : Bool) (ht : t ≡ isForm f) (j : t ≡ false) (b : Valued) (E : GivesLastConstant s l (st .count) (st .newest) (a .next) b) (g : Fault) (hg : g ≡ b .fault) where
+  module _ (t : Bool) (ht : t ≡ isForm f) (j : t ≡ false) (b : Valued) (E : GivesLastConstant s l (st .scope) (a .next) b) (g : Fault) (hg : g ≡ b .fault) where
     before : (u : Tree Run) × Before s at u (a .next)
     before = G .goes (ap isForm (sym hf) ∙ sym ht ∙ j)
 

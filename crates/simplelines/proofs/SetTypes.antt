@@ -167,7 +167,7 @@ lowest-form Form g h = h
 
 -- ---- `set_of`
 
-pub set-is : (s l ts : List ℕ) (st : State) (at : ℕ) (t : Typed) → GivesLastType s l (st .count) (st .newest) at t → (f : Fault) → f ≡ t .fault
+pub set-is : (s l ts : List ℕ) (st : State) (at : ℕ) (t : Typed) → GivesLastType s l (st .scope) at t → (f : Fault) → f ≡ t .fault
     → (x : Info) → x ≡ infoOf l ts (t .kind) → (o : Fault) → o ≡ ordinalFault (x .shape) → (v : Fault) → v ≡ lowest f o → (b : Bool) → b ≡ baseFits (x .low) (x .high)
     → GivesShape s l ts st at (setIn (first (stackAt s at)))
     (record { fault = v; info = record { shape = 1; host = 0; low = x .low; high = x .high; size = 1; index = 0; element = t .kind; fields = 0; place = 0 }; within = b; next = t .next })

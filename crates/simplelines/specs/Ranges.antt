@@ -12,6 +12,7 @@ use Rattle.sets.specs.Sets.{patternOf}
 use Rattle.semantics.specs.Layout.{bits}
 use Rattle.tables.specs.declared.Fault.{Fault}
 use Rattle.tables.specs.declared.Fault.the-variants.{Clear, Kind}
+use Rattle.tables.specs.Descriptions.{ordinalInfo}
 use Rattle.parts.specs.Got.{lowest}
 use Rattle.typelines.specs.declared.Shaped.{Shaped}
 
@@ -32,7 +33,7 @@ rangeFault a y b z = cond (eqb a b && leZ y z) Clear Kind
 unfoldable pub rangeShaped : Fault → Fault → ℕ → ℤ → ℕ → ℤ → ℕ → ℕ → ℕ → Shaped
 rangeShaped f g a y b z m n q = record {
   fault = lowest (lowest f g) (rangeFault a y b z);
-  info = record { shape = 0; host = a; low = m; high = n; size = 1; index = 0; element = 0; fields = 0; place = 0 };
+  info = ordinalInfo a m n;
   within = true;
   next = q;
 }

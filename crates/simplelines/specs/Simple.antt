@@ -9,6 +9,7 @@ use Rattle.semantics.specs.Trees.{Trees, Run}
 use Rattle.tables.specs.declared.Fault.{Fault}
 use Rattle.tables.specs.declared.Fault.the-variants.{Clear, Kind, Form}
 use Rattle.tables.specs.declared.Info.{Info}
+use Rattle.tables.specs.Descriptions.{noInfo}
 use Rattle.parts.specs.Got.{lowest}
 use Rattle.shapes.specs.Parts.{rest, closed, typeNameIn, constantIn}
 use Rattle.typelines.specs.declared.Shaped.{Shaped}
@@ -40,7 +41,7 @@ arrayFits span size = ltb span 256 && leb ((span % 256 + 1) * (size % 4096)) 204
 
 -- the answers where row 6 ends the walk
 unfoldable pub noShape : ℕ → Shaped
-noShape q = record { fault = Form; info = record { shape = 0; host = 0; low = 0; high = 0; size = 0; index = 0; element = 0; fields = 0; place = 0 }; within = false; next = q }
+noShape q = record { fault = Form; info = noInfo; within = false; next = q }
 
 -- an array from its index and element types, whose descriptions are x and y
 unfoldable pub arrayShaped : Fault → Fault → Info → Info → ℕ → ℕ → ℕ → Shaped

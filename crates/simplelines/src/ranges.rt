@@ -11,7 +11,8 @@ use parts::is_form;
 use parts::lowest;
 use sets::pattern;
 use tables::Fault;
-use tables::Info;
+use tables::Scope;
+use tables::ordinal_info;
 use typelines::Shaped;
 ghost use mathlib.Core.Path.{_≡_};
 ghost use Rattle.semantics.specs.Trees.{first, stackAt};
@@ -34,10 +35,10 @@ fn value_answer(fault: Fault, kind: u32, value: i64, next: usize) -> Valued
 }
 
 // The constant that is the last part of a form; the next part stands past the form.
-pub fn last_constant(text: &[u8], work: &[u32], count: u32, newest: u32, at: usize) -> Valued
-    ensures { λ r. ⌜ GivesLastConstant (now (text .entry)) (now (work .entry)) count newest at r ⌝ }
+pub fn last_constant(text: &[u8], work: &[u32], scope: Scope, at: usize) -> Valued
+    ensures { λ r. ⌜ GivesLastConstant (now (text .entry)) (now (work .entry)) scope at r ⌝ }
 {
-    let t = constant(text, work, count, newest, at);
+    let t = constant(text, work, scope, at);
     let f = t.fault;
     if is_form(f) {
         return value_answer(Fault::Form, 0, 0, at);
@@ -89,17 +90,7 @@ fn range_shape(f: Fault, g: Fault, a: u32, y: i64, b: u32, z: i64, next: usize) 
     let fault = lowest(lowest(f, g), range_fault(a, y, b, z));
     let low = bits_of(y);
     let high = bits_of(z);
-    let info = Info {
-        shape: 0,
-        host: a,
-        low: low,
-        high: high,
-        size: 1,
-        index: 0,
-        element: 0,
-        fields: 0,
-        place: 0,
-    };
+    let info = ordinal_info(a, low, high);
     Shaped {
         fault: fault,
         info: info,
@@ -112,12 +103,12 @@ fn range_shape(f: Fault, g: Fault, a: u32, y: i64, b: u32, z: i64, next: usize) 
 pub fn range_of(text: &[u8], work: &[u32], types: &[u32], st: State, at: usize) -> Shaped
     ensures { λ r. ⌜ GivesShape (now (text .entry)) (now (work .entry)) (now (types .entry)) st at (rangeIn (first (stackAt (now (text .entry)) at))) r ⌝ }
 {
-    let a = constant(text, work, st.count, st.newest, at);
+    let a = constant(text, work, st.scope, at);
     let f = a.fault;
     if is_form(f) {
         return no_shape(at);
     }
-    let b = last_constant(text, work, st.count, st.newest, a.next);
+    let b = last_constant(text, work, st.scope, a.next);
     let g = b.fault;
     range_shape(f, g, a.kind, a.value, b.kind, b.value, b.next)
 }

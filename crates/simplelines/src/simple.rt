@@ -7,6 +7,7 @@ use parts::lowest;
 use tables::Fault;
 use tables::Info;
 use tables::describe;
+use tables::no_info;
 use typelines::Shaped;
 ghost use mathlib.Core.Path.{_≡_};
 ghost use Prim.Native.Nat.{_+_, _*_, _%_};
@@ -38,7 +39,7 @@ fn base_fits(low: u32, high: u32) -> bool
 pub fn set_of(text: &[u8], work: &[u32], types: &[u32], st: State, at: usize) -> Shaped
     ensures { λ r. ⌜ GivesShape (now (text .entry)) (now (work .entry)) (now (types .entry)) st at (setIn (first (stackAt (now (text .entry)) at))) r ⌝ }
 {
-    let t = last_type(text, work, st.count, st.newest, at);
+    let t = last_type(text, work, st.scope, at);
     let f = t.fault;
     let x = describe(work, types, t.kind);
     let fault = lowest(f, ordinal_fault(x.shape));
@@ -95,17 +96,7 @@ fn array_fits(span: u32, size: u32) -> bool
 pub fn no_shape(next: usize) -> Shaped
     ensures { λ r. ⌜ r ≡ noShape next ⌝ }
 {
-    let info = Info {
-        shape: 0,
-        host: 0,
-        low: 0,
-        high: 0,
-        size: 0,
-        index: 0,
-        element: 0,
-        fields: 0,
-        place: 0,
-    };
+    let info = no_info();
     Shaped {
         fault: Fault::Form,
         info: info,
@@ -145,12 +136,12 @@ fn array_shape(f: Fault, g: Fault, x: Info, y: Info, i: u32, e: u32, next: usize
 pub fn array_of(text: &[u8], work: &[u32], types: &[u32], st: State, at: usize) -> Shaped
     ensures { λ r. ⌜ GivesShape (now (text .entry)) (now (work .entry)) (now (types .entry)) st at (arrayIn (first (stackAt (now (text .entry)) at))) r ⌝ }
 {
-    let i = type_name(text, work, st.count, st.newest, at);
+    let i = type_name(text, work, st.scope, at);
     let f = i.fault;
     if is_form(f) {
         return no_shape(at);
     }
-    let e = last_type(text, work, st.count, st.newest, i.next);
+    let e = last_type(text, work, st.scope, i.next);
     let g = e.fault;
     let x = describe(work, types, i.kind);
     let y = describe(work, types, e.kind);

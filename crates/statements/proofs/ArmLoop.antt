@@ -23,7 +23,7 @@ use Rattle.semantics.specs.Names.{armsOf}
 use Rattle.semantics.specs.Rules.{keptArms}
 use Rattle.semantics.specs.Stages.{Staged, wrong, fits, staged, named, ruled, join, onFits, orUnfit, labelsStaged, stmtStaged, armsStaged}
 use Rattle.semantics.specs.Syntax as Syntax
-use Rattle.semantics.specs.Trees.{Tree, word, form, Trees, end, _then_, Run, first, later, wordAt, stackAt, nodes, nodesIn}
+use Rattle.semantics.specs.Trees.{word, form, Trees, end, _then_, Run, first, later, stackAt, nodes, nodesIn}
 use Rattle.semantics.proofs.Inversion.{none-some, some-inj, bind-some}
 use Rattle.semantics.proofs.LayoutRegions.{Same, lay-g}
 use Rattle.semantics.proofs.OnePassStmts.{arm-staged, else-staged}
@@ -33,10 +33,11 @@ use Rattle.shapes.specs.declared.ArmHead.the-variants as AH
 use Rattle.shapes.specs.Heads.{armHeadOf, armHeadMeant}
 use Rattle.shapes.specs.Parts.{partOf, rest, closed, stmtIn, armIn, armsIn, elseArmIn, armHeadIn}
 use Rattle.shapes.proofs.Heads.{arm-head-is}
+use Rattle.tables.specs.declared.Scope.{Scope}
 use Rattle.tables.specs.declared.Fault.{Fault}
 use Rattle.tables.specs.declared.Fault.the-variants.{Clear, Kind, Name, Form}
 use Rattle.tables.specs.declared.Info.{Info}
-use Rattle.tables.specs.declared.Mask.{Mask}
+use Rattle.tables.specs.declared.Loops.{Loops}
 use Rattle.tables.specs.Descriptions.{infoOf}
 use Rattle.tables.specs.Scene.{Scene}
 use Rattle.tables.proofs.Kept.{scene-kept}
@@ -227,8 +228,8 @@ unfolding closed
 closed-is end a p h = some-inj h
 closed-is (t then ts) a p h = none-some h
 
-module _ (s l ts : List ℕ) (count newest : ℕ) (loops : Mask) (k d n slot at top : ℕ) where
-  pub arms-start : (g : Got) → g ≡ skipGot n at top → Arming s l ts count newest loops k d n slot at top g slot l
+module _ (s l ts : List ℕ) (scope : Scope) (loops : Loops) (k d n slot at top : ℕ) where
+  pub arms-start : (g : Got) → g ≡ skipGot n at top → Arming s l ts scope loops k d n slot at top g slot l
   arms-start g e = rw e (record {
     around = refl;
     keeps = λ h. same-refl;
@@ -238,16 +239,16 @@ module _ (s l ts : List ℕ) (count newest : ℕ) (loops : Mask) (k d n slot at 
     says = λ σ bs js A h. record { fault-is = refl; laid = λ a i. (a, (i, refl)); number = λ p i. (p, (i, refl)) };
   })
 
-  module _ (x : Got) (slot′ : ℕ) (l₀ : List ℕ) (D : Arming s l ts count newest loops k d n slot at top x slot′ l₀) (e : NextArm) (E : ArmComes s (x .next) e) where
-    arms-inside : (σ : Environment) (bs js : List ℕ) → Around s l ts count newest loops n at slot σ bs js → slot ≤ top → Around s l₀ ts count newest loops (x .kind) (x .next) (x .top) σ bs js
+  module _ (x : Got) (slot′ : ℕ) (l₀ : List ℕ) (D : Arming s l ts scope loops k d n slot at top x slot′ l₀) (e : NextArm) (E : ArmComes s (x .next) e) where
+    arms-inside : (σ : Environment) (bs js : List ℕ) → Around s l ts scope loops d n at slot σ bs js → slot ≤ top → Around s l₀ ts scope loops d (x .kind) (x .next) (x .top) σ bs js
     arms-inside σ bs js A h = record {
       scene = scene-kept (A .scene) (D .keeps h) (let y = D .grows in omega arith);
       in-force = A .in-force;
-      few-vars = A .few-vars;
+      few-loops = let w = A .few-loops in omega arith;
       few = D .few-left σ bs js A h;
     }
 
-    pub arms-past : (q : ℕ) (r : Got) → e ≡ next-arm.Past q → r ≡ finishedGot x q → GivesArms s l ts count newest loops k d n slot at top r l₀
+    pub arms-past : (q : ℕ) (r : Got) → e ≡ next-arm.Past q → r ≡ finishedGot x q → GivesArms s l ts scope loops k d n slot at top r l₀
     unfolding armsIn
     arms-past q r h m =
         let Z : ShutAt s (x .next) q = rw h at (E .says) in
@@ -258,7 +259,7 @@ module _ (s l ts : List ℕ) (count newest : ℕ) (loops : Mask) (k d n slot at 
           says = λ σ bs js A i. arms-end (x .kind) q (rw (Z .here) at (D .says σ bs js A i));
         })
 
-    pub arms-nothing : (r : Got) → e ≡ next-arm.Nothing → r ≡ failedGot Form 0 (x .next) (x .top) → GivesArms s l ts count newest loops k d n slot at top r l₀
+    pub arms-nothing : (r : Got) → e ≡ next-arm.Nothing → r ≡ failedGot Form 0 (x .next) (x .top) → GivesArms s l ts scope loops k d n slot at top r l₀
     unfolding armsStaged staged _>>=_
     arms-nothing r h m =
         let Z : (d n : ℕ) → armsIn d n (first (stackAt s (x .next))) ≡ none = rw h at (E .says) in
@@ -270,7 +271,7 @@ module _ (s l ts : List ℕ) (count newest : ℕ) (loops : Mask) (k d n slot at 
         })
 
     -- an `else`
-    pub arms-other : (q : ℕ) (r : Got) (l′ : List ℕ) → e ≡ next-arm.Else q → ElseBy s l₀ ts count newest loops d slot′ x q r l′ → GivesArms s l ts count newest loops k d n slot at top r l′
+    pub arms-other : (q : ℕ) (r : Got) (l′ : List ℕ) → e ≡ next-arm.Else q → ElseBy s l₀ ts scope loops d slot′ x q r l′ → GivesArms s l ts scope loops k d n slot at top r l′
     unfolding nodes
     arms-other q r l′ h (else-parts a b c l₁ G C C′ MK) =
         let F : ArmFormAt isElse s (x .next) q = rw h at (E .says) in
@@ -297,7 +298,7 @@ module _ (s l ts : List ℕ) (count newest : ℕ) (loops : Mask) (k d n slot at 
               let B = arms-inside σ bs js A i in
               let fw : nodesIn (first (stackAt s (x .next))) ≡ suc (1 + nodesIn (first (stackAt s q))) + nodesIn (first (later (stackAt s q))) = ap nodesIn (F .here) in
               let bf = B .few in
-              let T = G .says σ bs js (record { scene = B .scene; in-force = B .in-force; few-vars = B .few-vars; few = omega arith }) in
+              let T = G .says σ bs js (record { scene = B .scene; in-force = B .in-force; few-loops = let w = B .few-loops in omega arith; few = omega arith }) in
               let T₁ = act-closed (stmtIn d (x .kind) (first (stackAt s q))) (G .moves) C T in
               let T₂ = act-closed (stmtIn d (x .kind) (first (stackAt s q)) >>= λ p. closed (rest (first (stackAt s q))) p) moved C′ T₁ in
               let R : armsIn d (x .kind) (first (stackAt s (x .next))) ≡ (((stmtIn d (x .kind) (first (stackAt s q)) >>= λ p. closed (rest (first (stackAt s q))) p) >>= λ p. closed (rest (first (stackAt s (x .next)))) p) >>= λ p. elseRead p)
@@ -310,8 +311,8 @@ module _ (s l ts : List ℕ) (count newest : ℕ) (loops : Mask) (k d n slot at 
       arm-form : ArmFormAt isArm s (x .next) q
       arm-form = rw h at (E .says)
 
-      module _ (t : ℕ) (g a b r : Got) (l₁ l₂ l₃ l′ : List ℕ) (K : Laid (lay (0 ∷ []) (x .top) l₀) t l₁) (GL : GivesLabels s l₁ count newest k (x .top) q t g l₂)
-          (G : GivesStmt s l₂ ts count newest loops d (x .kind) (g .next) (g .top) a l₃) (C : Closes s a b) (M : ArmLink l₃ slot′ (x .top) g b r l′) where
+      module _ (t : ℕ) (g a b r : Got) (l₁ l₂ l₃ l′ : List ℕ) (K : Laid (lay (0 ∷ []) (x .top) l₀) t l₁) (GL : GivesLabels s l₁ scope k (x .top) q t g l₂)
+          (G : GivesStmt s l₂ ts scope loops d (x .kind) (g .next) (g .top) a l₃) (C : Closes s a b) (M : ArmLink l₃ slot′ (x .top) g b r l′) where
         slot-grows : x .top ≤ t
         slot-grows = rw (K .free) (lay-g (0 ∷ []) (x .top) l₀ .up)
 
@@ -342,12 +343,12 @@ module _ (s l ts : List ℕ) (count newest : ℕ) (loops : Mask) (k d n slot at 
         abbrev last-stmt : Option (Syntax.Stmt × ℕ)
         last-stmt = stmtIn d (x .kind) (first (stackAt s (g .next))) >>= λ p. closed (rest (first (stackAt s (g .next)))) p
 
-        module _ (σ : Environment) (bs js : List ℕ) (A : Around s l ts count newest loops n at slot σ bs js) (i : slot ≤ top) where
+        module _ (σ : Environment) (bs js : List ℕ) (A : Around s l ts scope loops d n at slot σ bs js) (i : slot ≤ top) where
           arm-size : x .kind + suc (1 + nodesIn (first (stackAt s q))) + nodesIn (first (later (stackAt s q))) ≤ 65535
           unfolding nodes
           arm-size = let fw : nodesIn (first (stackAt s (x .next))) ≡ suc (1 + nodesIn (first (stackAt s q))) + nodesIn (first (later (stackAt s q))) = ap nodesIn (arm-form .here) in let bf = D .few-left σ bs js A i in omega arith
 
-          slot-scene : Scene s l₁ ts count newest (x .top) σ bs
+          slot-scene : Scene s l₁ ts scope (x .top) σ bs
           slot-scene = scene-kept (arms-inside σ bs js A i .scene) (record { at = λ j y z. rw (K .left) (lay-g (0 ∷ []) (x .top) l₀ .below j z) }) (omega arith)
 
           labels-told : LabelsTold σ k (first (stackAt s q)) (x .top) t l₁ g (first (stackAt s (g .next))) l₂
@@ -359,7 +360,7 @@ module _ (s l ts : List ℕ) (count newest : ℕ) (loops : Mask) (k d n slot at 
               G .says σ bs js (record {
                 scene = scene-kept slot-scene (GL .keeps u) (omega arith);
                 in-force = A .in-force;
-                few-vars = A .few-vars;
+                few-loops = let w = A .few-loops in omega arith;
                 few = omega arith;
               })
 
@@ -384,7 +385,7 @@ module _ (s l ts : List ℕ) (count newest : ℕ) (loops : Mask) (k d n slot at 
               let f = GL .fewer in let z = arm-size in
               omega arith
 
-        told-wrong : isForm (r .fault) ≡ true → GivesArms s l ts count newest loops k d n slot at top r l′
+        told-wrong : isForm (r .fault) ≡ true → GivesArms s l ts scope loops k d n slot at top r l′
         told-wrong i = record {
           goes = λ j. absurd (true≢false (sym i ∙ j));
           keeps = arm-keeps;
@@ -392,7 +393,7 @@ module _ (s l ts : List ℕ) (count newest : ℕ) (loops : Mask) (k d n slot at 
           says = λ σ bs js A j. arms-wrong r l′ (arm-left σ bs js A j .fault-is ∙ rw (form-is (r .fault) i, lowest-form (x .fault)) refl) (form-is (r .fault) i);
         }
 
-        told-next : isForm (r .fault) ≡ false → (y : Got) (w : ℕ) → w ≡ r .place + 2 → y ≡ joinedGot x r (r .top) → Arming s l ts count newest loops k d n slot at top y w l′
+        told-next : isForm (r .fault) ≡ false → (y : Got) (w : ℕ) → w ≡ r .place + 2 → y ≡ joinedGot x r (r .top) → Arming s l ts scope loops k d n slot at top y w l′
         told-next i y w ew ey = rw (ey, ew) (record {
           around = D .around ∙ arm-form .around ∙ ap later (arm-goes i);
           keeps = arm-keeps;
@@ -407,14 +408,14 @@ module _ (s l ts : List ℕ) (count newest : ℕ) (loops : Mask) (k d n slot at 
         told-falls i y ey = rw (ey, arm-form .here, ap first (sym (arm-goes i))) (omega arith)
 
       module _ (r : Got) (l′ : List ℕ) (t : Bool) (et : t ≡ isForm (r .fault)) where
-        pub arms-stop : ArmBy s l₀ ts count newest loops k d (x .kind) slot′ q (x .top) r l′ → t ≡ true → GivesArms s l ts count newest loops k d n slot at top r l′
+        pub arms-stop : ArmBy s l₀ ts scope loops k d (x .kind) slot′ q (x .top) r l′ → t ≡ true → GivesArms s l ts scope loops k d n slot at top r l′
         arms-stop (arm-parts u v g l₁ l₂ K ev GL (stmt-parts a b l₃ G C MK)) i = told-wrong u g a b r l₁ l₂ l₃ l′ K (rw ev at GL) G C (arm-link l₃ slot′ (x .top) g b r l′ MK) (sym et ∙ i)
 
-        pub arms-falls : (y : Got) → ArmBy s l₀ ts count newest loops k d (x .kind) slot′ q (x .top) r l′ → t ≡ false → y ≡ joinedGot x r (r .top) → many (first (stackAt s (y .next))) < many (first (stackAt s (x .next)))
+        pub arms-falls : (y : Got) → ArmBy s l₀ ts scope loops k d (x .kind) slot′ q (x .top) r l′ → t ≡ false → y ≡ joinedGot x r (r .top) → many (first (stackAt s (y .next))) < many (first (stackAt s (x .next)))
         arms-falls y (arm-parts u v g l₁ l₂ K ev GL (stmt-parts a b l₃ G C MK)) i ey = told-falls u g a b r l₁ l₂ l₃ l′ K (rw ev at GL) G C (arm-link l₃ slot′ (x .top) g b r l′ MK) (sym et ∙ i) y ey
 
-        pub arms-next : (y : Got) (w : ℕ) → ArmBy s l₀ ts count newest loops k d (x .kind) slot′ q (x .top) r l′ → t ≡ false → w ≡ r .place + 2 → y ≡ joinedGot x r (r .top)
-            → Arming s l ts count newest loops k d n slot at top y w l′
+        pub arms-next : (y : Got) (w : ℕ) → ArmBy s l₀ ts scope loops k d (x .kind) slot′ q (x .top) r l′ → t ≡ false → w ≡ r .place + 2 → y ≡ joinedGot x r (r .top)
+            → Arming s l ts scope loops k d n slot at top y w l′
         arms-next y w (arm-parts u v g l₁ l₂ K ev GL (stmt-parts a b l₃ G C MK)) i ew ey = told-next u g a b r l₁ l₂ l₃ l′ K (rw ev at GL) G C (arm-link l₃ slot′ (x .top) g b r l′ MK) (sym et ∙ i) y w ew ey
 
 pub ruleset arms-laws = (arms-past, arms-nothing, arms-other, arms-stop)

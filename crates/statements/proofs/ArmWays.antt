@@ -23,7 +23,7 @@ use Rattle.semantics.specs.Names.{armsOf}
 use Rattle.semantics.specs.Rules.{keptArms}
 use Rattle.semantics.specs.Stages.{Staged, wrong, fits, staged, named, ruled, join, onFits, orUnfit, labelsStaged, stmtStaged, armsStaged}
 use Rattle.semantics.specs.Syntax as Syntax
-use Rattle.semantics.specs.Trees.{Tree, word, form, Trees, end, _then_, Run, first, later, wordAt, stackAt, nodes, nodesIn}
+use Rattle.semantics.specs.Trees.{word, form, Trees, end, _then_, Run, first, later, wordAt, stackAt}
 use Rattle.semantics.proofs.Inversion.{none-some, some-inj, bind-some}
 use Rattle.semantics.proofs.LayoutRegions.{Same, lay-g}
 use Rattle.semantics.proofs.OnePassStmts.{arm-staged, else-staged}
@@ -33,12 +33,12 @@ use Rattle.shapes.specs.declared.ArmHead.the-variants as AH
 use Rattle.shapes.specs.Heads.{armHeadOf, armHeadMeant}
 use Rattle.shapes.specs.Parts.{partOf, rest, closed, stmtIn, armIn, armsIn, elseArmIn, armHeadIn}
 use Rattle.shapes.proofs.Heads.{arm-head-is}
+use Rattle.tables.specs.declared.Scope.{Scope}
 use Rattle.tables.specs.declared.Fault.{Fault}
 use Rattle.tables.specs.declared.Fault.the-variants.{Clear, Kind, Name, Form}
 use Rattle.tables.specs.declared.Info.{Info}
-use Rattle.tables.specs.declared.Mask.{Mask}
+use Rattle.tables.specs.declared.Loops.{Loops}
 use Rattle.tables.specs.Descriptions.{infoOf}
-use Rattle.tables.specs.Scene.{Scene}
 use Rattle.tables.proofs.Kept.{scene-kept}
 use Rattle.worklist.specs.Laid.{Laid}
 use Rattle.parts.specs.declared.Got.{Got}
@@ -217,25 +217,25 @@ pub case-is : (l : List ℕ) (i : Info) (n : ℕ) (x m : Got) (f w a b c d e : F
 unfolding caseMade
 case-is l i n x m f w a b c d e r l′ ea eb ec ed ee k = rw (← ea, ← eb, ← ec, ← ed, ← ee) k
 
-pub end-is : (s l ts : List ℕ) (count newest n : ℕ) (x m r : Got) (l′ : List ℕ) (i : Info) (f w : Fault) → FirstArm s (x .next) f → Repeating s l count newest (x .next) (m .fault) w → i ≡ infoOf l ts (x .kind) → Makes (caseMade l i n x m f w) r l′
-    → CaseEnds s l ts count newest n x m r l′
-end-is s l ts count newest n x m r l′ i f w F R e k = case-ends f w F R (rw (← e) k)
+pub end-is : (s l ts : List ℕ) (scope : Scope) (n : ℕ) (x m r : Got) (l′ : List ℕ) (i : Info) (f w : Fault) → FirstArm s (x .next) f → Repeating s l scope (x .next) (m .fault) w → i ≡ infoOf l ts (x .kind) → Makes (caseMade l i n x m f w) r l′
+    → CaseEnds s l ts scope n x m r l′
+end-is s l ts scope n x m r l′ i f w F R e k = case-ends f w F R (rw (← e) k)
 
 -- ---- by parts
 
-module _ (s l ts : List ℕ) (count newest : ℕ) (loops : Mask) where
-  pub arm-way : (k d n slot at top : ℕ) (r : Got) (l′ : List ℕ) (t h : ℕ) (g : Got) (l₁ l₂ : List ℕ) → Laid (lay (0 ∷ []) top l) t l₁ → h ≡ top → GivesLabels s l₁ count newest k h at t g l₂
-      → ArmStmtBy s l₂ ts count newest loops d n slot top g r l′ → ArmBy s l ts count newest loops k d n slot at top r l′
+module _ (s l ts : List ℕ) (scope : Scope) (loops : Loops) where
+  pub arm-way : (k d n slot at top : ℕ) (r : Got) (l′ : List ℕ) (t h : ℕ) (g : Got) (l₁ l₂ : List ℕ) → Laid (lay (0 ∷ []) top l) t l₁ → h ≡ top → GivesLabels s l₁ scope k h at t g l₂
+      → ArmStmtBy s l₂ ts scope loops d n slot top g r l′ → ArmBy s l ts scope loops k d n slot at top r l′
   arm-way k d n slot at top r l′ t h g l₁ l₂ K e L M = arm-parts t h g l₁ l₂ K e L M
 
-  pub stmt-way : (d n slot head : ℕ) (g r : Got) (l′ : List ℕ) (a b : Got) (l₁ : List ℕ) → GivesStmt s l ts count newest loops d n (g .next) (g .top) a l₁ → Closes s a b → Makes (armMade l₁ slot head g b) r l′
-      → ArmStmtBy s l ts count newest loops d n slot head g r l′
+  pub stmt-way : (d n slot head : ℕ) (g r : Got) (l′ : List ℕ) (a b : Got) (l₁ : List ℕ) → GivesStmt s l ts scope loops d n (g .next) (g .top) a l₁ → Closes s a b → Makes (armMade l₁ slot head g b) r l′
+      → ArmStmtBy s l ts scope loops d n slot head g r l′
   stmt-way d n slot head g r l′ a b l₁ G C M = stmt-parts a b l₁ G C M
 
-  pub else-way : (d slot : ℕ) (g : Got) (at : ℕ) (r : Got) (l′ : List ℕ) (a b c : Got) (l₁ : List ℕ) → GivesStmt s l ts count newest loops d (g .kind) at (g .top) a l₁ → Closes s a b → Closes s b c → Makes (armMade l₁ slot 0 g c) r l′
-      → ElseBy s l ts count newest loops d slot g at r l′
+  pub else-way : (d slot : ℕ) (g : Got) (at : ℕ) (r : Got) (l′ : List ℕ) (a b c : Got) (l₁ : List ℕ) → GivesStmt s l ts scope loops d (g .kind) at (g .top) a l₁ → Closes s a b → Closes s b c → Makes (armMade l₁ slot 0 g c) r l′
+      → ElseBy s l ts scope loops d slot g at r l′
   else-way d slot g at r l′ a b c l₁ G C E M = else-parts a b c l₁ G C E M
 
   pub case-way : (x : Got) (d n : ℕ) (r : Got) (l′ : List ℕ) (t h k : ℕ) (m : Got) (l₁ l₂ : List ℕ) → Laid (lay (0 ∷ []) (x .top) l) t l₁ → h ≡ x .top → k ≡ selectedKind x
-      → GivesArms s l₁ ts count newest loops k d n h (x .next) t m l₂ → CaseEnds s l₂ ts count newest n x m r l′ → CaseBy s l ts count newest loops x d n r l′
+      → GivesArms s l₁ ts scope loops k d n h (x .next) t m l₂ → CaseEnds s l₂ ts scope n x m r l′ → CaseBy s l ts scope loops x d n r l′
   case-way x d n r l′ t h k m l₁ l₂ K e i G E = case-parts t h k m l₁ l₂ K e i G E

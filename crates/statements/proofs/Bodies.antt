@@ -23,9 +23,10 @@ use Rattle.semantics.proofs.LayoutRegions.{Same, lay-g}
 use Rattle.semantics.proofs.OnePassStmts.{body-staged}
 use Rattle.shapes.specs.Heads.{isException}
 use Rattle.shapes.specs.Parts.{stmtIn, stmtsIn, bodyIn, handlerIn, handlerLast, handling}
+use Rattle.tables.specs.declared.Scope.{Scope}
 use Rattle.tables.specs.declared.Fault.{Fault}
 use Rattle.tables.specs.declared.Fault.the-variants.{Clear, Form}
-use Rattle.tables.specs.declared.Mask.{Mask}
+use Rattle.tables.specs.declared.Loops.{Loops}
 use Rattle.tables.specs.Loops.{noLoops}
 use Rattle.tables.specs.Scene.{Scene}
 use Rattle.tables.proofs.Kept.{scene-kept}
@@ -141,12 +142,12 @@ last-told {σ} {bs} {s} {slot} {top} {l} {a} {b} {l′} n us ts e T C = go C (is
 
 -- ---- the ways out of the loop
 
-module _ (s l ts : List ℕ) (count newest k n slot at top : ℕ) (x : Got) (slot′ : ℕ) (l₁ : List ℕ) (D : Fronting s l ts count newest n slot at top x slot′ l₁) where
+module _ (s l ts : List ℕ) (scope : Scope) (k n slot at top : ℕ) (x : Got) (slot′ : ℕ) (l₁ : List ℕ) (D : Fronting s l ts scope n slot at top x slot′ l₁) where
   -- the tables where the statements before the handler end
-  scene-there : (σ : Environment) (bs : List ℕ) → Around s l ts count newest noLoops n at slot σ bs [] → slot ≤ top → Scene s l₁ ts count newest (x .top) σ bs
+  scene-there : (σ : Environment) (bs : List ℕ) → Around s l ts scope noLoops 33 n at slot σ bs [] → slot ≤ top → Scene s l₁ ts scope (x .top) σ bs
   scene-there σ bs A h = scene-kept (A .scene) (D .keeps h) (let y = D .grows in omega arith)
 
-  pub rest-plain : (q : ℕ) (r : Got) (l′ : List ℕ) → ShutAt s (x .next) q → Makes (plainMade l₁ k slot x q) r l′ → GivesRest s l ts count newest k n slot at top r l′
+  pub rest-plain : (q : ℕ) (r : Got) (l′ : List ℕ) → ShutAt s (x .next) q → Makes (plainMade l₁ k slot x q) r l′ → GivesRest s l ts scope k n slot at top r l′
   unfolding plainMade lay layRest layAct bodyIn flag
   rest-plain q r l′ H m =
       let N = node-of m in
@@ -175,8 +176,8 @@ module _ (s l ts : List ℕ) (count newest k n slot at top : ℕ) (x : Got) (slo
           → lay (k ∷ slot ∷ 0 ∷ x .top ∷ []) (lay (0 ∷ []) (x .top) l₁ .top) (lay (0 ∷ []) (x .top) l₁ .list) ≡ layRest bs k b slot top l
       plain-lay bs b e f h = rw (e, f, h) refl
 
-  pub rest-handled : (q t w : ℕ) (ms : Mask) (a b r : Got) (l₂ l₃ l′ : List ℕ) → HandlerAt s (x .next) q → Laid (lay (0 ∷ []) (x .top) l₁) t l₂ → w ≡ x .top → ms ≡ noLoops
-      → GivesActs s l₂ ts count newest ms 33 (x .kind) w q t a l₃ → Closes s a b → Makes (handledMade l₃ k slot x b) r l′ → GivesRest s l ts count newest k n slot at top r l′
+  pub rest-handled : (q t w : ℕ) (ms : Loops) (a b r : Got) (l₂ l₃ l′ : List ℕ) → HandlerAt s (x .next) q → Laid (lay (0 ∷ []) (x .top) l₁) t l₂ → w ≡ x .top → ms ≡ noLoops
+      → GivesActs s l₂ ts scope ms 33 (x .kind) w q t a l₃ → Closes s a b → Makes (handledMade l₃ k slot x b) r l′ → GivesRest s l ts scope k n slot at top r l′
   unfolding handledMade lay layRest layAct flag nodes
   rest-handled q t w ms a b r l₂ l₃ l′ H K ew em G C m =
       let N = node-of m in
@@ -200,7 +201,7 @@ module _ (s l ts : List ℕ) (count newest k n slot at top : ℕ) (x : Got) (slo
             let few₁ = D .few-left σ bs A h in
             let c : nodesIn (first (stackAt s (x .next))) ≡ suc (1 + nodesIn us) + nodesIn vs = ap nodesIn (H .here) in
             let T : ActsTold σ bs [] (stmtsIn 33 (x .kind) us) (x .top) t l₂ a l₃
-            = rw ew at (G .says σ bs [] (rw (ew, em) (record { scene = scene-kept (scene-there σ bs A h) same₂ (omega arith); in-force = in-force-none; few-vars = A .few-vars; few = omega arith })) (rw ew up)) in
+            = rw ew at (G .says σ bs [] (rw (ew, em) (record { scene = scene-kept (scene-there σ bs A h) same₂ (omega arith); in-force = in-force-none; few-loops = let w = A .few-loops in omega arith; few = omega arith })) (rw ew up)) in
             let Z = last-told (x .kind) us vs (λ i. ap first (sym (G .goes i))) T C in
             record {
               fault-is = N .fault-is ∙ rw (Z .fault-is) refl ∙ sym (L .fault-is);
@@ -227,8 +228,8 @@ module _ (s l ts : List ℕ) (count newest k n slot at top : ℕ) (x : Got) (slo
           → l₃ ≡ layActs bs (d .handler) (x .top) t l₂ .list → lay (k ∷ slot ∷ 1 ∷ x .top ∷ []) (b .top) l₃ ≡ layRest bs k d slot top l
       handled-lay bs d e h f i = rw (e, h, f, i, K .free, K .left) refl
 
-  pub rest-wrong : (g : Got) (l₂ : List ℕ) (t : Bool) → PlainAt s (x .next) → GivesStmt s l₁ ts count newest noLoops 33 (x .kind) (x .next) (x .top) g l₂ → t ≡ isForm (g .fault) → t ≡ true
-      → GivesRest s l ts count newest k n slot at top g l₂
+  pub rest-wrong : (g : Got) (l₂ : List ℕ) (t : Bool) → PlainAt s (x .next) → GivesStmt s l₁ ts scope noLoops 33 (x .kind) (x .next) (x .top) g l₂ → t ≡ isForm (g .fault) → t ≡ true
+      → GivesRest s l ts scope k n slot at top g l₂
   unfolding bodyStaged staged _>>=_
   rest-wrong g l₂ t P G et h =
       let du = D .grows in let gu = G .moves .grows in
@@ -238,7 +239,7 @@ module _ (s l ts : List ℕ) (count newest k n slot at top : ℕ) (x : Got) (slo
         keeps = λ i. record { at = λ j a b. G .moves .keeps .at j a (omega arith) ∙ D .keeps i .at j a b };
         grows = omega arith;
         says = λ σ bs A i.
-            let T = G .says σ bs [] (record { scene = scene-there σ bs A i; in-force = A .in-force; few-vars = A .few-vars; few = D .few-left σ bs A i }) in
+            let T = G .says σ bs [] (record { scene = scene-there σ bs A i; in-force = A .in-force; few-loops = let w = A .few-loops in omega arith; few = D .few-left σ bs A i }) in
             let z = no-body (first (stackAt s (x .next))) (P .more) (P .plain) (none-of _ T f) in
             let L = D .says σ bs A i in
             record {
@@ -254,10 +255,10 @@ module _ (s l ts : List ℕ) (count newest k n slot at top : ℕ) (x : Got) (slo
 
 -- ---- all of it
 
-pub body-way : (s l ts : List ℕ) (count newest k n at top t : ℕ) (r : Got) (l₁ l′ : List ℕ) → Laid (lay (0 ∷ []) top l) t l₁ → GivesRest s l₁ ts count newest k n top at t r l′
-    → GivesBody s l ts count newest k n at top r l′
+pub body-way : (s l ts : List ℕ) (scope : Scope) (k n at top t : ℕ) (r : Got) (l₁ l′ : List ℕ) → Laid (lay (0 ∷ []) top l) t l₁ → GivesRest s l₁ ts scope k n top at t r l′
+    → GivesBody s l ts scope k n at top r l′
 unfolding layBody layRest lay
-body-way s l ts count newest k n at top t r l₁ l′ K G =
+body-way s l ts scope k n at top t r l₁ l′ K G =
     let g = lay-g (0 ∷ []) top l in
     let up : top ≤ t = rw (K .free) (g .up) in
     let same₁ : Same 0 top l₁ l = record { at = λ i a b. rw (K .left) (g .below i b) } in
@@ -268,33 +269,33 @@ body-way s l ts count newest k n at top t r l₁ l′ K G =
         keeps = record { at = λ i a b. G .keeps up .at i a b ∙ same₁ .at i a b };
         grows = omega arith;
       };
-      says = λ σ bs S v f.
-          let T = G .says σ bs (record { scene = scene-kept S same₁ (omega arith); in-force = in-force-none; few-vars = v; few = f }) up in
+      says = λ σ bs S f.
+          let T = G .says σ bs (record { scene = scene-kept S same₁ (omega arith); in-force = in-force-none; few-loops = omega arith; few = f }) up in
           record { fault-is = T .fault-is; laid = λ b h. T .laid b h ∙ rw (K .free, K .left) refl; number = T .number };
     }
 
-pub handled-way : (s l ts : List ℕ) (count newest k start : ℕ) (x : Got) (q t w : ℕ) (ms : Mask) (a b r : Got) (l₁ l₂ l′ : List ℕ) → Laid (lay (0 ∷ []) (x .top) l) t l₁ → w ≡ x .top → ms ≡ noLoops
-    → GivesActs s l₁ ts count newest ms 33 (x .kind) w q t a l₂ → Closes s a b → Makes (handledMade l₂ k start x b) r l′ → HandledBy s l ts count newest k start x q r l′
-handled-way s l ts count newest k start x q t w ms a b r l₁ l₂ l′ K ew em G C m = by-parts t a b l₁ l₂ K (rw (ew, em) at G) C m
+pub handled-way : (s l ts : List ℕ) (scope : Scope) (k start : ℕ) (x : Got) (q t w : ℕ) (ms : Loops) (a b r : Got) (l₁ l₂ l′ : List ℕ) → Laid (lay (0 ∷ []) (x .top) l) t l₁ → w ≡ x .top → ms ≡ noLoops
+    → GivesActs s l₁ ts scope ms 33 (x .kind) w q t a l₂ → Closes s a b → Makes (handledMade l₂ k start x b) r l′ → HandledBy s l ts scope k start x q r l′
+handled-way s l ts scope k start x q t w ms a b r l₁ l₂ l′ K ew em G C m = by-parts t a b l₁ l₂ K (rw (ew, em) at G) C m
 
-module _ (s l ts : List ℕ) (count newest k n slot at top : ℕ) (x : Got) (slot′ : ℕ) (l₁ : List ℕ) (D : Fronting s l ts count newest n slot at top x slot′ l₁) (e : Next) (H : Comes s (x .next) e) where
-  pub body-past : (q : ℕ) (r : Got) (l′ : List ℕ) → e ≡ following.Past q → Makes (plainMade l₁ k slot x q) r l′ → GivesRest s l ts count newest k n slot at top r l′
-  body-past q r l′ h m = rest-plain s l ts count newest k n slot at top x slot′ l₁ D q r l′ (rw h at (H .says)) m
+module _ (s l ts : List ℕ) (scope : Scope) (k n slot at top : ℕ) (x : Got) (slot′ : ℕ) (l₁ : List ℕ) (D : Fronting s l ts scope n slot at top x slot′ l₁) (e : Next) (H : Comes s (x .next) e) where
+  pub body-past : (q : ℕ) (r : Got) (l′ : List ℕ) → e ≡ following.Past q → Makes (plainMade l₁ k slot x q) r l′ → GivesRest s l ts scope k n slot at top r l′
+  body-past q r l′ h m = rest-plain s l ts scope k n slot at top x slot′ l₁ D q r l′ (rw h at (H .says)) m
 
-  pub body-handled : (q : ℕ) (r : Got) (l′ : List ℕ) → e ≡ following.Handler q → HandledBy s l₁ ts count newest k slot x q r l′ → GivesRest s l ts count newest k n slot at top r l′
-  body-handled q r l′ h (by-parts t a b l₂ l₃ K G C m) = rest-handled s l ts count newest k n slot at top x slot′ l₁ D q t (x .top) noLoops a b r l₂ l₃ l′ (rw h at (H .says)) K refl refl G C m
+  pub body-handled : (q : ℕ) (r : Got) (l′ : List ℕ) → e ≡ following.Handler q → HandledBy s l₁ ts scope k slot x q r l′ → GivesRest s l ts scope k n slot at top r l′
+  body-handled q r l′ h (by-parts t a b l₂ l₃ K G C m) = rest-handled s l ts scope k n slot at top x slot′ l₁ D q t (x .top) noLoops a b r l₂ l₃ l′ (rw h at (H .says)) K refl refl G C m
 
-  module _ (h : e ≡ following.Stmt) (ms : Mask) (em : ms ≡ noLoops) (g : Got) (l₂ : List ℕ) (G : GivesStmt s l₁ ts count newest ms 33 (x .kind) (x .next) (x .top) g l₂) (t : Bool) (et : t ≡ isForm (g .fault)) where
-    pub body-wrong : t ≡ true → GivesRest s l ts count newest k n slot at top g l₂
-    body-wrong i = rest-wrong s l ts count newest k n slot at top x slot′ l₁ D g l₂ t (rw h at (H .says)) (rw em at G) et i
+  module _ (h : e ≡ following.Stmt) (ms : Loops) (em : ms ≡ noLoops) (g : Got) (l₂ : List ℕ) (G : GivesStmt s l₁ ts scope ms 33 (x .kind) (x .next) (x .top) g l₂) (t : Bool) (et : t ≡ isForm (g .fault)) where
+    pub body-wrong : t ≡ true → GivesRest s l ts scope k n slot at top g l₂
+    body-wrong i = rest-wrong s l ts scope k n slot at top x slot′ l₁ D g l₂ t (rw h at (H .says)) (rw em at G) et i
 
-    pub body-next : (u : ℕ) (l₃ : List ℕ) (y : Got) (w : ℕ) → t ≡ false → Laid (linked slot′ (g .place) (g .top) l₂) u l₃ → w ≡ g .top + 1 → y ≡ joinedGot x g u → Fronting s l ts count newest n slot at top y w l₃
-    body-next u l₃ y w i K ew ey = front-next s l ts count newest n slot at top x slot′ l₁ D (rw h at (H .says)) g l₂ (rw em at G) t et i u l₃ y w K ew ey
+    pub body-next : (u : ℕ) (l₃ : List ℕ) (y : Got) (w : ℕ) → t ≡ false → Laid (linked slot′ (g .place) (g .top) l₂) u l₃ → w ≡ g .top + 1 → y ≡ joinedGot x g u → Fronting s l ts scope n slot at top y w l₃
+    body-next u l₃ y w i K ew ey = front-next s l ts scope n slot at top x slot′ l₁ D (rw h at (H .says)) g l₂ (rw em at G) t et i u l₃ y w K ew ey
 
     pub body-falls : (y : Got) (u : ℕ) → t ≡ false → y ≡ joinedGot x g u → many (first (stackAt s (y .next))) < many (first (stackAt s (x .next)))
-    body-falls y u i ey = front-falls s l ts count newest n slot at top x slot′ l₁ D (rw h at (H .says)) g l₂ (rw em at G) t et i y u ey
+    body-falls y u i ey = front-falls s l ts scope n slot at top x slot′ l₁ D (rw h at (H .says)) g l₂ (rw em at G) t et i y u ey
 
-pub body-start : (s l ts : List ℕ) (count newest n slot at top : ℕ) (g : Got) (p : ℕ) → g ≡ skipGot n at top → p ≡ slot → Fronting s l ts count newest n slot at top g p l
-body-start s l ts count newest n slot at top g p e h = rw h (front-start s l ts count newest n slot at top g e)
+pub body-start : (s l ts : List ℕ) (scope : Scope) (n slot at top : ℕ) (g : Got) (p : ℕ) → g ≡ skipGot n at top → p ≡ slot → Fronting s l ts scope n slot at top g p l
+body-start s l ts scope n slot at top g p e h = rw h (front-start s l ts scope n slot at top g e)
 
 pub ruleset body-laws = (body-past, body-handled, body-wrong)

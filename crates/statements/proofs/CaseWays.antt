@@ -3,7 +3,7 @@ use mathlib.Core.Path.{_≡_, refl, sym, ap, _∙_}
 use mathlib.Core.Bool.{Bool, true, false, cond, true≢false}
 use mathlib.Core.List.{List, [], _∷_}
 use mathlib.Core.Option.{Option, none, some}
-use Prim.Native.Nat.{ℕ, _+_, _≤_}
+use Prim.Native.Nat.{ℕ, suc, _+_, _≤_}
 use native.Mathlib.Omega.{arith}
 use lib.Dec.{eqb}
 use Rattle.semantics.specs.Base.{_>>=_, given}
@@ -14,16 +14,17 @@ use Rattle.semantics.specs.Forms.{armsFirst}
 use Rattle.semantics.specs.Layout.{Out, out, lay, layCode, layAct, layCases}
 use Rattle.semantics.specs.Stages.{Staged, wrong, unnamed, unfit, fits, staged, join, onFits, orUnfit, selected, exprStaged, stmtStaged, armsStaged, casesStaged}
 use Rattle.semantics.specs.Syntax as Syntax
-use Rattle.semantics.specs.Trees.{Trees, Run, first, later, stackAt}
+use Rattle.semantics.specs.Trees.{first, stackAt}
 use Rattle.semantics.specs.Types.{ordinal?}
 use Rattle.semantics.proofs.Inversion.{none-some, some-inj, bind-some}
 use Rattle.semantics.proofs.LayoutRegions.{Same, lay-g}
 use Rattle.semantics.proofs.OnePassStmts.{case-staged}
 use Rattle.shapes.specs.declared.Verb.the-variants as VB
 use Rattle.shapes.specs.Parts.{rest, exprIn, armsIn}
+use Rattle.tables.specs.declared.Scope.{Scope}
 use Rattle.tables.specs.declared.Fault.{Fault}
 use Rattle.tables.specs.declared.Fault.the-variants.{Clear, Kind, Name, Form}
-use Rattle.tables.specs.declared.Mask.{Mask}
+use Rattle.tables.specs.declared.Loops.{Loops}
 use Rattle.tables.specs.Descriptions.{infoOf}
 use Rattle.tables.specs.Scene.{Scene}
 use Rattle.tables.proofs.Kept.{scene-kept}
@@ -141,10 +142,10 @@ kind-is x unfit f e = rw f refl
 kind-is x (fits y) f e = rw f (e y refl)
 
 -- the fault of the arms and of their labels
-labels-fault : (s l ts : List ℕ) (count newest top : ℕ) (σ : Environment) (bs js : List ℕ) (k d n at : ℕ) (f w : Fault) (B : Option (Syntax.Arms × ℕ)) → B ≡ armsIn d n (first (stackAt s at)) → Scene s l ts count newest top σ bs
-    → f ≡ faultOf (armsStaged σ js k (bare B)) → Repeating s l count newest at f w → faultOf (casesStaged σ js k (bare B)) ≡ lowest f w
+labels-fault : (s l ts : List ℕ) (scope : Scope) (top : ℕ) (σ : Environment) (bs js : List ℕ) (k d n at : ℕ) (f w : Fault) (B : Option (Syntax.Arms × ℕ)) → B ≡ armsIn d n (first (stackAt s at)) → Scene s l ts scope top σ bs
+    → f ≡ faultOf (armsStaged σ js k (bare B)) → Repeating s l scope at f w → faultOf (casesStaged σ js k (bare B)) ≡ lowest f w
 unfolding armsStaged staged _>>=_
-labels-fault s l ts count newest top σ bs js k d n at f w B eb S ef R =
+labels-fault s l ts scope top σ bs js k d n at f w B eb S ef R =
     cases-fault σ js k (bare B) ∙ rw ef (go (armsStaged σ js k (bare B)) refl)
   where
     clear : (o : Option (Syntax.Arms × ℕ)) → B ≡ o → (c : Cases) → armsStaged σ js k (bare B) ≡ fits c → cond (labelsDiffer σ (bare B)) Clear Kind ≡ w
@@ -164,8 +165,8 @@ case-lay : (bs : List ℕ) (y : Elaborated) (cs : Cases) (n top : ℕ) (l : List
 unfolding layAct
 case-lay bs y cs n top l x m l₁ t l₂ l₃ e K f g = rw (← e, lay-is (0 ∷ []) (x .top) l₁ t l₂ K, f, g) refl
 
-module _ (s l ts : List ℕ) (count newest : ℕ) (loops : Mask) (d n at top : ℕ) (x : Got) (l₁ : List ℕ) (E : GivesExpr s l ts count newest 33 at top x l₁) (t : Bool) (et : t ≡ isForm (x .fault)) where
-  pub case-wrong : t ≡ true → GivesVerb s l ts count newest loops VB.Case d n at top x l₁
+module _ (s l ts : List ℕ) (scope : Scope) (loops : Loops) (d n at top : ℕ) (x : Got) (l₁ : List ℕ) (E : GivesExpr s l ts scope 33 at top x l₁) (t : Bool) (et : t ≡ isForm (x .fault)) where
+  pub case-wrong : t ≡ true → GivesVerb s l ts scope loops VB.Case d n at top x l₁
   unfolding exprStaged
   case-wrong h = record {
     leaves = stop-leaves (E .moves) (sym et ∙ h);
@@ -173,8 +174,8 @@ module _ (s l ts : List ℕ) (count newest : ℕ) (loops : Mask) (d n at top : �
         act-none (case-shape d n (first (stackAt s at)) ∙ none-bind _ (form-none (exprIn 33 (first (stackAt s at))) _ _ _ (sym (E .says σ bs (A .scene) .told .fault-is) ∙ form-is (x .fault) (sym et ∙ h)))) (sym et ∙ h);
   }
 
-  module _ (h : t ≡ false) (u k : ℕ) (m r : Got) (l₂ l₃ l′ : List ℕ) (K : Laid (lay (0 ∷ []) (x .top) l₁) u l₂) (ek : k ≡ selectedKind x) (GA : GivesArms s l₂ ts count newest loops k d n (x .top) (x .next) u m l₃) (w : Fault)
-      (R : Repeating s l₃ count newest (x .next) (m .fault) w) where
+  module _ (h : t ≡ false) (u k : ℕ) (m r : Got) (l₂ l₃ l′ : List ℕ) (K : Laid (lay (0 ∷ []) (x .top) l₁) u l₂) (ek : k ≡ selectedKind x) (GA : GivesArms s l₂ ts scope loops k d n (x .top) (x .next) u m l₃) (w : Fault)
+      (R : Repeating s l₃ scope (x .next) (m .fault) w) where
     slot-up : x .top ≤ u
     slot-up = rw (K .free) (lay-g (0 ∷ []) (x .top) l₁ .up)
 
@@ -195,23 +196,23 @@ module _ (s l ts : List ℕ) (count newest : ℕ) (loops : Mask) (d n at top : �
 
     module _ (Z : (d n : ℕ) → cased (armsIn d n (first (stackAt s (x .next)))) ≡ armsIn d n (first (stackAt s (x .next))))
         (N : Node (lowest (lowest (x .fault) (lowest (m .fault) w)) (cond (eqb (infoOf l₃ ts (x .kind) .shape) 0) Clear Kind)) (m .kind) (m .next) (49 ∷ n ∷ x .place ∷ x .top ∷ []) (m .top) l₃ r l′)
-        (σ : Environment) (bs js : List ℕ) (A : Around s l ts count newest loops n at top σ bs js) where
+        (σ : Environment) (bs js : List ℕ) (A : Around s l ts scope loops (suc d) n at top σ bs js) where
       abbrev O : Option Syntax.Expr
       O = exprIn 33 (first (stackAt s at))
 
       abbrev B : Option (Syntax.Arms × ℕ)
       B = armsIn d n (first (stackAt s (x .next)))
 
-      next-around : Around s l₁ ts count newest loops n (x .next) (x .top) σ bs js
+      next-around : Around s l₁ ts scope loops (suc d) n (x .next) (x .top) σ bs js
       next-around = around-next A (E .moves) (sym et ∙ h)
 
-      arms-scene : Scene s l₂ ts count newest (x .top) σ bs
+      arms-scene : Scene s l₂ ts scope (x .top) σ bs
       arms-scene = scene-kept (next-around .scene) slot-same (omega arith)
 
       arms-told : ArmsTold σ bs js k B (x .top) u l₂ m l₃
-      arms-told = GA .says σ bs js (record { scene = arms-scene; in-force = A .in-force; few-vars = A .few-vars; few = next-around .few }) slot-up
+      arms-told = GA .says σ bs js (record { scene = arms-scene; in-force = A .in-force; few-loops = let w = A .few-loops in omega arith; few = next-around .few }) slot-up
 
-      after-scene : Scene s l₃ ts count newest (m .top) σ bs
+      after-scene : Scene s l₃ ts scope (m .top) σ bs
       after-scene = let up = slot-up in let gm = GA .grows in scene-kept arms-scene (GA .keeps up) (omega arith)
 
       kind-told : k ≡ selectorKind (exprStaged σ O)
@@ -227,7 +228,7 @@ module _ (s l ts : List ℕ) (count newest : ℕ) (loops : Mask) (d n at top : �
       case-fault =
           let X = E .says σ bs (A .scene) .told in
           N .fault-is
-          ∙ rw (X .fault-is, ← labels-fault s l₃ ts count newest (m .top) σ bs js k d n (x .next) (m .fault) w B refl after-scene (arms-told .fault-is) R, kind-told, shape-ordinal after-scene (x .kind))
+          ∙ rw (X .fault-is, ← labels-fault s l₃ ts scope (m .top) σ bs js k d n (x .next) (m .fault) w B refl after-scene (arms-told .fault-is) R, kind-told, shape-ordinal after-scene (x .kind))
           (sym (ap faultOf case-stages ∙ selected-fault test (λ (y : Elaborated) (cs : Cases). caseOf n (y .code) cs) (λ k. casesStaged σ js k (bare B)) (ordinal? (σ .types) (x .kind)) (exprStaged σ O) (λ y e. ap (ordinal? (σ .types)) (sym (X .laid y e .0)))))
 
       case-told : ActTold σ bs js (O >>= λ e. B >>= λ z. caseRead n e z) top l r l′
@@ -246,7 +247,7 @@ module _ (s l ts : List ℕ) (count newest : ℕ) (loops : Mask) (d n at top : �
             number = λ p i. bind-some i λ e he j. bind-some j λ z hz q. N .kind-is ∙ arms-told .number z hz ∙ ap (λ (c : Syntax.Stmt × ℕ). c .1) (some-inj q);
           }
 
-    case-made : (f : Fault) → FirstArm s (x .next) f → Makes (caseMade l₃ (infoOf l₃ ts (x .kind)) n x m f w) r l′ → GivesVerb s l ts count newest loops VB.Case d n at top r l′
+    case-made : (f : Fault) → FirstArm s (x .next) f → Makes (caseMade l₃ (infoOf l₃ ts (x .kind)) n x m f w) r l′ → GivesVerb s l ts scope loops VB.Case d n at top r l′
     unfolding caseMade
     case-made Clear (an-arm Z) M =
         let N = node-of M in
@@ -262,7 +263,7 @@ module _ (s l ts : List ℕ) (count newest : ℕ) (loops : Mask) (d n at top : �
           says = λ σ bs js A. act-none (case-shape d n (first (stackAt s at)) ∙ rw (case-rest, case-cased n (exprIn 33 (first (stackAt s at))) (armsIn d n (first (stackAt s (x .next))))) (no-arms n (exprIn 33 (first (stackAt s at))) (cased (armsIn d n (first (stackAt s (x .next))))) (Z d n))) (ap isForm q);
         }
 
-  pub case-right : (r : Got) (l′ : List ℕ) → t ≡ false → CaseBy s l₁ ts count newest loops x d n r l′ → GivesVerb s l ts count newest loops VB.Case d n at top r l′
+  pub case-right : (r : Got) (l′ : List ℕ) → t ≡ false → CaseBy s l₁ ts scope loops x d n r l′ → GivesVerb s l ts scope loops VB.Case d n at top r l′
   case-right r l′ h (case-parts u v k m l₂ l₃ K ev ek GA (case-ends f w F R M)) = case-made h u k m r l₂ l₃ l′ K ek (rw ev at GA) w R f F M
 
 pub ruleset case-laws = (case-wrong, case-right)

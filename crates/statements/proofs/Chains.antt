@@ -16,14 +16,15 @@ use Rattle.semantics.specs.Names.{stmtsOf}
 use Rattle.semantics.specs.Rules.{keptStmts}
 use Rattle.semantics.specs.Stages.{Staged, fits, staged, named, ruled, join, onFits, orUnfit, stmtStaged, stmtsStaged}
 use Rattle.semantics.specs.Syntax as Syntax
-use Rattle.semantics.specs.Trees.{Tree, Trees, end, _then_, Run, first, later, stackAt, nodes, nodesIn}
+use Rattle.semantics.specs.Trees.{Tree, Trees, end, _then_, Run, first, stackAt, nodesIn}
 use Rattle.semantics.proofs.Inversion.{none-some, some-inj, bind-some}
 use Rattle.semantics.proofs.LayoutRegions.{Same, lay-g}
 use Rattle.semantics.proofs.OnePassStmts.{stmts-staged, begin-staged}
 use Rattle.shapes.specs.Parts.{partOf, rest, stmtIn, stmtsIn}
+use Rattle.tables.specs.declared.Scope.{Scope}
 use Rattle.tables.specs.declared.Fault.{Fault}
 use Rattle.tables.specs.declared.Fault.the-variants.{Clear, Form}
-use Rattle.tables.specs.declared.Mask.{Mask}
+use Rattle.tables.specs.declared.Loops.{Loops}
 use Rattle.tables.proofs.Kept.{scene-kept}
 use Rattle.worklist.specs.Laid.{Laid}
 use Rattle.parts.specs.declared.Got.{Got}
@@ -116,8 +117,8 @@ none-of (some p) A h = absurd (some-none (form-none (bare (some p)) _ _ _ (sym (
 
 -- ---- the loop
 
-module _ (s l ts : List ℕ) (count newest : ℕ) (loops : Mask) (d n slot at top : ℕ) where
-  pub acts-start : (g : Got) → g ≡ skipGot n at top → Doing s l ts count newest loops d n slot at top g slot l
+module _ (s l ts : List ℕ) (scope : Scope) (loops : Loops) (d n slot at top : ℕ) where
+  pub acts-start : (g : Got) → g ≡ skipGot n at top → Doing s l ts scope loops d n slot at top g slot l
   acts-start g e = rw e (record {
     around = refl;
     keeps = λ h. same-refl;
@@ -127,17 +128,17 @@ module _ (s l ts : List ℕ) (count newest : ℕ) (loops : Mask) (d n slot at to
     says = λ σ bs js A h. record { fault-is = refl; laid = λ a k. (a, (k, refl)); number = λ p k. (p, (k, refl)) };
   })
 
-  module _ (x : Got) (slot′ : ℕ) (l₁ : List ℕ) (D : Doing s l ts count newest loops d n slot at top x slot′ l₁) where
-    inside : (σ : Environment) (bs js : List ℕ) → Around s l ts count newest loops n at slot σ bs js → slot ≤ top → Around s l₁ ts count newest loops (x .kind) (x .next) (x .top) σ bs js
+  module _ (x : Got) (slot′ : ℕ) (l₁ : List ℕ) (D : Doing s l ts scope loops d n slot at top x slot′ l₁) where
+    inside : (σ : Environment) (bs js : List ℕ) → Around s l ts scope loops d n at slot σ bs js → slot ≤ top → Around s l₁ ts scope loops d (x .kind) (x .next) (x .top) σ bs js
     inside σ bs js A h = record {
       scene = scene-kept (A .scene) (D .keeps h) (let y = D .grows in omega arith);
       in-force = A .in-force;
-      few-vars = A .few-vars;
+      few-loops = let w = A .few-loops in omega arith;
       few = D .few-left σ bs js A h;
     }
 
     pub acts-end : (e : End) (q : ℕ) (r : Got) → Shuts s (x .next) e → e ≡ ending.Past q → r ≡ record { fault = x .fault; kind = x .kind; place = 0; next = q; top = x .top }
-        → GivesActs s l ts count newest loops d n slot at top r l₁
+        → GivesActs s l ts scope loops d n slot at top r l₁
     unfolding stmtsIn
     acts-end e q r h z k =
         let S : ShutAt s (x .next) q = rw z at (h .says) in
@@ -148,11 +149,11 @@ module _ (s l ts : List ℕ) (count newest : ℕ) (loops : Mask) (d n slot at to
           says = λ σ bs js A i. left-end (x .kind) q (rw (S .here) at (D .says σ bs js A i));
         })
 
-    module _ (e : End) (h : Shuts s (x .next) e) (z : e ≡ ending.More) (g : Got) (l₂ : List ℕ) (G : GivesStmt s l₁ ts count newest loops d (x .kind) (x .next) (x .top) g l₂) (t : Bool) (k : t ≡ isForm (g .fault)) where
+    module _ (e : End) (h : Shuts s (x .next) e) (z : e ≡ ending.More) (g : Got) (l₂ : List ℕ) (G : GivesStmt s l₁ ts scope loops d (x .kind) (x .next) (x .top) g l₂) (t : Bool) (k : t ≡ isForm (g .fault)) where
       kept₂ : slot ≤ top → Same 0 slot l₂ l
       kept₂ i = record { at = λ j a b. G .moves .keeps .at j a (let y = D .grows in omega arith) ∙ D .keeps i .at j a b }
 
-      pub acts-wrong : t ≡ true → GivesActs s l ts count newest loops d n slot at top g l₂
+      pub acts-wrong : t ≡ true → GivesActs s l ts scope loops d n slot at top g l₂
       acts-wrong i = record {
         goes = λ j. absurd (true≢false (sym (sym k ∙ i) ∙ j));
         keeps = kept₂;
@@ -172,7 +173,7 @@ module _ (s l ts : List ℕ) (count newest : ℕ) (loops : Mask) (d n slot at to
         acts-falls = rw (parts .1) (omega arith)
 
         pub acts-next : (u : ℕ) (l₃ : List ℕ) (y : Got) (f : Fault) (w : ℕ) → Laid (linked slot′ (g .place) (g .top) l₂) u l₃ → f ≡ lowest (x .fault) (g .fault) → w ≡ g .top + 1
-            → y ≡ record { fault = f; kind = g .kind; place = 0; next = g .next; top = u } → Doing s l ts count newest loops d n slot at top y w l₃
+            → y ≡ record { fault = f; kind = g .kind; place = 0; next = g .next; top = u } → Doing s l ts scope loops d n slot at top y w l₃
         unfolding linked link
         acts-next u l₃ y f w K ef ew ey =
             let G₁ = lay-g (g .place ∷ 0 ∷ []) (g .top) l₂ in

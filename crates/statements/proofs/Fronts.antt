@@ -18,11 +18,12 @@ use Rattle.semantics.specs.Rules.{keptStmt, keptStmts, keptBody}
 use Rattle.semantics.specs.Script as Script
 use Rattle.semantics.specs.Stages.{Staged, fits, staged, named, ruled, join, orUnfit, stmtStaged, bodyStaged}
 use Rattle.semantics.specs.Syntax as Syntax
-use Rattle.semantics.specs.Trees.{Tree, Trees, end, _then_, Run, first, later, stackAt, nodes, nodesIn}
+use Rattle.semantics.specs.Trees.{Tree, Trees, _then_, Run, first, stackAt, nodesIn}
 use Rattle.semantics.proofs.Inversion.{none-some, some-inj, bind-some}
 use Rattle.semantics.proofs.LayoutRegions.{Same, lay-g}
 use Rattle.semantics.proofs.Staging.{staged-two}
 use Rattle.shapes.specs.Parts.{partOf, rest, stmtIn, bodyIn, handlerIn, withFirst}
+use Rattle.tables.specs.declared.Scope.{Scope}
 use Rattle.tables.specs.declared.Fault.{Fault}
 use Rattle.tables.specs.declared.Fault.the-variants.{Clear, Form}
 use Rattle.tables.specs.Loops.{noLoops}
@@ -144,8 +145,8 @@ module _ {σ : Environment} {bs : List ℕ} {o : Option (Syntax.Body × ℕ)} {s
 
 -- ---- the loop
 
-module _ (s l ts : List ℕ) (count newest n slot at top : ℕ) where
-  pub front-start : (g : Got) → g ≡ skipGot n at top → Fronting s l ts count newest n slot at top g slot l
+module _ (s l ts : List ℕ) (scope : Scope) (n slot at top : ℕ) where
+  pub front-start : (g : Got) → g ≡ skipGot n at top → Fronting s l ts scope n slot at top g slot l
   front-start g e = rw e (record {
     around = refl;
     keeps = λ h. same-refl;
@@ -155,13 +156,13 @@ module _ (s l ts : List ℕ) (count newest n slot at top : ℕ) where
     says = λ σ bs A h. record { fault-is = refl; laid = λ a k. (a, (k, (refl, (refl, refl)))); number = λ p k. (p, (k, refl)) };
   })
 
-  module _ (x : Got) (slot′ : ℕ) (l₁ : List ℕ) (D : Fronting s l ts count newest n slot at top x slot′ l₁) (P : PlainAt s (x .next)) (g : Got) (l₂ : List ℕ)
-      (G : GivesStmt s l₁ ts count newest noLoops 33 (x .kind) (x .next) (x .top) g l₂) (t : Bool) (k : t ≡ isForm (g .fault)) (i : t ≡ false) where
-    front-inside : (σ : Environment) (bs : List ℕ) → Around s l ts count newest noLoops n at slot σ bs [] → slot ≤ top → Around s l₁ ts count newest noLoops (x .kind) (x .next) (x .top) σ bs []
+  module _ (x : Got) (slot′ : ℕ) (l₁ : List ℕ) (D : Fronting s l ts scope n slot at top x slot′ l₁) (P : PlainAt s (x .next)) (g : Got) (l₂ : List ℕ)
+      (G : GivesStmt s l₁ ts scope noLoops 33 (x .kind) (x .next) (x .top) g l₂) (t : Bool) (k : t ≡ isForm (g .fault)) (i : t ≡ false) where
+    front-inside : (σ : Environment) (bs : List ℕ) → Around s l ts scope noLoops 33 n at slot σ bs [] → slot ≤ top → Around s l₁ ts scope noLoops 33 (x .kind) (x .next) (x .top) σ bs []
     front-inside σ bs A h = record {
       scene = scene-kept (A .scene) (D .keeps h) (let y = D .grows in omega arith);
       in-force = A .in-force;
-      few-vars = A .few-vars;
+      few-loops = let w = A .few-loops in omega arith;
       few = D .few-left σ bs A h;
     }
 
@@ -172,7 +173,7 @@ module _ (s l ts : List ℕ) (count newest n slot at top : ℕ) where
     unfolding many
     front-falls y u e = rw (e, front-parts .1) (omega arith)
 
-    pub front-next : (u : ℕ) (l₃ : List ℕ) (y : Got) (w : ℕ) → Laid (linked slot′ (g .place) (g .top) l₂) u l₃ → w ≡ g .top + 1 → y ≡ joinedGot x g u → Fronting s l ts count newest n slot at top y w l₃
+    pub front-next : (u : ℕ) (l₃ : List ℕ) (y : Got) (w : ℕ) → Laid (linked slot′ (g .place) (g .top) l₂) u l₃ → w ≡ g .top + 1 → y ≡ joinedGot x g u → Fronting s l ts scope n slot at top y w l₃
     unfolding linked link
     front-next u l₃ y w K ew ey =
         let G₁ = lay-g (g .place ∷ 0 ∷ []) (g .top) l₂ in

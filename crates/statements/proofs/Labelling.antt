@@ -24,12 +24,13 @@ use Rattle.semantics.specs.Rules.{plain, allPlain}
 use Rattle.semantics.specs.Script.{Const}
 use Rattle.semantics.specs.Stages.{Staged, wrong, fits, staged, named, ruled, join, orUnfit, labelsStaged}
 use Rattle.semantics.specs.Syntax.{Constant, Stmt}
-use Rattle.semantics.specs.Trees.{Tree, Trees, end, _then_, Run, first, later, stackAt, nodes, nodesIn}
+use Rattle.semantics.specs.Trees.{Tree, Trees, end, _then_, Run, first, stackAt, nodes, nodesIn}
 use Rattle.semantics.specs.Words.{worded}
 use Rattle.semantics.proofs.Inversion.{none-some, some-inj}
 use Rattle.semantics.proofs.LayoutRegions.{Same, lay-g}
 use Rattle.semantics.proofs.Staging.{staged-two}
 use Rattle.shapes.specs.Parts.{partOf, rest, closed, constantIn, stmtIn, armIn}
+use Rattle.tables.specs.declared.Scope.{Scope}
 use Rattle.tables.specs.declared.Fault.{Fault}
 use Rattle.tables.specs.declared.Fault.the-variants.{Clear, Kind, Name, Form}
 use Rattle.tables.specs.Scene.{Scene}
@@ -231,8 +232,8 @@ module _ (σ : Environment) (k : ℕ) where
 
 -- ---- the loop
 
-module _ (s l : List ℕ) (count newest k slot at top : ℕ) where
-  pub labels-start : (g : Got) → g ≡ skipGot 0 at top → Labelling s l count newest k slot at top g slot l
+module _ (s l : List ℕ) (scope : Scope) (k slot at top : ℕ) where
+  pub labels-start : (g : Got) → g ≡ skipGot 0 at top → Labelling s l scope k slot at top g slot l
   unfolding counts
   labels-start g e = rw e (record {
     around = refl;
@@ -249,13 +250,13 @@ module _ (s l : List ℕ) (count newest k slot at top : ℕ) where
     };
   })
 
-  module _ (x : Got) (slot′ : ℕ) (l₁ : List ℕ) (D : Labelling s l count newest k slot at top x slot′ l₁) (v : Valued) (VC : GivesConstant s l₁ count newest (x .next) v) (t : Bool) (et : t ≡ isForm (v .fault)) where
-    inside-labels : (ts : List ℕ) (σ : Environment) (bs : List ℕ) → Scene s l ts count newest slot σ bs → slot ≤ top → ValueTold (staged (constantIn (first (stackAt s (x .next)))) (constantOf σ) plain some) v
+  module _ (x : Got) (slot′ : ℕ) (l₁ : List ℕ) (D : Labelling s l scope k slot at top x slot′ l₁) (v : Valued) (VC : GivesConstant s l₁ scope (x .next) v) (t : Bool) (et : t ≡ isForm (v .fault)) where
+    inside-labels : (ts : List ℕ) (σ : Environment) (bs : List ℕ) → Scene s l ts scope slot σ bs → slot ≤ top → ValueTold (staged (constantIn (first (stackAt s (x .next)))) (constantOf σ) plain some) v
     inside-labels ts σ bs S h = VC .says ts (x .top) σ bs (scene-kept S (D .keeps h) (let y = D .grows in omega arith))
 
     -- no label is left
-    labels-over : (r : Got) → r ≡ countedGot x → ((ts : List ℕ) (σ : Environment) (bs : List ℕ) → Scene s l ts count newest slot σ bs → slot ≤ top → (d n : ℕ)
-        → armFrom d n (first (stackAt s (x .next))) ≡ (Last d n (first (stackAt s (x .next))) >>= λ p. armOf [] p)) → GivesLabels s l count newest k slot at top r l₁
+    labels-over : (r : Got) → r ≡ countedGot x → ((ts : List ℕ) (σ : Environment) (bs : List ℕ) → Scene s l ts scope slot σ bs → slot ≤ top → (d n : ℕ)
+        → armFrom d n (first (stackAt s (x .next))) ≡ (Last d n (first (stackAt s (x .next))) >>= λ p. armOf [] p)) → GivesLabels s l scope k slot at top r l₁
     unfolding countedGot someLabels counts layLabels labelsStaged staged
     labels-over r e K =
         rw e (by-kind (eqb (x .kind) 0) refl)
@@ -283,11 +284,11 @@ module _ (s l : List ℕ) (count newest k slot at top : ℕ) where
                   (ap (λ (z : Out). z .top) (sym E), ap (λ (z : Out). z .list) (sym E));
             }
 
-        by-kind : (b : Bool) → eqb (x .kind) 0 ≡ b → GivesLabels s l count newest k slot at top (cond b (failedGot Form 0 (x .next) (x .top)) x) l₁
+        by-kind : (b : Bool) → eqb (x .kind) 0 ≡ b → GivesLabels s l scope k slot at top (cond b (failedGot Form 0 (x .next) (x .top)) x) l₁
         by-kind true i = record { around = D .around; fewer = D .fewer; keeps = D .keeps; grows = D .grows; says = λ ts σ bs S h. told (D .says ts σ bs S h) (K ts σ bs S h) true i }
         by-kind false i = record { around = D .around; fewer = D .fewer; keeps = D .keeps; grows = D .grows; says = λ ts σ bs S h. told (D .says ts σ bs S h) (K ts σ bs S h) false i }
 
-    pub labels-stmt : (r : Got) → t ≡ true → r ≡ countedGot x → GivesLabels s l count newest k slot at top r l₁
+    pub labels-stmt : (r : Got) → t ≡ true → r ≡ countedGot x → GivesLabels s l scope k slot at top r l₁
     labels-stmt r i e = labels-over r e (λ ts σ bs S h d n.
         last-first d n (first (stackAt s (x .next))) (form-none (constantIn (first (stackAt s (x .next)))) (constantOf σ) plain some (sym (inside-labels ts σ bs S h .fault-is) ∙ form-is (v .fault) (sym et ∙ i))))
 
@@ -295,7 +296,7 @@ module _ (s l : List ℕ) (count newest k slot at top : ℕ) where
       label-here : (u : Tree Run) × Before s (x .next) u (v .next)
       label-here = VC .goes (sym et ∙ i)
 
-      pub labels-last : (q : ℕ) (r : Got) → e ≡ ending.Past q → r ≡ countedGot x → GivesLabels s l count newest k slot at top r l₁
+      pub labels-last : (q : ℕ) (r : Got) → e ≡ ending.Past q → r ≡ countedGot x → GivesLabels s l scope k slot at top r l₁
       labels-last q r h m =
           let Z : ShutAt s (v .next) q = rw h at (E .says) in
           labels-over r m (λ ts σ bs S j d n. last-only d n (first (stackAt s (x .next))) (ap rest (label-here .1 .here) ∙ Z .here))
@@ -327,7 +328,7 @@ module _ (s l : List ℕ) (count newest k slot at top : ℕ) where
               (z .two, (z .two-fits, y .1 .1 ∙ ap (λ (q : List ℤ). layLabels q slot′ (x .top) l₁) (sym (z .made)) ∙ rw (K .laid .free, K .laid .left, B) refl));
         }
 
-        pub labels-next : (u : ℕ) (l₂ : List ℕ) (y : Got) (w : ℕ) → LinksLabel (v .value) slot′ (x .top) l₁ u l₂ → w ≡ x .top + 1 → y ≡ labelledGot x v k u → Labelling s l count newest k slot at top y w l₂
+        pub labels-next : (u : ℕ) (l₂ : List ℕ) (y : Got) (w : ℕ) → LinksLabel (v .value) slot′ (x .top) l₁ u l₂ → w ≡ x .top + 1 → y ≡ labelledGot x v k u → Labelling s l scope k slot at top y w l₂
         unfolding linked link nodes staged
         labels-next u l₂ y w K ew ey =
             let G = lay-g (K .bits-are ∷ 0 ∷ []) (x .top) l₁ in
@@ -343,7 +344,7 @@ module _ (s l : List ℕ) (count newest k slot at top : ℕ) where
               says = λ ts σ bs S j. one-more ts σ bs S j (constantIn (first (stackAt s (x .next)))) refl (inside-labels ts σ bs S j);
             })
           where
-            one-more : (ts : List ℕ) (σ : Environment) (bs : List ℕ) → Scene s l ts count newest slot σ bs → slot ≤ top → (o : Option Constant) → constantIn (first (stackAt s (x .next))) ≡ o
+            one-more : (ts : List ℕ) (σ : Environment) (bs : List ℕ) → Scene s l ts scope slot σ bs → slot ≤ top → (o : Option Constant) → constantIn (first (stackAt s (x .next))) ≡ o
                 → ValueTold (staged o (constantOf σ) plain some) v
                 → LabelsLeft σ k (first (stackAt s at)) slot top l (labelledGot x v k u) (first (stackAt s (v .next))) (x .top + 1) l₂
             one-more ts σ bs S j none ec T = absurd (true≢false (sym (ap isForm (T .fault-is)) ∙ sym et ∙ i))

@@ -21,6 +21,7 @@ use Rattle.semantics.specs.Types.{Var, variable, infoAt, hostOf, ordinal?}
 use Rattle.semantics.proofs.Inversion.{none-some, some-inj, bind-some}
 use Rattle.semantics.proofs.Staging.{pair, staged-unknown, staged-three}
 use Rattle.semantics.proofs.OnePassStmts.{assign-staged, for-staged}
+use Rattle.tables.specs.declared.Scope.{Scope}
 use Rattle.tables.specs.declared.Fault.{Fault}
 use Rattle.tables.specs.declared.Fault.the-variants.{Clear, Kind, Name as Unnamed, Form}
 use Rattle.tables.specs.declared.Info.{Info}
@@ -55,7 +56,7 @@ module _ (σ : Environment) (bs js : List ℕ) (n top : ℕ) (l : List ℕ) wher
       → ActTold σ bs js o top l r l′
   act-of t k h = record { fault-is = t .fault-is; laid = λ a e. t .laid a e .1; number = λ p e. k ∙ sym (h p e) }
 
-  module _ (s ts : List ℕ) (count newest top₂ : ℕ) (g : Got) (l₁ : List ℕ) (e : Got) (l₂ : List ℕ) (Sc : Scene s l₂ ts count newest top₂ σ bs) where
+  module _ (s ts : List ℕ) (scope : Scope) (top₂ : ℕ) (g : Got) (l₁ : List ℕ) (e : Got) (l₂ : List ℕ) (Sc : Scene s l₂ ts scope top₂ σ bs) where
     stored-told : (w : Located) (x : Elaborated) → g .kind ≡ w .type → out (g .place) (g .top) l₁ ≡ layPlace (w .place) top l
         → e .kind ≡ x .kind → out (e .place) (e .top) l₂ ≡ layCode (x .code) (g .top) l₁
         → Told (orUnfit (given (eqb (hostOf (σ .types) (w .type)) (x .kind)) (x .code) >>= λ c. some (assigning (σ .types) (σ .vars) n w c))) (λ _. n) (layAct bs) top l

@@ -19,12 +19,11 @@ use Rattle.semantics.specs.Rules.{looping, steers}
 use Rattle.semantics.specs.Script as Script
 use Rattle.semantics.specs.Stages.{Staged, wrong, unnamed, unfit, fits, staged, named, keptIf, targetName, targetStaged, assignedStaged}
 use Rattle.semantics.specs.Syntax as Syntax
-use Rattle.semantics.specs.Trees.{Tree, word, form, Trees, end, _then_, Run, first, later, wordAt, stackAt}
+use Rattle.semantics.specs.Trees.{word, form, Trees, end, _then_, Run, first, later, wordAt, stackAt}
 use Rattle.semantics.specs.Types.{Var, variable}
 use Rattle.semantics.proofs.Inversion.{none-some, some-inj, bind-some}
 use Rattle.semantics.proofs.LayoutRegions.{Same, lay-g}
 use Rattle.semantics.proofs.OnePassStmts.{assigned-part, assigned-var}
-use Rattle.symbols.specs.Chain.{entries, placeIn}
 use Rattle.shapes.specs.declared.Atom.{Atom}
 use Rattle.shapes.specs.declared.Atom.the-variants as AT
 use Rattle.shapes.specs.declared.ExprHead.{ExprHead}
@@ -34,16 +33,17 @@ use Rattle.shapes.specs.Heads.{atomOf, atomTarget, exprHeadOf}
 use Rattle.shapes.specs.Parts.{rest, closed, exprIn, targetIn, nameIn, targetBy}
 use Rattle.shapes.proofs.Heads.{target-word}
 use Rattle.shapes.proofs.Expressions.{target-form, target-end, target-empty, target-headless}
+use Rattle.tables.specs.declared.Scope.{Scope}
 use Rattle.tables.specs.declared.Fault.{Fault}
 use Rattle.tables.specs.declared.Fault.the-variants.{Clear, Kind, Name as Unnamed, Form}
-use Rattle.tables.specs.declared.Mask.{Mask}
+use Rattle.tables.specs.declared.Loops.{Loops}
 use Rattle.tables.specs.declared.Meaning.{Meaning}
 use Rattle.tables.specs.declared.Meaning.the-variants as meaning
 use Rattle.tables.specs.Descriptions.{infoOf}
 use Rattle.tables.specs.Sides.{hostIn}
 use Rattle.tables.specs.Loops.{loopsOver, InForce}
 use Rattle.tables.specs.Scene as Scenes
-use Rattle.tables.specs.Scene.{Scene, meaningAt, a-type, a-var, a-proc, a-value}
+use Rattle.tables.specs.Scene.{Scene, a-type, a-var, a-proc, a-value, meaningHere}
 use Rattle.tables.proofs.Kept.{scene-kept}
 use Rattle.tables.proofs.Telling.{meant}
 use Rattle.parts.specs.declared.Got.{Got}
@@ -65,11 +65,6 @@ use Rattle.statements.proofs.Ways.{fail-moves, stop-leaves, none-bind}
 
 -- ---- a variable's number
 
-pub below-length : {A : Type 0} (xs : List A) (i : ℕ) (v : A) → getElem? xs i ≡ some v → i < length xs
-below-length [] i v h = none-some h
-below-length (x ∷ xs) zero v h = omega arith
-below-length (x ∷ xs) (suc i) v h = let k = below-length xs i v h in omega arith
-
 -- ---- one more rule of row 8
 
 module _ {s : List ℕ} {at top : ℕ} {l : List ℕ} {g : Got} {l′ : List ℕ} where
@@ -77,14 +72,14 @@ module _ {s : List ℕ} {at top : ℕ} {l : List ℕ} {g : Got} {l′ : List ℕ
   ruled-moves false m = m
   ruled-moves true m = record { goes = λ e. m .goes (form-left (g .fault) Kind e); keeps = m .keeps; grows = m .grows }
 
-  steered-moves : (w : Mask) (m : Meaning) → Moves s at top l g l′ → Moves s at top l (steered w m g) l′
+  steered-moves : (w : Loops) (m : Meaning) → Moves s at top l g l′ → Moves s at top l (steered w m g) l′
   steered-moves w meaning.Unknown v = v
   steered-moves w (meaning.Type k) v = v
   steered-moves w (meaning.Var i k a) v = ruled-moves (loopsOver w i) v
   steered-moves w (meaning.Proc p) v = v
   steered-moves w (meaning.Value k n) v = v
 
-steered-form : (w : Mask) (m : Meaning) (g : Got) → g .fault ≡ Form → steered w m g .fault ≡ Form
+steered-form : (w : Loops) (m : Meaning) (g : Got) → g .fault ≡ Form → steered w m g .fault ≡ Form
 steered-form w meaning.Unknown g e = e
 steered-form w (meaning.Type k) g e = e
 steered-form w (meaning.Var i k a) g e = go (loopsOver w i)
@@ -130,7 +125,7 @@ word-target AT.ErrorNumber w = no-target refl
 word-target (AT.Base k) w = no-target refl
 word-target AT.Nothing w = no-target refl
 
-module _ {σ : Environment} {bs js : List ℕ} {loops : Mask} {top : ℕ} {l : List ℕ} {g : Got} {l′ : List ℕ} (w : Name) (I : InForce loops js) (V₀ : length (σ .vars) ≤ 128) where
+module _ {σ : Environment} {bs js : List ℕ} {loops : Loops} {top : ℕ} {l : List ℕ} {g : Got} {l′ : List ℕ} (w : Name) (I : InForce loops js) where
   var-told : {m : Meaning} → Scenes.Told σ bs m (find (σ .names) w) → Told (targetStaged σ (some (Syntax.var w))) (λ x. x .type) (λ x. layPlace (x .place)) top l g l′
       → Told (assignedStaged σ js (some (Syntax.var w))) (λ x. x .type) (λ x. layPlace (x .place)) top l (steered loops m g) l′
   unfolding targetStaged assignedStaged staged named targetName targetOf varOf _>>=_
@@ -142,8 +137,7 @@ module _ {σ : Environment} {bs js : List ℕ} {loops : Mask} {top : ℕ} {l : L
       go (some a) e (Scenes.known a-proc) = rw e (rw e at T)
       go (some a) e (Scenes.known a-value) = rw e (rw e at T)
       go (some a) e (Scenes.known (a-var {i} v h)) =
-          let k = below-length (σ .vars) i v h in
-          rw (assigned-var σ js w i (rw (e, h) refl), I .in-force i (omega arith)) (kept-told (looping i js) (targetStaged σ (some (Syntax.var w))) T)
+          rw (assigned-var σ js w i (rw (e, h) refl), I .in-force i) (kept-told (looping i js) (targetStaged σ (some (Syntax.var w))) T)
 
 -- ---- a target of several parts
 
@@ -180,25 +174,25 @@ part-steers σ js x t (a-field g w) h = bind-some h λ r hr i. bind-some hr λ q
 
 -- ---- the ways
 
-module _ (s l ts : List ℕ) (count newest : ℕ) (loops : Mask) (at top : ℕ) (x : Part) (S : Stands s at x) where
-  pub store-shut : (q : ℕ) (r : Got) → x ≡ part.Shut q → r ≡ failedGot Form 0 q top → GivesStore s l ts count newest loops at top r l
+module _ (s l ts : List ℕ) (scope : Scope) (loops : Loops) (at top : ℕ) (x : Part) (S : Stands s at x) where
+  pub store-shut : (q : ℕ) (r : Got) → x ≡ part.Shut q → r ≡ failedGot Form 0 q top → GivesStore s l ts scope loops at top r l
   unfolding assignedStaged staged
   store-shut q r h e =
       let L : ShutAt s at q = rw h at (S .says) in
-      rw e (record { moves = fail-moves; says = λ σ bs js A I k. rw (L .here, target-end 33) (record { told = record { fault-is = refl; laid = λ a z. absurd (wrong-fits z) } }) })
+      rw e (record { moves = fail-moves; says = λ σ bs js A I. rw (L .here, target-end 33) (record { told = record { fault-is = refl; laid = λ a z. absurd (wrong-fits z) } }) })
 
-  pub store-form : (q : ℕ) (r : Got) (l′ : List ℕ) → x ≡ part.Form q → GivesTarget s l ts count newest 33 at top r l′ → GivesStore s l ts count newest loops at top r l′
+  pub store-form : (q : ℕ) (r : Got) (l′ : List ℕ) → x ≡ part.Form q → GivesTarget s l ts scope 33 at top r l′ → GivesStore s l ts scope loops at top r l′
   store-form q r l′ h G =
       let F : FormAt s at q = rw h at (S .says) in
       record {
         moves = G .moves;
-        says = λ σ bs js A I k.
+        says = λ σ bs js A I.
             let e = assigned-part σ js (targetIn 33 (first (stackAt s at))) (λ y t ey et. part-steers σ js y t (form-part (first (stackAt s q)) (first (later (stackAt s q))) y (rw (F .here) at ey)) et) in
             record { told = rw e (G .says σ bs A .told) };
       }
 
-  pub store-leaf : (w : Word) (p q : ℕ) (m : Meaning) (g r : Got) (l′ : List ℕ) → x ≡ part.Leaf w p q → m ≡ meaningAt l (placeIn s l (entries count l newest) (map small (wordAt s p)))
-      → GivesTarget s l ts count newest 33 at top g l′ → r ≡ steered loops m g → GivesStore s l ts count newest loops at top r l′
+  pub store-leaf : (w : Word) (p q : ℕ) (m : Meaning) (g r : Got) (l′ : List ℕ) → x ≡ part.Leaf w p q → m ≡ meaningHere s l scope p
+      → GivesTarget s l ts scope 33 at top g l′ → r ≡ steered loops m g → GivesStore s l ts scope loops at top r l′
   unfolding assignedStaged targetStaged staged
   store-leaf w p q m g r l′ h em G er =
       let X = rw h at (S .says) in
@@ -206,13 +200,13 @@ module _ (s l ts : List ℕ) (count newest : ℕ) (loops : Mask) (at top : ℕ) 
       let o : targetIn 33 (first (stackAt s at)) ≡ atomTarget (atomOf (wordOf (wordAt s p))) (map small (wordAt s p)) = rw (L .leaf .here) (target-word 32 (wordAt s p) (first (stackAt s q))) in
       rw er (record {
         moves = steered-moves loops m (G .moves);
-        says = λ σ bs js A I k. record { told = go σ bs js I k A (targetIn 33 (first (stackAt s at))) (rw (← o) at (word-target (atomOf (wordOf (wordAt s p))) (map small (wordAt s p)))) (G .says σ bs A .told) };
+        says = λ σ bs js A I. record { told = go σ bs js I A (targetIn 33 (first (stackAt s at))) (rw (← o) at (word-target (atomOf (wordOf (wordAt s p))) (map small (wordAt s p)))) (G .says σ bs A .told) };
       })
     where
-      go : (σ : Environment) (bs js : List ℕ) → InForce loops js → length (σ .vars) ≤ 128 → Scene s l ts count newest top σ bs → (o : Option Syntax.Target) → VarOrNone o (map small (wordAt s p))
+      go : (σ : Environment) (bs js : List ℕ) → InForce loops js → Scene s l ts scope top σ bs → (o : Option Syntax.Target) → VarOrNone o (map small (wordAt s p))
           → Told (targetStaged σ o) (λ (x : Located). x .type) (λ (x : Located). layPlace (x .place)) top l g l′ → Told (assignedStaged σ js o) (λ (x : Located). x .type) (λ (x : Located). layPlace (x .place)) top l (steered loops m g) l′
-      go σ bs js I k A o (no-target e) T = rw e (record { fault-is = steered-form loops m g ((rw e at T) .fault-is); laid = λ a z. absurd (wrong-fits z) })
-      go σ bs js I k A o (whole-var e) T = rw e (var-told (map small (wordAt s p)) I k (rw (← em) at (meant A (map small (wordAt s p)))) (rw e at T))
+      go σ bs js I A o (no-target e) T = rw e (record { fault-is = steered-form loops m g ((rw e at T) .fault-is); laid = λ a z. absurd (wrong-fits z) })
+      go σ bs js I A o (whole-var e) T = rw e (var-told (map small (wordAt s p)) I (rw (← em) at (meant A (map small (wordAt s p)))) (rw e at T))
 
 assigned-leaves : (l ts : List ℕ) (n : ℕ) (g e r : Got) (l′ : List ℕ) → Makes (assigned l ts n g e) r l′ → (isForm (r .fault) ≡ false → isForm (lowest (g .fault) (e .fault)) ≡ false) × ((r .next ≡ e .next) × ((e .top ≤ r .top) × Same 0 (e .top) l′ l))
 unfolding assigned ifClear stored
@@ -235,19 +229,19 @@ assigned-leaves l ts n g e r l′ m = go (lowest (g .fault) (e .fault)) m
     go Unnamed m = none-laid Unnamed Unnamed refl (m .given) (m .left)
     go Form m = none-laid Form Form refl (m .given) (m .left)
 
-module _ (s l ts : List ℕ) (count newest : ℕ) (loops : Mask) (n at top : ℕ) (g : Got) (l₁ : List ℕ) (G : GivesStore s l ts count newest loops at top g l₁) (t : Bool) (et : t ≡ isForm (g .fault)) where
-  pub assign-wrong : t ≡ true → GivesAssign s l ts count newest loops n at top g l₁
+module _ (s l ts : List ℕ) (scope : Scope) (loops : Loops) (n at top : ℕ) (g : Got) (l₁ : List ℕ) (G : GivesStore s l ts scope loops at top g l₁) (t : Bool) (et : t ≡ isForm (g .fault)) where
+  pub assign-wrong : t ≡ true → GivesAssign s l ts scope loops n at top g l₁
   unfolding assignedStaged
   assign-wrong h = record {
     any = λ d. record {
       leaves = stop-leaves (G .moves) (sym et ∙ h);
       says = λ σ bs js A.
-          let z = G .says σ bs js (A .scene) (A .in-force) (A .few-vars) .told .fault-is in
+          let z = G .says σ bs js (A .scene) (A .in-force) .told .fault-is in
           act-none (assign-shape d n (first (stackAt s at)) ∙ none-bind _ (form-none (targetIn 33 (first (stackAt s at))) _ _ _ (sym z ∙ form-is (g .fault) (sym et ∙ h)))) (sym et ∙ h);
     };
   }
 
-  pub assign-both : (a e r : Got) (l₂ l′ : List ℕ) → t ≡ false → GivesExpr s l₁ ts count newest 33 (g .next) (g .top) a l₂ → Closes s a e → Makes (assigned l₂ ts n g e) r l′ → GivesAssign s l ts count newest loops n at top r l′
+  pub assign-both : (a e r : Got) (l₂ l′ : List ℕ) → t ≡ false → GivesExpr s l₁ ts scope 33 (g .next) (g .top) a l₂ → Closes s a e → Makes (assigned l₂ ts n g e) r l′ → GivesAssign s l ts scope loops n at top r l′
   assign-both a e r l₂ l′ h E C k =
       let F : isForm (g .fault) ≡ false = sym et ∙ h in
       let N = assigned-leaves l₂ ts n g e r l′ k in
@@ -263,8 +257,8 @@ module _ (s l ts : List ℕ) (count newest : ℕ) (loops : Mask) (n at top : ℕ
           says = λ σ bs js A.
               let Sc = scene-kept (scene-kept (A .scene) (G .moves .keeps) (G .moves .grows)) (E .moves .keeps) (E .moves .grows) in
               rw (assign-shape d n (first (stackAt s at)), R)
-              (assign-act σ bs js n top l s ts count newest (a .top) g l₁ e l₂ Sc (targetIn 33 (first (stackAt s at))) (exprIn 33 (first (stackAt s (g .next))) >>= λ x. closed (rest (first (stackAt s (g .next)))) x) r l′
-              (G .says σ bs js (A .scene) (A .in-force) (A .few-vars))
+              (assign-act σ bs js n top l s ts scope (a .top) g l₁ e l₂ Sc (targetIn 33 (first (stackAt s at))) (exprIn 33 (first (stackAt s (g .next))) >>= λ x. closed (rest (first (stackAt s (g .next)))) x) r l′
+              (G .says σ bs js (A .scene) (A .in-force))
               (expr-closed (exprIn 33 (first (stackAt s (g .next)))) (E .moves) C (E .says σ bs (scene-kept (A .scene) (G .moves .keeps) (G .moves .grows)))) k);
         };
       }

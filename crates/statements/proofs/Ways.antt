@@ -13,8 +13,7 @@ use Rattle.semantics.specs.Base.{Name, _>>=_}
 use Rattle.semantics.specs.Environment.{Environment}
 use Rattle.semantics.specs.Stages.{staged, wantedStaged, exprStaged, stmtStaged}
 use Rattle.semantics.specs.Syntax as Syntax
-use Rattle.semantics.specs.Trees.{Tree, word, form, Trees, end, _then_, Run, first, later, wordAt, stackAt, nodes, nodesIn}
-use Rattle.symbols.specs.Chain.{entries, placeIn}
+use Rattle.semantics.specs.Trees.{word, form, Trees, end, _then_, Run, first, later, wordAt, stackAt, nodes, nodesIn}
 use Rattle.shapes.specs.declared.Atom.{Atom}
 use Rattle.shapes.specs.declared.Atom.the-variants as AT
 use Rattle.shapes.specs.declared.Verb.{Verb}
@@ -24,14 +23,15 @@ use Rattle.shapes.specs.Parts.{partOf, rest, closed, exprIn, nameIn, stmtIn, el
 use Rattle.shapes.proofs.Heads.{name-word}
 use Rattle.shapes.proofs.Expressions.{name-form}
 use Rattle.shapes.proofs.Statements.{stmt-end, stmt-zero, stmt-word, stmt-empty, stmt-headless}
+use Rattle.tables.specs.declared.Scope.{Scope}
 use Rattle.tables.specs.declared.Fault.{Fault}
 use Rattle.tables.specs.declared.Fault.the-variants.{Form}
-use Rattle.tables.specs.declared.Mask.{Mask}
+use Rattle.tables.specs.declared.Loops.{Loops}
 use Rattle.tables.specs.declared.Meaning.{Meaning}
 use Rattle.tables.specs.declared.Meaning.the-variants as meaning
 use Rattle.semantics.proofs.LayoutRegions.{Same, lay-g}
 use Rattle.statements.proofs.Chains.{none-of}
-use Rattle.tables.specs.Scene.{Scene, meaningAt}
+use Rattle.tables.specs.Scene.{meaningHere}
 use Rattle.tables.proofs.Kept.{scene-kept}
 use Rattle.tables.proofs.Telling.{meant}
 use Rattle.parts.specs.declared.Got.{Got}
@@ -139,14 +139,18 @@ called-leaves l n (meaning.Proc p) q t r l′ k =
     let G = lay-g (50 ∷ n ∷ p ∷ []) t l in
     rw (k .given, k .left) (refl, (G .up, record { at = λ i a b. G .below i b }))
 
--- ---- what is given after a part
+-- ---- what is given one bracket deeper, and after a part
 
-module _ {s l ts : List ℕ} {count newest : ℕ} {loops : Mask} {n at top : ℕ} {σ : Environment} {bs js : List ℕ} (A : Around s l ts count newest loops n at top σ bs js)
+pub around-in : {s l ts : List ℕ} {scope : Scope} {loops : Loops} {d n at top : ℕ} {σ : Environment} {bs js : List ℕ}
+    → Around s l ts scope loops (suc d) n at top σ bs js → Around s l ts scope loops d n at top σ bs js
+around-in A = record { scene = A .scene; in-force = A .in-force; few-loops = let w = A .few-loops in omega arith; few = A .few }
+
+module _ {s l ts : List ℕ} {scope : Scope} {loops : Loops} {d n at top : ℕ} {σ : Environment} {bs js : List ℕ} (A : Around s l ts scope loops d n at top σ bs js)
     {a : Got} {l₁ : List ℕ} (m : Moves s at top l a l₁) where
-  pub around-from : (k : ℕ) → k + nodesIn (first (stackAt s (a .next))) ≤ 65535 → Around s l₁ ts count newest loops k (a .next) (a .top) σ bs js
-  around-from k h = record { scene = scene-kept (A .scene) (m .keeps) (m .grows); in-force = A .in-force; few-vars = A .few-vars; few = h }
+  pub around-from : (k : ℕ) → k + nodesIn (first (stackAt s (a .next))) ≤ 65535 → Around s l₁ ts scope loops d k (a .next) (a .top) σ bs js
+  around-from k h = record { scene = scene-kept (A .scene) (m .keeps) (m .grows); in-force = A .in-force; few-loops = let w = A .few-loops in omega arith; few = h }
 
-  pub around-next : isForm (a .fault) ≡ false → Around s l₁ ts count newest loops n (a .next) (a .top) σ bs js
+  pub around-next : isForm (a .fault) ≡ false → Around s l₁ ts scope loops d n (a .next) (a .top) σ bs js
   unfolding nodes
   around-next h =
       let e : nodesIn (first (stackAt s at)) ≡ nodes (m .goes h .0) + nodesIn (first (stackAt s (a .next))) = ap nodesIn (m .goes h .1 .here) in
@@ -155,22 +159,22 @@ module _ {s l ts : List ℕ} {count newest : ℕ} {loops : Mask} {n at top : ℕ
 
 -- ---- a statement
 
-module _ (s l ts : List ℕ) (count newest : ℕ) (loops : Mask) (d n at top : ℕ) where
-  pub stmt-at-zero : (r : Got) → d ≡ 0 → r ≡ failedGot Form 0 at top → GivesStmt s l ts count newest loops d n at top r l
+module _ (s l ts : List ℕ) (scope : Scope) (loops : Loops) (d n at top : ℕ) where
+  pub stmt-at-zero : (r : Got) → d ≡ 0 → r ≡ failedGot Form 0 at top → GivesStmt s l ts scope loops d n at top r l
   stmt-at-zero r h e = rw e (record { moves = fail-moves; says = λ σ bs js A. act-none (rw h (stmt-zero n (first (stackAt s at)))) refl })
 
   module _ (x : Part) (S : Stands s at x) where
-    pub stmt-at-leaf : (w : Word) (p q : ℕ) (r : Got) → x ≡ part.Leaf w p q → r ≡ failedGot Form 0 q top → GivesStmt s l ts count newest loops d n at top r l
+    pub stmt-at-leaf : (w : Word) (p q : ℕ) (r : Got) → x ≡ part.Leaf w p q → r ≡ failedGot Form 0 q top → GivesStmt s l ts scope loops d n at top r l
     stmt-at-leaf w p q r h e =
         let L : LeafAt s at p q = (rw h at (S .says)) .0 in
         rw e (record { moves = fail-moves; says = λ σ bs js A. act-none (rw (L .leaf .here) (stmt-word d n (wordAt s p) (first (stackAt s q)))) refl })
 
-    pub stmt-at-shut : (q : ℕ) (r : Got) → x ≡ part.Shut q → r ≡ failedGot Form 0 q top → GivesStmt s l ts count newest loops d n at top r l
+    pub stmt-at-shut : (q : ℕ) (r : Got) → x ≡ part.Shut q → r ≡ failedGot Form 0 q top → GivesStmt s l ts scope loops d n at top r l
     stmt-at-shut q r h e =
         let L : ShutAt s at q = rw h at (S .says) in
         rw e (record { moves = fail-moves; says = λ σ bs js A. act-none (rw (L .here) (stmt-end d n)) refl })
 
-    pub stmt-at-form : (q : ℕ) (r : Got) (l′ : List ℕ) → x ≡ part.Form q → ((d ≡ 0) → ⊥) → GivesInner s l ts count newest loops (d - 1) n q top r l′ → GivesStmt s l ts count newest loops d n at top r l′
+    pub stmt-at-form : (q : ℕ) (r : Got) (l′ : List ℕ) → x ≡ part.Form q → ((d ≡ 0) → ⊥) → GivesInner s l ts scope loops (d - 1) n q top r l′ → GivesStmt s l ts scope loops d n at top r l′
     unfolding nodes
     stmt-at-form q r l′ h z I =
         let F : FormAt s at q = rw h at (S .says) in
@@ -189,7 +193,7 @@ module _ (s l ts : List ℕ) (count newest : ℕ) (loops : Mask) (d n at top : �
           says = λ σ bs js A.
               let e : nodesIn (first (stackAt s at)) ≡ suc (nodesIn (first (stackAt s q))) + nodesIn (first (later (stackAt s q))) = ap nodesIn (F .here) in
               let f = A .few in
-              let T = I .says σ bs js (record { scene = A .scene; in-force = A .in-force; few-vars = A .few-vars; few = omega arith }) in
+              let T = I .says σ bs js (record { scene = A .scene; in-force = A .in-force; few-loops = let w = A .few-loops in omega arith; few = omega arith }) in
               rw (F .here, step d z (first (stackAt s q)) (first (later (stackAt s q)))) T;
         }
       where
@@ -197,18 +201,18 @@ module _ (s l ts : List ℕ) (count newest : ℕ) (loops : Mask) (d n at top : �
         step d z us vs = parted n d us vs ∙ ap (λ k. stmtIn k n (form us then end)) (omega arith)
 
   module _ (x : Part) (S : Stands s at x) where
-    pub inner-form : (q : ℕ) (r : Got) → x ≡ part.Form q → r ≡ failedGot Form 0 q top → GivesInner s l ts count newest loops d n at top r l
+    pub inner-form : (q : ℕ) (r : Got) → x ≡ part.Form q → r ≡ failedGot Form 0 q top → GivesInner s l ts scope loops d n at top r l
     inner-form q r h e =
         let F : FormAt s at q = rw h at (S .says) in
         rw e (record { leaves = fail-leaves; says = λ σ bs js A. act-none (rw (F .here) (stmt-headless (suc d) n (first (stackAt s q)) (first (later (stackAt s q))) end)) refl })
 
-    pub inner-shut : (q : ℕ) (r : Got) → x ≡ part.Shut q → r ≡ failedGot Form 0 q top → GivesInner s l ts count newest loops d n at top r l
+    pub inner-shut : (q : ℕ) (r : Got) → x ≡ part.Shut q → r ≡ failedGot Form 0 q top → GivesInner s l ts scope loops d n at top r l
     inner-shut q r h e =
         let L : ShutAt s at q = rw h at (S .says) in
         rw e (record { leaves = fail-leaves; says = λ σ bs js A. act-none (rw (L .here) (stmt-empty (suc d) n end)) refl })
 
     pub inner-leaf : (w : Word) (p q : ℕ) (v : Verb) (m : ℕ) (r : Got) (l′ : List ℕ) → x ≡ part.Leaf w p q → v ≡ verbOf w → m ≡ nextNumber n
-        → GivesVerb s l ts count newest loops v d m q top r l′ → GivesInner s l ts count newest loops d n at top r l′
+        → GivesVerb s l ts scope loops v d m q top r l′ → GivesInner s l ts scope loops d n at top r l′
     unfolding nextNumber nodes
     inner-leaf w p q v m r l′ h e k G =
         let X = rw h at (S .says) in
@@ -220,38 +224,38 @@ module _ (s l ts : List ℕ) (count newest : ℕ) (loops : Mask) (d n at top : �
               let c : nodesIn (first (stackAt s at)) ≡ 1 + nodesIn (first (stackAt s q)) = ap nodesIn (L .leaf .here) in
               let f = A .few in
               let M : m ≡ suc n = k ∙ rw (lt-ltb n 4294967295 (omega arith)) (omega arith) in
-              let T = G .says σ bs js (record { scene = A .scene; in-force = A .in-force; few-vars = A .few-vars; few = omega arith }) in
+              let T = G .says σ bs js (record { scene = A .scene; in-force = A .in-force; few-loops = let w = A .few-loops in omega arith; few = omega arith }) in
               rw (L .leaf .here, form-shape d n (wordAt s p) (first (stackAt s q)) end, ← W, ← e, ← M) T;
         }
 
   -- ---- by its verb
 
   module _ (v : Verb) where
-    pub headed-as : (u : Verb) (r : Got) (l′ : List ℕ) → v ≡ u → GivesVerb s l ts count newest loops u d n at top r l′ → GivesVerb s l ts count newest loops v d n at top r l′
+    pub headed-as : (u : Verb) (r : Got) (l′ : List ℕ) → v ≡ u → GivesVerb s l ts scope loops u d n at top r l′ → GivesVerb s l ts scope loops v d n at top r l′
     headed-as u r l′ h G = rw h G
 
-    pub headed-nothing : (r : Got) → v ≡ VB.Nothing → r ≡ failedGot Form 0 at top → GivesVerb s l ts count newest loops v d n at top r l
+    pub headed-nothing : (r : Got) → v ≡ VB.Nothing → r ≡ failedGot Form 0 at top → GivesVerb s l ts scope loops v d n at top r l
     headed-nothing r h e = rw (h, e) (record { leaves = fail-leaves; says = λ σ bs js A. act-none (none-shape d n (first (stackAt s at))) refl })
 
-    pub headed-assign : (r : Got) (l′ : List ℕ) → v ≡ VB.Assign → GivesAssign s l ts count newest loops n at top r l′ → GivesVerb s l ts count newest loops v d n at top r l′
+    pub headed-assign : (r : Got) (l′ : List ℕ) → v ≡ VB.Assign → GivesAssign s l ts scope loops n at top r l′ → GivesVerb s l ts scope loops v d n at top r l′
     headed-assign r l′ h G = rw h (G .any d)
 
-    pub headed-raise : (r : Got) (l′ : List ℕ) → v ≡ VB.Raise → GivesRaise s l ts count newest n at top r l′ → GivesVerb s l ts count newest loops v d n at top r l′
+    pub headed-raise : (r : Got) (l′ : List ℕ) → v ≡ VB.Raise → GivesRaise s l ts scope n at top r l′ → GivesVerb s l ts scope loops v d n at top r l′
     headed-raise r l′ h G = rw h (G .any loops d)
 
-    pub headed-call : (r : Got) (l′ : List ℕ) → v ≡ VB.Call → GivesCall s l count newest n at top r l′ → GivesVerb s l ts count newest loops v d n at top r l′
+    pub headed-call : (r : Got) (l′ : List ℕ) → v ≡ VB.Call → GivesCall s l scope n at top r l′ → GivesVerb s l ts scope loops v d n at top r l′
     headed-call r l′ h G = rw h (G .any ts loops d)
 
   -- ---- `while`
 
-  module _ (c : Got) (l₁ : List ℕ) (E : GivesWanted s l ts count newest 1 at top c l₁) (t : Bool) (et : t ≡ isForm (c .fault)) where
-    pub while-wrong : t ≡ true → GivesVerb s l ts count newest loops VB.While d n at top c l₁
+  module _ (c : Got) (l₁ : List ℕ) (E : GivesWanted s l ts scope 1 at top c l₁) (t : Bool) (et : t ≡ isForm (c .fault)) where
+    pub while-wrong : t ≡ true → GivesVerb s l ts scope loops VB.While d n at top c l₁
     while-wrong h = record {
       leaves = stop-leaves (E .moves) (sym et ∙ h);
       says = λ σ bs js A. act-none (while-shape d n (first (stackAt s at)) ∙ none-bind _ (want-none (E .says σ bs (A .scene)) (sym et ∙ h))) (sym et ∙ h);
     }
 
-    pub if-wrong : t ≡ true → GivesVerb s l ts count newest loops VB.If d n at top c l₁
+    pub if-wrong : t ≡ true → GivesVerb s l ts scope loops VB.If d n at top c l₁
     if-wrong h = record {
       leaves = stop-leaves (E .moves) (sym et ∙ h);
       says = λ σ bs js A. act-none (if-shape d n (first (stackAt s at)) ∙ none-bind _ (want-none (E .says σ bs (A .scene)) (sym et ∙ h))) (sym et ∙ h);
@@ -264,8 +268,8 @@ module _ (s l ts : List ℕ) (count newest : ℕ) (loops : Mask) (d n at top : �
       rest-is : rest (first (stackAt s at)) ≡ first (stackAt s (c .next))
       rest-is = ap rest (E .moves .goes no-form .1 .here)
 
-      pub while-both : (a : Got) (l₂ : List ℕ) → GivesStmt s l₁ ts count newest loops d n (c .next) (c .top) a l₂ → (b r : Got) (l′ : List ℕ) → Closes s a b → Makes (looped l₂ n c b) r l′
-          → GivesVerb s l ts count newest loops VB.While d n at top r l′
+      pub while-both : (a : Got) (l₂ : List ℕ) → GivesStmt s l₁ ts scope loops d n (c .next) (c .top) a l₂ → (b r : Got) (l′ : List ℕ) → Closes s a b → Makes (looped l₂ n c b) r l′
+          → GivesVerb s l ts scope loops VB.While d n at top r l′
       unfolding looped
       while-both a l₂ G b r l′ C k =
           let N = node-of k in
@@ -274,22 +278,22 @@ module _ (s l ts : List ℕ) (count newest : ℕ) (loops : Mask) (d n at top : �
             says = λ σ bs js A.
                 rw (while-shape d n (first (stackAt s at)), rest-is)
                 (while-act (exprIn 33 (first (stackAt s at))) (stmtIn d n (first (stackAt s (c .next))) >>= λ p. closed (rest (first (stackAt s (c .next)))) p) c l₁ b l₂
-                (E .says σ bs (A .scene)) (act-closed (stmtIn d n (first (stackAt s (c .next)))) (G .moves) C (G .says σ bs js (around-next A (E .moves) no-form))) N);
+                (E .says σ bs (A .scene)) (act-closed (stmtIn d n (first (stackAt s (c .next)))) (G .moves) C (G .says σ bs js (around-in (around-next A (E .moves) no-form)))) N);
           }
 
       -- ---- `if`
 
-      pub if-more : (r : Got) (l′ : List ℕ) → GivesThen s l₁ ts count newest loops c d n r l′ → GivesVerb s l ts count newest loops VB.If d n at top r l′
+      pub if-more : (r : Got) (l′ : List ℕ) → GivesThen s l₁ ts scope loops c d n r l′ → GivesVerb s l ts scope loops VB.If d n at top r l′
       unfolding thenIn
       if-more r l′ G = record {
         leaves = then-leaves (E .moves) no-form (G .leaves);
         says = λ σ bs js A.
-            rw (if-shape d n (first (stackAt s at)), rest-is) (G .says σ bs js (exprIn 33 (first (stackAt s at))) top l (E .says σ bs (A .scene)) (around-next A (E .moves) no-form));
+            rw (if-shape d n (first (stackAt s at)), rest-is) (G .says σ bs js (exprIn 33 (first (stackAt s at))) top l (E .says σ bs (A .scene)) (around-in (around-next A (E .moves) no-form)));
       }
 
   -- the third part of an `if`
   module _ (e : End) (S : Shuts s at e) where
-    pub else-missing : (q : ℕ) (r : Got) → e ≡ ending.Past q → r ≡ skipGot n q top → GivesElse s l ts count newest loops d n at top r l
+    pub else-missing : (q : ℕ) (r : Got) → e ≡ ending.Past q → r ≡ skipGot n q top → GivesElse s l ts scope loops d n at top r l
     unfolding elseIn
     else-missing q r h k =
         let X : ShutAt s at q = rw h at (S .says) in
@@ -298,7 +302,7 @@ module _ (s l ts : List ℕ) (count newest : ℕ) (loops : Mask) (d n at top : �
           says = λ σ bs js A. rw (X .here) skip-act;
         })
 
-    pub else-part-is : (g r : Got) (l′ : List ℕ) → e ≡ ending.More → GivesStmt s l ts count newest loops d n at top g l′ → Closes s g r → GivesElse s l ts count newest loops d n at top r l′
+    pub else-part-is : (g r : Got) (l′ : List ℕ) → e ≡ ending.More → GivesStmt s l ts scope loops d n at top g l′ → Closes s g r → GivesElse s l ts scope loops d n at top r l′
     else-part-is g r l′ h G C = record {
       leaves = closes-leaves (G .moves) C;
       says = λ σ bs js A. rw (else-is (first (stackAt s at)) (rw h at (S .says))) (act-closed (stmtIn d n (first (stackAt s at))) (G .moves) C (G .says σ bs js A));
@@ -309,8 +313,8 @@ module _ (s l ts : List ℕ) (count newest : ℕ) (loops : Mask) (d n at top : �
 
 -- ---- the branches of an `if`
 
-module _ (s l ts : List ℕ) (count newest : ℕ) (loops : Mask) (c : Got) (d n : ℕ) (a : Got) (l₂ : List ℕ) (G : GivesStmt s l ts count newest loops d n (c .next) (c .top) a l₂) (u : Bool) (eu : u ≡ isForm (a .fault)) where
-  pub then-wrong : u ≡ true → GivesThen s l ts count newest loops c d n a l₂
+module _ (s l ts : List ℕ) (scope : Scope) (loops : Loops) (c : Got) (d n : ℕ) (a : Got) (l₂ : List ℕ) (G : GivesStmt s l ts scope loops d n (c .next) (c .top) a l₂) (u : Bool) (eu : u ≡ isForm (a .fault)) where
+  pub then-wrong : u ≡ true → GivesThen s l ts scope loops c d n a l₂
   unfolding thenIn
   then-wrong i = record {
     leaves = stop-leaves (G .moves) (sym eu ∙ i);
@@ -318,8 +322,8 @@ module _ (s l ts : List ℕ) (count newest : ℕ) (loops : Mask) (c : Got) (d n 
         act-none (both-none d n (first (stackAt s (c .next))) (rest (first (stackAt s (c .next)))) o (none-of (stmtIn d n (first (stackAt s (c .next)))) (G .says σ bs js A) (form-is (a .fault) (sym eu ∙ i)))) (sym eu ∙ i);
   }
 
-  pub then-both : (b r : Got) (l₃ l′ : List ℕ) → u ≡ false → GivesElse s l₂ ts count newest loops d (a .kind) (a .next) (a .top) b l₃ → Makes (branched l₃ n c a b) r l′
-      → GivesThen s l ts count newest loops c d n r l′
+  pub then-both : (b r : Got) (l₃ l′ : List ℕ) → u ≡ false → GivesElse s l₂ ts scope loops d (a .kind) (a .next) (a .top) b l₃ → Makes (branched l₃ n c a b) r l′
+      → GivesThen s l ts scope loops c d n r l′
   unfolding branched thenIn
   then-both b r l₃ l′ i L k =
       let N = node-of k in
@@ -340,15 +344,15 @@ module _ (s l ts : List ℕ) (count newest : ℕ) (loops : Mask) (c : Got) (d n 
 
 -- ---- an expression of a kind
 
-pub wanted-way : (s l ts : List ℕ) (count newest k at top : ℕ) (a r : Got) (l′ : List ℕ) → GivesExpr s l ts count newest 33 at top a l′ → r ≡ wantedGot k a → GivesWanted s l ts count newest k at top r l′
-wanted-way s l ts count newest k at top a r l′ E e = rw e (record { moves = wanted-moves k (E .moves); says = λ σ bs A. want-told k (E .says σ bs A) })
+pub wanted-way : (s l ts : List ℕ) (scope : Scope) (k at top : ℕ) (a r : Got) (l′ : List ℕ) → GivesExpr s l ts scope 33 at top a l′ → r ≡ wantedGot k a → GivesWanted s l ts scope k at top r l′
+wanted-way s l ts scope k at top a r l′ E e = rw e (record { moves = wanted-moves k (E .moves); says = λ σ bs A. want-told k (E .says σ bs A) })
 
 -- ---- `raise`
 
-pub raise-way : (s l ts : List ℕ) (count newest n at top : ℕ) (a c w r : Got) (l₁ l′ : List ℕ) → GivesExpr s l ts count newest 33 at top a l₁ → Closes s a c → w ≡ wantedGot 0 c → Makes (raised l₁ n w) r l′
-    → GivesRaise s l ts count newest n at top r l′
+pub raise-way : (s l ts : List ℕ) (scope : Scope) (n at top : ℕ) (a c w r : Got) (l₁ l′ : List ℕ) → GivesExpr s l ts scope 33 at top a l₁ → Closes s a c → w ≡ wantedGot 0 c → Makes (raised l₁ n w) r l′
+    → GivesRaise s l ts scope n at top r l′
 unfolding raised
-raise-way s l ts count newest n at top a c w r l₁ l′ E C e k =
+raise-way s l ts scope n at top a c w r l₁ l′ E C e k =
     let N = node-of k in
     record {
       any = λ loops d. record {
@@ -362,9 +366,9 @@ raise-way s l ts count newest n at top a c w r l₁ l′ E C e k =
 
 -- ---- `call`
 
-module _ (s l : List ℕ) (count newest n p at top : ℕ) (e : End) (S : Shuts s at e) where
-  pub call-past : (q : ℕ) (m : Meaning) (r : Got) (l′ : List ℕ) → e ≡ ending.Past q → m ≡ meaningAt l (placeIn s l (entries count l newest) (map small (wordAt s p))) → Makes (called l n m q top) r l′
-      → GivesCallEnd s l count newest n p at top r l′
+module _ (s l : List ℕ) (scope : Scope) (n p at top : ℕ) (e : End) (S : Shuts s at e) where
+  pub call-past : (q : ℕ) (m : Meaning) (r : Got) (l′ : List ℕ) → e ≡ ending.Past q → m ≡ meaningHere s l scope p → Makes (called l n m q top) r l′
+      → GivesCallEnd s l scope n p at top r l′
   unfolding closed
   call-past q m r l′ h em k =
       let X : ShutAt s at q = rw h at (S .says) in
@@ -374,11 +378,11 @@ module _ (s l : List ℕ) (count newest n p at top : ℕ) (e : End) (S : Shuts s
         says = λ ts σ bs js A. rw (X .here) (call-act q (map small (wordAt s p)) (rw (← em) at (meant A (map small (wordAt s p)))) k);
       }
 
-  pub call-more : (r : Got) → e ≡ ending.More → r ≡ failedGot Form 0 at top → GivesCallEnd s l count newest n p at top r l
+  pub call-more : (r : Got) → e ≡ ending.More → r ≡ failedGot Form 0 at top → GivesCallEnd s l scope n p at top r l
   call-more r h k = rw k (record { leaves = fail-leaves; says = λ ts σ bs js A. act-none (not-closed (Syntax.call n (map small (wordAt s p)), n) (first (stackAt s at)) (rw h at (S .says))) refl })
 
-module _ (s l : List ℕ) (count newest n at top : ℕ) (x : Part) (S : Stands s at x) where
-  pub call-form : (q : ℕ) (r : Got) → x ≡ part.Form q → r ≡ failedGot Form 0 q top → GivesCall s l count newest n at top r l
+module _ (s l : List ℕ) (scope : Scope) (n at top : ℕ) (x : Part) (S : Stands s at x) where
+  pub call-form : (q : ℕ) (r : Got) → x ≡ part.Form q → r ≡ failedGot Form 0 q top → GivesCall s l scope n at top r l
   call-form q r h e =
       let F : FormAt s at q = rw h at (S .says) in
       rw e (record {
@@ -389,7 +393,7 @@ module _ (s l : List ℕ) (count newest n at top : ℕ) (x : Part) (S : Stands s
         };
       })
 
-  pub call-shut : (q : ℕ) (r : Got) → x ≡ part.Shut q → r ≡ failedGot Form 0 q top → GivesCall s l count newest n at top r l
+  pub call-shut : (q : ℕ) (r : Got) → x ≡ part.Shut q → r ≡ failedGot Form 0 q top → GivesCall s l scope n at top r l
   call-shut q r h e =
       let L : ShutAt s at q = rw h at (S .says) in
       rw e (record {
@@ -407,7 +411,7 @@ module _ (s l : List ℕ) (count newest n at top : ℕ) (x : Part) (S : Stands s
     name-is : nameIn (first (stackAt s at)) ≡ atomName (atomOf w) (map small (wordAt s p))
     name-is = let X = rw h at (S .says) in rw leaf-here (name-word (wordAt s p) (first (stackAt s q)) ∙ ap (λ (u : Word). atomName (atomOf u) (map small (wordAt s p))) (sym (X .1)))
 
-    pub call-unnamed : (r : Got) → t ≡ false → r ≡ failedGot Form 0 q top → GivesCall s l count newest n at top r l
+    pub call-unnamed : (r : Got) → t ≡ false → r ≡ failedGot Form 0 q top → GivesCall s l scope n at top r l
     call-unnamed r i e = rw e (record {
       any = λ ts loops d. record {
         leaves = fail-leaves;
@@ -416,7 +420,7 @@ module _ (s l : List ℕ) (count newest n at top : ℕ) (x : Part) (S : Stands s
       };
     })
 
-    pub call-named : (r : Got) (l′ : List ℕ) → t ≡ true → GivesCallEnd s l count newest n p q top r l′ → GivesCall s l count newest n at top r l′
+    pub call-named : (r : Got) (l′ : List ℕ) → t ≡ true → GivesCallEnd s l scope n p q top r l′ → GivesCall s l scope n at top r l′
     call-named r l′ i G = record {
       any = λ ts loops d. record {
         leaves = record { goes = λ z. (let X = rw h at (S .says) in X .0 .leaf .around) ∙ G .leaves .goes z; keeps = G .leaves .keeps; grows = G .leaves .grows };

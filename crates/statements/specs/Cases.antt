@@ -17,10 +17,11 @@ use Rattle.semantics.specs.Trees.{word, form, Trees, end, _then_, Run, first, l
 use Rattle.semantics.specs.Words.{worded}
 use Rattle.semantics.proofs.LayoutRegions.{Same}
 use Rattle.shapes.specs.Parts.{rest, closed, stmtIn, armIn, armsIn, armHeadIn}
+use Rattle.tables.specs.declared.Scope.{Scope}
 use Rattle.tables.specs.declared.Fault.{Fault}
 use Rattle.tables.specs.declared.Fault.the-variants.{Clear, Kind, Name, Form}
 use Rattle.tables.specs.declared.Info.{Info}
-use Rattle.tables.specs.declared.Mask.{Mask}
+use Rattle.tables.specs.declared.Loops.{Loops}
 use Rattle.tables.specs.Descriptions.{infoOf}
 use Rattle.tables.specs.Scene.{Scene}
 use Rattle.parts.specs.declared.Got.{Got}
@@ -81,13 +82,13 @@ pub record LabelsLeft (σ : Environment) (k : ℕ) (us : Trees Run) (slot top : 
   pub laid : (ds : List Constant) (zs : List ℤ) → labelsStaged σ k (some (found ++ ds)) ≡ fits zs
       → (ys : List ℤ) × ((labelsStaged σ k (some ds) ≡ fits ys) × (layLabels zs slot top l ≡ layLabels ys slot′ (g .top) l′))
 
-pub record Labelling (s l : List ℕ) (count newest k slot at top : ℕ) (g : Got) (slot′ : ℕ) (l′ : List ℕ) : Type 0 where
+pub record Labelling (s l : List ℕ) (scope : Scope) (k slot at top : ℕ) (g : Got) (slot′ : ℕ) (l′ : List ℕ) : Type 0 where
   pub around : later (stackAt s at) ≡ later (stackAt s (g .next))
   pub fewer : nodesIn (first (stackAt s (g .next))) ≤ nodesIn (first (stackAt s at))
   pub keeps : slot ≤ top → Same 0 slot l′ l
   pub above : slot ≤ top → slot ≤ slot′
   pub grows : top ≤ g .top
-  pub says : (ts : List ℕ) (σ : Environment) (bs : List ℕ) → Scene s l ts count newest slot σ bs → slot ≤ top
+  pub says : (ts : List ℕ) (σ : Environment) (bs : List ℕ) → Scene s l ts scope slot σ bs → slot ≤ top
       → LabelsLeft σ k (first (stackAt s at)) slot top l g (first (stackAt s (g .next))) slot′ l′
 
 -- all labels of an arm's parts us; its statement stands in us′
@@ -97,12 +98,12 @@ pub record LabelsTold (σ : Environment) (k : ℕ) (us : Trees Run) (slot top : 
   pub fault-is : g .fault ≡ faultOf (labelsStaged σ k found)
   pub laid : (zs : List ℤ) → labelsStaged σ k found ≡ fits zs → (g .top ≡ layLabels zs slot top l .top) × (l′ ≡ layLabels zs slot top l .list)
 
-pub record GivesLabels (s l : List ℕ) (count newest k slot at top : ℕ) (g : Got) (l′ : List ℕ) : Type 0 where
+pub record GivesLabels (s l : List ℕ) (scope : Scope) (k slot at top : ℕ) (g : Got) (l′ : List ℕ) : Type 0 where
   pub around : later (stackAt s at) ≡ later (stackAt s (g .next))
   pub fewer : nodesIn (first (stackAt s (g .next))) ≤ nodesIn (first (stackAt s at))
   pub keeps : slot ≤ top → Same 0 slot l′ l
   pub grows : top ≤ g .top
-  pub says : (ts : List ℕ) (σ : Environment) (bs : List ℕ) → Scene s l ts count newest slot σ bs → slot ≤ top
+  pub says : (ts : List ℕ) (σ : Environment) (bs : List ℕ) → Scene s l ts scope slot σ bs → slot ≤ top
       → LabelsTold σ k (first (stackAt s at)) slot top l g (first (stackAt s (g .next))) l′
 
 -- ---- arms
@@ -146,19 +147,19 @@ armMade l slot head g b =
     record { got = record { fault = lowest (g .fault) (b .fault); kind = b .kind; place = b .top; next = b .next; top = y .top }; list = y .list }
 
 -- an arm from its statement on; g is the answer for its labels, whose slot is `head`
-pub data ArmStmtBy (s l ts : List ℕ) (count newest : ℕ) (loops : Mask) (d n slot head : ℕ) (g r : Got) (l′ : List ℕ) : Type 0 where
-  stmt-parts : (a b : Got) (l₁ : List ℕ) → GivesStmt s l ts count newest loops d n (g .next) (g .top) a l₁ → Closes s a b → Makes (armMade l₁ slot head g b) r l′
-      → ArmStmtBy s l ts count newest loops d n slot head g r l′
+pub data ArmStmtBy (s l ts : List ℕ) (scope : Scope) (loops : Loops) (d n slot head : ℕ) (g r : Got) (l′ : List ℕ) : Type 0 where
+  stmt-parts : (a b : Got) (l₁ : List ℕ) → GivesStmt s l ts scope loops d n (g .next) (g .top) a l₁ → Closes s a b → Makes (armMade l₁ slot head g b) r l′
+      → ArmStmtBy s l ts scope loops d n slot head g r l′
 
 -- an arm after its head word
-pub data ArmBy (s l ts : List ℕ) (count newest : ℕ) (loops : Mask) (k d n slot at top : ℕ) (r : Got) (l′ : List ℕ) : Type 0 where
-  arm-parts : (t h : ℕ) (g : Got) (l₁ l₂ : List ℕ) → Laid (lay (0 ∷ []) top l) t l₁ → h ≡ top → GivesLabels s l₁ count newest k h at t g l₂
-      → ArmStmtBy s l₂ ts count newest loops d n slot top g r l′ → ArmBy s l ts count newest loops k d n slot at top r l′
+pub data ArmBy (s l ts : List ℕ) (scope : Scope) (loops : Loops) (k d n slot at top : ℕ) (r : Got) (l′ : List ℕ) : Type 0 where
+  arm-parts : (t h : ℕ) (g : Got) (l₁ l₂ : List ℕ) → Laid (lay (0 ∷ []) top l) t l₁ → h ≡ top → GivesLabels s l₁ scope k h at t g l₂
+      → ArmStmtBy s l₂ ts scope loops d n slot top g r l′ → ArmBy s l ts scope loops k d n slot at top r l′
 
 -- a last `else` after its head word, and the end of the case; g is the answer for the arms before
-pub data ElseBy (s l ts : List ℕ) (count newest : ℕ) (loops : Mask) (d slot : ℕ) (g : Got) (at : ℕ) (r : Got) (l′ : List ℕ) : Type 0 where
-  else-parts : (a b c : Got) (l₁ : List ℕ) → GivesStmt s l ts count newest loops d (g .kind) at (g .top) a l₁ → Closes s a b → Closes s b c → Makes (armMade l₁ slot 0 g c) r l′
-      → ElseBy s l ts count newest loops d slot g at r l′
+pub data ElseBy (s l ts : List ℕ) (scope : Scope) (loops : Loops) (d slot : ℕ) (g : Got) (at : ℕ) (r : Got) (l′ : List ℕ) : Type 0 where
+  else-parts : (a b c : Got) (l₁ : List ℕ) → GivesStmt s l ts scope loops d (g .kind) at (g .top) a l₁ → Closes s a b → Closes s b c → Makes (armMade l₁ slot 0 g c) r l′
+      → ElseBy s l ts scope loops d slot g at r l′
 
 -- of all arms o, those that are left are o′
 pub record ArmsLeft (σ : Environment) (bs js : List ℕ) (k : ℕ) (o : Option (Arms × ℕ)) (slot top : ℕ) (l : List ℕ) (f : Fault) (o′ : Option (Arms × ℕ)) (slot′ top′ : ℕ) (l′ : List ℕ) : Type 0 where
@@ -166,13 +167,13 @@ pub record ArmsLeft (σ : Environment) (bs js : List ℕ) (k : ℕ) (o : Option 
   pub laid : (a : Cases) → armsStaged σ js k (bare o) ≡ fits a → (b : Cases) × ((armsStaged σ js k (bare o′) ≡ fits b) × (layCases bs a slot top l ≡ layCases bs b slot′ top′ l′))
   pub number : (p : Arms × ℕ) → o ≡ some p → (q : Arms × ℕ) × ((o′ ≡ some q) × (p .1 ≡ q .1))
 
-pub record Arming (s l ts : List ℕ) (count newest : ℕ) (loops : Mask) (k d n slot at top : ℕ) (g : Got) (slot′ : ℕ) (l′ : List ℕ) : Type 0 where
+pub record Arming (s l ts : List ℕ) (scope : Scope) (loops : Loops) (k d n slot at top : ℕ) (g : Got) (slot′ : ℕ) (l′ : List ℕ) : Type 0 where
   pub around : later (stackAt s at) ≡ later (stackAt s (g .next))
   pub keeps : slot ≤ top → Same 0 slot l′ l
   pub above : slot ≤ top → slot ≤ slot′
   pub grows : top ≤ g .top
-  pub few-left : (σ : Environment) (bs js : List ℕ) → Around s l ts count newest loops n at slot σ bs js → slot ≤ top → g .kind + nodesIn (first (stackAt s (g .next))) ≤ 65535
-  pub says : (σ : Environment) (bs js : List ℕ) → Around s l ts count newest loops n at slot σ bs js → slot ≤ top
+  pub few-left : (σ : Environment) (bs js : List ℕ) → Around s l ts scope loops d n at slot σ bs js → slot ≤ top → g .kind + nodesIn (first (stackAt s (g .next))) ≤ 65535
+  pub says : (σ : Environment) (bs js : List ℕ) → Around s l ts scope loops d n at slot σ bs js → slot ≤ top
       → ArmsLeft σ bs js k (armsIn d n (first (stackAt s at))) slot top l (g .fault) (armsIn d (g .kind) (first (stackAt s (g .next)))) slot′ (g .top) l′
 
 pub record ArmsTold (σ : Environment) (bs js : List ℕ) (k : ℕ) (o : Option (Arms × ℕ)) (slot top : ℕ) (l : List ℕ) (g : Got) (l′ : List ℕ) : Type 0 where
@@ -181,11 +182,11 @@ pub record ArmsTold (σ : Environment) (bs js : List ℕ) (k : ℕ) (o : Option 
   pub number : (p : Arms × ℕ) → o ≡ some p → g .kind ≡ p .1
 
 -- arms up to the end of the case, chained from a slot on; their labels are of kind k
-pub record GivesArms (s l ts : List ℕ) (count newest : ℕ) (loops : Mask) (k d n slot at top : ℕ) (g : Got) (l′ : List ℕ) : Type 0 where
+pub record GivesArms (s l ts : List ℕ) (scope : Scope) (loops : Loops) (k d n slot at top : ℕ) (g : Got) (l′ : List ℕ) : Type 0 where
   pub goes : isForm (g .fault) ≡ false → later (stackAt s at) ≡ stackAt s (g .next)
   pub keeps : slot ≤ top → Same 0 slot l′ l
   pub grows : top ≤ g .top
-  pub says : (σ : Environment) (bs js : List ℕ) → Around s l ts count newest loops n at slot σ bs js → slot ≤ top
+  pub says : (σ : Environment) (bs js : List ℕ) → Around s l ts scope loops d n at slot σ bs js → slot ≤ top
       → ArmsTold σ bs js k (armsIn d n (first (stackAt s at))) slot top l g l′
 
 -- ---- the case
@@ -208,10 +209,10 @@ caseMade l i n x m f w =
     nodeIf (lowest (lowest (x .fault) (lowest (lowest f (m .fault)) w)) (cond (eqb (i .shape) 0) Clear Kind)) (m .kind) (m .next) (49 ∷ n ∷ x .place ∷ x .top ∷ []) (m .top) l
 
 -- the end of a case whose selector has the answer x and whose arms have m
-pub data CaseEnds (s l ts : List ℕ) (count newest n : ℕ) (x m r : Got) (l′ : List ℕ) : Type 0 where
-  case-ends : (f w : Fault) → FirstArm s (x .next) f → Repeating s l count newest (x .next) (m .fault) w → Makes (caseMade l (infoOf l ts (x .kind)) n x m f w) r l′ → CaseEnds s l ts count newest n x m r l′
+pub data CaseEnds (s l ts : List ℕ) (scope : Scope) (n : ℕ) (x m r : Got) (l′ : List ℕ) : Type 0 where
+  case-ends : (f w : Fault) → FirstArm s (x .next) f → Repeating s l scope (x .next) (m .fault) w → Makes (caseMade l (infoOf l ts (x .kind)) n x m f w) r l′ → CaseEnds s l ts scope n x m r l′
 
 -- the parts of a case after its selector
-pub data CaseBy (s l ts : List ℕ) (count newest : ℕ) (loops : Mask) (x : Got) (d n : ℕ) (r : Got) (l′ : List ℕ) : Type 0 where
-  case-parts : (t h k : ℕ) (m : Got) (l₁ l₂ : List ℕ) → Laid (lay (0 ∷ []) (x .top) l) t l₁ → h ≡ x .top → k ≡ selectedKind x → GivesArms s l₁ ts count newest loops k d n h (x .next) t m l₂
-      → CaseEnds s l₂ ts count newest n x m r l′ → CaseBy s l ts count newest loops x d n r l′
+pub data CaseBy (s l ts : List ℕ) (scope : Scope) (loops : Loops) (x : Got) (d n : ℕ) (r : Got) (l′ : List ℕ) : Type 0 where
+  case-parts : (t h k : ℕ) (m : Got) (l₁ l₂ : List ℕ) → Laid (lay (0 ∷ []) (x .top) l) t l₁ → h ≡ x .top → k ≡ selectedKind x → GivesArms s l₁ ts scope loops k d n h (x .next) t m l₂
+      → CaseEnds s l₂ ts scope n x m r l′ → CaseBy s l ts scope loops x d n r l′

@@ -12,8 +12,9 @@ use Rattle.semantics.specs.Syntax.{Stmts}
 use Rattle.semantics.specs.Trees.{Trees, end, _then_, Run, first, later, stackAt, nodesIn}
 use Rattle.semantics.proofs.LayoutRegions.{Same}
 use Rattle.shapes.specs.Parts.{stmtsIn}
+use Rattle.tables.specs.declared.Scope.{Scope}
 use Rattle.tables.specs.declared.Fault.{Fault}
-use Rattle.tables.specs.declared.Mask.{Mask}
+use Rattle.tables.specs.declared.Loops.{Loops}
 use Rattle.parts.specs.declared.Got.{Got}
 use Rattle.parts.specs.Got.{lowest, isForm, faultOf}
 use Rattle.statements.specs.Walks.{bare, Around}
@@ -30,11 +31,11 @@ pub record LeftTold (σ : Environment) (bs js : List ℕ) (o : Option (Stmts × 
   pub number : (p : Stmts × ℕ) → o ≡ some p → (q : Stmts × ℕ) × ((o′ ≡ some q) × (p .1 ≡ q .1))
 
 -- the answer g so far: its fault, the last number, where the next part stands, and the free place
-pub record Doing (s l ts : List ℕ) (count newest : ℕ) (loops : Mask) (d n slot at top : ℕ) (g : Got) (slot′ : ℕ) (l′ : List ℕ) : Type 0 where
+pub record Doing (s l ts : List ℕ) (scope : Scope) (loops : Loops) (d n slot at top : ℕ) (g : Got) (slot′ : ℕ) (l′ : List ℕ) : Type 0 where
   pub around : later (stackAt s at) ≡ later (stackAt s (g .next))
   pub keeps : slot ≤ top → Same 0 slot l′ l
   pub above : slot ≤ top → slot ≤ slot′
   pub grows : top ≤ g .top
-  pub few-left : (σ : Environment) (bs js : List ℕ) → Around s l ts count newest loops n at slot σ bs js → slot ≤ top → g .kind + nodesIn (first (stackAt s (g .next))) ≤ 65535
-  pub says : (σ : Environment) (bs js : List ℕ) → Around s l ts count newest loops n at slot σ bs js → slot ≤ top
+  pub few-left : (σ : Environment) (bs js : List ℕ) → Around s l ts scope loops d n at slot σ bs js → slot ≤ top → g .kind + nodesIn (first (stackAt s (g .next))) ≤ 65535
+  pub says : (σ : Environment) (bs js : List ℕ) → Around s l ts scope loops d n at slot σ bs js → slot ≤ top
       → LeftTold σ bs js (stmtsIn d n (first (stackAt s at))) slot top l (g .fault) (stmtsIn d (g .kind) (first (stackAt s (g .next)))) slot′ (g .top) l′

@@ -13,6 +13,7 @@ use Rattle.semantics.specs.Syntax.{Body}
 use Rattle.semantics.specs.Trees.{first, later, stackAt, nodesIn}
 use Rattle.semantics.proofs.LayoutRegions.{Same}
 use Rattle.shapes.specs.Parts.{bodyIn}
+use Rattle.tables.specs.declared.Scope.{Scope}
 use Rattle.tables.specs.declared.Fault.{Fault}
 use Rattle.tables.specs.Loops.{noLoops}
 use Rattle.parts.specs.declared.Got.{Got}
@@ -31,13 +32,13 @@ pub record BodyLeft (σ : Environment) (bs : List ℕ) (o : Option (Body × ℕ)
   pub number : (p : Body × ℕ) → o ≡ some p → (q : Body × ℕ) × ((o′ ≡ some q) × (p .1 ≡ q .1))
 
 -- the answer g so far
-pub record Fronting (s l ts : List ℕ) (count newest n slot at top : ℕ) (g : Got) (slot′ : ℕ) (l′ : List ℕ) : Type 0 where
+pub record Fronting (s l ts : List ℕ) (scope : Scope) (n slot at top : ℕ) (g : Got) (slot′ : ℕ) (l′ : List ℕ) : Type 0 where
   pub around : later (stackAt s at) ≡ later (stackAt s (g .next))
   pub keeps : slot ≤ top → Same 0 slot l′ l
   pub above : slot ≤ top → slot ≤ slot′
   pub grows : top ≤ g .top
-  pub few-left : (σ : Environment) (bs : List ℕ) → Around s l ts count newest noLoops n at slot σ bs [] → slot ≤ top → g .kind + nodesIn (first (stackAt s (g .next))) ≤ 65535
-  pub says : (σ : Environment) (bs : List ℕ) → Around s l ts count newest noLoops n at slot σ bs [] → slot ≤ top
+  pub few-left : (σ : Environment) (bs : List ℕ) → Around s l ts scope noLoops 33 n at slot σ bs [] → slot ≤ top → g .kind + nodesIn (first (stackAt s (g .next))) ≤ 65535
+  pub says : (σ : Environment) (bs : List ℕ) → Around s l ts scope noLoops 33 n at slot σ bs [] → slot ≤ top
       → BodyLeft σ bs (bodyIn n (first (stackAt s at))) slot top l (g .fault) (bodyIn (g .kind) (first (stackAt s (g .next)))) slot′ (g .top) l′
 
 -- a body but for its first slot
@@ -53,13 +54,13 @@ pub record RestTold (σ : Environment) (bs : List ℕ) (k : ℕ) (o : Option (Bo
   pub laid : (b : BodyCode) → bodyStaged σ (bare o) ≡ fits b → out (g .place) (g .top) l′ ≡ layRest bs k b slot top l
   pub number : (p : Body × ℕ) → o ≡ some p → g .kind ≡ p .1
 
-pub record GivesRest (s l ts : List ℕ) (count newest k n slot at top : ℕ) (g : Got) (l′ : List ℕ) : Type 0 where
+pub record GivesRest (s l ts : List ℕ) (scope : Scope) (k n slot at top : ℕ) (g : Got) (l′ : List ℕ) : Type 0 where
   pub goes : isForm (g .fault) ≡ false → later (stackAt s at) ≡ stackAt s (g .next)
   pub keeps : slot ≤ top → Same 0 slot l′ l
   pub grows : top ≤ g .top
-  pub says : (σ : Environment) (bs : List ℕ) → Around s l ts count newest noLoops n at slot σ bs [] → slot ≤ top → RestTold σ bs k (bodyIn n (first (stackAt s at))) slot top l g l′
+  pub says : (σ : Environment) (bs : List ℕ) → Around s l ts scope noLoops 33 n at slot σ bs [] → slot ≤ top → RestTold σ bs k (bodyIn n (first (stackAt s at))) slot top l g l′
 
 -- a body from the statements of its handler on, which begin at q; x is the answer for the statements before
-pub data HandledBy (s l ts : List ℕ) (count newest k start : ℕ) (x : Got) (q : ℕ) (r : Got) (l′ : List ℕ) : Type 0 where
-  by-parts : (t : ℕ) (a b : Got) (l₁ l₂ : List ℕ) → Laid (lay (0 ∷ []) (x .top) l) t l₁ → GivesActs s l₁ ts count newest noLoops 33 (x .kind) (x .top) q t a l₂ → Closes s a b
-      → Makes (handledMade l₂ k start x b) r l′ → HandledBy s l ts count newest k start x q r l′
+pub data HandledBy (s l ts : List ℕ) (scope : Scope) (k start : ℕ) (x : Got) (q : ℕ) (r : Got) (l′ : List ℕ) : Type 0 where
+  by-parts : (t : ℕ) (a b : Got) (l₁ l₂ : List ℕ) → Laid (lay (0 ∷ []) (x .top) l) t l₁ → GivesActs s l₁ ts scope noLoops 33 (x .kind) (x .top) q t a l₂ → Closes s a b
+      → Makes (handledMade l₂ k start x b) r l′ → HandledBy s l ts scope k start x q r l′

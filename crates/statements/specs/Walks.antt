@@ -24,8 +24,9 @@ use Rattle.shapes.specs.declared.Verb.{Verb}
 use Rattle.shapes.specs.declared.Verb.the-variants.{Assign, Raise, Call}
 use Rattle.shapes.specs.Heads.{verbMeant}
 use Rattle.shapes.specs.Parts.{rest, closed, exprIn, targetIn, stmtIn, stmtsIn, elseIn, bodyIn}
+use Rattle.tables.specs.declared.Scope.{Scope}
 use Rattle.tables.specs.declared.Fault.the-variants.{Clear, Name as Unnamed}
-use Rattle.tables.specs.declared.Mask.{Mask}
+use Rattle.tables.specs.declared.Loops.{Loops}
 use Rattle.tables.specs.Loops.{InForce}
 use Rattle.tables.specs.Scene.{Scene}
 use Rattle.parts.specs.declared.Got.{Got}
@@ -72,111 +73,112 @@ pub record WantTold (σ : Environment) (k : ℕ) (o : Option Expr) (top : ℕ) (
   pub fault-is : g .fault ≡ faultOf (wantedStaged σ k o)
   pub laid : (c : Code) → wantedStaged σ k o ≡ fits c → out (g .place) (g .top) l′ ≡ layCode c top l
 
--- ---- what is given: the tables, the control variables in force, and so few parts that their numbers have 32 bits
+-- ---- what is given: the tables, the control variables in force, which are so few that a statement d deep has room for its own, and so few
+-- parts that their numbers have 32 bits
 
-pub record Around (s l ts : List ℕ) (count newest : ℕ) (loops : Mask) (n at top : ℕ) (σ : Environment) (bs js : List ℕ) : Type 0 where
-  pub scene : Scene s l ts count newest top σ bs
+pub record Around (s l ts : List ℕ) (scope : Scope) (loops : Loops) (d n at top : ℕ) (σ : Environment) (bs js : List ℕ) : Type 0 where
+  pub scene : Scene s l ts scope top σ bs
   pub in-force : InForce loops js
-  pub few-vars : length (σ .vars) ≤ 128
+  pub few-loops : length js + d ≤ 33
   pub few : n + nodesIn (first (stackAt s at)) ≤ 65535
 
 -- ---- the promises
 
 -- a statement at most d deep, where n is the number of the last one before
-pub record GivesStmt (s l ts : List ℕ) (count newest : ℕ) (loops : Mask) (d n at top : ℕ) (g : Got) (l′ : List ℕ) : Type 0 where
+pub record GivesStmt (s l ts : List ℕ) (scope : Scope) (loops : Loops) (d n at top : ℕ) (g : Got) (l′ : List ℕ) : Type 0 where
   pub moves : Moves s at top l g l′
-  pub says : (σ : Environment) (bs js : List ℕ) → Around s l ts count newest loops n at top σ bs js → ActTold σ bs js (stmtIn d n (first (stackAt s at))) top l g l′
+  pub says : (σ : Environment) (bs js : List ℕ) → Around s l ts scope loops d n at top σ bs js → ActTold σ bs js (stmtIn d n (first (stackAt s at))) top l g l′
 
 -- all parts of its form, from past the opening bracket
-pub record GivesInner (s l ts : List ℕ) (count newest : ℕ) (loops : Mask) (d n at top : ℕ) (g : Got) (l′ : List ℕ) : Type 0 where
+pub record GivesInner (s l ts : List ℕ) (scope : Scope) (loops : Loops) (d n at top : ℕ) (g : Got) (l′ : List ℕ) : Type 0 where
   pub leaves : Leaves s at top l g l′
-  pub says : (σ : Environment) (bs js : List ℕ) → Around s l ts count newest loops (suc n) at top σ bs js → ActTold σ bs js (stmtIn (suc d) n (form (first (stackAt s at)) then end)) top l g l′
+  pub says : (σ : Environment) (bs js : List ℕ) → Around s l ts scope loops (suc d) (suc n) at top σ bs js → ActTold σ bs js (stmtIn (suc d) n (form (first (stackAt s at)) then end)) top l g l′
 
 -- the parts after the head word; n is the statement's number
 unfoldable pub verbIn : Verb → ℕ → ℕ → Trees Run → Option (Stmt × ℕ)
 verbIn v d n us = verbMeant v >>= λ k. wordedAll us >>= λ vs. stmtForm (stmt d) k n (list vs)
 
-pub record GivesVerb (s l ts : List ℕ) (count newest : ℕ) (loops : Mask) (v : Verb) (d n at top : ℕ) (g : Got) (l′ : List ℕ) : Type 0 where
+pub record GivesVerb (s l ts : List ℕ) (scope : Scope) (loops : Loops) (v : Verb) (d n at top : ℕ) (g : Got) (l′ : List ℕ) : Type 0 where
   pub leaves : Leaves s at top l g l′
-  pub says : (σ : Environment) (bs js : List ℕ) → Around s l ts count newest loops n at top σ bs js → ActTold σ bs js (verbIn v d n (first (stackAt s at))) top l g l′
+  pub says : (σ : Environment) (bs js : List ℕ) → Around s l ts scope loops (suc d) n at top σ bs js → ActTold σ bs js (verbIn v d n (first (stackAt s at))) top l g l′
 
 -- the verbs without statements in them
-pub record GivesAssign (s l ts : List ℕ) (count newest : ℕ) (loops : Mask) (n at top : ℕ) (g : Got) (l′ : List ℕ) : Type 0 where
-  pub any : (d : ℕ) → GivesVerb s l ts count newest loops Assign d n at top g l′
+pub record GivesAssign (s l ts : List ℕ) (scope : Scope) (loops : Loops) (n at top : ℕ) (g : Got) (l′ : List ℕ) : Type 0 where
+  pub any : (d : ℕ) → GivesVerb s l ts scope loops Assign d n at top g l′
 
-pub record GivesRaise (s l ts : List ℕ) (count newest n at top : ℕ) (g : Got) (l′ : List ℕ) : Type 0 where
-  pub any : (loops : Mask) (d : ℕ) → GivesVerb s l ts count newest loops Raise d n at top g l′
+pub record GivesRaise (s l ts : List ℕ) (scope : Scope) (n at top : ℕ) (g : Got) (l′ : List ℕ) : Type 0 where
+  pub any : (loops : Loops) (d : ℕ) → GivesVerb s l ts scope loops Raise d n at top g l′
 
-pub record GivesCall (s l : List ℕ) (count newest n at top : ℕ) (g : Got) (l′ : List ℕ) : Type 0 where
-  pub any : (ts : List ℕ) (loops : Mask) (d : ℕ) → GivesVerb s l ts count newest loops Call d n at top g l′
+pub record GivesCall (s l : List ℕ) (scope : Scope) (n at top : ℕ) (g : Got) (l′ : List ℕ) : Type 0 where
+  pub any : (ts : List ℕ) (loops : Loops) (d : ℕ) → GivesVerb s l ts scope loops Call d n at top g l′
 
 -- the rest of a `call` after its name at p
-pub record GivesCallEnd (s l : List ℕ) (count newest n p at top : ℕ) (g : Got) (l′ : List ℕ) : Type 0 where
+pub record GivesCallEnd (s l : List ℕ) (scope : Scope) (n p at top : ℕ) (g : Got) (l′ : List ℕ) : Type 0 where
   pub leaves : Leaves s at top l g l′
-  pub says : (ts : List ℕ) (σ : Environment) (bs js : List ℕ) → Scene s l ts count newest top σ bs
+  pub says : (ts : List ℕ) (σ : Environment) (bs js : List ℕ) → Scene s l ts scope top σ bs
       → ActTold σ bs js (closed (first (stackAt s at)) (call n (map small (wordAt s p)), n)) top l g l′
 
 -- a target that is assigned
-pub record GivesStore (s l ts : List ℕ) (count newest : ℕ) (loops : Mask) (at top : ℕ) (g : Got) (l′ : List ℕ) : Type 0 where
+pub record GivesStore (s l ts : List ℕ) (scope : Scope) (loops : Loops) (at top : ℕ) (g : Got) (l′ : List ℕ) : Type 0 where
   pub moves : Moves s at top l g l′
-  pub says : (σ : Environment) (bs js : List ℕ) → Scene s l ts count newest top σ bs → InForce loops js → length (σ .vars) ≤ 128
+  pub says : (σ : Environment) (bs js : List ℕ) → Scene s l ts scope top σ bs → InForce loops js
       → StoreTold σ js (targetIn 33 (first (stackAt s at))) top l g l′
 
 -- an expression of kind k
-pub record GivesWanted (s l ts : List ℕ) (count newest k at top : ℕ) (g : Got) (l′ : List ℕ) : Type 0 where
+pub record GivesWanted (s l ts : List ℕ) (scope : Scope) (k at top : ℕ) (g : Got) (l′ : List ℕ) : Type 0 where
   pub moves : Moves s at top l g l′
-  pub says : (σ : Environment) (bs : List ℕ) → Scene s l ts count newest top σ bs → WantTold σ k (exprIn 33 (first (stackAt s at))) top l g l′
+  pub says : (σ : Environment) (bs : List ℕ) → Scene s l ts scope top σ bs → WantTold σ k (exprIn 33 (first (stackAt s at))) top l g l′
 
 -- the parts of an `if` after its test o, whose answer is c
 unfoldable pub thenIn : ℕ → ℕ → Option Expr → Trees Run → Option (Stmt × ℕ)
 thenIn d n o us = o >>= λ e. stmtIn d n us >>= λ a. elseIn d (a .1) (rest us) >>= λ b. some (ifElse n e (a .0) (b .0), b .1)
 
-pub record GivesThen (s l ts : List ℕ) (count newest : ℕ) (loops : Mask) (c : Got) (d n : ℕ) (g : Got) (l′ : List ℕ) : Type 0 where
+pub record GivesThen (s l ts : List ℕ) (scope : Scope) (loops : Loops) (c : Got) (d n : ℕ) (g : Got) (l′ : List ℕ) : Type 0 where
   pub leaves : Leaves s (c .next) (c .top) l g l′
-  pub says : (σ : Environment) (bs js : List ℕ) (o : Option Expr) (top : ℕ) (l₀ : List ℕ) → WantTold σ 1 o top l₀ c l → Around s l ts count newest loops n (c .next) (c .top) σ bs js
+  pub says : (σ : Environment) (bs js : List ℕ) (o : Option Expr) (top : ℕ) (l₀ : List ℕ) → WantTold σ 1 o top l₀ c l → Around s l ts scope loops d n (c .next) (c .top) σ bs js
       → ActTold σ bs js (thenIn d n o (first (stackAt s (c .next)))) top l₀ g l′
 
 -- the third part of an `if`, which may be missing
-pub record GivesElse (s l ts : List ℕ) (count newest : ℕ) (loops : Mask) (d n at top : ℕ) (g : Got) (l′ : List ℕ) : Type 0 where
+pub record GivesElse (s l ts : List ℕ) (scope : Scope) (loops : Loops) (d n at top : ℕ) (g : Got) (l′ : List ℕ) : Type 0 where
   pub leaves : Leaves s at top l g l′
-  pub says : (σ : Environment) (bs js : List ℕ) → Around s l ts count newest loops n at top σ bs js → ActTold σ bs js (elseIn d n (first (stackAt s at))) top l g l′
+  pub says : (σ : Environment) (bs js : List ℕ) → Around s l ts scope loops d n at top σ bs js → ActTold σ bs js (elseIn d n (first (stackAt s at))) top l g l′
 
 -- the parts of a `for` after its control variable w
 unfoldable pub forIn : ℕ → ℕ → Name → Trees Run → Option (Stmt × ℕ)
 forIn d n w us = exprIn 33 us >>= λ a. exprIn 33 (rest us) >>= λ b. (stmtIn d n (rest (rest us)) >>= λ p. closed (rest (rest (rest us))) p) >>= λ c. some (for n w a b (c .0), c .1)
 
-pub record GivesFor (s l ts : List ℕ) (count newest : ℕ) (loops : Mask) (v : Control) (d n at top : ℕ) (g : Got) (l′ : List ℕ) : Type 0 where
+pub record GivesFor (s l ts : List ℕ) (scope : Scope) (loops : Loops) (v : Control) (d n at top : ℕ) (g : Got) (l′ : List ℕ) : Type 0 where
   pub leaves : Leaves s at top l g l′
-  pub says : (σ : Environment) (bs js : List ℕ) (w : Name) → Around s l ts count newest loops n at top σ bs js → ControlTold σ w v → ActTold σ bs js (forIn d n w (first (stackAt s at))) top l g l′
+  pub says : (σ : Environment) (bs js : List ℕ) (w : Name) → Around s l ts scope loops (suc d) n at top σ bs js → ControlTold σ w v → ActTold σ bs js (forIn d n w (first (stackAt s at))) top l g l′
 
 -- the same after the first bound o too, whose answer is x; k is the control variable's kind
 unfoldable pub toIn : ℕ → ℕ → Name → Option Expr → Trees Run → Option (Stmt × ℕ)
 toIn d n w o us = o >>= λ a. exprIn 33 us >>= λ b. (stmtIn d n (rest us) >>= λ p. closed (rest (rest us)) p) >>= λ c. some (for n w a b (c .0), c .1)
 
-pub record GivesTo (s l ts : List ℕ) (count newest : ℕ) (loops : Mask) (k : ℕ) (v : Control) (x : Got) (d n : ℕ) (g : Got) (l′ : List ℕ) : Type 0 where
+pub record GivesTo (s l ts : List ℕ) (scope : Scope) (loops : Loops) (k : ℕ) (v : Control) (x : Got) (d n : ℕ) (g : Got) (l′ : List ℕ) : Type 0 where
   pub leaves : Leaves s (x .next) (x .top) l g l′
-  pub says : (σ : Environment) (bs js : List ℕ) (w : Name) (o : Option Expr) (top : ℕ) (l₀ : List ℕ) → WantTold σ k o top l₀ x l → Around s l ts count newest loops n (x .next) (x .top) σ bs js
+  pub says : (σ : Environment) (bs js : List ℕ) (w : Name) (o : Option Expr) (top : ℕ) (l₀ : List ℕ) → WantTold σ k o top l₀ x l → Around s l ts scope loops (suc d) n (x .next) (x .top) σ bs js
       → k ≡ hostOf (σ .types) (v .kind) → ControlTold σ w v → ActTold σ bs js (toIn d n w o (first (stackAt s (x .next)))) top l₀ g l′
 
 -- the same after both bounds
 unfoldable pub doIn : ℕ → ℕ → Name → Option Expr → Option Expr → Trees Run → Option (Stmt × ℕ)
 doIn d n w o p us = o >>= λ a. p >>= λ b. (stmtIn d n us >>= λ q. closed (rest us) q) >>= λ c. some (for n w a b (c .0), c .1)
 
-pub record GivesDo (s l ts : List ℕ) (count newest : ℕ) (loops : Mask) (v : Control) (x y : Got) (d n : ℕ) (g : Got) (l′ : List ℕ) : Type 0 where
+pub record GivesDo (s l ts : List ℕ) (scope : Scope) (loops : Loops) (v : Control) (x y : Got) (d n : ℕ) (g : Got) (l′ : List ℕ) : Type 0 where
   pub leaves : Leaves s (y .next) (y .top) l g l′
   pub says : (σ : Environment) (bs js : List ℕ) (w : Name) (k : ℕ) (o p : Option Expr) (top : ℕ) (l₀ l₁ : List ℕ) → WantTold σ k o top l₀ x l₁ → WantTold σ k p (x .top) l₁ y l
-      → Around s l ts count newest loops n (y .next) (y .top) σ bs js → k ≡ hostOf (σ .types) (v .kind) → ControlTold σ w v → ActTold σ bs js (doIn d n w o p (first (stackAt s (y .next)))) top l₀ g l′
+      → Around s l ts scope loops (suc d) n (y .next) (y .top) σ bs js → k ≡ hostOf (σ .types) (v .kind) → ControlTold σ w v → ActTold σ bs js (doIn d n w o p (first (stackAt s (y .next)))) top l₀ g l′
 
 -- statements to the end of a form, from a slot on, which is the last place that the list has of the environment or past it
-pub record GivesActs (s l ts : List ℕ) (count newest : ℕ) (loops : Mask) (d n slot at top : ℕ) (g : Got) (l′ : List ℕ) : Type 0 where
+pub record GivesActs (s l ts : List ℕ) (scope : Scope) (loops : Loops) (d n slot at top : ℕ) (g : Got) (l′ : List ℕ) : Type 0 where
   pub goes : isForm (g .fault) ≡ false → later (stackAt s at) ≡ stackAt s (g .next)
   pub keeps : slot ≤ top → Same 0 slot l′ l
   pub grows : top ≤ g .top
-  pub says : (σ : Environment) (bs js : List ℕ) → Around s l ts count newest loops n at slot σ bs js → slot ≤ top
+  pub says : (σ : Environment) (bs js : List ℕ) → Around s l ts scope loops d n at slot σ bs js → slot ≤ top
       → ActsTold σ bs js (stmtsIn d n (first (stackAt s at))) slot top l g l′
 
 -- body k: all parts up to the closing bracket
-pub record GivesBody (s l ts : List ℕ) (count newest k n at top : ℕ) (g : Got) (l′ : List ℕ) : Type 0 where
+pub record GivesBody (s l ts : List ℕ) (scope : Scope) (k n at top : ℕ) (g : Got) (l′ : List ℕ) : Type 0 where
   pub leaves : Leaves s at top l g l′
-  pub says : (σ : Environment) (bs : List ℕ) → Scene s l ts count newest top σ bs → length (σ .vars) ≤ 128 → n + nodesIn (first (stackAt s at)) ≤ 65535
+  pub says : (σ : Environment) (bs : List ℕ) → Scene s l ts scope top σ bs → n + nodesIn (first (stackAt s at)) ≤ 65535
       → BodyTold σ bs k (bodyIn n (first (stackAt s at))) top l g l′

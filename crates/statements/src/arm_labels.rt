@@ -13,6 +13,7 @@ use stmtnodes::nodes::after;
 use stmtnodes::nodes::chain;
 use stmtnodes::nodes::no_act;
 use tables::Fault;
+use tables::Scope;
 ghost use mathlib.Core.Path.{_≡_};
 ghost use Rattle.statements.specs.Cases.{labelledGot, countedGot, LinksLabel, GivesLabels};
 
@@ -54,19 +55,18 @@ fn link_label(work: &mut [u32], slot: usize, v: Valued, top: u32) -> u32
 pub fn labels(
     text: &[u8],
     work: &mut [u32],
-    count: u32,
-    newest: u32,
+    scope: Scope,
     k: u32,
     first: usize,
     at: usize,
     top: u32,
 ) -> Got
-    ensures { λ r. ⌜ GivesLabels (now (text .entry)) (now (work .entry)) count newest k first at top r (now (work .exit)) ⌝ }
+    ensures { λ r. ⌜ GivesLabels (now (text .entry)) (now (work .entry)) scope k first at top r (now (work .exit)) ⌝ }
 {
     let mut g = no_act(0, at, top);
     let mut p = first;
     loop {
-        let v = constant(text, work, count, newest, g.next);
+        let v = constant(text, work, scope, g.next);
         let f = v.fault;
         if is_form(f) {
             return counted(g);

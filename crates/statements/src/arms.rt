@@ -10,6 +10,7 @@ use shapes::arm_head;
 use stmtbase::node_if;
 use tables::Fault;
 use tables::Info;
+use tables::Scope;
 use tables::describe;
 use worklist::lay;
 use worklist::put;
@@ -126,7 +127,7 @@ fn case_node(work: &mut [u32], i: Info, n: u32, x: Got, m: Got, f: Fault, w: Fau
     let a = x.fault;
     let b = m.fault;
     let e = lowest(lowest(a, lowest(lowest(f, b), w)), ordinal_fault(i));
-    let ns = [49, n, x.place, x.top];
+    let ns = [ops::stmt::CASE, n, x.place, x.top];
     node_if(work, e, m.kind, m.next, m.top, &ns)
 }
 
@@ -135,17 +136,16 @@ pub fn case_end(
     text: &[u8],
     work: &mut [u32],
     types: &[u32],
-    count: u32,
-    newest: u32,
+    scope: Scope,
     n: u32,
     x: Got,
     m: Got,
 ) -> Got
-    ensures { λ r. ⌜ CaseEnds (now (text .entry)) (now (work .entry)) (now (types .entry)) count newest n x m r (now (work .exit)) ⌝ }
+    ensures { λ r. ⌜ CaseEnds (now (text .entry)) (now (work .entry)) (now (types .entry)) scope n x m r (now (work .exit)) ⌝ }
 {
     let f = first_fault(text, x.next);
     let g = m.fault;
-    let w = repeat_fault(text, work, count, newest, g, x.next);
+    let w = repeat_fault(text, work, scope, g, x.next);
     let i = describe(work, types, x.kind);
     case_node(work, i, n, x, m, f, w)
 }

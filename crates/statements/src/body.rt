@@ -13,6 +13,7 @@ use stmtnodes::nodes::chain;
 use stmtnodes::nodes::joined;
 use stmtnodes::nodes::no_act;
 use stmtnodes::nodes::wide;
+use tables::Scope;
 use tables::no_loops;
 use worklist::slot;
 ghost use Rattle.statements.specs.Walks.{GivesBody};
@@ -23,17 +24,16 @@ pub fn body(
     text: &[u8],
     work: &mut [u32],
     types: &[u32],
-    count: u32,
-    newest: u32,
+    scope: Scope,
     k: u32,
     number: u32,
     at: usize,
     top: u32,
 ) -> Got
-    ensures { λ r. ⌜ GivesBody (now (text .entry)) (now (work .entry)) (now (types .entry)) count newest k number at top r (now (work .exit)) ⌝ }
+    ensures { λ r. ⌜ GivesBody (now (text .entry)) (now (work .entry)) (now (types .entry)) scope k number at top r (now (work .exit)) ⌝ }
 {
     let t = slot(work, top);
-    body_from(text, work, types, count, newest, k, number, top, at, t)
+    body_from(text, work, types, scope, k, number, top, at, t)
 }
 
 // The same from past its first slot, `start`, on.
@@ -41,15 +41,14 @@ fn body_from(
     text: &[u8],
     work: &mut [u32],
     types: &[u32],
-    count: u32,
-    newest: u32,
+    scope: Scope,
     k: u32,
     number: u32,
     start: u32,
     at: usize,
     top: u32,
 ) -> Got
-    ensures { λ r. ⌜ GivesRest (now (text .entry)) (now (work .entry)) (now (types .entry)) count newest k number start at top r (now (work .exit)) ⌝ }
+    ensures { λ r. ⌜ GivesRest (now (text .entry)) (now (work .entry)) (now (types .entry)) scope k number start at top r (now (work .exit)) ⌝ }
 {
     let mut g = no_act(number, at, top);
     let mut p = wide(start);
@@ -60,22 +59,11 @@ fn body_from(
                 return plain_node(work, k, start, g, q);
             }
             Next::Handler(q) => {
-                return handled(text, work, types, count, newest, k, start, g, q);
+                return handled(text, work, types, scope, k, start, g, q);
             }
             Next::Stmt => {
                 let w = no_loops();
-                let a = stmt(
-                    text,
-                    work,
-                    types,
-                    count,
-                    newest,
-                    w,
-                    33,
-                    g.kind,
-                    g.next,
-                    g.top,
-                );
+                let a = stmt(text, work, types, scope, w, 33, g.kind, g.next, g.top);
                 let f = a.fault;
                 if is_form(f) {
                     return a;
@@ -93,19 +81,18 @@ fn handled(
     text: &[u8],
     work: &mut [u32],
     types: &[u32],
-    count: u32,
-    newest: u32,
+    scope: Scope,
     k: u32,
     start: u32,
     g: Got,
     q: usize,
 ) -> Got
-    ensures { λ r. ⌜ HandledBy (now (text .entry)) (now (work .entry)) (now (types .entry)) count newest k start g q r (now (work .exit)) ⌝ }
+    ensures { λ r. ⌜ HandledBy (now (text .entry)) (now (work .entry)) (now (types .entry)) scope k start g q r (now (work .exit)) ⌝ }
 {
     let t = slot(work, g.top);
     let p = wide(g.top);
     let w = no_loops();
-    let a = acts(text, work, types, count, newest, w, 33, g.kind, p, q, t);
+    let a = acts(text, work, types, scope, w, 33, g.kind, p, q, t);
     let b = closing(text, a);
     handled_node(work, k, start, g, b)
 }

@@ -16,7 +16,8 @@ use stmtnodes::nodes::is_named;
 use stmtnodes::nodes::raise_node;
 use stmtnodes::nodes::wanted;
 use tables::Fault;
-use tables::Mask;
+use tables::Loops;
+use tables::Scope;
 use tables::meaning_of;
 ghost use Rattle.statements.specs.Walks.{GivesAssign, GivesStore, GivesRaise, GivesCall, GivesCallEnd, GivesWanted};
 
@@ -25,22 +26,21 @@ fn store_at(
     text: &[u8],
     work: &mut [u32],
     types: &[u32],
-    count: u32,
-    newest: u32,
-    loops: Mask,
+    scope: Scope,
+    loops: Loops,
     at: usize,
     top: u32,
 ) -> Got
-    ensures { λ r. ⌜ GivesStore (now (text .entry)) (now (work .entry)) (now (types .entry)) count newest loops at top r (now (work .exit)) ⌝ }
+    ensures { λ r. ⌜ GivesStore (now (text .entry)) (now (work .entry)) (now (types .entry)) scope loops at top r (now (work .exit)) ⌝ }
 {
     let part = part_at(text, at);
     match part {
         Part::Leaf(_, p, _) => {
-            let m = meaning_of(text, work, count, newest, p);
-            let g = target(text, work, types, count, newest, 33, at, top);
+            let m = meaning_of(text, work, scope, p);
+            let g = target(text, work, types, scope, 33, at, top);
             steer(loops, m, g)
         }
-        Part::Form(_) => target(text, work, types, count, newest, 33, at, top),
+        Part::Form(_) => target(text, work, types, scope, 33, at, top),
         Part::Shut(q) => failed(Fault::Form, 0, q, top),
     }
 }
@@ -50,21 +50,20 @@ pub fn assign(
     text: &[u8],
     work: &mut [u32],
     types: &[u32],
-    count: u32,
-    newest: u32,
-    loops: Mask,
+    scope: Scope,
+    loops: Loops,
     number: u32,
     at: usize,
     top: u32,
 ) -> Got
-    ensures { λ r. ⌜ GivesAssign (now (text .entry)) (now (work .entry)) (now (types .entry)) count newest loops number at top r (now (work .exit)) ⌝ }
+    ensures { λ r. ⌜ GivesAssign (now (text .entry)) (now (work .entry)) (now (types .entry)) scope loops number at top r (now (work .exit)) ⌝ }
 {
-    let g = store_at(text, work, types, count, newest, loops, at, top);
+    let g = store_at(text, work, types, scope, loops, at, top);
     let f = g.fault;
     if is_form(f) {
         return g;
     }
-    let a = expr(text, work, types, count, newest, 33, g.next, g.top);
+    let a = expr(text, work, types, scope, 33, g.next, g.top);
     let e = closing(text, a);
     assign_node(work, types, number, g, e)
 }
@@ -74,15 +73,14 @@ pub fn wanted_expr(
     text: &[u8],
     work: &mut [u32],
     types: &[u32],
-    count: u32,
-    newest: u32,
+    scope: Scope,
     k: u32,
     at: usize,
     top: u32,
 ) -> Got
-    ensures { λ r. ⌜ GivesWanted (now (text .entry)) (now (work .entry)) (now (types .entry)) count newest k at top r (now (work .exit)) ⌝ }
+    ensures { λ r. ⌜ GivesWanted (now (text .entry)) (now (work .entry)) (now (types .entry)) scope k at top r (now (work .exit)) ⌝ }
 {
-    let a = expr(text, work, types, count, newest, 33, at, top);
+    let a = expr(text, work, types, scope, 33, at, top);
     wanted(k, a)
 }
 
@@ -91,15 +89,14 @@ pub fn raise(
     text: &[u8],
     work: &mut [u32],
     types: &[u32],
-    count: u32,
-    newest: u32,
+    scope: Scope,
     number: u32,
     at: usize,
     top: u32,
 ) -> Got
-    ensures { λ r. ⌜ GivesRaise (now (text .entry)) (now (work .entry)) (now (types .entry)) count newest number at top r (now (work .exit)) ⌝ }
+    ensures { λ r. ⌜ GivesRaise (now (text .entry)) (now (work .entry)) (now (types .entry)) scope number at top r (now (work .exit)) ⌝ }
 {
-    let a = expr(text, work, types, count, newest, 33, at, top);
+    let a = expr(text, work, types, scope, 33, at, top);
     let c = closing(text, a);
     let w = wanted(0, c);
     raise_node(work, number, w)
@@ -109,19 +106,18 @@ pub fn raise(
 fn call_end(
     text: &[u8],
     work: &mut [u32],
-    count: u32,
-    newest: u32,
+    scope: Scope,
     number: u32,
     p: usize,
     at: usize,
     top: u32,
 ) -> Got
-    ensures { λ r. ⌜ GivesCallEnd (now (text .entry)) (now (work .entry)) count newest number p at top r (now (work .exit)) ⌝ }
+    ensures { λ r. ⌜ GivesCallEnd (now (text .entry)) (now (work .entry)) scope number p at top r (now (work .exit)) ⌝ }
 {
     let e = end_at(text, at);
     match e {
         End::Past(q) => {
-            let m = meaning_of(text, work, count, newest, p);
+            let m = meaning_of(text, work, scope, p);
             call_node(work, number, m, q, top)
         }
         End::More => failed(Fault::Form, 0, at, top),
@@ -129,22 +125,14 @@ fn call_end(
 }
 
 // A `call`.
-pub fn call(
-    text: &[u8],
-    work: &mut [u32],
-    count: u32,
-    newest: u32,
-    number: u32,
-    at: usize,
-    top: u32,
-) -> Got
-    ensures { λ r. ⌜ GivesCall (now (text .entry)) (now (work .entry)) count newest number at top r (now (work .exit)) ⌝ }
+pub fn call(text: &[u8], work: &mut [u32], scope: Scope, number: u32, at: usize, top: u32) -> Got
+    ensures { λ r. ⌜ GivesCall (now (text .entry)) (now (work .entry)) scope number at top r (now (work .exit)) ⌝ }
 {
     let part = part_at(text, at);
     match part {
         Part::Leaf(w, p, q) => {
             if is_named(w) {
-                return call_end(text, work, count, newest, number, p, q, top);
+                return call_end(text, work, scope, number, p, q, top);
             }
             failed(Fault::Form, 0, q, top)
         }

@@ -37,7 +37,8 @@ use stmtnodes::nodes::stepped;
 use stmtnodes::nodes::while_node;
 use stmtnodes::nodes::wide;
 use tables::Fault;
-use tables::Mask;
+use tables::Loops;
+use tables::Scope;
 use tables::host_of;
 use tables::meaning_of;
 use tables::with_loop;
@@ -51,15 +52,14 @@ pub fn stmt(
     text: &[u8],
     work: &mut [u32],
     types: &[u32],
-    count: u32,
-    newest: u32,
-    loops: Mask,
+    scope: Scope,
+    loops: Loops,
     depth: usize,
     number: u32,
     at: usize,
     top: u32,
 ) -> Got
-    ensures { λ r. ⌜ GivesStmt (now (text .entry)) (now (work .entry)) (now (types .entry)) count newest loops depth number at top r (now (work .exit)) ⌝ }
+    ensures { λ r. ⌜ GivesStmt (now (text .entry)) (now (work .entry)) (now (types .entry)) scope loops depth number at top r (now (work .exit)) ⌝ }
 {
     if depth == 0 {
         return failed(Fault::Form, 0, at, top);
@@ -67,18 +67,7 @@ pub fn stmt(
     let part = part_at(text, at);
     match part {
         Part::Leaf(_, _, q) => failed(Fault::Form, 0, q, top),
-        Part::Form(p) => inner(
-            text,
-            work,
-            types,
-            count,
-            newest,
-            loops,
-            depth - 1,
-            number,
-            p,
-            top,
-        ),
+        Part::Form(p) => inner(text, work, types, scope, loops, depth - 1, number, p, top),
         Part::Shut(q) => failed(Fault::Form, 0, q, top),
     }
 }
@@ -88,22 +77,21 @@ fn inner(
     text: &[u8],
     work: &mut [u32],
     types: &[u32],
-    count: u32,
-    newest: u32,
-    loops: Mask,
+    scope: Scope,
+    loops: Loops,
     depth: usize,
     number: u32,
     at: usize,
     top: u32,
 ) -> Got
-    ensures { λ r. ⌜ GivesInner (now (text .entry)) (now (work .entry)) (now (types .entry)) count newest loops depth number at top r (now (work .exit)) ⌝ }
+    ensures { λ r. ⌜ GivesInner (now (text .entry)) (now (work .entry)) (now (types .entry)) scope loops depth number at top r (now (work .exit)) ⌝ }
 {
     let part = part_at(text, at);
     match part {
         Part::Leaf(w, _, q) => {
             let v = verb_of(w);
             let n = next_number(number);
-            headed(text, work, types, count, newest, loops, v, depth, n, q, top)
+            headed(text, work, types, scope, loops, v, depth, n, q, top)
         }
         Part::Form(p) => failed(Fault::Form, 0, p, top),
         Part::Shut(q) => failed(Fault::Form, 0, q, top),
@@ -115,81 +103,25 @@ fn headed(
     text: &[u8],
     work: &mut [u32],
     types: &[u32],
-    count: u32,
-    newest: u32,
-    loops: Mask,
+    scope: Scope,
+    loops: Loops,
     verb: Verb,
     depth: usize,
     number: u32,
     at: usize,
     top: u32,
 ) -> Got
-    ensures { λ r. ⌜ GivesVerb (now (text .entry)) (now (work .entry)) (now (types .entry)) count newest loops verb depth number at top r (now (work .exit)) ⌝ }
+    ensures { λ r. ⌜ GivesVerb (now (text .entry)) (now (work .entry)) (now (types .entry)) scope loops verb depth number at top r (now (work .exit)) ⌝ }
 {
     match verb {
-        Verb::Assign => assign(text, work, types, count, newest, loops, number, at, top),
-        Verb::Begin => begin(
-            text,
-            work,
-            types,
-            count,
-            newest,
-            loops,
-            depth,
-            number,
-            at,
-            top,
-        ),
-        Verb::If => if_else(
-            text,
-            work,
-            types,
-            count,
-            newest,
-            loops,
-            depth,
-            number,
-            at,
-            top,
-        ),
-        Verb::While => while_loop(
-            text,
-            work,
-            types,
-            count,
-            newest,
-            loops,
-            depth,
-            number,
-            at,
-            top,
-        ),
-        Verb::For => for_loop(
-            text,
-            work,
-            types,
-            count,
-            newest,
-            loops,
-            depth,
-            number,
-            at,
-            top,
-        ),
-        Verb::Case => case_of(
-            text,
-            work,
-            types,
-            count,
-            newest,
-            loops,
-            depth,
-            number,
-            at,
-            top,
-        ),
-        Verb::Call => call(text, work, count, newest, number, at, top),
-        Verb::Raise => raise(text, work, types, count, newest, number, at, top),
+        Verb::Assign => assign(text, work, types, scope, loops, number, at, top),
+        Verb::Begin => begin(text, work, types, scope, loops, depth, number, at, top),
+        Verb::If => if_else(text, work, types, scope, loops, depth, number, at, top),
+        Verb::While => while_loop(text, work, types, scope, loops, depth, number, at, top),
+        Verb::For => for_loop(text, work, types, scope, loops, depth, number, at, top),
+        Verb::Case => case_of(text, work, types, scope, loops, depth, number, at, top),
+        Verb::Call => call(text, work, scope, number, at, top),
+        Verb::Raise => raise(text, work, types, scope, number, at, top),
         Verb::Nothing => failed(Fault::Form, 0, at, top),
     }
 }
@@ -199,17 +131,16 @@ fn while_loop(
     text: &[u8],
     work: &mut [u32],
     types: &[u32],
-    count: u32,
-    newest: u32,
-    loops: Mask,
+    scope: Scope,
+    loops: Loops,
     depth: usize,
     number: u32,
     at: usize,
     top: u32,
 ) -> Got
-    ensures { λ r. ⌜ GivesVerb (now (text .entry)) (now (work .entry)) (now (types .entry)) count newest loops While depth number at top r (now (work .exit)) ⌝ }
+    ensures { λ r. ⌜ GivesVerb (now (text .entry)) (now (work .entry)) (now (types .entry)) scope loops While depth number at top r (now (work .exit)) ⌝ }
 {
-    let c = wanted_expr(text, work, types, count, newest, 1, at, top);
+    let c = wanted_expr(text, work, types, scope, 1, at, top);
     let f = c.fault;
     if is_form(f) {
         return c;
@@ -218,8 +149,7 @@ fn while_loop(
         text,
         work,
         types,
-        count,
-        newest,
+        scope,
         loops,
         depth,
         number,
@@ -235,22 +165,21 @@ fn if_else(
     text: &[u8],
     work: &mut [u32],
     types: &[u32],
-    count: u32,
-    newest: u32,
-    loops: Mask,
+    scope: Scope,
+    loops: Loops,
     depth: usize,
     number: u32,
     at: usize,
     top: u32,
 ) -> Got
-    ensures { λ r. ⌜ GivesVerb (now (text .entry)) (now (work .entry)) (now (types .entry)) count newest loops If depth number at top r (now (work .exit)) ⌝ }
+    ensures { λ r. ⌜ GivesVerb (now (text .entry)) (now (work .entry)) (now (types .entry)) scope loops If depth number at top r (now (work .exit)) ⌝ }
 {
-    let c = wanted_expr(text, work, types, count, newest, 1, at, top);
+    let c = wanted_expr(text, work, types, scope, 1, at, top);
     let f = c.fault;
     if is_form(f) {
         return c;
     }
-    if_then(text, work, types, count, newest, loops, c, depth, number)
+    if_then(text, work, types, scope, loops, c, depth, number)
 }
 
 // The parts of an `if` after its test, whose answer is c.
@@ -258,21 +187,19 @@ fn if_then(
     text: &[u8],
     work: &mut [u32],
     types: &[u32],
-    count: u32,
-    newest: u32,
-    loops: Mask,
+    scope: Scope,
+    loops: Loops,
     c: Got,
     depth: usize,
     number: u32,
 ) -> Got
-    ensures { λ r. ⌜ GivesThen (now (text .entry)) (now (work .entry)) (now (types .entry)) count newest loops c depth number r (now (work .exit)) ⌝ }
+    ensures { λ r. ⌜ GivesThen (now (text .entry)) (now (work .entry)) (now (types .entry)) scope loops c depth number r (now (work .exit)) ⌝ }
 {
     let a = stmt(
         text,
         work,
         types,
-        count,
-        newest,
+        scope,
         loops,
         depth,
         number,
@@ -287,8 +214,7 @@ fn if_then(
         text,
         work,
         types,
-        count,
-        newest,
+        scope,
         loops,
         depth,
         a.kind,
@@ -303,32 +229,20 @@ fn else_part(
     text: &[u8],
     work: &mut [u32],
     types: &[u32],
-    count: u32,
-    newest: u32,
-    loops: Mask,
+    scope: Scope,
+    loops: Loops,
     depth: usize,
     number: u32,
     at: usize,
     top: u32,
 ) -> Got
-    ensures { λ r. ⌜ GivesElse (now (text .entry)) (now (work .entry)) (now (types .entry)) count newest loops depth number at top r (now (work .exit)) ⌝ }
+    ensures { λ r. ⌜ GivesElse (now (text .entry)) (now (work .entry)) (now (types .entry)) scope loops depth number at top r (now (work .exit)) ⌝ }
 {
     let e = end_at(text, at);
     match e {
         End::Past(q) => no_act(number, q, top),
         End::More => {
-            let g = stmt(
-                text,
-                work,
-                types,
-                count,
-                newest,
-                loops,
-                depth,
-                number,
-                at,
-                top,
-            );
+            let g = stmt(text, work, types, scope, loops, depth, number, at, top);
             closing(text, g)
         }
     }
@@ -339,35 +253,22 @@ fn for_loop(
     text: &[u8],
     work: &mut [u32],
     types: &[u32],
-    count: u32,
-    newest: u32,
-    loops: Mask,
+    scope: Scope,
+    loops: Loops,
     depth: usize,
     number: u32,
     at: usize,
     top: u32,
 ) -> Got
-    ensures { λ r. ⌜ GivesVerb (now (text .entry)) (now (work .entry)) (now (types .entry)) count newest loops For depth number at top r (now (work .exit)) ⌝ }
+    ensures { λ r. ⌜ GivesVerb (now (text .entry)) (now (work .entry)) (now (types .entry)) scope loops For depth number at top r (now (work .exit)) ⌝ }
 {
     let part = part_at(text, at);
     match part {
         Part::Leaf(w, p, q) => {
             if is_named(w) {
-                let m = meaning_of(text, work, count, newest, p);
+                let m = meaning_of(text, work, scope, p);
                 let v = stepped(m);
-                return for_from(
-                    text,
-                    work,
-                    types,
-                    count,
-                    newest,
-                    loops,
-                    v,
-                    depth,
-                    number,
-                    q,
-                    top,
-                );
+                return for_from(text, work, types, scope, loops, v, depth, number, q, top);
             }
             failed(Fault::Form, 0, q, top)
         }
@@ -381,36 +282,23 @@ fn for_from(
     text: &[u8],
     work: &mut [u32],
     types: &[u32],
-    count: u32,
-    newest: u32,
-    loops: Mask,
+    scope: Scope,
+    loops: Loops,
     v: Control,
     depth: usize,
     number: u32,
     at: usize,
     top: u32,
 ) -> Got
-    ensures { λ r. ⌜ GivesFor (now (text .entry)) (now (work .entry)) (now (types .entry)) count newest loops v depth number at top r (now (work .exit)) ⌝ }
+    ensures { λ r. ⌜ GivesFor (now (text .entry)) (now (work .entry)) (now (types .entry)) scope loops v depth number at top r (now (work .exit)) ⌝ }
 {
     let k = host_of(work, types, v.kind);
-    let x = wanted_expr(text, work, types, count, newest, k, at, top);
+    let x = wanted_expr(text, work, types, scope, k, at, top);
     let f = x.fault;
     if is_form(f) {
         return x;
     }
-    for_to(
-        text,
-        work,
-        types,
-        count,
-        newest,
-        loops,
-        k,
-        v,
-        x,
-        depth,
-        number,
-    )
+    for_to(text, work, types, scope, loops, k, v, x, depth, number)
 }
 
 // The parts of a `for` after its first bound, whose answer is x; k is the control variable's kind.
@@ -418,35 +306,22 @@ fn for_to(
     text: &[u8],
     work: &mut [u32],
     types: &[u32],
-    count: u32,
-    newest: u32,
-    loops: Mask,
+    scope: Scope,
+    loops: Loops,
     k: u32,
     v: Control,
     x: Got,
     depth: usize,
     number: u32,
 ) -> Got
-    ensures { λ r. ⌜ GivesTo (now (text .entry)) (now (work .entry)) (now (types .entry)) count newest loops k v x depth number r (now (work .exit)) ⌝ }
+    ensures { λ r. ⌜ GivesTo (now (text .entry)) (now (work .entry)) (now (types .entry)) scope loops k v x depth number r (now (work .exit)) ⌝ }
 {
-    let y = wanted_expr(text, work, types, count, newest, k, x.next, x.top);
+    let y = wanted_expr(text, work, types, scope, k, x.next, x.top);
     let f = y.fault;
     if is_form(f) {
         return y;
     }
-    for_do(
-        text,
-        work,
-        types,
-        count,
-        newest,
-        loops,
-        v,
-        x,
-        y,
-        depth,
-        number,
-    )
+    for_do(text, work, types, scope, loops, v, x, y, depth, number)
 }
 
 // The parts of a `for` after its bounds, whose answers are x and y.
@@ -454,30 +329,18 @@ fn for_do(
     text: &[u8],
     work: &mut [u32],
     types: &[u32],
-    count: u32,
-    newest: u32,
-    loops: Mask,
+    scope: Scope,
+    loops: Loops,
     v: Control,
     x: Got,
     y: Got,
     depth: usize,
     number: u32,
 ) -> Got
-    ensures { λ r. ⌜ GivesDo (now (text .entry)) (now (work .entry)) (now (types .entry)) count newest loops v x y depth number r (now (work .exit)) ⌝ }
+    ensures { λ r. ⌜ GivesDo (now (text .entry)) (now (work .entry)) (now (types .entry)) scope loops v x y depth number r (now (work .exit)) ⌝ }
 {
     let w = with_loop(loops, v.number);
-    let g = stmt(
-        text,
-        work,
-        types,
-        count,
-        newest,
-        w,
-        depth,
-        number,
-        y.next,
-        y.top,
-    );
+    let g = stmt(text, work, types, scope, w, depth, number, y.next, y.top);
     let z = closing(text, g);
     for_node(work, types, loops, number, v, x, y, z)
 }
@@ -487,31 +350,18 @@ fn begin(
     text: &[u8],
     work: &mut [u32],
     types: &[u32],
-    count: u32,
-    newest: u32,
-    loops: Mask,
+    scope: Scope,
+    loops: Loops,
     depth: usize,
     number: u32,
     at: usize,
     top: u32,
 ) -> Got
-    ensures { λ r. ⌜ GivesVerb (now (text .entry)) (now (work .entry)) (now (types .entry)) count newest loops Begin depth number at top r (now (work .exit)) ⌝ }
+    ensures { λ r. ⌜ GivesVerb (now (text .entry)) (now (work .entry)) (now (types .entry)) scope loops Begin depth number at top r (now (work .exit)) ⌝ }
 {
     let t = slot(work, top);
     let p = wide(top);
-    let m = acts(
-        text,
-        work,
-        types,
-        count,
-        newest,
-        loops,
-        depth,
-        number,
-        p,
-        at,
-        t,
-    );
+    let m = acts(text, work, types, scope, loops, depth, number, p, at, t);
     begin_node(work, number, top, m)
 }
 
@@ -520,16 +370,15 @@ pub fn acts(
     text: &[u8],
     work: &mut [u32],
     types: &[u32],
-    count: u32,
-    newest: u32,
-    loops: Mask,
+    scope: Scope,
+    loops: Loops,
     depth: usize,
     number: u32,
     first: usize,
     at: usize,
     top: u32,
 ) -> Got
-    ensures { λ r. ⌜ GivesActs (now (text .entry)) (now (work .entry)) (now (types .entry)) count newest loops depth number first at top r (now (work .exit)) ⌝ }
+    ensures { λ r. ⌜ GivesActs (now (text .entry)) (now (work .entry)) (now (types .entry)) scope loops depth number first at top r (now (work .exit)) ⌝ }
 {
     let mut g = no_act(number, at, top);
     let mut p = first;
@@ -544,8 +393,7 @@ pub fn acts(
                     text,
                     work,
                     types,
-                    count,
-                    newest,
+                    scope,
                     loops,
                     depth,
                     g.kind,
@@ -569,22 +417,21 @@ fn case_of(
     text: &[u8],
     work: &mut [u32],
     types: &[u32],
-    count: u32,
-    newest: u32,
-    loops: Mask,
+    scope: Scope,
+    loops: Loops,
     depth: usize,
     number: u32,
     at: usize,
     top: u32,
 ) -> Got
-    ensures { λ r. ⌜ GivesVerb (now (text .entry)) (now (work .entry)) (now (types .entry)) count newest loops Case depth number at top r (now (work .exit)) ⌝ }
+    ensures { λ r. ⌜ GivesVerb (now (text .entry)) (now (work .entry)) (now (types .entry)) scope loops Case depth number at top r (now (work .exit)) ⌝ }
 {
-    let x = expr(text, work, types, count, newest, 33, at, top);
+    let x = expr(text, work, types, scope, 33, at, top);
     let f = x.fault;
     if is_form(f) {
         return x;
     }
-    case_arms(text, work, types, count, newest, loops, x, depth, number)
+    case_arms(text, work, types, scope, loops, x, depth, number)
 }
 
 // The parts of a case after its selector, whose answer is x.
@@ -592,14 +439,13 @@ fn case_arms(
     text: &[u8],
     work: &mut [u32],
     types: &[u32],
-    count: u32,
-    newest: u32,
-    loops: Mask,
+    scope: Scope,
+    loops: Loops,
     x: Got,
     depth: usize,
     number: u32,
 ) -> Got
-    ensures { λ r. ⌜ CaseBy (now (text .entry)) (now (work .entry)) (now (types .entry)) count newest loops x depth number r (now (work .exit)) ⌝ }
+    ensures { λ r. ⌜ CaseBy (now (text .entry)) (now (work .entry)) (now (types .entry)) scope loops x depth number r (now (work .exit)) ⌝ }
 {
     let t = slot(work, x.top);
     let p = wide(x.top);
@@ -608,8 +454,7 @@ fn case_arms(
         text,
         work,
         types,
-        count,
-        newest,
+        scope,
         loops,
         k,
         depth,
@@ -618,7 +463,7 @@ fn case_arms(
         x.next,
         t,
     );
-    case_end(text, work, types, count, newest, number, x, m)
+    case_end(text, work, types, scope, number, x, m)
 }
 
 // Arms up to the closing bracket, chained from a slot on; their labels are of kind k.
@@ -626,9 +471,8 @@ fn all_arms(
     text: &[u8],
     work: &mut [u32],
     types: &[u32],
-    count: u32,
-    newest: u32,
-    loops: Mask,
+    scope: Scope,
+    loops: Loops,
     k: u32,
     depth: usize,
     number: u32,
@@ -636,7 +480,7 @@ fn all_arms(
     at: usize,
     top: u32,
 ) -> Got
-    ensures { λ r. ⌜ GivesArms (now (text .entry)) (now (work .entry)) (now (types .entry)) count newest loops k depth number first at top r (now (work .exit)) ⌝ }
+    ensures { λ r. ⌜ GivesArms (now (text .entry)) (now (work .entry)) (now (types .entry)) scope loops k depth number first at top r (now (work .exit)) ⌝ }
 {
     let mut g = no_act(number, at, top);
     let mut p = first;
@@ -647,7 +491,7 @@ fn all_arms(
                 return finished(g, q);
             }
             NextArm::Else(q) => {
-                return else_arm(text, work, types, count, newest, loops, depth, p, g, q);
+                return else_arm(text, work, types, scope, loops, depth, p, g, q);
             }
             NextArm::Nothing => {
                 return failed(Fault::Form, 0, g.next, g.top);
@@ -657,8 +501,7 @@ fn all_arms(
                     text,
                     work,
                     types,
-                    count,
-                    newest,
+                    scope,
                     loops,
                     k,
                     depth,
@@ -683,9 +526,8 @@ fn arm(
     text: &[u8],
     work: &mut [u32],
     types: &[u32],
-    count: u32,
-    newest: u32,
-    loops: Mask,
+    scope: Scope,
+    loops: Loops,
     k: u32,
     depth: usize,
     number: u32,
@@ -693,17 +535,16 @@ fn arm(
     at: usize,
     top: u32,
 ) -> Got
-    ensures { λ r. ⌜ ArmBy (now (text .entry)) (now (work .entry)) (now (types .entry)) count newest loops k depth number before at top r (now (work .exit)) ⌝ }
+    ensures { λ r. ⌜ ArmBy (now (text .entry)) (now (work .entry)) (now (types .entry)) scope loops k depth number before at top r (now (work .exit)) ⌝ }
 {
     let t = slot(work, top);
     let p = wide(top);
-    let g = labels(text, work, count, newest, k, p, at, t);
+    let g = labels(text, work, scope, k, p, at, t);
     arm_stmt(
         text,
         work,
         types,
-        count,
-        newest,
+        scope,
         loops,
         depth,
         number,
@@ -718,23 +559,21 @@ fn arm_stmt(
     text: &[u8],
     work: &mut [u32],
     types: &[u32],
-    count: u32,
-    newest: u32,
-    loops: Mask,
+    scope: Scope,
+    loops: Loops,
     depth: usize,
     number: u32,
     before: usize,
     head: u32,
     g: Got,
 ) -> Got
-    ensures { λ r. ⌜ ArmStmtBy (now (text .entry)) (now (work .entry)) (now (types .entry)) count newest loops depth number before head g r (now (work .exit)) ⌝ }
+    ensures { λ r. ⌜ ArmStmtBy (now (text .entry)) (now (work .entry)) (now (types .entry)) scope loops depth number before head g r (now (work .exit)) ⌝ }
 {
     let a = stmt(
         text,
         work,
         types,
-        count,
-        newest,
+        scope,
         loops,
         depth,
         number,
@@ -750,28 +589,16 @@ fn else_arm(
     text: &[u8],
     work: &mut [u32],
     types: &[u32],
-    count: u32,
-    newest: u32,
-    loops: Mask,
+    scope: Scope,
+    loops: Loops,
     depth: usize,
     before: usize,
     g: Got,
     at: usize,
 ) -> Got
-    ensures { λ r. ⌜ ElseBy (now (text .entry)) (now (work .entry)) (now (types .entry)) count newest loops depth before g at r (now (work .exit)) ⌝ }
+    ensures { λ r. ⌜ ElseBy (now (text .entry)) (now (work .entry)) (now (types .entry)) scope loops depth before g at r (now (work .exit)) ⌝ }
 {
-    let a = stmt(
-        text,
-        work,
-        types,
-        count,
-        newest,
-        loops,
-        depth,
-        g.kind,
-        at,
-        g.top,
-    );
+    let a = stmt(text, work, types, scope, loops, depth, g.kind, at, g.top);
     let b = closing(text, a);
     let c = closing(text, b);
     link_arm(work, before, 0, g, c)

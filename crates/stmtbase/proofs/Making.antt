@@ -6,7 +6,7 @@ use Prim.Native.Nat.{ℕ}
 use Rattle.semantics.specs.Layout.{lay}
 use Rattle.tables.specs.declared.Fault.{Fault}
 use Rattle.tables.specs.declared.Fault.the-variants.{Kind}
-use Rattle.tables.specs.declared.Mask.{Mask}
+use Rattle.tables.specs.declared.Loops.{Loops}
 use Rattle.tables.specs.declared.Meaning.{Meaning}
 use Rattle.tables.specs.declared.Meaning.the-variants as meaning
 use Rattle.tables.specs.Loops.{loopsOver}
@@ -27,7 +27,7 @@ module _ (f : Fault) (k q : ℕ) (ns : List ℕ) (t : ℕ) (l : List ℕ) (b : B
 
 pub ruleset node-laws = (node-clear, node-fault)
 
-module _ (w : Mask) (i k a : ℕ) (g : Got) (b : Bool) (e : b ≡ loopsOver w i) where
+module _ (w : Loops) (i k a : ℕ) (g : Got) (b : Bool) (e : b ≡ loopsOver w i) where
   pub steer-over : (f : Fault) (r : Got) → b ≡ true → f ≡ lowest (g .fault) Kind → r ≡ withFault g f → r ≡ steered w (meaning.Var i k a) g
   steer-over f r h m d = rw (sym e ∙ h) (d ∙ ap (withFault g) m)
 
@@ -36,7 +36,7 @@ module _ (w : Mask) (i k a : ℕ) (g : Got) (b : Bool) (e : b ≡ loopsOver w i)
 
 pub ruleset steer-var-laws = (steer-over, steer-free)
 
-module _ (w : Mask) (m : Meaning) (g : Got) where
+module _ (w : Loops) (m : Meaning) (g : Got) where
   pub steer-unknown : m ≡ meaning.Unknown → g ≡ steered w m g
   steer-unknown h = rw h refl
 

@@ -5,7 +5,7 @@ use Prim.Native.Nat.{ℕ}
 use Rattle.semantics.specs.Layout.{lay}
 use Rattle.tables.specs.declared.Fault.{Fault}
 use Rattle.tables.specs.declared.Fault.the-variants.{Kind}
-use Rattle.tables.specs.declared.Mask.{Mask}
+use Rattle.tables.specs.declared.Loops.{Loops}
 use Rattle.tables.specs.declared.Meaning.{Meaning}
 use Rattle.tables.specs.declared.Meaning.the-variants as meaning
 use Rattle.tables.specs.Loops.{loopsOver}
@@ -22,7 +22,7 @@ unfoldable pub nodeIf : Fault → ℕ → ℕ → List ℕ → ℕ → List ℕ 
 nodeIf f k q ns t l = ifClear f k q t l (nodeMade k q (lay ns t l))
 
 -- a whole variable that is assigned, by its meaning
-abbrev pub steered : Mask → Meaning → Got → Got
+abbrev pub steered : Loops → Meaning → Got → Got
 steered m meaning.Unknown g = g
 steered m (meaning.Type k) g = g
 steered m (meaning.Var i k a) g = cond (loopsOver m i) (withFault g (lowest (g .fault) Kind)) g

@@ -5,7 +5,7 @@ use parts::failed;
 use parts::is_clear;
 use parts::lowest;
 use tables::Fault;
-use tables::Mask;
+use tables::Loops;
 use tables::Meaning;
 use tables::loops_over;
 ghost use mathlib.Core.Path.{_≡_};
@@ -37,7 +37,7 @@ pub fn node_if(work: &mut [u32], fault: Fault, kind: u32, next: usize, top: u32,
 }
 
 // A variable that is assigned: a fault of row 8 if a loop around steps it.
-fn steer_var(loops: Mask, i: u32, kind: u32, base: u32, g: Got) -> Got
+fn steer_var(loops: Loops, i: u32, kind: u32, base: u32, g: Got) -> Got
     ensures { λ r. ⌜ r ≡ steered loops (Var i kind base) g ⌝ }
 {
     let f = g.fault;
@@ -48,7 +48,7 @@ fn steer_var(loops: Mask, i: u32, kind: u32, base: u32, g: Got) -> Got
 }
 
 // A whole variable that is assigned, by its meaning.
-pub fn steer(loops: Mask, m: Meaning, g: Got) -> Got
+pub fn steer(loops: Loops, m: Meaning, g: Got) -> Got
     ensures { λ r. ⌜ r ≡ steered loops m g ⌝ }
 {
     match m {

@@ -10,7 +10,7 @@ use Rattle.semantics.specs.Layout.{Out, lay, link}
 use Rattle.tables.specs.declared.Fault.{Fault}
 use Rattle.tables.specs.declared.Fault.the-variants.{Clear, Kind, Name, Form}
 use Rattle.tables.specs.declared.Info.{Info}
-use Rattle.tables.specs.declared.Mask.{Mask}
+use Rattle.tables.specs.declared.Loops.{Loops}
 use Rattle.tables.specs.declared.Meaning.{Meaning}
 use Rattle.tables.specs.declared.Meaning.the-variants as meaning
 use Rattle.tables.specs.Descriptions.{infoOf}
@@ -69,7 +69,7 @@ module _ (l : List ℕ) (n : ℕ) (r : Got) (l′ : List ℕ) where
   unfolding repeated
   for-is i f v x y z a b c d ea eb ec ed m = rw (← ea, ← eb, ← ec, ← ed) m
 
-  pub for-control : (ts : List ℕ) (m : Mask) (i : Info) (f : Fault) (v : Control) (x y z : Got) (o : Bool) → i ≡ infoOf l ts (v .kind) → o ≡ loopsOver m (v .number) → f ≡ controlFault o i
+  pub for-control : (ts : List ℕ) (m : Loops) (i : Info) (f : Fault) (v : Control) (x y z : Got) (o : Bool) → i ≡ infoOf l ts (v .kind) → o ≡ loopsOver m (v .number) → f ≡ controlFault o i
       → Makes (repeated l i f n v x y z) r l′ → Makes (repeatedBy l (infoOf l ts (v .kind)) m n v x y z) r l′
   unfolding repeatedBy
   for-control ts m i f v x y z o ei e h k = rw (← ei, ← e, ← h) k

@@ -8,7 +8,7 @@ use Rattle.semantics.specs.Layout.{Out, out, lay, link, flag}
 use Rattle.tables.specs.declared.Fault.{Fault}
 use Rattle.tables.specs.declared.Fault.the-variants.{Clear, Kind, Name, Form}
 use Rattle.tables.specs.declared.Info.{Info}
-use Rattle.tables.specs.declared.Mask.{Mask}
+use Rattle.tables.specs.declared.Loops.{Loops}
 use Rattle.tables.specs.declared.Meaning.{Meaning}
 use Rattle.tables.specs.declared.Meaning.the-variants as meaning
 use Rattle.tables.specs.Descriptions.{infoOf}
@@ -82,7 +82,7 @@ repeated l i f n v x y z =
     (48 ∷ n ∷ v .base ∷ i .low ∷ i .high ∷ x .place ∷ y .place ∷ z .place ∷ []) (z .top) l
 
 -- by the control variables in force
-unfoldable pub repeatedBy : List ℕ → Info → Mask → ℕ → Control → Got → Got → Got → Made
+unfoldable pub repeatedBy : List ℕ → Info → Loops → ℕ → Control → Got → Got → Got → Made
 repeatedBy l i m n v x y z = repeated l i (controlFault (loopsOver m (v .number)) i) n v x y z
 
 -- ---- chains of statements

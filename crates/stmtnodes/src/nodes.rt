@@ -11,7 +11,7 @@ use stmtbase::node_if;
 use stmtbase::with_fault;
 use tables::Fault;
 use tables::Info;
-use tables::Mask;
+use tables::Loops;
 use tables::Meaning;
 use tables::describe;
 use tables::host_of;
@@ -75,7 +75,7 @@ pub fn raise_node(work: &mut [u32], n: u32, c: Got) -> Got
     ensures { λ r. ⌜ Makes (raised (now (work .entry)) n c) r (now (work .exit)) ⌝ }
 {
     let f = c.fault;
-    let ns = [51, n, c.place];
+    let ns = [ops::stmt::RAISE, n, c.place];
     node_if(work, f, n, c.next, c.top, &ns)
 }
 
@@ -85,7 +85,7 @@ pub fn while_node(work: &mut [u32], n: u32, c: Got, b: Got) -> Got
 {
     let f = c.fault;
     let h = b.fault;
-    let ns = [47, n, c.place, b.place];
+    let ns = [ops::stmt::WHILE, n, c.place, b.place];
     node_if(work, lowest(f, h), b.kind, b.next, b.top, &ns)
 }
 
@@ -96,7 +96,7 @@ pub fn if_node(work: &mut [u32], n: u32, c: Got, a: Got, b: Got) -> Got
     let f = c.fault;
     let h = a.fault;
     let i = b.fault;
-    let ns = [46, n, c.place, a.place, b.place];
+    let ns = [ops::stmt::BRANCH, n, c.place, a.place, b.place];
     node_if(work, lowest(lowest(f, h), i), b.kind, b.next, b.top, &ns)
 }
 
@@ -117,7 +117,7 @@ pub fn no_act(n: u32, next: usize, top: u32) -> Got
 fn call_body(work: &mut [u32], n: u32, p: u32, next: usize, top: u32) -> Got
     ensures { λ r. ⌜ Makes (called (now (work .entry)) n (Proc p) next top) r (now (work .exit)) ⌝ }
 {
-    let ns = [50, n, p];
+    let ns = [ops::stmt::CALL, n, p];
     node(work, n, next, top, &ns)
 }
 
@@ -142,10 +142,10 @@ fn store_node(work: &mut [u32], i: Info, k: u32, n: u32, g: Got, e: Got) -> Got
         return failed(Fault::Kind, n, e.next, e.top);
     }
     if i.shape == 0 {
-        let ns = [43, n, g.place, e.place, i.low, i.high];
+        let ns = [ops::stmt::ASSIGN, n, g.place, e.place, i.low, i.high];
         return node(work, n, e.next, e.top, &ns);
     }
-    let ns = [44, n, g.place, e.place];
+    let ns = [ops::stmt::ASSIGN_WHOLE, n, g.place, e.place];
     node(work, n, e.next, e.top, &ns)
 }
 
@@ -210,7 +210,16 @@ fn for_parts(work: &mut [u32], i: Info, f: Fault, n: u32, v: Control, x: Got, y:
     let c = y.fault;
     let d = z.fault;
     let e = lowest(lowest(a, lowest(lowest(b, c), d)), f);
-    let ns = [48, n, v.base, i.low, i.high, x.place, y.place, z.place];
+    let ns = [
+        ops::stmt::FOR,
+        n,
+        v.base,
+        i.low,
+        i.high,
+        x.place,
+        y.place,
+        z.place,
+    ];
     node_if(work, e, z.kind, z.next, z.top, &ns)
 }
 
@@ -218,7 +227,7 @@ fn for_parts(work: &mut [u32], i: Info, f: Fault, n: u32, v: Control, x: Got, y:
 pub fn for_node(
     work: &mut [u32],
     types: &[u32],
-    loops: Mask,
+    loops: Loops,
     n: u32,
     v: Control,
     x: Got,
@@ -247,7 +256,7 @@ pub fn begin_node(work: &mut [u32], n: u32, slot: u32, m: Got) -> Got
     ensures { λ r. ⌜ Makes (sequenced (now (work .entry)) n slot m) r (now (work .exit)) ⌝ }
 {
     let f = m.fault;
-    let ns = [45, n, slot];
+    let ns = [ops::stmt::SEQUENCE, n, slot];
     node_if(work, f, m.kind, m.next, m.top, &ns)
 }
 

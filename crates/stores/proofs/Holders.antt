@@ -147,5 +147,5 @@ module _ (s l : List ℕ) (σ : Environment) (bs : List ℕ) (Γ : Types) (os : 
       go (yes k) H =
           let z : n + (c - n) ≡ c = omega arith in
           let t : c - n < sizeOf Γ (v .type) = omega (arith, m) in
-          var-here c p ps g i v x (r .means) (rw b k) (rw b (omega (arith, m))) (e ∙ sym (ap (λ j. getD os j []) (sym z) ∙ f (c - n) t))
+          var-here c p ps g i v x (r .means) (rw b k) (rw b (omega (arith, m))) (e .name-is ∙ sym (ap (λ j. getD os j []) (sym z) ∙ f (c - n) t))
       go (no k) H = var-later c p ps g i v x (r .means) (rw b (omega arith)) (H (omega arith))

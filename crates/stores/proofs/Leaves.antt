@@ -16,6 +16,7 @@ use Rattle.semantics.specs.Types.{Field, Shape, Types, arrayShape, cellsBy, cel
 use Rattle.semantics.proofs.TypeTables.{All}
 use Rattle.semantics.proofs.LinesCover.{Copied, Joined, BuiltTypes}
 use Rattle.tables.specs.Descriptions.{infoOf, fieldsAt, shapeNumber}
+use Rattle.tables.specs.declared.Scope.{Scope}
 use Rattle.tables.specs.Scene.{Scene}
 use Rattle.tables.proofs.Telling.{shape-told, size-told, element-told}
 use Rattle.stores.specs.declared.Cell.{Cell}
@@ -73,7 +74,7 @@ pub record Leaf (Γ : Types) (t i r : ℕ) : Type 0 where
   pub type-is : r ≡ getD (cellsOf Γ t) i 0
   pub simple : shapeNumber (infoAt Γ r .shape) < 2
 
-module _ {s l ts : List ℕ} {count newest top : ℕ} {σ : Environment} {bs : List ℕ} (S : Scene s l ts count newest top σ bs) (B : BuiltTypes (σ .types)) where
+module _ {s l ts : List ℕ} {scope : Scope} {top : ℕ} {σ : Environment} {bs : List ℕ} (S : Scene s l ts scope top σ bs) (B : BuiltTypes (σ .types)) where
   abbrev Γσ : Types
   Γσ = σ .types
 

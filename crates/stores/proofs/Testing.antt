@@ -70,14 +70,14 @@ module _ {s l ts : List ℕ} {st : State} {k : Declared} {bs : List ℕ} (H : Ho
   abbrev Γk : Types
   Γk = k .env .types
 
-  held : HeldAt s l (k .env .types) (k .env .vars) (k .owners) c (holder l (entries (st .count) l (st .newest)) c)
+  held : HeldAt s l (k .env .types) (k .env .vars) (k .owners) c (holder l (entries (st .scope .count) l (st .scope .newest)) c)
   held = holder-is s l (k .env) bs (k .env .types) (k .owners) (H .scene .names) (C .owned) c h
 
-  pub owner-is : map small (wordAt s (getD l (holder l (entries (st .count) l (st .newest)) c) 0)) ≡ getD (k .owners) c []
+  pub owner-is : map small (wordAt s (getD l (holder l (entries (st .scope .count) l (st .scope .newest)) c) 0 % 32768)) ≡ getD (k .owners) c []
   unfolding nameAt
   owner-is = held .named
 
-  leaf : Leaf Γk (held .var .type) (c - held .var .base) (cellType l ts (st .count) (st .newest) c)
+  leaf : Leaf Γk (held .var .type) (c - held .var .base) (cellType l ts (st .scope .count) (st .scope .newest) c)
   unfolding cellType typeBy
   leaf =
       let v = held .var in
@@ -87,7 +87,7 @@ module _ {s l ts : List ℕ} {st : State} {k : Declared} {bs : List ℕ} (H : Ho
       let m : (c - v .base) % 4096 ≡ c - v .base = mod-eq-of-lt (omega (arith, H .small-types (v .type))) in
       rw (held .kind-is, held .base-is, m) (leaf-is (H .scene) (C .built) 66 (v .type) (c - v .base) d i)
 
-  cell-fits : (v : ℤ) → cellFits Γk (cellType l ts (st .count) (st .newest) c) v ≡ cellFits Γk (getD (k .cells) c 0) v
+  cell-fits : (v : ℤ) → cellFits Γk (cellType l ts (st .scope .count) (st .scope .newest) c) v ≡ cellFits Γk (getD (k .cells) c 0) v
   cell-fits v =
       let x = held .var in
       let i : c - x .base < sizeOf Γk (x .type) = omega (arith, held .from, held .to) in
@@ -95,14 +95,14 @@ module _ {s l ts : List ℕ} {st : State} {k : Declared} {bs : List ℕ} (H : Ho
       ap (λ (t : ℕ). cellFits Γk t v) (leaf .type-is) ∙ sym (H .keeps .laid .found (held .number) x (held .known) .each (c - x .base) i v)
       ∙ ap (λ (j : ℕ). getD (tests Γk (k .cells)) j any v) z ∙ tests-get Γk (k .cells) c h v
 
-  value-is : (v : ℤ) → valueFits (infoOf l ts (cellType l ts (st .count) (st .newest) c)) v ≡ cellFits Γk (cellType l ts (st .count) (st .newest) c) v
+  value-is : (v : ℤ) → valueFits (infoOf l ts (cellType l ts (st .scope .count) (st .scope .newest) c)) v ≡ cellFits Γk (cellType l ts (st .scope .count) (st .scope .newest) c) v
   unfolding valueFits
   value-is v =
-      let t : ℕ = cellType l ts (st .count) (st .newest) c in
+      let t : ℕ = cellType l ts (st .scope .count) (st .scope .newest) c in
       let b = bounds-are Γk (H .scene .table) t (leaf .simple) in
       rw (shape-ordinal (H .scene) t, low-told (H .scene) t, high-told (H .scene) t, signed-bits (infoAt Γk t .low) (b .0), signed-bits (infoAt Γk t .high) (b .1)) refl
 
-  pub passes-is-ok : (v : ℤ) (m : ℕ) → cellPasses l ts (st .count) (st .newest) c v m ≡ cellOk Γk (getD (k .cells) c 0) v m
+  pub passes-is-ok : (v : ℤ) (m : ℕ) → cellPasses l ts (st .scope .count) (st .scope .newest) c v m ≡ cellOk Γk (getD (k .cells) c 0) v m
   unfolding cellPasses markFits
   passes-is-ok v m = ap (λ (b : Bool). cond (isDefined m) (eqb m defined && b) (isZero v)) (value-is v ∙ cell-fits v)
 
@@ -138,7 +138,7 @@ no-length false b = refl
 -- all cells but the last so many have passed
 pub record Passed (l ts : List ℕ) (st : State) (vs : List ℤ) (ms : List ℕ) (left : ℕ) : Type 0 where
   pub few : left ≤ st .cells
-  pub before : (i : ℕ) → i < st .cells - left → cellPasses l ts (st .count) (st .newest) i (getD vs i (pos 0)) (getD ms i 0) ≡ true
+  pub before : (i : ℕ) → i < st .cells - left → cellPasses l ts (st .scope .count) (st .scope .newest) i (getD vs i (pos 0)) (getD ms i 0) ≡ true
 
 module _ (l ts : List ℕ) (st : State) (vs : List ℤ) (ms : List ℕ) where
   pub passed-start : Passed l ts st vs ms (st .cells)
@@ -172,14 +172,14 @@ module _ (l ts : List ℕ) (st : State) (vs : List ℤ) (ms : List ℕ) where
       pub here-marks : length ms ≡ st .cells → c < length ms
       here-marks e = omega (arith, P .few)
 
-      module _ (b : Bool) (q : SFits w64 (getD vs c (pos 0))) (g : b ≡ cellPasses l ts (st .count) (st .newest) c (wire (getD vs c (pos 0))) (getD ms c 0)) where
-        as-read : cellPasses l ts (st .count) (st .newest) c (getD vs c (pos 0)) (getD ms c 0) ≡ b
-        as-read = sym (g ∙ ap (λ (v : ℤ). cellPasses l ts (st .count) (st .newest) c v (getD ms c 0)) (toZ-ofZ q))
+      module _ (b : Bool) (q : SFits w64 (getD vs c (pos 0))) (g : b ≡ cellPasses l ts (st .scope .count) (st .scope .newest) c (wire (getD vs c (pos 0))) (getD ms c 0)) where
+        as-read : cellPasses l ts (st .scope .count) (st .scope .newest) c (getD vs c (pos 0)) (getD ms c 0) ≡ b
+        as-read = sym (g ∙ ap (λ (v : ℤ). cellPasses l ts (st .scope .count) (st .scope .newest) c v (getD ms c 0)) (toZ-ofZ q))
 
         pub passed-on : b ≡ true → Passed l ts st vs ms (left - 1)
         passed-on h = record { few = omega (arith, P .few); before = λ i m. go i m (decLt i c) }
           where
-            go : (i : ℕ) → i < st .cells - (left - 1) → Dec (i < c) → cellPasses l ts (st .count) (st .newest) i (getD vs i (pos 0)) (getD ms i 0) ≡ true
+            go : (i : ℕ) → i < st .cells - (left - 1) → Dec (i < c) → cellPasses l ts (st .scope .count) (st .scope .newest) i (getD vs i (pos 0)) (getD ms i 0) ≡ true
             go i m (yes r) = P .before i (omega arith)
             go i m (no r) = let z : i ≡ c = omega (arith, P .few) in rw z (as-read ∙ h)
 
@@ -197,5 +197,5 @@ pub ruleset store-laws = (wrong-values, wrong-marks, all-passed, passed-on, fail
 
 -- ---- `owner`
 
-pub owner-found : (l ts : List ℕ) (st : State) (c p r : ℕ) → p ≡ holder l (entries (st .count) l (st .newest)) c → r ≡ getD l p 0 → Owner l ts st c r
-owner-found l ts st c p r e f = record { says = λ s k bs H C h. ap (λ (q : ℕ). map small (wordAt s q)) (f ∙ ap (λ (q : ℕ). getD l q 0) e) ∙ owner-is H C c h }
+pub owner-found : (l ts : List ℕ) (st : State) (c p n : ℕ) → p ≡ holder l (entries (st .scope .count) l (st .scope .newest)) c → n ≡ getD l p 0 → Owner l ts st c (n % 32768)
+owner-found l ts st c p n e f = record { says = λ s k bs H C h. ap (λ (q : ℕ). map small (wordAt s (q % 32768))) (f ∙ ap (λ (q : ℕ). getD l q 0) e) ∙ owner-is H C c h }

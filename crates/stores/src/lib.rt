@@ -132,9 +132,9 @@ fn past_base(cell: usize, base: u32) -> u32
 
 // The ordinal or set type of a cell of the store.
 fn cell_type(work: &[u32], types: &[u32], st: State, cell: usize) -> u32
-    ensures { λ r. ⌜ r ≡ cellType (now (work .entry)) (now (types .entry)) (st .count) (st .newest) cell ⌝ }
+    ensures { λ r. ⌜ r ≡ cellType (now (work .entry)) (now (types .entry)) (st .scope .count) (st .scope .newest) cell ⌝ }
 {
-    let p = holder_of(work, st.count, st.newest, cell) as usize;
+    let p = holder_of(work, st.scope.count, st.scope.newest, cell) as usize;
     let more = at(work, p + 2);
     let place = past_base(cell, more / 128);
     leaf_type(work, types, more % 128, place, 66)
@@ -180,7 +180,7 @@ fn mark_fits(x: Info, v: i64, m: u8) -> bool
 
 // Whether row 11 finds no fault in a cell of the store.
 fn cell_passes(work: &[u32], types: &[u32], st: State, cell: usize, v: i64, m: u8) -> bool
-    ensures { λ r. ⌜ r ≡ cellPasses (now (work .entry)) (now (types .entry)) (st .count) (st .newest) cell v m ⌝ }
+    ensures { λ r. ⌜ r ≡ cellPasses (now (work .entry)) (now (types .entry)) (st .scope .count) (st .scope .newest) cell v m ⌝ }
 {
     let t = cell_type(work, types, st, cell);
     let x = describe(work, types, t);
@@ -214,6 +214,6 @@ pub fn store_fault(work: &[u32], types: &[u32], st: State, values: &[i64], marks
 pub fn owner(work: &[u32], types: &[u32], st: State, cell: usize) -> usize
     ensures { λ r. ⌜ Owner (now (work .entry)) (now (types .entry)) st cell r ⌝ }
 {
-    let p = holder_of(work, st.count, st.newest, cell) as usize;
-    at(work, p) as usize
+    let p = holder_of(work, st.scope.count, st.scope.newest, cell) as usize;
+    (at(work, p) % 32768) as usize
 }

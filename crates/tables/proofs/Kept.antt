@@ -11,6 +11,7 @@ use Rattle.semantics.specs.Types.{TypeInfo, infoAt}
 use Rattle.semantics.proofs.LayoutRegions.{Same}
 use Rattle.symbols.proofs.Chained.{entries-kept, names-kept, below-kept, below-higher}
 use Rattle.tables.specs.Descriptions.{integerInfo, booleanInfo, noInfo, readInfo, infoOf, fieldsAt, Tells, EndsBelow}
+use Rattle.tables.specs.declared.Scope.{Scope}
 use Rattle.tables.specs.Scene.{meaningAt, Meant, Scene}
 use Rattle.tables.specs.declared.Info.{Info}
 
@@ -85,9 +86,9 @@ module _ {l l′ : List ℕ} {top : ℕ} (E : Same 0 top l′ l) where
       let e : meaningAt l′ p ≡ meaningAt l p = rw (E .at (p + 1) (omega arith) (omega arith), E .at (p + 2) (omega arith) (omega arith)) refl in
       record { means = rw e (M .means) }
 
-pub scene-kept : {s l l′ ts : List ℕ} {count newest top top′ : ℕ} {σ : Environment} {bs : List ℕ}
-    → Scene s l ts count newest top σ bs → Same 0 top l′ l → top ≤ top′ → Scene s l′ ts count newest top′ σ bs
-scene-kept {s} {l} {l′} {ts} {count} {newest} {top} {top′} {σ} {bs} S E h = record {
+pub scene-kept : {s l l′ ts : List ℕ} {scope : Scope} {top top′ : ℕ} {σ : Environment} {bs : List ℕ}
+    → Scene s l ts scope top σ bs → Same 0 top l′ l → top ≤ top′ → Scene s l′ ts scope top′ σ bs
+scene-kept {s} {l} {l′} {ts} {scope} {top} {top′} {σ} {bs} S E h = record {
   names = rw (entries-kept E (S .below)) (names-kept E (meant-kept E σ bs) (S .below) (S .names));
   below = below-higher h (below-kept E (S .below));
   types = λ k. rw (info-kept E ts k (S .described k)) (tells-kept E s ts k (infoAt (σ .types) k) (S .described k) (S .types k));

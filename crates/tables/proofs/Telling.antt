@@ -21,7 +21,8 @@ use Rattle.symbols.specs.Chain.{entries, placeIn}
 use Rattle.symbols.proofs.Chained.{Found, nothing, entry, found}
 use Rattle.tables.specs.Descriptions.{shapeNumber, integerInfo, booleanInfo, noInfo, readInfo, infoOf, fieldsAt, fieldPlace, EndsBelow}
 use Rattle.tables.specs.Sides.{hostIn, classIn, sideIn}
-use Rattle.tables.specs.Scene.{meaningAt, Meant, Told, unknown, known, Scene}
+use Rattle.tables.specs.declared.Scope.{Scope}
+use Rattle.tables.specs.Scene.{meaningAt, meaningIn, Meant, Told, unknown, known, Scene}
 use Rattle.tables.proofs.Kept.{info-by}
 
 told-by : {σ : Environment} {bs l : List ℕ} {w : Name} (p : ℕ) → Found (Meant σ bs l) w (σ .names) p → Told σ bs (meaningAt l p) (find (σ .names) w)
@@ -98,12 +99,13 @@ field-found s l w q (suc n) h = go (same (map small (wordAt s (getD l q 0))) w) 
 
 -- ---- the environment
 
-module _ {s l ts : List ℕ} {count newest top : ℕ} {σ : Environment} {bs : List ℕ} (S : Scene s l ts count newest top σ bs) where
+module _ {s l ts : List ℕ} {scope : Scope} {top : ℕ} {σ : Environment} {bs : List ℕ} (S : Scene s l ts scope top σ bs) where
   pub kinded : Kinded (σ .types)
   kinded = table-kinded (σ .types) (S .table)
 
-  pub meant : (w : Name) → Told σ bs (meaningAt l (placeIn s l (entries count l newest) w)) (find (σ .names) w)
-  meant w = told-by (placeIn s l (entries count l newest) w) (found (S .names) w)
+  pub meant : (w : Name) → Told σ bs (meaningIn s l scope w) (find (σ .names) w)
+  unfolding meaningIn
+  meant w = told-by (placeIn s l (entries (scope .count) l (scope .newest)) w) (found (S .names) w)
 
   module _ (k : ℕ) where
     pub shape-told : infoOf l ts k .shape ≡ shapeNumber (infoAt (σ .types) k .shape)

@@ -6,12 +6,15 @@ use borrow.Author.Tests.{eq-eqb, ne-eqb}
 use lib.ListN.{getD}
 use Rattle.kinds.specs.declared.Class.{Class}
 use Rattle.kinds.specs.declared.Class.the-variants.{Integer, Boolean, Enum, Set, Whole}
-use Rattle.tables.specs.Descriptions.{integerInfo, booleanInfo, noInfo, readInfo, infoOf}
-use Rattle.tables.specs.Scene.{meaningBy, meaningAt}
+use Rattle.semantics.specs.Base.{Name}
+use Rattle.symbols.specs.Chain.{entries, placeIn}
+use Rattle.tables.specs.Descriptions.{ordinalInfo, integerInfo, booleanInfo, noInfo, readInfo, infoOf}
+use Rattle.tables.specs.Scene.{meaningBy, meaningAt, meaningIn}
 use Rattle.tables.specs.Sides.{hostIn, classIn, sideIn}
 use Rattle.tables.specs.declared.Info.{Info}
 use Rattle.tables.specs.declared.Meaning.{Meaning}
 use Rattle.tables.specs.declared.Meaning.the-variants as meaning
+use Rattle.tables.specs.declared.Scope.{Scope}
 
 -- ---- `read_info`
 
@@ -23,13 +26,13 @@ read-is l p a b c d e f g h i j k m n o q r = rw (i, j, k, m, n, o, q, r) refl
 
 -- ---- the built-in types and no type
 
-pub integer-is : record { shape = 0; host = 0; low = 2147483648; high = 2147483647; size = 1; index = 0; element = 0; fields = 0; place = 0 } ≡ integerInfo
+pub integer-is : (x : Info) → x ≡ ordinalInfo 0 2147483648 2147483647 → x ≡ integerInfo
 unfolding integerInfo
-integer-is = refl
+integer-is x e = e
 
-pub boolean-is : record { shape = 0; host = 1; low = 0; high = 1; size = 1; index = 0; element = 0; fields = 0; place = 0 } ≡ booleanInfo
+pub boolean-is : (x : Info) → x ≡ ordinalInfo 1 0 1 → x ≡ booleanInfo
 unfolding booleanInfo
-boolean-is = refl
+boolean-is x e = e
 
 pub no-is : record { shape = 3; host = 0; low = 0; high = 0; size = 0; index = 0; element = 0; fields = 0; place = 0 } ≡ noInfo
 unfolding noInfo
@@ -84,13 +87,13 @@ pub ruleset by-laws = (by-type, by-var, by-proc, by-value)
 
 -- ---- `meaning_of`
 
-module _ (l : List ℕ) (q p : ℕ) (e : p ≡ q) where
-  pub meaning-none : p ≡ 0 → meaning.Unknown ≡ meaningAt l q
-  unfolding meaningAt
+module _ (s l : List ℕ) (scope : Scope) (w : Name) (p : ℕ) (e : p ≡ placeIn s l (entries (scope .count) l (scope .newest)) w) where
+  pub meaning-none : p ≡ 0 → meaning.Unknown ≡ meaningIn s l scope w
+  unfolding meaningIn meaningAt
   meaning-none f = rw (sym e ∙ f) refl
 
-  pub meaning-some : ((p ≡ 0) → ⊥) → (a b : ℕ) → a ≡ getD l (p + 1) 0 → b ≡ getD l (p + 2) 0 → (x : Meaning) → x ≡ meaningBy a b → x ≡ meaningAt l q
-  unfolding meaningAt
+  pub meaning-some : ((p ≡ 0) → ⊥) → (a b : ℕ) → a ≡ getD l (p + 1) 0 → b ≡ getD l (p + 2) 0 → (x : Meaning) → x ≡ meaningBy a b → x ≡ meaningIn s l scope w
+  unfolding meaningIn meaningAt
   meaning-some n a b f g x h = h ∙ rw (← e, ne-eqb p 0 n, f, g) refl
 
 pub ruleset meaning-laws = (meaning-none, meaning-some)

@@ -21,12 +21,15 @@ shapeNumber setShape = 1
 shapeNumber arrayShape = 2
 shapeNumber recordShape = 3
 
--- integer and boolean
+-- an ordinal type, by its host and its bounds in 32 bits; integer and boolean
+abbrev pub ordinalInfo : ℕ → ℕ → ℕ → Info
+ordinalInfo host low high = record { shape = 0; host = host; low = low; high = high; size = 1; index = 0; element = 0; fields = 0; place = 0 }
+
 unfoldable pub integerInfo : Info
-integerInfo = record { shape = 0; host = 0; low = 2147483648; high = 2147483647; size = 1; index = 0; element = 0; fields = 0; place = 0 }
+integerInfo = ordinalInfo 0 2147483648 2147483647
 
 unfoldable pub booleanInfo : Info
-booleanInfo = record { shape = 0; host = 1; low = 0; high = 1; size = 1; index = 0; element = 0; fields = 0; place = 0 }
+booleanInfo = ordinalInfo 1 0 1
 
 -- what stands for a type that no line declared
 unfoldable pub noInfo : Info

@@ -1,38 +1,36 @@
--- Which of 128 variables are control variables of the loops around: four sets of 32.
+-- The control variables of the loops around, as a list of numbers, the outermost first, and how many there are.
 use mathlib.Core.Path.{_≡_}
-use mathlib.Core.Bool.{Bool, cond}
+use mathlib.Core.Bool.{Bool, false, cond, _||_}
 use mathlib.Core.List.{List}
-use Prim.Native.Nat.{ℕ, _/_, _%_, _<_}
-use lib.Dec.{eqb}
-use lib.IntN.{pos}
-use Rattle.sets.specs.Sets.{members, valueOf, holds, with}
+use Prim.Native.Nat.{ℕ, zero, suc, _+_}
+use lib.Dec.{eqb, ltb}
+use lib.ListN.{length, getD, set, replicate}
 use Rattle.semantics.specs.Rules.{looping}
-use Rattle.tables.specs.declared.Mask.{Mask}
+use Rattle.tables.specs.declared.Loops.{Loops}
 
--- no variable
-unfoldable pub noLoops : Mask
-noLoops = record { a = 0; b = 0; c = 0; d = 0 }
+-- no loop
+unfoldable pub noLoops : Loops
+noLoops = record { count = 0; over = replicate 33 0 }
 
--- the set of number q
-unfoldable pub setIn : Mask → ℕ → ℕ
-setIn m q = cond (eqb q 0) (m .a) (cond (eqb q 1) (m .b) (cond (eqb q 2) (m .c) (m .d)))
+-- a count, as far as the list goes
+unfoldable pub listedLoops : ℕ → ℕ
+listedLoops n = cond (ltb n 33) n 33
 
--- a mask with w as its set of number q
-unfoldable pub setTo : Mask → ℕ → ℕ → Mask
-setTo m q w =
-    cond (eqb q 0) (record { a = w; b = m .b; c = m .c; d = m .d })
-    (cond (eqb q 1) (record { a = m .a; b = w; c = m .c; d = m .d })
-    (cond (eqb q 2) (record { a = m .a; b = m .b; c = w; d = m .d })
-    (record { a = m .a; b = m .b; c = m .c; d = w })))
+-- i is one of the first n numbers
+unfoldable pub among : List ℕ → ℕ → ℕ → Bool
+among is zero i = false
+among is (suc n) i = eqb i (getD is n 0) || among is n i
 
--- variable i is one
-unfoldable pub loopsOver : Mask → ℕ → Bool
-loopsOver m i = holds (pos (i % 32)) (members (setIn m (i / 32)))
+-- a loop is over variable i
+unfoldable pub loopsOver : Loops → ℕ → Bool
+loopsOver m i = among (m .over) (listedLoops (m .count)) i
 
--- variable i besides
-unfoldable pub withLoop : Mask → ℕ → Mask
-withLoop m i = setTo m (i / 32) (valueOf (with (pos (i % 32)) (members (setIn m (i / 32)))))
+-- a loop over variable i besides, where there is room for it
+unfoldable pub withLoop : Loops → ℕ → Loops
+withLoop m i = cond (ltb (m .count) 33) (record { count = m .count + 1; over = set (m .over) (m .count) i }) m
 
--- a mask holds the control variables js
-pub record InForce (m : Mask) (js : List ℕ) : Type 0 where
-  pub in-force : (i : ℕ) → i < 128 → loopsOver m i ≡ looping i js
+-- the loops around have the control variables js, the innermost first
+pub record InForce (m : Loops) (js : List ℕ) : Type 0 where
+  pub in-force : (i : ℕ) → loopsOver m i ≡ looping i js
+  pub counted : m .count ≡ length js
+  pub long : length (m .over) ≡ 33

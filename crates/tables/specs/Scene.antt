@@ -1,24 +1,26 @@
 -- The environment of a line as the checker holds it: the entries of names and the descriptions of types in the working list.
 use mathlib.Core.Bool.{true, false, cond}
-use mathlib.Core.List.{List, []}
+use mathlib.Core.List.{List, [], map}
 use mathlib.Core.Option.{Option, none, some}
 use mathlib.Core.Path.{_≡_}
 use Prim.Native.Nat.{ℕ, _+_, _/_, _%_, _≤_}
 use lib.Dec.{eqb}
 use lib.IntN.{pos}
 use lib.ListN.{length, getD}
-use Rattle.spelling.specs.Bytes.{same}
+use Rattle.spelling.specs.Bytes.{small, same}
 use Rattle.semantics.specs.Base.{Name, find}
 use Rattle.semantics.specs.Environment.{Environment, NameSort, aType, aVar, aProc, aValue}
 use Rattle.semantics.specs.Script.{Const}
+use Rattle.semantics.specs.Trees.{wordAt}
 use Rattle.semantics.specs.Types.{infoAt, record?, sizeOf, Var, variable}
 use Rattle.semantics.proofs.TypeTables.{Table}
 use Rattle.semantics.proofs.LinesKeep.{AllFair}
-use Rattle.symbols.specs.Chain.{entries}
+use Rattle.symbols.specs.Chain.{entries, placeIn}
 use Rattle.symbols.proofs.Chained.{Names, Below}
 use Rattle.tables.specs.Descriptions.{infoOf, Tells, EndsBelow}
 use Rattle.tables.specs.declared.Meaning.{Meaning}
 use Rattle.tables.specs.declared.Meaning.the-variants as meaning
+use Rattle.tables.specs.declared.Scope.{Scope}
 
 -- ---- an entry's second and third numbers: the second is the sort, 0 to 3, and 4 times a type's, variable's or procedure's number; the
 -- third a variable's type and 128 times its first cell, the place of a procedure's body, or an enum name's ordinal
@@ -34,6 +36,13 @@ meaningBy sort more =
 -- the meaning of the entry at p, which is 0 for none
 unfoldable pub meaningAt : List ℕ → ℕ → Meaning
 meaningAt l p = cond (eqb p 0) meaning.Unknown (meaningBy (getD l (p + 1) 0) (getD l (p + 2) 0))
+
+-- the meaning of a name w, and of the word at an offset
+unfoldable pub meaningIn : List ℕ → List ℕ → Scope → Name → Meaning
+meaningIn s l scope w = meaningAt l (placeIn s l (entries (scope .count) l (scope .newest)) w)
+
+abbrev pub meaningHere : List ℕ → List ℕ → Scope → ℕ → Meaning
+meaningHere s l scope p = meaningIn s l scope (map small (wordAt s p))
 
 -- a meaning is that of the definitions; bs holds the places of the bodies so far
 pub data Means (σ : Environment) (bs : List ℕ) : Meaning → NameSort → Type 0 where
@@ -53,9 +62,9 @@ pub record Meant (σ : Environment) (bs l : List ℕ) (p : ℕ) (m : NameSort) :
 
 -- ---- the environment
 
-pub record Scene (s l ts : List ℕ) (count newest top : ℕ) (σ : Environment) (bs : List ℕ) : Type 0 where
-  pub names : Names s l (Meant σ bs l) (entries count l newest) (σ .names)
-  pub below : Below l top count newest
+pub record Scene (s l ts : List ℕ) (scope : Scope) (top : ℕ) (σ : Environment) (bs : List ℕ) : Type 0 where
+  pub names : Names s l (Meant σ bs l) (entries (scope .count) l (scope .newest)) (σ .names)
+  pub below : Below l top (scope .count) (scope .newest)
   pub types : (k : ℕ) → Tells s l (infoOf l ts k) (infoAt (σ .types) k)
   pub described : (k : ℕ) → EndsBelow top (infoOf l ts k)
   pub table : Table (σ .types)

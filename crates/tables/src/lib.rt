@@ -1,21 +1,17 @@
 // What the working list holds of an environment: the meanings of names and the descriptions of types.
 use kinds::Class;
 use kinds::Side;
-use sets::contains;
-use sets::insert;
 use symbols::lookup;
 use symbols::same_word;
 use worklist::at;
 ghost use mathlib.Core.Path.{_≡_};
 ghost use mathlib.Core.List.{map};
-ghost use Prim.Native.Nat.{_+_, _*_, _%_, _<_, _≤_};
-ghost use lib.IntN.{pos};
+ghost use Prim.Native.Nat.{_+_, _*_, _<_, _≤_};
 ghost use Rattle.spelling.specs.Bytes.{small};
 ghost use Rattle.semantics.specs.Trees.{wordAt};
-ghost use Rattle.symbols.specs.Chain.{entries, placeIn};
-ghost use Rattle.tables.specs.Descriptions.{integerInfo, booleanInfo, noInfo, readInfo, infoOf, fieldPlace};
-ghost use Rattle.tables.specs.Loops.{noLoops, setIn, setTo, loopsOver, withLoop};
-ghost use Rattle.tables.specs.Scene.{meaningAt, meaningBy};
+ghost use Rattle.tables.specs.Descriptions.{ordinalInfo, integerInfo, booleanInfo, noInfo, readInfo, infoOf, fieldPlace};
+ghost use Rattle.tables.specs.Loops.{noLoops, listedLoops, loopsOver, withLoop};
+ghost use Rattle.tables.specs.Scene.{meaningBy, meaningHere};
 ghost use Rattle.tables.specs.Sides.{hostIn, classIn, sideIn};
 
 // A fault that a part of a line has: of row 8, 7 or 6, or none.
@@ -38,6 +34,12 @@ pub struct Info {
     pub element: u32,
     pub fields: u32,
     pub place: u32,
+}
+
+// What is known on a line: how many names are declared before it, and the newest entry of them.
+pub struct Scope {
+    pub count: u32,
+    pub newest: u32,
 }
 
 // What a name means.
@@ -67,42 +69,39 @@ fn read_info(work: &[u32], place: u32) -> Info
     }
 }
 
-// The description of integer.
-fn integer_info() -> Info
-    ensures { λ r. ⌜ r ≡ integerInfo ⌝ }
+// The description of an ordinal type by its host and its bounds in 32 bits.
+pub fn ordinal_info(host: u32, low: u32, high: u32) -> Info
+    ensures { λ r. ⌜ r ≡ ordinalInfo host low high ⌝ }
 {
     Info {
         shape: 0,
-        host: 0,
-        low: 2147483648,
-        high: 2147483647,
+        host,
+        low,
+        high,
         size: 1,
         index: 0,
         element: 0,
         fields: 0,
         place: 0,
     }
+}
+
+// The description of integer.
+fn integer_info() -> Info
+    ensures { λ r. ⌜ r ≡ integerInfo ⌝ }
+{
+    ordinal_info(0, 2147483648, 2147483647)
 }
 
 // The description of boolean.
 fn boolean_info() -> Info
     ensures { λ r. ⌜ r ≡ booleanInfo ⌝ }
 {
-    Info {
-        shape: 0,
-        host: 1,
-        low: 0,
-        high: 1,
-        size: 1,
-        index: 0,
-        element: 0,
-        fields: 0,
-        place: 0,
-    }
+    ordinal_info(1, 0, 1)
 }
 
 // What stands for a type that no line declared.
-fn no_info() -> Info
+pub fn no_info() -> Info
     ensures { λ r. ⌜ r ≡ noInfo ⌝ }
 {
     Info {
@@ -151,11 +150,11 @@ fn meaning_by(sort: u32, more: u32) -> Meaning
     Meaning::Value(sort / 4, more)
 }
 
-// The meaning of the word at an offset, among so many entries from the newest on.
-pub fn meaning_of(text: &[u8], work: &[u32], count: u32, newest: u32, offset: usize) -> Meaning
-    ensures { λ r. ⌜ r ≡ meaningAt (now (work .entry)) (placeIn (now (text .entry)) (now (work .entry)) (entries count (now (work .entry)) newest) (map small (wordAt (now (text .entry)) offset))) ⌝ }
+// The meaning of the word at an offset.
+pub fn meaning_of(text: &[u8], work: &[u32], scope: Scope, offset: usize) -> Meaning
+    ensures { λ r. ⌜ r ≡ meaningHere (now (text .entry)) (now (work .entry)) scope offset ⌝ }
 {
-    let place = lookup(text, work, count, newest, offset);
+    let place = lookup(text, work, scope.count, scope.newest, offset);
     if place == 0 {
         return Meaning::Unknown;
     }
@@ -234,100 +233,59 @@ pub fn find_field(text: &[u8], work: &[u32], place: u32, fields: u32, offset: us
     0
 }
 
-// Which of 128 variables are control variables of the loops around: four sets of 32.
-pub struct Mask {
-    pub a: u32,
-    pub b: u32,
-    pub c: u32,
-    pub d: u32,
+// How many loops there can be around a statement: one for each bracket level, and the statement's own.
+pub const MOST_LOOPS: usize = 33;
+
+// The control variables of the loops around, by number, the outermost first: so many of the list.
+pub struct Loops {
+    pub count: u32,
+    pub over: [u32; MOST_LOOPS],
 }
 
-// No variable.
-pub fn no_loops() -> Mask
+// No loop.
+pub fn no_loops() -> Loops
     ensures { λ r. ⌜ r ≡ noLoops ⌝ }
 {
-    Mask {
-        a: 0,
-        b: 0,
-        c: 0,
-        d: 0,
+    Loops {
+        count: 0,
+        over: [0; MOST_LOOPS],
     }
 }
 
-// The set of number q.
-fn set_in(m: Mask, q: u32) -> u32
-    ensures { λ r. ⌜ r ≡ setIn m q ⌝ }
+// A count of loops, as far as the list goes.
+fn listed_loops(n: u32) -> usize
+    ensures { λ r. ⌜ r ≡ listedLoops n ⌝ }
 {
-    if q == 0 {
-        return m.a;
+    if n < 33 {
+        return n as usize;
     }
-    if q == 1 {
-        return m.b;
-    }
-    if q == 2 {
-        return m.c;
-    }
-    m.d
+    MOST_LOOPS
 }
 
-// A mask with w as its set of number q.
-fn set_to(m: Mask, q: u32, w: u32) -> Mask
-    ensures { λ r. ⌜ r ≡ setTo m q w ⌝ }
-{
-    if q == 0 {
-        return Mask {
-            a: w,
-            b: m.b,
-            c: m.c,
-            d: m.d,
-        };
-    }
-    if q == 1 {
-        return Mask {
-            a: m.a,
-            b: w,
-            c: m.c,
-            d: m.d,
-        };
-    }
-    if q == 2 {
-        return Mask {
-            a: m.a,
-            b: m.b,
-            c: w,
-            d: m.d,
-        };
-    }
-    Mask {
-        a: m.a,
-        b: m.b,
-        c: m.c,
-        d: w,
-    }
-}
-
-// The member that stands for variable i in its set.
-fn member_of(i: u32) -> i64
-    ensures { λ r. ⌜ r ≡ pos (i % 32) ⌝ }
-{
-    (i % 32) as i64
-}
-
-// Whether variable i is one; i is below 128.
-pub fn loops_over(m: Mask, i: u32) -> bool
+// Whether variable i is the control variable of one.
+pub fn loops_over(m: Loops, i: u32) -> bool
     ensures { λ r. ⌜ r ≡ loopsOver m i ⌝ }
 {
-    let w = set_in(m, i / 32);
-    let z = member_of(i);
-    contains(w, z)
+    let over = m.over;
+    let mut n = listed_loops(m.count);
+    while n > 0 {
+        n -= 1;
+        if over[n] == i {
+            return true;
+        }
+    }
+    false
 }
 
-// A mask with variable i besides.
-pub fn with_loop(m: Mask, i: u32) -> Mask
+// The loops with one over variable i besides, where the list has room for it.
+pub fn with_loop(m: Loops, i: u32) -> Loops
     ensures { λ r. ⌜ r ≡ withLoop m i ⌝ }
 {
-    let q = i / 32;
-    let w = set_in(m, q);
-    let z = member_of(i);
-    set_to(m, q, insert(w, z))
+    let n = m.count;
+    if n < 33 {
+        let mut over = m.over;
+        over[n as usize] = i;
+        return Loops { count: n + 1, over };
+    }
+    m
 }

@@ -5,13 +5,14 @@ use Prim.Native.Nat.{ℕ}
 use borrow.Author.Tests.{eq-eqb, ne-eqb}
 use Rattle.answers.specs.declared.Verdict.the-variants.{Accepted, Refused}
 use Rattle.declarations.specs.State.{startState}
+use Rattle.declarations.specs.declared.State.{State}
 use Rattle.judgements.specs.declared.Known.{Known}
 use Rattle.texts.specs.declared.Checked.{Checked}
 use Rattle.texts.specs.Answers.{endsBy, refusedBy, startKnown, toldBy}
 
-pub start-is : record { state = record { count = 0; newest = 0; top = 1; types = 2; lines = 0; vars = 0; cells = 0; procs = 0 }; stmts = 0; nodes = 0; ended = false; main = 0 } ≡ startKnown
-unfolding startKnown startState
-start-is = refl
+pub start-is : (st : State) → st ≡ startState → record { state = st; stmts = 0; nodes = 0; ended = false; main = 0 } ≡ startKnown
+unfolding startKnown
+start-is st e = rw e refl
 
 pub refusal-is : (m n : ℕ) (kn : Known) → kn ≡ startKnown → refusedBy m n kn ≡ refusedBy m n startKnown
 refusal-is m n kn e = rw e refl

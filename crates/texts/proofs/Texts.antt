@@ -26,7 +26,7 @@ use Rattle.answers.specs.declared.Verdict.{Verdict}
 use Rattle.answers.specs.declared.Verdict.the-variants as verdict
 use Rattle.answers.specs.Verdicts.{toldVerdict}
 use Rattle.framing.specs.Passes.{lineOr}
-use Rattle.declarations.specs.State.{startState}
+use Rattle.declarations.specs.State.{notes, startState}
 use Rattle.declarations.proofs.Starting.{holds-start}
 use Rattle.judgements.specs.declared.Known.{Known}
 use Rattle.judge.specs.Judging.{Standing}
@@ -34,7 +34,7 @@ use Rattle.texts.specs.declared.Checked.{Checked}
 use Rattle.texts.specs.Answers.{CheckedBy, ChecksLines, Checks, refusedBy, startKnown, toldBy}
 
 -- before any line
-pub standing-start : (s l ts : List ℕ) → length s ≤ 32768 → 16384 ≤ length l → 66 ≤ length ts → ((i : ℕ) → getD ts i 0 ≡ 0)
+pub standing-start : (s l ts : List ℕ) → length s ≤ 32768 → 16384 ≤ length l → notes ≤ length ts → ((i : ℕ) → getD ts i 0 ≡ 0)
     → Standing s l ts startKnown (has nothingDeclared []) []
 unfolding startKnown startState sizeSymbols sizeTypes sizeBodies
 standing-start s l ts a b c h = record {
@@ -169,11 +169,11 @@ after-same l l′ n i e = go (leb 16384 (length l)) refl
         rw (long, drop-of-length-le (l′ ++ drop n l) {i = 16384} (omega (arith, long)), drop-of-length-le l {i = 16384} (omega arith)) refl
 
 module _ (s l : List ℕ) (n : ℕ) (i : n ≡ min 16384 (length l)) (c : Checked) (l′ ts′ : List ℕ) where
-  pub verdict-told : (r : Verdict) → Checks s (take n l) (replicate 66 0) c l′ ts′ → r ≡ toldBy c → r ≡ toldVerdict (verdictOf s (length l))
+  pub verdict-told : (r : Verdict) → Checks s (take n l) (replicate notes 0) c l′ ts′ → r ≡ toldBy c → r ≡ toldVerdict (verdictOf s (length l))
   verdict-told r C e =
       let k : length (take n l) ≡ min 16384 (length l) = sym (part-long l n i) ∙ i in
       let v : verdictOf s (length (take n l)) ≡ verdictOf s (length l) = ap (λ m. verdictOf s m) k ∙ verdict-same s (length l) in
-      e ∙ told-is s l′ ts′ (verdictOf s (length (take n l))) c (C .says (omega arith) (zeros 66)) ∙ ap toldVerdict v
+      e ∙ told-is s l′ ts′ (verdictOf s (length (take n l))) c (C .says (omega arith) (zeros notes)) ∙ ap toldVerdict v
 
   pub verdict-clears : (l″ : List ℕ) → length l′ ≡ length (take n l) → l″ ≡ workAfter (l′ ++ drop n l) → l″ ≡ workAfter l
   verdict-clears l″ e f = f ∙ after-same l l′ n i e

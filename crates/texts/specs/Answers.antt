@@ -11,7 +11,7 @@ use Rattle.semantics.specs.Verdict.{Read, accepted, refused, strictly, judgeLin
 use Rattle.semantics.specs.Whole.{verdictOf}
 use Rattle.answers.specs.declared.Verdict.{Verdict}
 use Rattle.answers.specs.declared.Verdict.the-variants.{Accepted, Refused}
-use Rattle.declarations.specs.State.{startState}
+use Rattle.declarations.specs.State.{notes, startState}
 use Rattle.judgements.specs.declared.Known.{Known}
 use Rattle.judge.specs.Judging.{Standing}
 use Rattle.texts.specs.declared.Checked.{Checked}
@@ -39,7 +39,7 @@ pub record ChecksLines (s l ts : List ℕ) (kn : Known) (c : Checked) (l′ ts�
 
 -- a text, judged with room for the types' places
 pub record Checks (s l ts : List ℕ) (c : Checked) (l′ ts′ : List ℕ) : Type 0 where
-  pub says : 66 ≤ length ts → ((i : ℕ) → getD ts i 0 ≡ 0) → CheckedBy s l′ ts′ (verdictOf s (length l)) c
+  pub says : notes ≤ length ts → ((i : ℕ) → getD ts i 0 ≡ 0) → CheckedBy s l′ ts′ (verdictOf s (length l)) c
 
 -- ---- the verdict as it is told
 

@@ -1,6 +1,7 @@
 // A whole text: rows 1 to 9 in their order, and the verdict.
 use answers::Verdict;
-use declarations::State;
+use declarations::NOTES;
+use declarations::start_state;
 use framing::lines::next_line;
 use framing::lines::refused_line;
 use judge::whole::line;
@@ -24,16 +25,7 @@ pub struct Checked {
 pub fn nothing_known() -> Known
     ensures { λ r. ⌜ r ≡ startKnown ⌝ }
 {
-    let state = State {
-        count: 0,
-        newest: 0,
-        top: 1,
-        types: 2,
-        lines: 0,
-        vars: 0,
-        cells: 0,
-        procs: 0,
-    };
+    let state = start_state();
     Known {
         state: state,
         stmts: 0,
@@ -96,7 +88,7 @@ fn check_lines(text: &[u8], work: &mut [u32], types: &mut [u32], kn: Known) -> C
     at_end(n, known)
 }
 
-// Rows 1 to 9 of a text; `types` is for the places of the types' descriptions, at least 66 numbers, all 0.
+// Rows 1 to 9 of a text; `types` is for the places of the types' descriptions, at least 512 numbers, all 0.
 pub fn check(text: &[u8], work: &mut [u32], types: &mut [u32]) -> Checked
     ensures { λ r. ⌜ Checks (now (text .entry)) (now (work .entry)) (now (types .entry)) r (now (work .exit)) (now (types .exit)) ⌝ }
 {
@@ -137,7 +129,7 @@ pub fn working(n: usize) -> usize
 pub fn verdict_of(text: &[u8], work: &mut [u32]) -> Verdict
     ensures { λ r. ⌜ (r ≡ toldVerdict (verdictOf (now (text .entry)) (length (now (work .entry))))) × (now (work .exit) ≡ workAfter (now (work .entry))) ⌝ }
 {
-    let mut types = [0; 66];
+    let mut types = [0; NOTES];
     let n = working(work.len());
     let c = check(text, &mut work[..n], &mut types);
     clear(work);

@@ -24,21 +24,21 @@ use Rattle.semantics.specs.Trees.{Trees, Run, first, wordAt, stackAt}
 use Rattle.semantics.proofs.LayoutRegions.{Same, lay-g, lay-l}
 use Rattle.semantics.proofs.LinesKeep.{AllFair, type, name, Keeps}
 use Rattle.worklist.specs.Laid.{Laid}
+use Rattle.symbols.specs.Keys.{keyed}
 use Rattle.tables.proofs.Cells.{keeps-cells}
 use Rattle.tables.specs.declared.Fault.{Fault}
 use Rattle.tables.specs.declared.Fault.the-variants.{Clear}
 use Rattle.tables.specs.declared.Info.{Info}
-use Rattle.tables.specs.Scene.{Scene, Told}
+use Rattle.tables.specs.Scene.{Scene, Told, meaningHere}
 use Rattle.tables.proofs.Kept.{scene-kept}
 use Rattle.tables.proofs.Telling.{meant}
 use Rattle.parts.specs.Got.{isClear, faultOf}
 use Rattle.shapes.specs.Parts.{rest, closed, typeNameIn}
 use Rattle.shapes.proofs.Walks.{bind-cong, bind-assoc}
 use Rattle.atoms.specs.declared.Typed.{Typed}
-use Rattle.atoms.specs.Answers.{meaningHere}
 use Rattle.atoms.specs.Contracts.{TypeTold}
 use Rattle.atoms.proofs.Telling.{fits-inj}
-use Rattle.declarations.specs.State.{Holds}
+use Rattle.declarations.specs.State.{scoped, Holds, withNames, withTypeLine}
 use Rattle.declarations.specs.Names.{newFault, lastType, GivesLastType}
 use Rattle.declarations.specs.Lines.{entryStaged, newly, linedBy, LineTold}
 use Rattle.typelines.specs.TypeLines.{aliasAfter, linesFit, typeEntry, infoNumbers, typeState, AddsAlias, alias-fits, alias-past, GivesAlias}
@@ -60,16 +60,14 @@ lines-many n b h = rw (lt-leb (n + 1) 64 (omega arith)) refl
 
 pub ruleset lines-laws = (lines-few, lines-many)
 
-pub type-state-is : (st : State) (names newest made top : ℕ)
-    → record { count = st .count % 65536 + names % 65536; newest = newest; top = top; types = st .types % 128 + made % 2; lines = st .lines % 128 + 1; vars = st .vars; cells = st .cells; procs = st .procs }
-    ≡ typeState st names newest made top
+pub type-state-is : (st a b : State) (names newest made top : ℕ) → a ≡ withNames st names newest top → b ≡ withTypeLine a made → b ≡ typeState st names newest made top
 unfolding typeState
-type-state-is st names newest made top = refl
+type-state-is st a b names newest made top e f = f ∙ ap (λ (x : State). withTypeLine x made) e
 
-pub name-laid : (st : State) (p number n : ℕ) (l : List ℕ) (r : ℕ) (l′ : List ℕ) → n ≡ p % 32768
-    → Laid (lay (n ∷ (4 * (number % 128)) ∷ 0 ∷ st .newest ∷ []) (st .top) l) r l′ → Laid (lay (typeEntry st p number) (st .top) l) r l′
+pub name-laid : (st : State) (m number : ℕ) (l : List ℕ) (r : ℕ) (l′ : List ℕ)
+    → Laid (lay (m ∷ (4 * (number % 128)) ∷ 0 ∷ st .scope .newest ∷ []) (st .top) l) r l′ → Laid (lay (typeEntry st m number) (st .top) l) r l′
 unfolding typeEntry
-name-laid st p number n l r l′ e L = rw (← e) L
+name-laid st m number l r l′ L = L
 
 pub info-laid : (x : Info) (t : ℕ) (l : List ℕ) (r : ℕ) (l′ : List ℕ)
     → Laid (lay (x .shape ∷ x .host ∷ x .low ∷ x .high ∷ x .size ∷ x .index ∷ x .element ∷ x .fields ∷ []) t l) r l′ → Laid (lay (infoNumbers x) t l) r l′
@@ -78,14 +76,10 @@ info-laid x t l r l′ L = L
 
 -- ---- what is held
 
--- the entry of a type's name, where the lines so far are held
-pub entry-is : {s l ts : List ℕ} {st : State} {k : Declared} {bs : List ℕ} → Holds s l ts st k bs → (p number : ℕ) → p < length s → number < 128
-    → typeEntry st p number ≡ p ∷ (4 * number) ∷ 0 ∷ st .newest ∷ []
+-- the entry of a type with a small number
+pub entry-is : (st : State) (m number : ℕ) → number < 128 → typeEntry st m number ≡ m ∷ (4 * number) ∷ 0 ∷ st .scope .newest ∷ []
 unfolding typeEntry
-entry-is H p number hp hn =
-    let x : p % 32768 ≡ p = mod-eq-of-lt (omega (arith, H .short-text)) in
-    let y : number % 128 ≡ number = mod-eq-of-lt hn in
-    rw (x, y) refl
+entry-is st m number h = let y : number % 128 ≡ number = mod-eq-of-lt h in rw y refl
 
 -- row 9
 pub lines-bounded : {s l ts : List ℕ} {st : State} {k : Declared} {bs : List ℕ} → Holds s l ts st k bs → (w : Name) (d : Decl) (b : Bool) → b ≡ typeBounded (k .env .types) d
@@ -100,7 +94,7 @@ module _ {s l ts : List ℕ} {st : State} {k : Declared} {bs : List ℕ} (H : Ho
   wa = map small (wordAt s p)
 
   abbrev la : List ℕ
-  la = lay (typeEntry st p kind) (st .top) l .list
+  la = lay (typeEntry st (keyed s p) kind) (st .top) l .list
 
   abbrev ka : Declared
   ka = declareLine k (newType wa (alias kind)) sn nn
@@ -116,19 +110,19 @@ module _ {s l ts : List ℕ} {st : State} {k : Declared} {bs : List ℕ} (H : Ho
   unfolding declareLine declNames extendTypes
   kind-low = omega (arith, fair-type (alias-keeps .names), H .types-are, H .few-types, H .few-lines)
 
-  alias-top : lay (typeEntry st p kind) (st .top) l .top ≡ st .top + 4
-  alias-top = rw (entry-is H p kind hp kind-low) (lay-l (p ∷ (4 * kind) ∷ 0 ∷ st .newest ∷ []) (st .top) l .top-is room)
+  alias-top : lay (typeEntry st (keyed s p) kind) (st .top) l .top ≡ st .top + 4
+  alias-top = rw (entry-is st (keyed s p) kind kind-low) (lay-l (keyed s p ∷ (4 * kind) ∷ 0 ∷ st .scope .newest ∷ []) (st .top) l .top-is room)
 
-  alias-chained : Chained s la (suc (st .count)) (st .top) (st .top + 4) (ka .env) bs ((wa, aType kind) ∷ k .env .names)
+  alias-chained : Chained s la (scoped (suc (st .scope .count)) (st .top)) (st .top + 4) (ka .env) bs ((wa, aType kind) ∷ k .env .names)
   unfolding declareLine
-  alias-chained = subst (λ (ns : List ℕ). Chained s (lay ns (st .top) l .list) (suc (st .count)) (st .top) (st .top + 4) (ka .env) bs ((wa, aType kind) ∷ k .env .names)) (sym (entry-is H p kind hp kind-low))
-      (chained-more p (4 * kind) 0 (aType kind) (record { start = H .start; fits = room; long = H .long-list }) (type-means (ka .env) bs kind 0)
+  alias-chained = subst (λ (ns : List ℕ). Chained s (lay ns (st .top) l .list) (scoped (suc (st .scope .count)) (st .top)) (st .top + 4) (ka .env) bs ((wa, aType kind) ∷ k .env .names)) (sym (entry-is st (keyed s p) kind kind-low))
+      (chained-more p (4 * kind) 0 (aType kind) (omega (arith, H .short-text)) (record { start = H .start; fits = room; long = H .long-list }) (type-means (ka .env) bs kind 0)
       (chained-env {σ′ = ka .env} (means-same refl) (scene-chained (H .scene))))
 
-  alias-scene : Scene s la ts (suc (st .count)) (st .top) (st .top + 4) (ka .env) bs
+  alias-scene : Scene s la ts (scoped (suc (st .scope .count)) (st .top)) (st .top + 4) (ka .env) bs
   unfolding declareLine declNames extendTypes
   alias-scene =
-      let K = scene-kept {top′ = st .top + 4} (H .scene) (laid-same (typeEntry st p kind) (st .top) l la refl) (omega arith) in
+      let K = scene-kept {top′ = st .top + 4} (H .scene) (laid-same (typeEntry st (keyed s p) kind) (st .top) l la refl) (omega arith) in
       record {
         names = alias-chained .names;
         below = alias-chained .below;
@@ -142,26 +136,26 @@ module _ {s l ts : List ℕ} {st : State} {k : Declared} {bs : List ℕ} (H : Ho
         once = λ v x c g h. K .once v x c (value-find wa v (aType kind) (k .env .names) c (type-value kind) g) (value-find wa x (aType kind) (k .env .names) c (type-value kind) h);
       }
 
-  alias-holds : Holds s la ts (typeState st 1 (st .top) 0 (lay (typeEntry st p kind) (st .top) l .top)) ka bs
+  alias-holds : Holds s la ts (typeState st 1 (st .top) 0 (lay (typeEntry st (keyed s p) kind) (st .top) l .top)) ka bs
   unfolding extendTypes keepsRules keptDecl
   alias-holds =
-      let c : suc (st .count) ≡ st .count + 1 = omega arith in
+      let c : suc (st .scope .count) ≡ st .scope .count + 1 = omega arith in
       rw alias-top (type-holds H wa (alias kind) f e refl b sn nn 1 (st .top) 0 (st .top + 4) la ts (omega arith) (omega arith)
-      (rw c at alias-scene) (H .small-types) (omega (arith, H .few-names)) (omega arith) room (rw (lay-g (typeEntry st p kind) (st .top) l .long) (H .long-list)) (H .long-types))
+      (rw c at alias-scene) (H .small-types) (omega (arith, H .few-names)) (omega arith) room (rw (lay-g (typeEntry st (keyed s p) kind) (st .top) l .long) (H .long-list)) (H .long-notes))
 
 -- ---- the ways
 
-module _ (l : List ℕ) (st : State) (p kind : ℕ) (b : Bool) (g : b ≡ linesFit (st .lines) true) where
-  pub adds-alias : b ≡ true → (t : ℕ) (l′ : List ℕ) → Laid (lay (typeEntry st p kind) (st .top) l) t l′ → (st′ : State) → st′ ≡ typeState st 1 (st .top) 0 t
-      → (r : Lined) → r ≡ linedBy Clear true st′ → AddsAlias l st p kind r l′
+module _ (l : List ℕ) (st : State) (m kind : ℕ) (b : Bool) (g : b ≡ linesFit (st .lines) true) where
+  pub adds-alias : b ≡ true → (t : ℕ) (l′ : List ℕ) → Laid (lay (typeEntry st m kind) (st .top) l) t l′ → (st′ : State) → st′ ≡ typeState st 1 (st .top) 0 t
+      → (r : Lined) → r ≡ linedBy Clear true st′ → AddsAlias l st m kind r l′
   adds-alias h t l′ L st′ i r j = rw (j, i, L .free, L .left) (alias-fits (sym g ∙ h))
 
-  pub past-alias : b ≡ false → (r : Lined) → r ≡ linedBy Clear false st → AddsAlias l st p kind r l
+  pub past-alias : b ≡ false → (r : Lined) → r ≡ linedBy Clear false st → AddsAlias l st m kind r l
   past-alias h r j = rw j (alias-past (sym g ∙ h))
 
 pub ruleset add-alias-laws = (adds-alias, past-alias)
 
-alias-told : (s l ts : List ℕ) (st : State) (p kind : ℕ) (r : Lined) (l′ : List ℕ) → p < length s → AddsAlias l st p kind r l′
+alias-told : (s l ts : List ℕ) (st : State) (p kind : ℕ) (r : Lined) (l′ : List ℕ) → p < length s → AddsAlias l st (keyed s p) kind r l′
     → (k : Declared) (bs : List ℕ) → Holds s l ts st k bs → (f : LineForm) → entryOf (k .env) f ≡ some (newType (map small (wordAt s p)) (alias kind))
     → LineTold s st k bs (fits (newType (map small (wordAt s p)) (alias kind))) r l′ ts
 unfolding symbolSize sizeDecl typeState typeBounded
@@ -176,9 +170,9 @@ alias-told s l ts st p kind _ _ hp (alias-past h) k bs H f e = record {
   holds = λ x i. rw (← fits-inj i) (λ b room sn nn. absurd (false≢true (sym h ∙ lines-bounded H (map small (wordAt s p)) (alias kind) true refl ∙ b)));
 }
 
-alias-below : (l : List ℕ) (st : State) (p kind : ℕ) (r : Lined) (l′ : List ℕ) → AddsAlias l st p kind r l′ → Same 0 (st .top) l′ l
-alias-below l st p kind _ _ (alias-fits h) = laid-same (typeEntry st p kind) (st .top) l _ refl
-alias-below l st p kind _ _ (alias-past h) = record { at = λ _ _ _. refl }
+alias-below : (l : List ℕ) (st : State) (m kind : ℕ) (r : Lined) (l′ : List ℕ) → AddsAlias l st m kind r l′ → Same 0 (st .top) l′ l
+alias-below l st m kind _ _ (alias-fits h) = laid-same (typeEntry st m kind) (st .top) l _ refl
+alias-below l st m kind _ _ (alias-past h) = record { at = λ _ _ _. refl }
 
 alias-last : (w : Name) (us : Trees Run) → aliasAfter w us ≡ (lastType us >>= λ (t : TypeName). some (typeLine w (Syntax.alias t)))
 unfolding aliasAfter lastType
@@ -195,8 +189,8 @@ alias-entry σ w t = go (typeOf σ t) (newNames σ (w ∷ []))
     go (some n) true = refl
     go (some n) false = refl
 
-module _ (s l : List ℕ) (st : State) (p at : ℕ) (t : Typed) (G : GivesLastType s l (st .count) (st .newest) at t)
-    (g : Fault) (d : g ≡ t .fault) (f : Fault) (e : f ≡ newFault g (meaningHere s l (st .count) (st .newest) p)) (b : Bool) (i : b ≡ isClear f) where
+module _ (s l : List ℕ) (st : State) (p at : ℕ) (t : Typed) (G : GivesLastType s l (st .scope) at t)
+    (g : Fault) (d : g ≡ t .fault) (f : Fault) (e : f ≡ newFault g (meaningHere s l (st .scope) p)) (b : Bool) (i : b ≡ isClear f) where
   abbrev w : Name
   w = map small (wordAt s p)
 
@@ -210,12 +204,11 @@ module _ (s l : List ℕ) (st : State) (p at : ℕ) (t : Typed) (G : GivesLastTy
     told : TypeTold S t
     told = G .says ts (st .top) (k .env) bs (H .scene)
 
-    meaning-told : Told (k .env) bs (meaningHere s l (st .count) (st .newest) p) (find (k .env .names) w)
-    unfolding meaningHere
+    meaning-told : Told (k .env) bs (meaningHere s l (st .scope) p) (find (k .env .names) w)
     meaning-told = meant (H .scene) w
 
-    f-is : f ≡ newFault (faultOf S) (meaningHere s l (st .count) (st .newest) p)
-    f-is = e ∙ ap (λ (x : Fault). newFault x (meaningHere s l (st .count) (st .newest) p)) (d ∙ told .fault-is)
+    f-is : f ≡ newFault (faultOf S) (meaningHere s l (st .scope) p)
+    f-is = e ∙ ap (λ (x : Fault). newFault x (meaningHere s l (st .scope) p)) (d ∙ told .fault-is)
 
     staged-is : entryStaged k (aliasAfter w us) ≡ newly (isKnown (k .env) w) S (λ (n : ℕ). fits (newType w (alias n)))
     unfolding keepsRules keptDecl ruled
@@ -231,11 +224,11 @@ module _ (s l : List ℕ) (st : State) (p at : ℕ) (t : Typed) (G : GivesLastTy
     };
   })
 
-  pub alias-clear : b ≡ true → (r : Lined) (l′ : List ℕ) → AddsAlias l st p (t .kind) r l′ → GivesAlias s l st p at r l′
+  pub alias-clear : b ≡ true → (m : ℕ) → m ≡ keyed s p → (r : Lined) (l′ : List ℕ) → AddsAlias l st m (t .kind) r l′ → GivesAlias s l st p at r l′
   unfolding newly onFits
-  alias-clear j r l′ A = record {
+  alias-clear j m c r l′ A = record {
     gives = λ ts hp. record {
-      below = alias-below l st p (t .kind) r l′ A;
+      below = alias-below l st m (t .kind) r l′ A;
       told = λ k bs H.
           let x = plain-clear w _ (meaning-told ts k bs H) (S ts k bs H) (λ (n : ℕ). newType w (alias n)) (sym (f-is ts k bs H) ∙ clear-is f (sym i ∙ j)) in
           let n : t .kind ≡ x .0 = told ts k bs H .kind-is (x .0) (x .1) in
@@ -243,7 +236,7 @@ module _ (s l : List ℕ) (st : State) (p at : ℕ) (t : Typed) (G : GivesLastTy
           staged-is ts k bs H ∙ ap (λ (c : Bool). newly c (S ts k bs H) (λ (n : ℕ). fits (newType w (alias n)))) (x .2)
           ∙ ap (λ (T : Staged ℕ). newly false T (λ (n : ℕ). fits (newType w (alias n)))) (x .1) ∙ ap (λ (n : ℕ). fits (newType w (alias n))) (sym n) in
           let y = entry-fits k (aliasAfter w us) (newType w (alias (t .kind))) z in
-          subst (λ (T : Staged Entry). LineTold s st k bs T r l′ ts) (sym z) (alias-told s l ts st p (t .kind) r l′ hp A k bs H (y .0) (y .1));
+          subst (λ (T : Staged Entry). LineTold s st k bs T r l′ ts) (sym z) (alias-told s l ts st p (t .kind) r l′ hp (rw c at A) k bs H (y .0) (y .1));
     };
   }
 

@@ -25,6 +25,7 @@ use Rattle.semantics.specs.Types.{Types, TypeInfo, infoAt, sizeOf, cellsBy, cel
 use Rattle.semantics.proofs.Inversion.{and-true, none-some}
 use Rattle.semantics.proofs.LayoutRegions.{Same, Room, Has, lay-g, lay-l}
 use Rattle.worklist.specs.Laid.{Laid}
+use Rattle.symbols.specs.Keys.{keyed}
 use Rattle.tables.proofs.Cells.{keeps-cells}
 use Rattle.tables.specs.declared.Fault.{Fault}
 use Rattle.tables.specs.declared.Fault.the-variants.{Clear, Form}
@@ -35,16 +36,15 @@ use Rattle.tables.specs.Descriptions.{infoOf, readInfo, fieldsAt, Tells, EndsBe
 use Rattle.tables.specs.declared.Meaning.the-variants as meaning
 use Rattle.symbols.specs.Chain.{entries}
 use Rattle.symbols.proofs.Chained.{Names}
-use Rattle.tables.specs.Scene.{Scene, Told, Meant}
+use Rattle.tables.specs.Scene.{Scene, Told, Meant, meaningHere}
 use Rattle.tables.proofs.Telling.{meant}
 use Rattle.parts.specs.Got.{isForm, isClear, lowest, faultOf}
 use Rattle.parts.specs.Parts.{ShutAt, Shuts}
 use Rattle.parts.specs.declared.End.{End}
 use Rattle.parts.specs.declared.End.the-variants as ending
 use Rattle.shapes.specs.Parts.{closed}
-use Rattle.atoms.specs.Answers.{meaningHere}
 use Rattle.atoms.proofs.Telling.{fits-inj}
-use Rattle.declarations.specs.State.{Holds}
+use Rattle.declarations.specs.State.{scoped, Holds}
 use Rattle.declarations.specs.Names.{newFault}
 use Rattle.declarations.specs.Lines.{entryStaged, newly, linedBy, LineTold}
 use Rattle.typelines.specs.TypeLines.{madeAfter, linesFit, typeEntry, infoNumbers, typeState, Simple, simple-range, simple-array, simple-set, Describes, ShapeTold, GivesShape, LaysType, AddsType, GivesShaped, EndFault, was-form, at-end, before-end}
@@ -134,10 +134,10 @@ module _ {s l ts : List ℕ} {st : State} {k : Declared} {bs : List ℕ} (H : Ho
   Γ = k .env .types
 
   abbrev l₁ : List ℕ
-  l₁ = lay (typeEntry st p (st .types)) (st .top) l .list
+  l₁ = lay (typeEntry st (keyed s p) (st .types)) (st .top) l .list
 
   abbrev t₁ : ℕ
-  t₁ = lay (typeEntry st p (st .types)) (st .top) l .top
+  t₁ = lay (typeEntry st (keyed s p) (st .types)) (st .top) l .top
 
   abbrev l₂ : List ℕ
   l₂ = lay (infoNumbers x) t₁ l₁ .list
@@ -152,10 +152,10 @@ module _ {s l ts : List ℕ} {st : State} {k : Declared} {bs : List ℕ} (H : Ho
       omega (arith, H .few-types, H .lines-are)
 
   top₁ : t₁ ≡ st .top + 4
-  top₁ = ap (λ (ns : List ℕ). lay ns (st .top) l .top) (entry-is H p (st .types) hp (omega (arith, number-low))) ∙ (lay-l (p ∷ (4 * st .types) ∷ 0 ∷ st .newest ∷ []) (st .top) l .top-is (omega arith))
+  top₁ = ap (λ (ns : List ℕ). lay ns (st .top) l .top) (entry-is st (keyed s p) (st .types) (omega (arith, number-low))) ∙ (lay-l (keyed s p ∷ (4 * st .types) ∷ 0 ∷ st .scope .newest ∷ []) (st .top) l .top-is (omega arith))
 
   long₁ : length l₁ ≡ length l
-  long₁ = lay-g (typeEntry st p (st .types)) (st .top) l .long
+  long₁ = lay-g (typeEntry st (keyed s p) (st .types)) (st .top) l .long
 
   simple-top : lay (infoNumbers x) t₁ l₁ .top ≡ st .top + 12
   unfolding infoNumbers
@@ -171,7 +171,7 @@ module _ {s l ts : List ℕ} {st : State} {k : Declared} {bs : List ℕ} (H : Ho
   has = lay-l (infoNumbers x) t₁ l₁ .held place-room l₂ (record { at = λ _ _ _. refl })
 
   same₁ : Same 0 (st .top) l₁ l
-  same₁ = laid-same (typeEntry st p (st .types)) (st .top) l l₁ refl
+  same₁ = laid-same (typeEntry st (keyed s p) (st .types)) (st .top) l l₁ refl
 
   same₂ : Same 0 (st .top + 4) l₂ l₁
   same₂ = let y : Same 0 t₁ l₂ l₁ = laid-same (infoNumbers x) t₁ l₁ l₂ refl in record { at = λ i a c. y .at i a (rw top₁ c) }
@@ -179,25 +179,25 @@ module _ {s l ts : List ℕ} {st : State} {k : Declared} {bs : List ℕ} (H : Ho
   pub simple-same : Same 0 (st .top) l₂ l
   simple-same = record { at = λ i a c. same₂ .at i a (omega arith) ∙ same₁ .at i a c }
 
-  simple-chained : Chained s l₂ (suc (st .count)) (st .top) (st .top + 12) (ks .env) bs ((ws, aType (length Γ)) ∷ k .env .names)
+  simple-chained : Chained s l₂ (scoped (suc (st .scope .count)) (st .top)) (st .top + 12) (ks .env) bs ((ws, aType (length Γ)) ∷ k .env .names)
   unfolding declareLine
   simple-chained = chained-kept same₂ (omega arith)
-      (rw (← H .types-are) (subst (λ (ns : List ℕ). Chained s (lay ns (st .top) l .list) (suc (st .count)) (st .top) (st .top + 4) (ks .env) bs ((ws, aType (st .types)) ∷ k .env .names))
-      (sym (entry-is H p (st .types) hp (omega (arith, number-low))))
-      (chained-more p (4 * st .types) 0 (aType (st .types)) (record { start = H .start; fits = omega arith; long = H .long-list }) (type-means (ks .env) bs (st .types) 0)
+      (rw (← H .types-are) (subst (λ (ns : List ℕ). Chained s (lay ns (st .top) l .list) (scoped (suc (st .scope .count)) (st .top)) (st .top + 4) (ks .env) bs ((ws, aType (st .types)) ∷ k .env .names))
+      (sym (entry-is st (keyed s p) (st .types) (omega (arith, number-low))))
+      (chained-more p (4 * st .types) 0 (aType (st .types)) (omega (arith, H .short-text)) (record { start = H .start; fits = omega arith; long = H .long-list }) (type-means (ks .env) bs (st .types) 0)
       (chained-env {σ′ = ks .env} (means-same refl) (scene-chained (H .scene))))))
 
   told-types : (t : ℕ) → Tells s l₂ (infoOf l₂ (set ts (length Γ) t₁) t) (infoAt (Γ ++ (typeInfoOf Γ d ∷ [])) t) × EndsBelow (st .top + 12) (infoOf l₂ (set ts (length Γ) t₁) t)
-  told-types = types-more (H .scene) simple-same (st .top + 12) t₁ (omega arith) (place-room .start) (omega (arith, H .types-are, number-low, H .long-types)) (typeInfoOf Γ d)
+  told-types = types-more (H .scene) simple-same (st .top + 12) t₁ (omega arith) (place-room .start) (omega (arith, H .types-are, number-low, H .long-notes)) (typeInfoOf Γ d)
       (describes-tells s l₂ x t₁ (typeInfoOf Γ d) X has)
       (rw (read-numbers x t₁ l₂ has, X .fields-is, top₁) (record { end-below = λ _. omega arith; within = omega arith }))
 
-  simple-scene : Scene s l₂ (set ts (length Γ) t₁) (suc (st .count)) (st .top) (st .top + 12) (ks .env) bs
+  simple-scene : Scene s l₂ (set ts (length Γ) t₁) (scoped (suc (st .scope .count)) (st .top)) (st .top + 12) (ks .env) bs
   unfolding declareLine
   simple-scene =
       let K = type-keeps H ws d f e r b sn nn in
       record {
-        names = subst (λ (ns : List (Name × NameSort)). Names s l₂ (Meant (ks .env) bs l₂) (entries (suc (st .count)) l₂ (st .top)) ns) (ap (λ (xs : List (Name × NameSort)). xs ++ k .env .names) (sym (simple-names Γ ws D))) (simple-chained .names);
+        names = subst (λ (ns : List (Name × NameSort)). Names s l₂ (Meant (ks .env) bs l₂) (entries (suc (st .scope .count)) l₂ (st .top)) ns) (ap (λ (xs : List (Name × NameSort)). xs ++ k .env .names) (sym (simple-names Γ ws D))) (simple-chained .names);
         below = simple-chained .below;
         types = rw (simple-extends Γ D) (λ t. told-types t .0);
         described = λ t. told-types t .1;
@@ -212,36 +212,36 @@ module _ {s l ts : List ℕ} {st : State} {k : Declared} {bs : List ℕ} (H : Ho
 
   pub simple-holds : Holds s l₂ (set ts (st .types) t₁) (typeState st 1 (st .top) 1 (lay (infoNumbers x) t₁ l₁ .top)) ks bs
   simple-holds =
-      let c : suc (st .count) ≡ st .count + 1 = omega arith in
+      let c : suc (st .scope .count) ≡ st .scope .count + 1 = omega arith in
       let n : length (Γ ++ (typeInfoOf Γ d ∷ [])) ≡ length Γ + 1 = length-append Γ (typeInfoOf Γ d ∷ []) in
       subst (λ (m : ℕ). Holds s l₂ (set ts m t₁) (typeState st 1 (st .top) 1 (lay (infoNumbers x) t₁ l₁ .top)) ks bs) (sym (H .types-are)) (rw simple-top (type-holds H ws d f e r b sn nn 1 (st .top) 1 (st .top + 12) l₂ (set ts (length Γ) t₁) (omega arith)
       (rw (simple-extends Γ D) n) (rw c at simple-scene)
       (rw (simple-extends Γ D) (by-number Γ (typeInfoOf Γ d) (λ t j. length (cellsBy (j .shape) t (j .cells)) ≤ 2048) (λ t _. H .small-types t)
       (simple-small Γ D (type-within H ws d f e r b sn nn) (length Γ)) (λ t _. omega arith)))
-      (omega (arith, H .few-names)) (omega arith) room (rw (lay-g (infoNumbers x) t₁ l₁ .long, long₁) (H .long-list)) (rw (length-set ts (length Γ) t₁) (H .long-types))))
+      (omega (arith, H .few-names)) (omega arith) room (rw (lay-g (infoNumbers x) t₁ l₁ .long, long₁) (H .long-list)) (rw (length-set ts (length Γ) t₁) (H .long-notes))))
 
 -- what is below the free place stays
-added-same : (l : List ℕ) (st : State) (p : ℕ) (x : Info)
-    → Same 0 (st .top) (lay (infoNumbers x) (lay (typeEntry st p (st .types)) (st .top) l .top) (lay (typeEntry st p (st .types)) (st .top) l .list) .list) l
-added-same l st p x = record {
+added-same : (l : List ℕ) (st : State) (name : ℕ) (x : Info)
+    → Same 0 (st .top) (lay (infoNumbers x) (lay (typeEntry st name (st .types)) (st .top) l .top) (lay (typeEntry st name (st .types)) (st .top) l .list) .list) l
+added-same l st name x = record {
   at = λ i a c.
-      lay-g (infoNumbers x) (lay (typeEntry st p (st .types)) (st .top) l .top) (lay (typeEntry st p (st .types)) (st .top) l .list) .below i (omega (arith, lay-g (typeEntry st p (st .types)) (st .top) l .up))
-      ∙ lay-g (typeEntry st p (st .types)) (st .top) l .below i c;
+      lay-g (infoNumbers x) (lay (typeEntry st name (st .types)) (st .top) l .top) (lay (typeEntry st name (st .types)) (st .top) l .list) .below i (omega (arith, lay-g (typeEntry st name (st .types)) (st .top) l .up))
+      ∙ lay-g (typeEntry st name (st .types)) (st .top) l .below i c;
 }
 
 -- ---- the ways
 
-pub lay-type-is : (l : List ℕ) (st : State) (p : ℕ) (x : Info) (q : ℕ) (m : List ℕ) → Laid (lay (typeEntry st p (st .types)) (st .top) l) q m
-    → (t : ℕ) (l′ : List ℕ) → Laid (lay (infoNumbers x) q m) t l′ → LaysType l st p x (record { place = q; top = t }) l′
-lay-type-is l st p x q m L t l′ L′ = record {
+pub lay-type-is : (l : List ℕ) (st : State) (name : ℕ) (x : Info) (q : ℕ) (m : List ℕ) → Laid (lay (typeEntry st name (st .types)) (st .top) l) q m
+    → (t : ℕ) (l′ : List ℕ) → Laid (lay (infoNumbers x) q m) t l′ → LaysType l st name x (record { place = q; top = t }) l′
+lay-type-is l st name x q m L t l′ L′ = record {
   place-is = L .free;
   top-is = L′ .free ∙ rw (L .free, L .left) refl;
   list-is = L′ .left ∙ rw (L .free, L .left) refl;
 }
 
-pub add-type-is : (l ts : List ℕ) (st : State) (p : ℕ) (x : Info) (q : Placed) (l′ : List ℕ) → LaysType l st p x q l′ → (ts′ : List ℕ) → ts′ ≡ set ts (st .types) (q .place)
-    → (st′ : State) → st′ ≡ typeState st 1 (st .top) 1 (q .top) → (r : Lined) → r ≡ linedBy Clear true st′ → AddsType l ts st p x r l′ ts′
-add-type-is l ts st p x q l′ L ts′ e st′ g r h = record {
+pub add-type-is : (l ts : List ℕ) (st : State) (name : ℕ) (x : Info) (q : Placed) (l′ : List ℕ) → LaysType l st name x q l′ → (ts′ : List ℕ) → ts′ ≡ set ts (st .types) (q .place)
+    → (st′ : State) → st′ ≡ typeState st 1 (st .top) 1 (q .top) → (r : Lined) → r ≡ linedBy Clear true st′ → AddsType l ts st name x r l′ ts′
+add-type-is l ts st name x q l′ L ts′ e st′ g r h = record {
   list = L .list-is;
   places = e ∙ ap (λ (z : ℕ). set ts (st .types) z) (L .place-is);
   answer = h ∙ ap (λ (z : State). linedBy Clear true z) (g ∙ ap (λ (z : ℕ). typeState st 1 (st .top) 1 z) (L .top-is));
@@ -310,7 +310,7 @@ data Comes (w : Name) (o : Option TypeForm) (g : Shaped) (a : Option LineForm) (
   comes-made : a ≡ (o >>= λ (t : TypeForm). some (typeLine w t)) → e ≡ g .fault → Comes w o g a e
 
 module _ (s l ts : List ℕ) (st : State) (p : ℕ) (g : Shaped) (h : Fault) (c : h ≡ g .fault) (e : Fault) (E : EndFault s h (g .next) e)
-    (f : Fault) (n : f ≡ newFault e (meaningHere s l (st .count) (st .newest) p)) (b : Bool) (i : b ≡ isClear f) where
+    (f : Fault) (n : f ≡ newFault e (meaningHere s l (st .scope) p)) (b : Bool) (i : b ≡ isClear f) where
   abbrev w : Name
   w = map small (wordAt s p)
 
@@ -322,8 +322,7 @@ module _ (s l ts : List ℕ) (st : State) (p : ℕ) (g : Shaped) (h : Fault) (c 
     rest-is q = ap first (G .goes (ap isForm (sym c) ∙ q))
 
     module _ (k : Declared) (bs : List ℕ) (H : Holds s l ts st k bs) where
-      meaning-told : Told (k .env) bs (meaningHere s l (st .count) (st .newest) p) (find (k .env .names) w)
-      unfolding meaningHere
+      meaning-told : Told (k .env) bs (meaningHere s l (st .scope) p) (find (k .env .names) w)
       meaning-told = meant (H .scene) w
 
       comes : Comes w o g after e
@@ -349,10 +348,10 @@ module _ (s l ts : List ℕ) (st : State) (p : ℕ) (g : Shaped) (h : Fault) (c 
           M = G .says k bs H
 
           go : Comes w o g after e → f ≡ faultOf (entryStaged k after)
-          go (comes-none a q) = rw a (n ∙ ap (λ (x : Fault). newFault x (meaningHere s l (st .count) (st .newest) p)) q ∙ form-new (meaningHere s l (st .count) (st .newest) p))
+          go (comes-none a q) = rw a (n ∙ ap (λ (x : Fault). newFault x (meaningHere s l (st .scope) p)) q ∙ form-new (meaningHere s l (st .scope) p))
           go (comes-made a q) =
-              n ∙ ap (λ (x : Fault). newFault x (meaningHere s l (st .count) (st .newest) p)) (q ∙ M .fault-is)
-              ∙ decl-fault w (meaningHere s l (st .count) (st .newest) p) meaning-told (M .stage) ∙ ap faultOf (sym (ap (entryStaged k) a ∙ M .stage-is w))
+              n ∙ ap (λ (x : Fault). newFault x (meaningHere s l (st .scope) p)) (q ∙ M .fault-is)
+              ∙ decl-fault w (meaningHere s l (st .scope) p) meaning-told (M .stage) ∙ ap faultOf (sym (ap (entryStaged k) a ∙ M .stage-is w))
 
       line-clear : b ≡ true → (d : Decl) × (entryStaged k after ≡ fits (newType w d)) × Simple d × (typeBounded (k .env .types) d ≡ true → Describes (g .info) (typeInfoOf (k .env .types) d)) × (g .within ≡ typeBounded (k .env .types) d)
       unfolding newly onFits
@@ -362,10 +361,10 @@ module _ (s l ts : List ℕ) (st : State) (p : ℕ) (g : Shaped) (h : Fault) (c 
           M = G .says k bs H
 
           go : Comes w o g after e → (d : Decl) × (entryStaged k after ≡ fits (newType w d)) × Simple d × (typeBounded (k .env .types) d ≡ true → Describes (g .info) (typeInfoOf (k .env .types) d)) × (g .within ≡ typeBounded (k .env .types) d)
-          go (comes-none a q) = form-clear (sym (form-new (meaningHere s l (st .count) (st .newest) p)) ∙ sym (n ∙ ap (λ (x : Fault). newFault x (meaningHere s l (st .count) (st .newest) p)) q) ∙ clear-is f (sym i ∙ j))
+          go (comes-none a q) = form-clear (sym (form-new (meaningHere s l (st .scope) p)) ∙ sym (n ∙ ap (λ (x : Fault). newFault x (meaningHere s l (st .scope) p)) q) ∙ clear-is f (sym i ∙ j))
           go (comes-made a q) =
-              let x = decl-clear w (meaningHere s l (st .count) (st .newest) p) meaning-told (M .stage)
-              (sym (n ∙ ap (λ (y : Fault). newFault y (meaningHere s l (st .count) (st .newest) p)) (q ∙ M .fault-is)) ∙ clear-is f (sym i ∙ j)) in
+              let x = decl-clear w (meaningHere s l (st .scope) p) meaning-told (M .stage)
+              (sym (n ∙ ap (λ (y : Fault). newFault y (meaningHere s l (st .scope) p)) (q ∙ M .fault-is)) ∙ clear-is f (sym i ∙ j)) in
               let z : entryStaged k after ≡ fits (newType w (x .0)) =
               ap (entryStaged k) a ∙ M .stage-is w ∙ ap (λ (v : Bool). newly v (M .stage) (λ (d : Decl). fits (newType w d))) (x .2)
               ∙ ap (λ (T : Staged Decl). newly false T (λ (d : Decl). fits (newType w d))) (x .1) in
@@ -396,17 +395,17 @@ module _ (s l ts : List ℕ) (st : State) (p : ℕ) (g : Shaped) (h : Fault) (c 
       };
     })
 
-    pub shaped-fits : v ≡ true → (x : Info) → x ≡ g .info → (r : Lined) (l′ ts′ : List ℕ) → AddsType l ts st p x r l′ ts′ → GivesShaped s l ts st p g r l′ ts′
+    pub shaped-fits : v ≡ true → (x : Info) → x ≡ g .info → (name : ℕ) → name ≡ keyed s p → (r : Lined) (l′ ts′ : List ℕ) → AddsType l ts st name x r l′ ts′ → GivesShaped s l ts st p g r l′ ts′
     unfolding symbolSize typeState linesFit
-    shaped-fits t x q r l′ ts′ A = record {
+    shaped-fits t x q name c r l′ ts′ A = record {
       gives = λ at o G hp. record {
-        below = rw (A .list) (added-same l st p x);
+        below = rw (A .list) (added-same l st name x);
         told = λ k bs H.
             let m = line-clear at o G k bs H j in
             let u = entry-fits k (after at o G) (newType w (m .0)) (m .1) in
             let D : Describes x (typeInfoOf (k .env .types) (m .0)) = rw q (m .3 (sym (m .4) ∙ and-true (leb (st .lines + 1) 64) (g .within) (sym y ∙ t) .1)) in
             let z : lineBounded k (newType w (m .0)) ≡ true = sym (lines-bounded H w (m .0) (g .within) (m .4)) ∙ sym y ∙ t in
-            subst (λ (T : Staged Entry). LineTold s st k bs T r l′ ts′) (sym (m .1)) (rw (A .answer, A .list, A .places) (record {
+            subst (λ (T : Staged Entry). LineTold s st k bs T r l′ ts′) (sym (m .1)) (rw (A .answer, A .list, A .places, c) (record {
               fault-is = refl;
               within-is = λ e a. rw (← fits-inj a) (sym z);
               holds = λ e a. rw (← fits-inj a, simple-size (m .2)) (λ b₁ room sn nn.

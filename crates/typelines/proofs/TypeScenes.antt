@@ -24,11 +24,12 @@ use Rattle.semantics.proofs.Inversion.{and-true}
 use Rattle.semantics.proofs.LayoutRegions.{Same}
 use Rattle.semantics.proofs.LinesKeep.{Keeps, line-keeps}
 use Rattle.semantics.proofs.TypeTables.{old, new}
+use Rattle.tables.specs.declared.Scope.{Scope}
 use Rattle.tables.specs.declared.Meaning.{Meaning}
 use Rattle.tables.specs.Descriptions.{infoOf, readInfo, Tells, EndsBelow}
 use Rattle.tables.specs.Scene.{Scene, Means, a-type, a-var, a-proc, a-value, meaningBy}
 use Rattle.tables.proofs.Kept.{scene-kept}
-use Rattle.declarations.specs.State.{Holds}
+use Rattle.declarations.specs.State.{notes, scoped, Holds}
 use Rattle.typelines.specs.TypeLines.{typeState}
 use Rattle.declarations.specs.declared.State.{State}
 
@@ -59,16 +60,16 @@ unfolding infoOf
 info-new l ts n place h g e = rw (ne-eqb n 0 (λ z. omega arith), ne-eqb n 1 (λ z. omega arith), e, ne-eqb place 0 (λ z. omega arith)) refl
 
 -- what is told of types, with a new one at a place
-pub types-more : {s l l′ ts : List ℕ} {count newest top : ℕ} {σ : Environment} {bs : List ℕ} → Scene s l ts count newest top σ bs → Same 0 top l′ l
+pub types-more : {s l l′ ts : List ℕ} {scope : Scope} {top : ℕ} {σ : Environment} {bs : List ℕ} → Scene s l ts scope top σ bs → Same 0 top l′ l
     → (top′ place : ℕ) → top ≤ top′ → 1 ≤ place → length (σ .types) < length ts → (i : TypeInfo) → Tells s l′ (readInfo l′ place) i → EndsBelow top′ (readInfo l′ place)
     → (t : ℕ) → Tells s l′ (infoOf l′ (set ts (length (σ .types)) place) t) (infoAt (σ .types ++ (i ∷ [])) t) × EndsBelow top′ (infoOf l′ (set ts (length (σ .types)) place) t)
-types-more {s} {l} {l′} {ts} {count} {newest} {top} {σ} {bs} S E top′ place h g n i T B =
+types-more {s} {l} {l′} {ts} {scope} {top} {σ} {bs} S E top′ place h g n i T B =
     by-number (σ .types) i (λ t j. Tells s l′ (infoOf l′ (set ts (length (σ .types)) place) t) j × EndsBelow top′ (infoOf l′ (set ts (length (σ .types)) place) t))
     (λ t q. rw (other t (λ z. omega arith)) (K .types t, K .described t))
     (rw (info-new l′ (set ts (length (σ .types)) place) (length (σ .types)) place (S .table .two) g (getD-set-same ts (length (σ .types)) place 0 n)) (T, B))
     (λ t q. rw (other t (λ z. omega arith), ← past-table (σ .types) t (omega arith)) (K .types t, K .described t))
   where
-    K : Scene s l′ ts count newest top′ σ bs
+    K : Scene s l′ ts scope top′ σ bs
     K = scene-kept S E h
 
     other : (t : ℕ) → (t ≡ length (σ .types) → ⊥) → infoOf l′ (set ts (length (σ .types)) place) t ≡ infoOf l′ ts t
@@ -107,12 +108,12 @@ module _ {s l ts : List ℕ} {st : State} {k : Declared} {bs : List ℕ} (H : Ho
   type-within = and-true (leb (suc (k .typeLines)) 64) (typeBounded (k .env .types) d) b .1
 
   pub type-holds : (names newest made top : ℕ) (l′ ts′ : List ℕ) → made < 2 → length (extendTypes (k .env .types) d) ≡ length (k .env .types) + made
-      → Scene s l′ ts′ (st .count + names) newest top (declareLine k (newType w d) sn nn .env) bs → ((t : ℕ) → sizeOf (extendTypes (k .env .types) d) t ≤ 2048)
-      → 4 * (st .count + names) ≤ top → 1 ≤ top → top ≤ 16384 → 16384 ≤ length l′ → 66 ≤ length ts′
+      → Scene s l′ ts′ (scoped (st .scope .count + names) newest) top (declareLine k (newType w d) sn nn .env) bs → ((t : ℕ) → sizeOf (extendTypes (k .env .types) d) t ≤ 2048)
+      → 4 * (st .scope .count + names) ≤ top → 1 ≤ top → top ≤ 16384 → 16384 ≤ length l′ → notes ≤ length ts′
       → Holds s l′ ts′ (typeState st names newest made top) (declareLine k (newType w d) sn nn) bs
   unfolding typeState declareLine
   type-holds names newest made top l′ ts′ hm more S small few one low long many =
-      let c : st .count % 65536 ≡ st .count = mod-eq-of-lt (omega arith) in
+      let c : st .scope .count % 65536 ≡ st .scope .count = mod-eq-of-lt (omega arith) in
       let n : names % 65536 ≡ names = mod-eq-of-lt (omega arith) in
       let v : st .types % 128 ≡ st .types = mod-eq-of-lt (omega (arith, H .few-types, H .few-lines)) in
       let m : made % 2 ≡ made = mod-eq-of-lt hm in
@@ -135,6 +136,6 @@ module _ {s l ts : List ℕ} {st : State} {k : Declared} {bs : List ℕ} (H : Ho
         start = one;
         low = low;
         long-list = long;
-        long-types = many;
+        long-notes = many;
         short-text = H .short-text;
       }

@@ -24,8 +24,8 @@ use Rattle.tables.specs.declared.Fault.the-variants.{Clear, Form}
 use Rattle.tables.specs.declared.Info.{Info}
 use Rattle.parts.specs.Got.{isForm, faultOf}
 use Rattle.shapes.specs.Parts.{partOf, rest, closed, typeNameIn}
-use Rattle.declarations.specs.State.{Holds}
 use Rattle.declarations.specs.Lines.{newly, entryStaged, linedBy, GivesLine}
+use Rattle.declarations.specs.State.{Holds, withNames, withTypeLine}
 use Rattle.declarations.specs.declared.State.{State}
 use Rattle.declarations.specs.declared.Lined.{Lined}
 use Rattle.typelines.specs.declared.Placed.{Placed}
@@ -54,9 +54,9 @@ aliasAfter w us = typeNameIn us >>= λ t. closed (rest us) (typeLine w (alias t)
 unfoldable pub linesFit : ℕ → Bool → Bool
 linesFit n b = leb (n + 1) 64 && b
 
--- the entry of a type's name at p
+-- the entry of a type, by its name's number (symbols, Keys)
 unfoldable pub typeEntry : State → ℕ → ℕ → List ℕ
-typeEntry st p number = (p % 32768) ∷ (4 * (number % 128)) ∷ 0 ∷ st .newest ∷ []
+typeEntry st name number = name ∷ (4 * (number % 128)) ∷ 0 ∷ st .scope .newest ∷ []
 
 -- a description without fields
 unfoldable pub infoNumbers : Info → List ℕ
@@ -64,23 +64,14 @@ infoNumbers x = x .shape ∷ x .host ∷ x .low ∷ x .high ∷ x .size ∷ x .i
 
 -- after a line with so many names, of which the last is at `newest`, and so many new types
 unfoldable pub typeState : State → ℕ → ℕ → ℕ → ℕ → State
-typeState st names newest made top = record {
-  count = st .count % 65536 + names % 65536;
-  newest = newest;
-  top = top;
-  types = st .types % 128 + made % 2;
-  lines = st .lines % 128 + 1;
-  vars = st .vars;
-  cells = st .cells;
-  procs = st .procs;
-}
+typeState st names newest made top = withTypeLine (withNames st names newest top) made
 
 -- ---- a type that is a name
 
-pub data AddsAlias (l : List ℕ) (st : State) (p kind : ℕ) : Lined → List ℕ → Type 0 where
+pub data AddsAlias (l : List ℕ) (st : State) (name kind : ℕ) : Lined → List ℕ → Type 0 where
   alias-fits : linesFit (st .lines) true ≡ true
-      → AddsAlias l st p kind (linedBy Clear true (typeState st 1 (st .top) 0 (lay (typeEntry st p kind) (st .top) l .top))) (lay (typeEntry st p kind) (st .top) l .list)
-  alias-past : linesFit (st .lines) true ≡ false → AddsAlias l st p kind (linedBy Clear false st) l
+      → AddsAlias l st name kind (linedBy Clear true (typeState st 1 (st .top) 0 (lay (typeEntry st name kind) (st .top) l .top))) (lay (typeEntry st name kind) (st .top) l .list)
+  alias-past : linesFit (st .lines) true ≡ false → AddsAlias l st name kind (linedBy Clear false st) l
 
 pub record GivesAlias (s l : List ℕ) (st : State) (p at : ℕ) (r : Lined) (l′ : List ℕ) : Type 0 where
   pub gives : (ts : List ℕ) → p < length s → GivesLine s l ts st (aliasAfter (map small (wordAt s p)) (first (stackAt s at))) r l′ ts
@@ -115,16 +106,16 @@ pub record GivesShape (s l ts : List ℕ) (st : State) (at : ℕ) (o : Option Ty
   pub goes : isForm (g .fault) ≡ false → later (stackAt s at) ≡ stackAt s (g .next)
   pub says : (k : Declared) (bs : List ℕ) → Holds s l ts st k bs → ShapeTold k o g
 
-pub record LaysType (l : List ℕ) (st : State) (p : ℕ) (x : Info) (r : Placed) (l′ : List ℕ) : Type 0 where
-  pub place-is : r .place ≡ lay (typeEntry st p (st .types)) (st .top) l .top
-  pub top-is : r .top ≡ lay (infoNumbers x) (lay (typeEntry st p (st .types)) (st .top) l .top) (lay (typeEntry st p (st .types)) (st .top) l .list) .top
-  pub list-is : l′ ≡ lay (infoNumbers x) (lay (typeEntry st p (st .types)) (st .top) l .top) (lay (typeEntry st p (st .types)) (st .top) l .list) .list
+pub record LaysType (l : List ℕ) (st : State) (name : ℕ) (x : Info) (r : Placed) (l′ : List ℕ) : Type 0 where
+  pub place-is : r .place ≡ lay (typeEntry st name (st .types)) (st .top) l .top
+  pub top-is : r .top ≡ lay (infoNumbers x) (lay (typeEntry st name (st .types)) (st .top) l .top) (lay (typeEntry st name (st .types)) (st .top) l .list) .top
+  pub list-is : l′ ≡ lay (infoNumbers x) (lay (typeEntry st name (st .types)) (st .top) l .top) (lay (typeEntry st name (st .types)) (st .top) l .list) .list
 
 -- the name's entry, the description, and its place
-pub record AddsType (l ts : List ℕ) (st : State) (p : ℕ) (x : Info) (r : Lined) (l′ ts′ : List ℕ) : Type 0 where
-  pub list : l′ ≡ lay (infoNumbers x) (lay (typeEntry st p (st .types)) (st .top) l .top) (lay (typeEntry st p (st .types)) (st .top) l .list) .list
-  pub places : ts′ ≡ set ts (st .types) (lay (typeEntry st p (st .types)) (st .top) l .top)
-  pub answer : r ≡ linedBy Clear true (typeState st 1 (st .top) 1 (lay (infoNumbers x) (lay (typeEntry st p (st .types)) (st .top) l .top) (lay (typeEntry st p (st .types)) (st .top) l .list) .top))
+pub record AddsType (l ts : List ℕ) (st : State) (name : ℕ) (x : Info) (r : Lined) (l′ ts′ : List ℕ) : Type 0 where
+  pub list : l′ ≡ lay (infoNumbers x) (lay (typeEntry st name (st .types)) (st .top) l .top) (lay (typeEntry st name (st .types)) (st .top) l .list) .list
+  pub places : ts′ ≡ set ts (st .types) (lay (typeEntry st name (st .types)) (st .top) l .top)
+  pub answer : r ≡ linedBy Clear true (typeState st 1 (st .top) 1 (lay (infoNumbers x) (lay (typeEntry st name (st .types)) (st .top) l .top) (lay (typeEntry st name (st .types)) (st .top) l .list) .top))
 
 -- a line whose type's form has been read; its name is at p
 pub record GivesShaped (s l ts : List ℕ) (st : State) (p : ℕ) (g : Shaped) (r : Lined) (l′ ts′ : List ℕ) : Type 0 where

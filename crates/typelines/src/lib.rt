@@ -4,12 +4,14 @@ use declarations::State;
 use declarations::answered;
 use declarations::last_type;
 use declarations::named_fault;
-use declarations::narrow;
+use declarations::with_names;
+use declarations::with_type_line;
 use parts::End;
 use parts::end_at;
 use parts::is_clear;
 use parts::is_form;
 use symbols::declare;
+use symbols::keys::name_number;
 use tables::Fault;
 use tables::Info;
 use worklist::lay;
@@ -42,25 +44,16 @@ pub fn lines_fit(lines: u32, within: bool) -> bool
 pub fn type_state(st: State, names: u32, newest: u32, made: u32, top: u32) -> State
     ensures { λ r. ⌜ r ≡ typeState st names newest made top ⌝ }
 {
-    State {
-        count: st.count % 65536 + names % 65536,
-        newest: newest,
-        top: top,
-        types: st.types % 128 + made % 2,
-        lines: st.lines % 128 + 1,
-        vars: st.vars,
-        cells: st.cells,
-        procs: st.procs,
-    }
+    let named = with_names(st, names, newest, top);
+    with_type_line(named, made)
 }
 
-// Lays the entry of a type's name at p; the free place then.
-pub fn lay_name(work: &mut [u32], st: State, p: usize, number: u32) -> u32
-    ensures { λ r. ⌜ Laid (laid (typeEntry st p number) (st .top) (now (work .entry))) r (now (work .exit)) ⌝ }
+// Lays the entry of a type, by its name's number; the free place then.
+pub fn lay_name(work: &mut [u32], st: State, name: u32, number: u32) -> u32
+    ensures { λ r. ⌜ Laid (laid (typeEntry st name number) (st .top) (now (work .entry))) r (now (work .exit)) ⌝ }
 {
-    let name = narrow(p);
     let sort = 4 * (number % 128);
-    declare(work, st.top, name, sort, 0, st.newest)
+    declare(work, st.top, name, sort, 0, st.scope.newest)
 }
 
 // Lays a description without fields; the free place then.
@@ -80,12 +73,12 @@ pub fn lay_info(work: &mut [u32], top: u32, x: Info) -> u32
     lay(work, top, &ns)
 }
 
-// A line that names a type anew, with no fault of rows 6 to 8: its name is at p.
-fn add_alias(work: &mut [u32], st: State, p: usize, kind: u32) -> Lined
-    ensures { λ r. ⌜ AddsAlias (now (work .entry)) st p kind r (now (work .exit)) ⌝ }
+// A line that names a type anew, with no fault of rows 6 to 8, by its name's number.
+fn add_alias(work: &mut [u32], st: State, name: u32, kind: u32) -> Lined
+    ensures { λ r. ⌜ AddsAlias (now (work .entry)) st name kind r (now (work .exit)) ⌝ }
 {
     if lines_fit(st.lines, true) {
-        let top = lay_name(work, st, p, kind);
+        let top = lay_name(work, st, name, kind);
         let after = type_state(st, 1, st.top, 0, top);
         return answered(Fault::Clear, true, after);
     }
@@ -96,11 +89,12 @@ fn add_alias(work: &mut [u32], st: State, p: usize, kind: u32) -> Lined
 pub fn alias_line(text: &[u8], work: &mut [u32], st: State, p: usize, at: usize) -> Lined
     ensures { λ r. ⌜ GivesAlias (now (text .entry)) (now (work .entry)) st p at r (now (work .exit)) ⌝ }
 {
-    let t = last_type(text, work, st.count, st.newest, at);
+    let t = last_type(text, work, st.scope, at);
     let g = t.fault;
-    let f = named_fault(text, work, st.count, st.newest, p, g);
+    let f = named_fault(text, work, st.scope, p, g);
     if is_clear(f) {
-        return add_alias(work, st, p, t.kind);
+        let name = name_number(text, p);
+        return add_alias(work, st, name, t.kind);
     }
     answered(f, false, st)
 }
@@ -111,11 +105,11 @@ pub struct Placed {
     pub top: u32,
 }
 
-// Lays the entry of a new type's name at p, and a description without fields.
-pub fn lay_type(work: &mut [u32], st: State, p: usize, x: Info) -> Placed
-    ensures { λ r. ⌜ LaysType (now (work .entry)) st p x r (now (work .exit)) ⌝ }
+// Lays the entry of a new type, by its name's number, and a description without fields.
+pub fn lay_type(work: &mut [u32], st: State, name: u32, x: Info) -> Placed
+    ensures { λ r. ⌜ LaysType (now (work .entry)) st name x r (now (work .exit)) ⌝ }
 {
-    let place = lay_name(work, st, p, st.types);
+    let place = lay_name(work, st, name, st.types);
     let top = lay_info(work, place, x);
     Placed {
         place: place,
@@ -123,11 +117,11 @@ pub fn lay_type(work: &mut [u32], st: State, p: usize, x: Info) -> Placed
     }
 }
 
-// A line that makes a type of one name and one description, within the ceilings: its name is at p.
-fn add_type(work: &mut [u32], types: &mut [u32], st: State, p: usize, x: Info) -> Lined
-    ensures { λ r. ⌜ AddsType (now (work .entry)) (now (types .entry)) st p x r (now (work .exit)) (now (types .exit)) ⌝ }
+// A line that makes a type of one name and one description, within the ceilings, by its name's number.
+fn add_type(work: &mut [u32], types: &mut [u32], st: State, name: u32, x: Info) -> Lined
+    ensures { λ r. ⌜ AddsType (now (work .entry)) (now (types .entry)) st name x r (now (work .exit)) (now (types .exit)) ⌝ }
 {
-    let at = lay_type(work, st, p, x);
+    let at = lay_type(work, st, name, x);
     put(types, st.types as usize, at.place);
     let after = type_state(st, 1, st.top, 1, at.top);
     answered(Fault::Clear, true, after)
@@ -160,11 +154,12 @@ pub fn shaped_line(
 {
     let h = g.fault;
     let e = end_fault(text, h, g.next);
-    let f = named_fault(text, work, st.count, st.newest, p, e);
+    let f = named_fault(text, work, st.scope, p, e);
     if is_clear(f) {
         if lines_fit(st.lines, g.within) {
             let x = g.info;
-            return add_type(work, types, st, p, x);
+            let name = name_number(text, p);
+            return add_type(work, types, st, name, x);
         }
         return answered(Fault::Clear, false, st);
     }

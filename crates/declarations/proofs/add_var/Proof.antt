@@ -10,43 +10,43 @@ use Rattle.declarations.proofs.var_fits.Reads as var-fits-reads
 use Rattle.declarations.proofs.var_state.Reads as var-state-reads
 use Rattle.tables.proofs.describe.Reads as describe-reads
 
--- src/lib.rt:196:9
+-- src/lib.rt:264:9
 describe-requires : tie.Need-describe-requires
 describe-requires c κs = search needs
 
--- src/lib.rt:197:8
+-- src/lib.rt:265:8
 var-fits-requires : tie.Need-var-fits-requires
 var-fits-requires c κs = search needs
 
--- src/lib.rt:198:13
+-- src/lib.rt:266:13
 lay-var-requires : tie.Need-lay-var-requires
 lay-var-requires c κs = search needs
 
--- src/lib.rt:199:13
+-- src/lib.rt:267:13
 var-state-requires : tie.Need-var-state-requires
 var-state-requires c κs = search needs
 
--- src/lib.rt:200:9
+-- src/lib.rt:268:9
 answered-requires : tie.Need-answered-requires
 answered-requires c κs = search needs
 
--- src/lib.rt:200:9
+-- src/lib.rt:268:9
 same-length : tie.Need-same-length
 same-length c = search needs
 
--- src/lib.rt:200:9
+-- src/lib.rt:268:9
 returns : tie.Need-returns
 returns c = search adds-laws
 
--- src/lib.rt:202:5
+-- src/lib.rt:270:5
 answered-requires-2 : tie.Need-answered-requires-2
 answered-requires-2 c κs = search needs
 
--- src/lib.rt:193:1
+-- src/lib.rt:261:1
 same-length-2 : tie.Need-same-length-2
 same-length-2 c = search needs
 
--- src/lib.rt:193:1
+-- src/lib.rt:261:1
 returns-2 : tie.Need-returns-2
 returns-2 c = search adds-laws
 

@@ -7,15 +7,15 @@ use Rattle.declarations.proofs.named_fault.Lts as lts
 use Rattle.declarations.proofs.new_fault.Reads as new-fault-reads
 use Rattle.tables.proofs.meaning_of.Reads as meaning-of-reads
 
--- src/lib.rt:104:9
+-- src/lib.rt:108:9
 meaning-of-requires : tie.Need-meaning-of-requires
 meaning-of-requires c κs = search needs
 
--- src/lib.rt:105:5
+-- src/lib.rt:109:5
 new-fault-requires : tie.Need-new-fault-requires
 new-fault-requires c κs = search needs
 
--- src/lib.rt:101:1
+-- src/lib.rt:105:1
 returns : tie.Need-returns
 returns c = search named-is
 

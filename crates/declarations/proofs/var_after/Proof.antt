@@ -9,40 +9,45 @@ use Rattle.declarations.proofs.answered.Reads as answered-reads
 use Rattle.declarations.proofs.last_type.Reads as last-type-reads
 use Rattle.declarations.proofs.named_fault.Reads as named-fault-reads
 use Rattle.parts.proofs.is_clear.Reads as is-clear-reads
+use Rattle.symbols.proofs.keys.name_number.Reads as name-number-reads
 
--- src/lib.rt:209:9
+-- src/lib.rt:277:9
 last-type-requires : tie.Need-last-type-requires
 last-type-requires c κs = search needs
 
--- src/lib.rt:211:9
+-- src/lib.rt:279:9
 named-fault-requires : tie.Need-named-fault-requires
 named-fault-requires c κs = search needs
 
--- src/lib.rt:212:8
+-- src/lib.rt:280:8
 is-clear-requires : tie.Need-is-clear-requires
 is-clear-requires c κs = search needs
 
--- src/lib.rt:213:9
+-- src/lib.rt:281:13
+name-number-requires : tie.Need-name-number-requires
+name-number-requires c κs = search needs
+
+-- src/lib.rt:282:9
 add-var-requires : tie.Need-add-var-requires
 add-var-requires c κs = search needs
 
--- src/lib.rt:213:9
+-- src/lib.rt:282:9
 same-length : tie.Need-same-length
 same-length c = search needs
 
--- src/lib.rt:213:9
+-- src/lib.rt:282:9
 returns : tie.Need-returns
 returns c = search after-laws
 
--- src/lib.rt:215:5
+-- src/lib.rt:284:5
 answered-requires : tie.Need-answered-requires
 answered-requires c κs = search needs
 
--- src/lib.rt:206:1
+-- src/lib.rt:274:1
 same-length-2 : tie.Need-same-length-2
 same-length-2 c = search needs
 
--- src/lib.rt:206:1
+-- src/lib.rt:274:1
 returns-2 : tie.Need-returns-2
 returns-2 c = search after-laws
 
@@ -53,6 +58,7 @@ var-after-spec =
     last-type-requires
     named-fault-requires
     is-clear-requires
+    name-number-requires
     add-var-requires
     same-length
     returns

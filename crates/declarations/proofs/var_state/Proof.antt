@@ -4,22 +4,20 @@ use Rattle.declarations.proofs.var_state.Statement.{statement}
 use Rattle.declarations.proofs.var_state.Tie as tie
 use Rattle.declarations.proofs.var_state.Reads as reads
 use Rattle.declarations.proofs.var_state.Lts as lts
+use Rattle.declarations.proofs.with_names.Reads as with-names-reads
+use Rattle.declarations.proofs.with_var.Reads as with-var-reads
 
--- src/lib.rt:171:16
-add-t5 : tie.Need-add-t5
-add-t5 c = search needs
+-- src/lib.rt:247:9
+with-names-requires : tie.Need-with-names-requires
+with-names-requires c κs = search needs
 
--- src/lib.rt:176:15
-add-t7 : tie.Need-add-t7
-add-t7 c = search needs
+-- src/lib.rt:248:5
+with-var-requires : tie.Need-with-var-requires
+with-var-requires c κs = search needs
 
--- src/lib.rt:177:16
-add-t10 : tie.Need-add-t10
-add-t10 c = search needs
-
--- src/lib.rt:167:1
+-- src/lib.rt:244:1
 returns : tie.Need-returns
 returns c = search state-is
 
 pub var-state-spec : {M : Type 1} → statement M
-var-state-spec = tie.close (tie.spec add-t5 add-t7 add-t10 returns)
+var-state-spec = tie.close (tie.spec with-names-requires with-var-requires returns)

@@ -12,14 +12,14 @@ use Rattle.differing.proofs.next_key.Reads as next-key-reads
 use Rattle.labels.proofs.holds.Reads as holds-reads
 
 abbrev Inv-loop : tie.InvT-loop
-Inv-loop text work count newest block at p₀ p = Seeking text work count newest block at p
+Inv-loop text work scope block at p₀ p = Seeking text work scope block at p
 
 abbrev μ-loop : tie.MeasureT-loop
-μ-loop text work count newest block at p₀ p = nodesAll (stackAt text p)
+μ-loop text work scope block at p₀ p = nodesAll (stackAt text p)
 
 -- src/lib.rt:119:5
 loop-holds : tie.Need-loop-holds Inv-loop μ-loop
-loop-holds c = seek-start _ _ _ _ _ _
+loop-holds c = seek-start _ _ _ _ _
 
 -- src/lib.rt:120:13
 next-key-requires : tie.Need-next-key-requires Inv-loop μ-loop

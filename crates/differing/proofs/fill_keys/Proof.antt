@@ -11,14 +11,14 @@ use Rattle.differing.proofs.fill_keys.Lts as lts
 use Rattle.differing.proofs.next_key.Reads as next-key-reads
 
 abbrev Inv-loop : tie.InvT-loop
-Inv-loop text work count newest block₀ at n₀ p₀ block n p = Filling text work count newest block₀ at block n p
+Inv-loop text work scope block₀ at n₀ p₀ block n p = Filling text work scope block₀ at block n p
 
 abbrev μ-loop : tie.MeasureT-loop
-μ-loop text work count newest block₀ at n₀ p₀ block n p = nodesAll (stackAt text p)
+μ-loop text work scope block₀ at n₀ p₀ block n p = nodesAll (stackAt text p)
 
 -- src/lib.rt:98:5
 loop-holds : tie.Need-loop-holds Inv-loop μ-loop
-loop-holds c = fill-start _ _ _ _ _ _
+loop-holds c = fill-start _ _ _ _ _
 
 -- src/lib.rt:99:13
 next-key-requires : tie.Need-next-key-requires Inv-loop μ-loop
@@ -60,11 +60,11 @@ same-length c = search needs
 returns : tie.Need-returns Inv-loop μ-loop
 returns c = search (fill-laws, sfits-of)
 
--- src/lib.rt:86:1
+-- src/lib.rt:87:1
 same-length-2 : tie.Need-same-length-2 Inv-loop μ-loop
 same-length-2 c = search needs
 
--- src/lib.rt:86:1
+-- src/lib.rt:87:1
 returns-2 : tie.Need-returns-2 Inv-loop μ-loop
 returns-2 c = search (fill-laws, sfits-of)
 

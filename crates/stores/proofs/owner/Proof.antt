@@ -7,23 +7,23 @@ use Rattle.stores.proofs.owner.Lts as lts
 use Rattle.stores.proofs.holder_of.Reads as holder-of-reads
 use Rattle.worklist.proofs.at.Reads as at-reads
 
--- src/lib.rt:211:13
+-- src/lib.rt:217:13
 holder-of-requires : tie.Need-holder-of-requires
 holder-of-requires c κs = search needs
 
--- src/lib.rt:211:13
+-- src/lib.rt:217:13
 cast-p : tie.Need-cast-p
 cast-p c = search needs
 
--- src/lib.rt:212:5
+-- src/lib.rt:218:6
 at-requires : tie.Need-at-requires
 at-requires c κs = search needs
 
--- src/lib.rt:212:5
+-- src/lib.rt:218:5
 cast-result : tie.Need-cast-result
 cast-result c = search needs
 
--- src/lib.rt:208:1
+-- src/lib.rt:214:1
 returns : tie.Need-returns
 returns c = search owner-found
 

@@ -1,12 +1,18 @@
 use Rattle.tables.proofs.Ways.{info-laws}
+use borrow.Author.Needs.{needs}
 use Rattle.tables.proofs.integer_info.Statement.{statement}
 use Rattle.tables.proofs.integer_info.Tie as tie
 use Rattle.tables.proofs.integer_info.Reads as reads
 use Rattle.tables.proofs.integer_info.Lts as lts
+use Rattle.tables.proofs.ordinal_info.Reads as ordinal-info-reads
 
--- src/lib.rt:71:1
+-- src/lib.rt:93:5
+ordinal-info-requires : tie.Need-ordinal-info-requires
+ordinal-info-requires c κs = search needs
+
+-- src/lib.rt:90:1
 returns : tie.Need-returns
 returns c = search info-laws
 
 pub integer-info-spec : {M : Type 1} → statement M
-integer-info-spec = tie.close (tie.spec returns)
+integer-info-spec = tie.close (tie.spec ordinal-info-requires returns)

@@ -1,28 +1,67 @@
-use Rattle.tables.proofs.Looping.{over-is}
+use native.Mathlib.Omega.{arith}
+use Rattle.tables.proofs.Looping.{Comparing}
 use borrow.Author.Needs.{needs}
+use Rattle.tables.proofs.Looping.{compare-few, compare-laws, compare-start}
 use Rattle.tables.proofs.loops_over.Statement.{statement}
 use Rattle.tables.proofs.loops_over.Tie as tie
 use Rattle.tables.proofs.loops_over.Reads as reads
 use Rattle.tables.proofs.loops_over.Lts as lts
-use Rattle.sets.proofs.contains.Reads as contains-reads
-use Rattle.tables.proofs.member_of.Reads as member-of-reads
-use Rattle.tables.proofs.set_in.Reads as set-in-reads
+use Rattle.tables.proofs.listed_loops.Reads as listed-loops-reads
 
--- src/lib.rt:320:9
-set-in-requires : tie.Need-set-in-requires
-set-in-requires c κs = search needs
+abbrev Inv-loop : tie.InvT-loop
+Inv-loop i over n₀ n = Comparing over i n₀ n
 
--- src/lib.rt:321:9
-member-of-requires : tie.Need-member-of-requires
-member-of-requires c κs = search needs
+abbrev μ-loop : tie.MeasureT-loop
+μ-loop i over n₀ n = n
 
--- src/lib.rt:322:5
-contains-requires : tie.Need-contains-requires
-contains-requires c κs = search needs
+-- src/lib.rt:273:9
+listed-loops-requires : tie.Need-listed-loops-requires Inv-loop μ-loop
+listed-loops-requires c κs = search needs
 
--- src/lib.rt:317:1
-returns : tie.Need-returns
-returns c = search over-is
+-- src/lib.rt:274:5
+loop-holds : tie.Need-loop-holds Inv-loop μ-loop
+loop-holds c = search compare-start
+
+-- src/lib.rt:275:9
+sub-n : tie.Need-sub-n Inv-loop μ-loop
+sub-n c = search needs
+
+-- src/lib.rt:276:12
+mul-if1 : tie.Need-mul-if1 Inv-loop μ-loop
+mul-if1 c = search needs
+
+-- src/lib.rt:276:12
+array-read-if1 : tie.Need-array-read-if1 Inv-loop μ-loop
+array-read-if1 c = search (compare-few, needs)
+
+-- src/lib.rt:277:13
+returns : tie.Need-returns Inv-loop μ-loop
+returns c = search compare-laws
+
+-- src/lib.rt:274:5
+loop-less : tie.Need-loop-less Inv-loop μ-loop
+loop-less c = omega arith
+
+-- src/lib.rt:274:5
+loop-again : tie.Need-loop-again Inv-loop μ-loop
+loop-again c = search compare-laws
+
+-- src/lib.rt:269:1
+returns-2 : tie.Need-returns-2 Inv-loop μ-loop
+returns-2 c = search compare-laws
 
 pub loops-over-spec : {M : Type 1} → statement M
-loops-over-spec = tie.close (tie.spec set-in-requires member-of-requires contains-requires returns)
+loops-over-spec =
+    tie.close
+    (tie.spec
+    Inv-loop
+    μ-loop
+    listed-loops-requires
+    loop-holds
+    sub-n
+    mul-if1
+    array-read-if1
+    returns
+    loop-less
+    loop-again
+    returns-2)

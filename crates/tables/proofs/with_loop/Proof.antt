@@ -1,34 +1,33 @@
-use Rattle.tables.proofs.Looping.{with-is}
+use Rattle.tables.proofs.Looping.{with-laws}
 use borrow.Author.Needs.{needs}
 use Rattle.tables.proofs.with_loop.Statement.{statement}
 use Rattle.tables.proofs.with_loop.Tie as tie
 use Rattle.tables.proofs.with_loop.Reads as reads
 use Rattle.tables.proofs.with_loop.Lts as lts
-use Rattle.sets.proofs.insert.Reads as insert-reads
-use Rattle.tables.proofs.member_of.Reads as member-of-reads
-use Rattle.tables.proofs.set_in.Reads as set-in-reads
-use Rattle.tables.proofs.set_to.Reads as set-to-reads
 
--- src/lib.rt:330:9
-set-in-requires : tie.Need-set-in-requires
-set-in-requires c κs = search needs
+-- src/lib.rt:290:14
+cast-over : tie.Need-cast-over
+cast-over c = search needs
 
--- src/lib.rt:331:9
-member-of-requires : tie.Need-member-of-requires
-member-of-requires c κs = search needs
+-- src/lib.rt:290:9
+mul-over : tie.Need-mul-over
+mul-over c = search needs
 
--- src/lib.rt:332:18
-insert-requires : tie.Need-insert-requires
-insert-requires c κs = search needs
+-- src/lib.rt:290:9
+array-write-over : tie.Need-array-write-over
+array-write-over c = search needs
 
--- src/lib.rt:332:5
-set-to-requires : tie.Need-set-to-requires
-set-to-requires c κs = search needs
+-- src/lib.rt:292:20
+add-t10 : tie.Need-add-t10
+add-t10 c = search needs
 
--- src/lib.rt:326:1
+-- src/lib.rt:291:9
 returns : tie.Need-returns
-returns c = search with-is
+returns c = search with-laws
+
+-- src/lib.rt:284:1
+returns-2 : tie.Need-returns-2
+returns-2 c = search with-laws
 
 pub with-loop-spec : {M : Type 1} → statement M
-with-loop-spec =
-    tie.close (tie.spec set-in-requires member-of-requires insert-requires set-to-requires returns)
+with-loop-spec = tie.close (tie.spec cast-over mul-over array-write-over add-t10 returns returns-2)

@@ -9,35 +9,35 @@ use Rattle.typelines.proofs.lay_type.Reads as lay-type-reads
 use Rattle.typelines.proofs.type_state.Reads as type-state-reads
 use Rattle.worklist.proofs.put.Reads as put-reads
 
--- src/lib.rt:121:9
+-- src/lib.rt:130:9
 lay-type-requires : tie.Need-lay-type-requires
 lay-type-requires c κs = search needs
 
--- src/lib.rt:122:16
+-- src/lib.rt:131:16
 cast-put : tie.Need-cast-put
 cast-put c = search needs
 
--- src/lib.rt:122:5
+-- src/lib.rt:131:5
 put-requires : tie.Need-put-requires
 put-requires c κs = search needs
 
--- src/lib.rt:123:9
+-- src/lib.rt:132:9
 type-state-requires : tie.Need-type-state-requires
 type-state-requires c κs = search needs
 
--- src/lib.rt:124:5
+-- src/lib.rt:133:5
 answered-requires : tie.Need-answered-requires
 answered-requires c κs = search needs
 
--- src/lib.rt:118:1
+-- src/lib.rt:127:1
 same-length : tie.Need-same-length
 same-length c = search needs
 
--- src/lib.rt:118:1
+-- src/lib.rt:127:1
 same-length-2 : tie.Need-same-length-2
 same-length-2 c = search needs
 
--- src/lib.rt:118:1
+-- src/lib.rt:127:1
 returns : tie.Need-returns
 returns c = search add-type-is
 

@@ -4,18 +4,13 @@ use Rattle.typelines.proofs.lay_name.Statement.{statement}
 use Rattle.typelines.proofs.lay_name.Tie as tie
 use Rattle.typelines.proofs.lay_name.Reads as reads
 use Rattle.typelines.proofs.lay_name.Lts as lts
-use Rattle.declarations.proofs.narrow.Reads as narrow-reads
 use Rattle.symbols.proofs.declare.Reads as declare-reads
 
--- src/lib.rt:61:9
-narrow-requires : tie.Need-narrow-requires
-narrow-requires c κs = search needs
-
--- src/lib.rt:62:16
+-- src/lib.rt:61:16
 mul-sort : tie.Need-mul-sort
 mul-sort c = search needs
 
--- src/lib.rt:63:5
+-- src/lib.rt:62:5
 declare-requires : tie.Need-declare-requires
 declare-requires c κs = search needs
 
@@ -28,4 +23,4 @@ returns : tie.Need-returns
 returns c = search name-laid
 
 pub lay-name-spec : {M : Type 1} → statement M
-lay-name-spec = tie.close (tie.spec narrow-requires mul-sort declare-requires same-length returns)
+lay-name-spec = tie.close (tie.spec mul-sort declare-requires same-length returns)

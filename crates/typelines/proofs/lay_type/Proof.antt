@@ -7,19 +7,19 @@ use Rattle.typelines.proofs.lay_type.Lts as lts
 use Rattle.typelines.proofs.lay_info.Reads as lay-info-reads
 use Rattle.typelines.proofs.lay_name.Reads as lay-name-reads
 
--- src/lib.rt:109:9
+-- src/lib.rt:118:9
 lay-name-requires : tie.Need-lay-name-requires
 lay-name-requires c κs = search needs
 
--- src/lib.rt:110:9
+-- src/lib.rt:119:9
 lay-info-requires : tie.Need-lay-info-requires
 lay-info-requires c κs = search needs
 
--- src/lib.rt:106:1
+-- src/lib.rt:115:1
 same-length : tie.Need-same-length
 same-length c = search needs
 
--- src/lib.rt:106:1
+-- src/lib.rt:115:1
 returns : tie.Need-returns
 returns c = search lay-type-is
 

@@ -6,64 +6,69 @@ use Rattle.typelines.proofs.shaped_line.Reads as reads
 use Rattle.typelines.proofs.shaped_line.Lts as lts
 use Rattle.declarations.proofs.answered.Reads as answered-reads
 use Rattle.declarations.proofs.named_fault.Reads as named-fault-reads
+use Rattle.parts.proofs.is_clear.Reads as is-clear-reads
+use Rattle.symbols.proofs.keys.name_number.Reads as name-number-reads
 use Rattle.typelines.proofs.add_type.Reads as add-type-reads
 use Rattle.typelines.proofs.end_fault.Reads as end-fault-reads
 use Rattle.typelines.proofs.lines_fit.Reads as lines-fit-reads
-use Rattle.parts.proofs.is_clear.Reads as is-clear-reads
 
--- src/lib.rt:146:9
+-- src/lib.rt:162:9
 end-fault-requires : tie.Need-end-fault-requires
 end-fault-requires c κs = search needs
 
--- src/lib.rt:147:9
+-- src/lib.rt:163:9
 named-fault-requires : tie.Need-named-fault-requires
 named-fault-requires c κs = search needs
 
--- src/lib.rt:148:8
+-- src/lib.rt:164:8
 is-clear-requires : tie.Need-is-clear-requires
 is-clear-requires c κs = search needs
 
--- src/lib.rt:149:12
+-- src/lib.rt:165:12
 lines-fit-requires : tie.Need-lines-fit-requires
 lines-fit-requires c κs = search needs
 
--- src/lib.rt:151:13
+-- src/lib.rt:167:17
+name-number-requires : tie.Need-name-number-requires
+name-number-requires c κs = search needs
+
+-- src/lib.rt:168:13
 add-type-requires : tie.Need-add-type-requires
 add-type-requires c κs = search needs
 
--- src/lib.rt:151:13
+-- src/lib.rt:168:13
 same-length : tie.Need-same-length
 same-length c = search needs
 
--- src/lib.rt:151:13
+-- src/lib.rt:168:13
 same-length-2 : tie.Need-same-length-2
 same-length-2 c = search needs
 
--- src/lib.rt:151:13
+-- src/lib.rt:168:13
 returns : tie.Need-returns
 returns c = search shaped-laws
 
--- src/lib.rt:153:9
+-- src/lib.rt:170:9
 answered-requires : tie.Need-answered-requires
 answered-requires c κs = search needs
 
--- src/lib.rt:153:9
+-- src/lib.rt:170:9
 same-length-3 : tie.Need-same-length-3
 same-length-3 c = search needs
 
--- src/lib.rt:153:9
+-- src/lib.rt:170:9
 returns-2 : tie.Need-returns-2
 returns-2 c = search shaped-laws
 
--- src/lib.rt:155:5
+-- src/lib.rt:172:5
 answered-requires-2 : tie.Need-answered-requires-2
 answered-requires-2 c κs = search needs
 
--- src/lib.rt:142:1
+-- src/lib.rt:151:1
 same-length-4 : tie.Need-same-length-4
 same-length-4 c = search needs
 
--- src/lib.rt:142:1
+-- src/lib.rt:151:1
 returns-3 : tie.Need-returns-3
 returns-3 c = search shaped-laws
 
@@ -75,6 +80,7 @@ shaped-line-spec =
     named-fault-requires
     is-clear-requires
     lines-fit-requires
+    name-number-requires
     add-type-requires
     same-length
     same-length-2

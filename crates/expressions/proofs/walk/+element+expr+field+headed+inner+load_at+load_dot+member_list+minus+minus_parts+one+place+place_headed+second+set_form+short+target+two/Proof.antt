@@ -7,7 +7,7 @@ use lib.ListN.{length}
 use mathlib.Core.Path.{_≡_, refl}
 use borrow.Author.Needs.{needs}
 use Rattle.expressions.proofs.Dispatch.{by-laws, by-place-laws, expr-laws, inner-laws, place-laws, target-laws}
-use Rattle.expressions.proofs.Membership.{members-falls, members-laws, members-again, set-form-laws, sofar-start}
+use Rattle.expressions.proofs.Membership.{members-again, members-falls, members-laws, set-form-laws, sofar-start}
 use Rattle.expressions.proofs.Minus.{minus-laws, minus-parts-laws}
 use Rattle.expressions.proofs.Operators.{one-laws, second-is, short-laws, two-laws}
 use Rattle.expressions.proofs.Targets.{at-laws, dot-laws, loads-at, loads-dot}
@@ -69,23 +69,23 @@ use Rattle.expressions.proofs.walk.two.Reads as two
 use Rattle.expressions.proofs.walk.two.Kinds as two-kinds
 use Rattle.expressions.proofs.walk.+element+expr+field+headed+inner+load_at+load_dot+member_list+minus+minus_parts+one+place+place_headed+second+set_form+short+target+two.Lts-two as two-lts
 use Rattle.atoms.proofs.type_name.Reads as type-name-reads
+use Rattle.compounds.proofs.operators.apply.Reads as apply-reads
+use Rattle.compounds.proofs.operators.pair.Reads as pair-reads
+use Rattle.compounds.proofs.operators.short_pair.Reads as short-pair-reads
+use Rattle.compounds.proofs.targets.index.Reads as index-reads
+use Rattle.compounds.proofs.targets.load.Reads as load-reads
+use Rattle.compounds.proofs.targets.select.Reads as select-reads
+use Rattle.expressions.proofs.words.bound.Reads as bound-reads
+use Rattle.expressions.proofs.words.variable.Reads as variable-reads
+use Rattle.expressions.proofs.words.word.Reads as word-reads
 use Rattle.exprleaves.proofs.fields.sole_name.Reads as sole-name-reads
 use Rattle.exprleaves.proofs.links.base_of.Reads as base-of-reads
 use Rattle.exprleaves.proofs.links.link_to.Reads as link-to-reads
-use Rattle.exprnodes.proofs.members.member_fault.Reads as member-fault-reads
 use Rattle.exprleaves.proofs.links.set_of.Reads as set-of-reads
 use Rattle.exprleaves.proofs.links.slot_after.Reads as slot-after-reads
-use Rattle.compounds.proofs.operators.apply.Reads as apply-reads
-use Rattle.compounds.proofs.targets.index.Reads as index-reads
-use Rattle.compounds.proofs.targets.load.Reads as load-reads
-use Rattle.compounds.proofs.operators.pair.Reads as pair-reads
-use Rattle.compounds.proofs.targets.select.Reads as select-reads
-use Rattle.compounds.proofs.operators.short_pair.Reads as short-pair-reads
-use Rattle.expressions.proofs.words.bound.Reads as bound-reads
 use Rattle.exprleaves.proofs.words.negative.Reads as negative-reads
 use Rattle.exprleaves.proofs.words.number_alone.Reads as number-alone-reads
-use Rattle.expressions.proofs.words.variable.Reads as variable-reads
-use Rattle.expressions.proofs.words.word.Reads as word-reads
+use Rattle.exprnodes.proofs.members.member_fault.Reads as member-fault-reads
 use Rattle.parts.proofs.closing.Reads as closing-reads
 use Rattle.parts.proofs.end_at.Reads as end-at-reads
 use Rattle.parts.proofs.failed.Reads as failed-reads
@@ -102,58 +102,58 @@ use Rattle.expressions.proofs.walk.+element+expr+field+headed+inner+loa
 }
 
 abbrev μ-element : Measures 3 element-kinds.ps ℕ
-μ-element κs a = 8 * a .1 .1 .1 .1 .1 .0 + 2
+μ-element κs a = 8 * a .1 .1 .1 .1 .0 + 2
 
 abbrev μ-expr : Measures 3 expr-kinds.ps ℕ
-μ-expr κs a = 8 * a .1 .1 .1 .1 .1 .0
+μ-expr κs a = 8 * a .1 .1 .1 .1 .0
 
 abbrev μ-field : Measures 3 field-kinds.ps ℕ
-μ-field κs a = 8 * a .1 .1 .1 .1 .1 .0 + 2
+μ-field κs a = 8 * a .1 .1 .1 .1 .0 + 2
 
 abbrev μ-headed : Measures 3 headed-kinds.ps ℕ
-μ-headed κs a = 8 * a .1 .1 .1 .1 .1 .1 .0 + 4
+μ-headed κs a = 8 * a .1 .1 .1 .1 .1 .0 + 4
 
 abbrev μ-inner : Measures 3 inner-kinds.ps ℕ
-μ-inner κs a = 8 * a .1 .1 .1 .1 .1 .0 + 5
+μ-inner κs a = 8 * a .1 .1 .1 .1 .0 + 5
 
 abbrev μ-load-at : Measures 3 load-at-kinds.ps ℕ
-μ-load-at κs a = 8 * a .1 .1 .1 .1 .1 .0 + 3
+μ-load-at κs a = 8 * a .1 .1 .1 .1 .0 + 3
 
 abbrev μ-load-dot : Measures 3 load-dot-kinds.ps ℕ
-μ-load-dot κs a = 8 * a .1 .1 .1 .1 .1 .0 + 3
+μ-load-dot κs a = 8 * a .1 .1 .1 .1 .0 + 3
 
 abbrev μ-member-list : Measures 3 member-list-kinds.ps ℕ
-μ-member-list κs a = 8 * a .1 .1 .1 .1 .1 .1 .0 + 2
+μ-member-list κs a = 8 * a .1 .1 .1 .1 .1 .0 + 2
 
 abbrev μ-minus : Measures 3 minus-kinds.ps ℕ
-μ-minus κs a = 8 * a .1 .1 .1 .1 .1 .0 + 3
+μ-minus κs a = 8 * a .1 .1 .1 .1 .0 + 3
 
 abbrev μ-minus-parts : Measures 3 minus-parts-kinds.ps ℕ
-μ-minus-parts κs a = 8 * a .1 .1 .1 .1 .1 .0 + 2
+μ-minus-parts κs a = 8 * a .1 .1 .1 .1 .0 + 2
 
 abbrev μ-one : Measures 3 one-kinds.ps ℕ
-μ-one κs a = 8 * a .1 .1 .1 .1 .1 .1 .0 + 2
+μ-one κs a = 8 * a .1 .1 .1 .1 .1 .0 + 2
 
 abbrev μ-place : Measures 3 place-kinds.ps ℕ
-μ-place κs a = 8 * a .1 .1 .1 .1 .1 .0 + 5
+μ-place κs a = 8 * a .1 .1 .1 .1 .0 + 5
 
 abbrev μ-place-headed : Measures 3 place-headed-kinds.ps ℕ
-μ-place-headed κs a = 8 * a .1 .1 .1 .1 .1 .1 .0 + 4
+μ-place-headed κs a = 8 * a .1 .1 .1 .1 .1 .0 + 4
 
 abbrev μ-second : Measures 3 second-kinds.ps ℕ
-μ-second κs a = 8 * a .1 .1 .1 .1 .1 .1 .0 + 1
+μ-second κs a = 8 * a .1 .1 .1 .1 .1 .0 + 1
 
 abbrev μ-set-form : Measures 3 set-form-kinds.ps ℕ
-μ-set-form κs a = 8 * a .1 .1 .1 .1 .1 .0 + 3
+μ-set-form κs a = 8 * a .1 .1 .1 .1 .0 + 3
 
 abbrev μ-short : Measures 3 short-kinds.ps ℕ
-μ-short κs a = 8 * a .1 .1 .1 .1 .1 .1 .0 + 2
+μ-short κs a = 8 * a .1 .1 .1 .1 .1 .0 + 2
 
 abbrev μ-target : Measures 3 target-kinds.ps ℕ
-μ-target κs a = 8 * a .1 .1 .1 .1 .1 .0
+μ-target κs a = 8 * a .1 .1 .1 .1 .0
 
 abbrev μ-two : Measures 3 two-kinds.ps ℕ
-μ-two κs a = 8 * a .1 .1 .1 .1 .1 .1 .0 + 2
+μ-two κs a = 8 * a .1 .1 .1 .1 .1 .0 + 2
 
 abbrev element-at : ℕ → In 3 element-kinds.ps
 element-at t = and 3 element-kinds.ps (is 3 element-kinds.ps μ-element t) element.Pre
@@ -275,7 +275,7 @@ two-at t = and 3 two-kinds.ps (is 3 two-kinds.ps μ-two t) two.Pre
 abbrev two-below : ℕ → In 3 two-kinds.ps
 two-below t = and 3 two-kinds.ps (falls 3 two-kinds.ps _<_ μ-two t) two.Pre
 
--- src/walk.rt:267:9
+-- src/walk.rt:439:9
 element-target-requires : (t : ℕ) → element-lts.Need-target-requires (
   target-below t,
   target.Post,
@@ -290,7 +290,7 @@ element-target-requires : (t : ℕ) → element-lts.Need-target-requires (
 ) (element-at t) element.Post
 element-target-requires t c κs = search needs
 
--- src/walk.rt:269:8
+-- src/walk.rt:441:8
 element-is-form-requires : (t : ℕ) → element-lts.Need-is-form-requires (
   target-below t,
   target.Post,
@@ -305,7 +305,7 @@ element-is-form-requires : (t : ℕ) → element-lts.Need-is-form-requires (
 ) (element-at t) element.Post
 element-is-form-requires t c κs = search needs
 
--- src/walk.rt:270:9
+-- src/walk.rt:442:9
 element-same-length : (t : ℕ) → element-lts.Need-same-length (
   target-below t,
   target.Post,
@@ -320,7 +320,7 @@ element-same-length : (t : ℕ) → element-lts.Need-same-length (
 ) (element-at t) element.Post
 element-same-length t c = search needs
 
--- src/walk.rt:270:9
+-- src/walk.rt:442:9
 element-returns : (t : ℕ) → element-lts.Need-returns (
   target-below t,
   target.Post,
@@ -335,7 +335,7 @@ element-returns : (t : ℕ) → element-lts.Need-returns (
 ) (element-at t) element.Post
 element-returns t c = search at-laws
 
--- src/walk.rt:272:9
+-- src/walk.rt:444:9
 element-expr-requires : (t : ℕ) → element-lts.Need-expr-requires (
   target-below t,
   target.Post,
@@ -350,7 +350,7 @@ element-expr-requires : (t : ℕ) → element-lts.Need-expr-requires (
 ) (element-at t) element.Post
 element-expr-requires t c κs = search needs
 
--- src/walk.rt:273:27
+-- src/walk.rt:445:27
 element-closing-requires : (t : ℕ) → element-lts.Need-closing-requires (
   target-below t,
   target.Post,
@@ -365,7 +365,7 @@ element-closing-requires : (t : ℕ) → element-lts.Need-closing-requires (
 ) (element-at t) element.Post
 element-closing-requires t c κs = search needs
 
--- src/walk.rt:273:5
+-- src/walk.rt:445:5
 element-index-requires : (t : ℕ) → element-lts.Need-index-requires (
   target-below t,
   target.Post,
@@ -380,7 +380,7 @@ element-index-requires : (t : ℕ) → element-lts.Need-index-requires (
 ) (element-at t) element.Post
 element-index-requires t c κs = search needs
 
--- src/walk.rt:264:1
+-- src/walk.rt:428:1
 element-same-length-2 : (t : ℕ) → element-lts.Need-same-length-2 (
   target-below t,
   target.Post,
@@ -395,7 +395,7 @@ element-same-length-2 : (t : ℕ) → element-lts.Need-same-length-2 (
 ) (element-at t) element.Post
 element-same-length-2 t c = search needs
 
--- src/walk.rt:264:1
+-- src/walk.rt:428:1
 element-returns-2 : (t : ℕ) → element-lts.Need-returns-2 (
   target-below t,
   target.Post,
@@ -410,7 +410,7 @@ element-returns-2 : (t : ℕ) → element-lts.Need-returns-2 (
 ) (element-at t) element.Post
 element-returns-2 t c = search at-laws
 
--- src/walk.rt:46:9
+-- src/walk.rt:55:9
 expr-failed-requires : (t : ℕ) → expr-lts.Need-failed-requires (
   failed-reads.Asked,
   failed-reads.Learnt,
@@ -423,7 +423,7 @@ expr-failed-requires : (t : ℕ) → expr-lts.Need-failed-requires (
 ) (expr-at t) expr.Post
 expr-failed-requires t c κs = search needs
 
--- src/walk.rt:46:9
+-- src/walk.rt:55:9
 expr-returns : (t : ℕ) → expr-lts.Need-returns (
   failed-reads.Asked,
   failed-reads.Learnt,
@@ -436,7 +436,7 @@ expr-returns : (t : ℕ) → expr-lts.Need-returns (
 ) (expr-at t) expr.Post
 expr-returns t c = search expr-laws
 
--- src/walk.rt:48:9
+-- src/walk.rt:57:9
 expr-part-at-requires : (t : ℕ) → expr-lts.Need-part-at-requires (
   failed-reads.Asked,
   failed-reads.Learnt,
@@ -449,7 +449,7 @@ expr-part-at-requires : (t : ℕ) → expr-lts.Need-part-at-requires (
 ) (expr-at t) expr.Post
 expr-part-at-requires t c κs = search needs
 
--- src/walk.rt:50:20
+-- src/walk.rt:59:20
 expr-enum-known-p : (t : ℕ) → expr-lts.Need-enum-known-p (
   failed-reads.Asked,
   failed-reads.Learnt,
@@ -462,7 +462,7 @@ expr-enum-known-p : (t : ℕ) → expr-lts.Need-enum-known-p (
 ) (expr-at t) expr.Post
 expr-enum-known-p t c = search needs
 
--- src/walk.rt:50:32
+-- src/walk.rt:59:32
 expr-word-requires : (t : ℕ) → expr-lts.Need-word-requires (
   failed-reads.Asked,
   failed-reads.Learnt,
@@ -475,7 +475,7 @@ expr-word-requires : (t : ℕ) → expr-lts.Need-word-requires (
 ) (expr-at t) expr.Post
 expr-word-requires t c κs = search needs
 
--- src/walk.rt:51:20
+-- src/walk.rt:60:20
 expr-enum-known-p-2 : (t : ℕ) → expr-lts.Need-enum-known-p-2 (
   failed-reads.Asked,
   failed-reads.Learnt,
@@ -488,7 +488,7 @@ expr-enum-known-p-2 : (t : ℕ) → expr-lts.Need-enum-known-p-2 (
 ) (expr-at t) expr.Post
 expr-enum-known-p-2 t c = search needs
 
--- src/walk.rt:51:66
+-- src/walk.rt:60:58
 expr-sub-inner : (t : ℕ) → expr-lts.Need-sub-inner (
   failed-reads.Asked,
   failed-reads.Learnt,
@@ -501,7 +501,7 @@ expr-sub-inner : (t : ℕ) → expr-lts.Need-sub-inner (
 ) (expr-at t) expr.Post
 expr-sub-inner t c = search needs
 
--- src/walk.rt:51:26
+-- src/walk.rt:60:26
 expr-inner-requires : (t : ℕ) → expr-lts.Need-inner-requires (
   failed-reads.Asked,
   failed-reads.Learnt,
@@ -514,7 +514,7 @@ expr-inner-requires : (t : ℕ) → expr-lts.Need-inner-requires (
 ) (expr-at t) expr.Post
 expr-inner-requires t c κs = search needs
 
--- src/walk.rt:52:20
+-- src/walk.rt:61:20
 expr-enum-known-p-3 : (t : ℕ) → expr-lts.Need-enum-known-p-3 (
   failed-reads.Asked,
   failed-reads.Learnt,
@@ -527,7 +527,7 @@ expr-enum-known-p-3 : (t : ℕ) → expr-lts.Need-enum-known-p-3 (
 ) (expr-at t) expr.Post
 expr-enum-known-p-3 t c = search needs
 
--- src/walk.rt:52:26
+-- src/walk.rt:61:26
 expr-failed-requires-2 : (t : ℕ) → expr-lts.Need-failed-requires-2 (
   failed-reads.Asked,
   failed-reads.Learnt,
@@ -540,7 +540,7 @@ expr-failed-requires-2 : (t : ℕ) → expr-lts.Need-failed-requires-2 (
 ) (expr-at t) expr.Post
 expr-failed-requires-2 t c κs = search needs
 
--- src/walk.rt:42:1
+-- src/walk.rt:43:1
 expr-same-length : (t : ℕ) → expr-lts.Need-same-length (
   failed-reads.Asked,
   failed-reads.Learnt,
@@ -553,7 +553,7 @@ expr-same-length : (t : ℕ) → expr-lts.Need-same-length (
 ) (expr-at t) expr.Post
 expr-same-length t c = search needs
 
--- src/walk.rt:42:1
+-- src/walk.rt:43:1
 expr-returns-2 : (t : ℕ) → expr-lts.Need-returns-2 (
   failed-reads.Asked,
   failed-reads.Learnt,
@@ -566,7 +566,7 @@ expr-returns-2 : (t : ℕ) → expr-lts.Need-returns-2 (
 ) (expr-at t) expr.Post
 expr-returns-2 t c = search expr-laws
 
--- src/walk.rt:42:1
+-- src/walk.rt:43:1
 expr-same-length-2 : (t : ℕ) → expr-lts.Need-same-length-2 (
   failed-reads.Asked,
   failed-reads.Learnt,
@@ -579,7 +579,7 @@ expr-same-length-2 : (t : ℕ) → expr-lts.Need-same-length-2 (
 ) (expr-at t) expr.Post
 expr-same-length-2 t c = search needs
 
--- src/walk.rt:42:1
+-- src/walk.rt:43:1
 expr-returns-3 : (t : ℕ) → expr-lts.Need-returns-3 (
   failed-reads.Asked,
   failed-reads.Learnt,
@@ -592,7 +592,7 @@ expr-returns-3 : (t : ℕ) → expr-lts.Need-returns-3 (
 ) (expr-at t) expr.Post
 expr-returns-3 t c = search expr-laws
 
--- src/walk.rt:42:1
+-- src/walk.rt:43:1
 expr-returns-4 : (t : ℕ) → expr-lts.Need-returns-4 (
   failed-reads.Asked,
   failed-reads.Learnt,
@@ -605,7 +605,7 @@ expr-returns-4 : (t : ℕ) → expr-lts.Need-returns-4 (
 ) (expr-at t) expr.Post
 expr-returns-4 t c = search expr-laws
 
--- src/walk.rt:280:9
+-- src/walk.rt:460:9
 field-target-requires : (t : ℕ) → field-lts.Need-target-requires (
   target-below t,
   target.Post,
@@ -620,7 +620,7 @@ field-target-requires : (t : ℕ) → field-lts.Need-target-requires (
 ) (field-at t) field.Post
 field-target-requires t c κs = search needs
 
--- src/walk.rt:282:8
+-- src/walk.rt:462:8
 field-is-form-requires : (t : ℕ) → field-lts.Need-is-form-requires (
   target-below t,
   target.Post,
@@ -635,7 +635,7 @@ field-is-form-requires : (t : ℕ) → field-lts.Need-is-form-requires (
 ) (field-at t) field.Post
 field-is-form-requires t c κs = search needs
 
--- src/walk.rt:283:9
+-- src/walk.rt:463:9
 field-same-length : (t : ℕ) → field-lts.Need-same-length (
   target-below t,
   target.Post,
@@ -650,7 +650,7 @@ field-same-length : (t : ℕ) → field-lts.Need-same-length (
 ) (field-at t) field.Post
 field-same-length t c = search needs
 
--- src/walk.rt:283:9
+-- src/walk.rt:463:9
 field-returns : (t : ℕ) → field-lts.Need-returns (
   target-below t,
   target.Post,
@@ -665,7 +665,7 @@ field-returns : (t : ℕ) → field-lts.Need-returns (
 ) (field-at t) field.Post
 field-returns t c = search dot-laws
 
--- src/walk.rt:285:9
+-- src/walk.rt:465:9
 field-sole-name-requires : (t : ℕ) → field-lts.Need-sole-name-requires (
   target-below t,
   target.Post,
@@ -680,7 +680,7 @@ field-sole-name-requires : (t : ℕ) → field-lts.Need-sole-name-requires (
 ) (field-at t) field.Post
 field-sole-name-requires t c κs = search needs
 
--- src/walk.rt:287:20
+-- src/walk.rt:467:20
 field-enum-known-n : (t : ℕ) → field-lts.Need-enum-known-n (
   target-below t,
   target.Post,
@@ -695,7 +695,7 @@ field-enum-known-n : (t : ℕ) → field-lts.Need-enum-known-n (
 ) (field-at t) field.Post
 field-enum-known-n t c = search needs
 
--- src/walk.rt:287:29
+-- src/walk.rt:467:29
 field-select-requires : (t : ℕ) → field-lts.Need-select-requires (
   target-below t,
   target.Post,
@@ -710,7 +710,7 @@ field-select-requires : (t : ℕ) → field-lts.Need-select-requires (
 ) (field-at t) field.Post
 field-select-requires t c κs = search needs
 
--- src/walk.rt:288:33
+-- src/walk.rt:468:33
 field-enum-told : (t : ℕ) → field-lts.Need-enum-told (
   target-below t,
   target.Post,
@@ -725,7 +725,7 @@ field-enum-told : (t : ℕ) → field-lts.Need-enum-told (
 ) (field-at t) field.Post
 field-enum-told t c = search needs
 
--- src/walk.rt:288:26
+-- src/walk.rt:468:26
 field-failed-requires : (t : ℕ) → field-lts.Need-failed-requires (
   target-below t,
   target.Post,
@@ -740,7 +740,7 @@ field-failed-requires : (t : ℕ) → field-lts.Need-failed-requires (
 ) (field-at t) field.Post
 field-failed-requires t c κs = search needs
 
--- src/walk.rt:277:1
+-- src/walk.rt:449:1
 field-same-length-2 : (t : ℕ) → field-lts.Need-same-length-2 (
   target-below t,
   target.Post,
@@ -755,7 +755,7 @@ field-same-length-2 : (t : ℕ) → field-lts.Need-same-length-2 (
 ) (field-at t) field.Post
 field-same-length-2 t c = search needs
 
--- src/walk.rt:277:1
+-- src/walk.rt:449:1
 field-returns-2 : (t : ℕ) → field-lts.Need-returns-2 (
   target-below t,
   target.Post,
@@ -770,7 +770,7 @@ field-returns-2 : (t : ℕ) → field-lts.Need-returns-2 (
 ) (field-at t) field.Post
 field-returns-2 t c = search dot-laws
 
--- src/walk.rt:277:1
+-- src/walk.rt:449:1
 field-same-length-3 : (t : ℕ) → field-lts.Need-same-length-3 (
   target-below t,
   target.Post,
@@ -785,7 +785,7 @@ field-same-length-3 : (t : ℕ) → field-lts.Need-same-length-3 (
 ) (field-at t) field.Post
 field-same-length-3 t c = search needs
 
--- src/walk.rt:277:1
+-- src/walk.rt:449:1
 field-returns-3 : (t : ℕ) → field-lts.Need-returns-3 (
   target-below t,
   target.Post,
@@ -800,7 +800,7 @@ field-returns-3 : (t : ℕ) → field-lts.Need-returns-3 (
 ) (field-at t) field.Post
 field-returns-3 t c = search dot-laws
 
--- src/walk.rt:73:39
+-- src/walk.rt:108:39
 headed-enum-told : (t : ℕ) → headed-lts.Need-enum-told (
   load-at-below t,
   load-at.Post,
@@ -823,7 +823,7 @@ headed-enum-told : (t : ℕ) → headed-lts.Need-enum-told (
 ) (headed-at t) headed.Post
 headed-enum-told t c = search needs
 
--- src/walk.rt:73:25
+-- src/walk.rt:108:25
 headed-load-at-requires : (t : ℕ) → headed-lts.Need-load-at-requires (
   load-at-below t,
   load-at.Post,
@@ -846,7 +846,7 @@ headed-load-at-requires : (t : ℕ) → headed-lts.Need-load-at-requires (
 ) (headed-at t) headed.Post
 headed-load-at-requires t c κs = search needs
 
--- src/walk.rt:74:41
+-- src/walk.rt:109:41
 headed-enum-told-2 : (t : ℕ) → headed-lts.Need-enum-told-2 (
   load-at-below t,
   load-at.Post,
@@ -869,7 +869,7 @@ headed-enum-told-2 : (t : ℕ) → headed-lts.Need-enum-told-2 (
 ) (headed-at t) headed.Post
 headed-enum-told-2 t c = search needs
 
--- src/walk.rt:74:26
+-- src/walk.rt:109:26
 headed-load-dot-requires : (t : ℕ) → headed-lts.Need-load-dot-requires (
   load-at-below t,
   load-at.Post,
@@ -892,7 +892,7 @@ headed-load-dot-requires : (t : ℕ) → headed-lts.Need-load-dot-requires (
 ) (headed-at t) headed.Post
 headed-load-dot-requires t c κs = search needs
 
--- src/walk.rt:75:45
+-- src/walk.rt:110:45
 headed-enum-told-3 : (t : ℕ) → headed-lts.Need-enum-told-3 (
   load-at-below t,
   load-at.Post,
@@ -915,7 +915,7 @@ headed-enum-told-3 : (t : ℕ) → headed-lts.Need-enum-told-3 (
 ) (headed-at t) headed.Post
 headed-enum-told-3 t c = search needs
 
--- src/walk.rt:75:30
+-- src/walk.rt:110:30
 headed-set-form-requires : (t : ℕ) → headed-lts.Need-set-form-requires (
   load-at-below t,
   load-at.Post,
@@ -938,7 +938,7 @@ headed-set-form-requires : (t : ℕ) → headed-lts.Need-set-form-requires (
 ) (headed-at t) headed.Post
 headed-set-form-requires t c κs = search needs
 
--- src/walk.rt:76:40
+-- src/walk.rt:111:40
 headed-enum-told-4 : (t : ℕ) → headed-lts.Need-enum-told-4 (
   load-at-below t,
   load-at.Post,
@@ -961,7 +961,7 @@ headed-enum-told-4 : (t : ℕ) → headed-lts.Need-enum-told-4 (
 ) (headed-at t) headed.Post
 headed-enum-told-4 t c = search needs
 
--- src/walk.rt:76:28
+-- src/walk.rt:111:28
 headed-minus-requires : (t : ℕ) → headed-lts.Need-minus-requires (
   load-at-below t,
   load-at.Post,
@@ -984,7 +984,7 @@ headed-minus-requires : (t : ℕ) → headed-lts.Need-minus-requires (
 ) (headed-at t) headed.Post
 headed-minus-requires t c κs = search needs
 
--- src/walk.rt:77:25
+-- src/walk.rt:112:25
 headed-enum-known-head : (t : ℕ) → headed-lts.Need-enum-known-head (
   load-at-below t,
   load-at.Post,
@@ -1007,7 +1007,7 @@ headed-enum-known-head : (t : ℕ) → headed-lts.Need-enum-known-head (
 ) (headed-at t) headed.Post
 headed-enum-known-head t c = search needs
 
--- src/walk.rt:77:34
+-- src/walk.rt:112:34
 headed-bound-requires : (t : ℕ) → headed-lts.Need-bound-requires (
   load-at-below t,
   load-at.Post,
@@ -1030,7 +1030,7 @@ headed-bound-requires : (t : ℕ) → headed-lts.Need-bound-requires (
 ) (headed-at t) headed.Post
 headed-bound-requires t c κs = search needs
 
--- src/walk.rt:78:25
+-- src/walk.rt:113:25
 headed-enum-known-head-2 : (t : ℕ) → headed-lts.Need-enum-known-head-2 (
   load-at-below t,
   load-at.Post,
@@ -1053,7 +1053,7 @@ headed-enum-known-head-2 : (t : ℕ) → headed-lts.Need-enum-known-head-2 (
 ) (headed-at t) headed.Post
 headed-enum-known-head-2 t c = search needs
 
--- src/walk.rt:78:35
+-- src/walk.rt:113:35
 headed-short-requires : (t : ℕ) → headed-lts.Need-short-requires (
   load-at-below t,
   load-at.Post,
@@ -1076,7 +1076,7 @@ headed-short-requires : (t : ℕ) → headed-lts.Need-short-requires (
 ) (headed-at t) headed.Post
 headed-short-requires t c κs = search needs
 
--- src/walk.rt:79:23
+-- src/walk.rt:114:23
 headed-enum-known-head-3 : (t : ℕ) → headed-lts.Need-enum-known-head-3 (
   load-at-below t,
   load-at.Post,
@@ -1099,7 +1099,7 @@ headed-enum-known-head-3 : (t : ℕ) → headed-lts.Need-enum-known-head-3 (
 ) (headed-at t) headed.Post
 headed-enum-known-head-3 t c = search needs
 
--- src/walk.rt:79:30
+-- src/walk.rt:114:30
 headed-two-requires : (t : ℕ) → headed-lts.Need-two-requires (
   load-at-below t,
   load-at.Post,
@@ -1122,7 +1122,7 @@ headed-two-requires : (t : ℕ) → headed-lts.Need-two-requires (
 ) (headed-at t) headed.Post
 headed-two-requires t c κs = search needs
 
--- src/walk.rt:80:23
+-- src/walk.rt:115:23
 headed-enum-known-head-4 : (t : ℕ) → headed-lts.Need-enum-known-head-4 (
   load-at-below t,
   load-at.Post,
@@ -1145,7 +1145,7 @@ headed-enum-known-head-4 : (t : ℕ) → headed-lts.Need-enum-known-head-4 (
 ) (headed-at t) headed.Post
 headed-enum-known-head-4 t c = search needs
 
--- src/walk.rt:80:29
+-- src/walk.rt:115:29
 headed-one-requires : (t : ℕ) → headed-lts.Need-one-requires (
   load-at-below t,
   load-at.Post,
@@ -1168,7 +1168,7 @@ headed-one-requires : (t : ℕ) → headed-lts.Need-one-requires (
 ) (headed-at t) headed.Post
 headed-one-requires t c κs = search needs
 
--- src/walk.rt:81:37
+-- src/walk.rt:116:37
 headed-enum-told-5 : (t : ℕ) → headed-lts.Need-enum-told-5 (
   load-at-below t,
   load-at.Post,
@@ -1191,7 +1191,7 @@ headed-enum-told-5 : (t : ℕ) → headed-lts.Need-enum-told-5 (
 ) (headed-at t) headed.Post
 headed-enum-told-5 t c = search needs
 
--- src/walk.rt:81:30
+-- src/walk.rt:116:30
 headed-failed-requires : (t : ℕ) → headed-lts.Need-failed-requires (
   load-at-below t,
   load-at.Post,
@@ -1214,7 +1214,7 @@ headed-failed-requires : (t : ℕ) → headed-lts.Need-failed-requires (
 ) (headed-at t) headed.Post
 headed-failed-requires t c κs = search needs
 
--- src/walk.rt:69:1
+-- src/walk.rt:95:1
 headed-same-length : (t : ℕ) → headed-lts.Need-same-length (
   load-at-below t,
   load-at.Post,
@@ -1237,7 +1237,7 @@ headed-same-length : (t : ℕ) → headed-lts.Need-same-length (
 ) (headed-at t) headed.Post
 headed-same-length t c = search needs
 
--- src/walk.rt:69:1
+-- src/walk.rt:95:1
 headed-returns : (t : ℕ) → headed-lts.Need-returns (
   load-at-below t,
   load-at.Post,
@@ -1260,7 +1260,7 @@ headed-returns : (t : ℕ) → headed-lts.Need-returns (
 ) (headed-at t) headed.Post
 headed-returns t c = search by-laws
 
--- src/walk.rt:69:1
+-- src/walk.rt:95:1
 headed-same-length-2 : (t : ℕ) → headed-lts.Need-same-length-2 (
   load-at-below t,
   load-at.Post,
@@ -1283,7 +1283,7 @@ headed-same-length-2 : (t : ℕ) → headed-lts.Need-same-length-2 (
 ) (headed-at t) headed.Post
 headed-same-length-2 t c = search needs
 
--- src/walk.rt:69:1
+-- src/walk.rt:95:1
 headed-returns-2 : (t : ℕ) → headed-lts.Need-returns-2 (
   load-at-below t,
   load-at.Post,
@@ -1306,7 +1306,7 @@ headed-returns-2 : (t : ℕ) → headed-lts.Need-returns-2 (
 ) (headed-at t) headed.Post
 headed-returns-2 t c = search by-laws
 
--- src/walk.rt:69:1
+-- src/walk.rt:95:1
 headed-same-length-3 : (t : ℕ) → headed-lts.Need-same-length-3 (
   load-at-below t,
   load-at.Post,
@@ -1329,7 +1329,7 @@ headed-same-length-3 : (t : ℕ) → headed-lts.Need-same-length-3 (
 ) (headed-at t) headed.Post
 headed-same-length-3 t c = search needs
 
--- src/walk.rt:69:1
+-- src/walk.rt:95:1
 headed-returns-3 : (t : ℕ) → headed-lts.Need-returns-3 (
   load-at-below t,
   load-at.Post,
@@ -1352,7 +1352,7 @@ headed-returns-3 : (t : ℕ) → headed-lts.Need-returns-3 (
 ) (headed-at t) headed.Post
 headed-returns-3 t c = search by-laws
 
--- src/walk.rt:69:1
+-- src/walk.rt:95:1
 headed-same-length-4 : (t : ℕ) → headed-lts.Need-same-length-4 (
   load-at-below t,
   load-at.Post,
@@ -1375,7 +1375,7 @@ headed-same-length-4 : (t : ℕ) → headed-lts.Need-same-length-4 (
 ) (headed-at t) headed.Post
 headed-same-length-4 t c = search needs
 
--- src/walk.rt:69:1
+-- src/walk.rt:95:1
 headed-returns-4 : (t : ℕ) → headed-lts.Need-returns-4 (
   load-at-below t,
   load-at.Post,
@@ -1398,7 +1398,7 @@ headed-returns-4 : (t : ℕ) → headed-lts.Need-returns-4 (
 ) (headed-at t) headed.Post
 headed-returns-4 t c = search by-laws
 
--- src/walk.rt:69:1
+-- src/walk.rt:95:1
 headed-same-length-5 : (t : ℕ) → headed-lts.Need-same-length-5 (
   load-at-below t,
   load-at.Post,
@@ -1421,7 +1421,7 @@ headed-same-length-5 : (t : ℕ) → headed-lts.Need-same-length-5 (
 ) (headed-at t) headed.Post
 headed-same-length-5 t c = search needs
 
--- src/walk.rt:69:1
+-- src/walk.rt:95:1
 headed-returns-5 : (t : ℕ) → headed-lts.Need-returns-5 (
   load-at-below t,
   load-at.Post,
@@ -1444,7 +1444,7 @@ headed-returns-5 : (t : ℕ) → headed-lts.Need-returns-5 (
 ) (headed-at t) headed.Post
 headed-returns-5 t c = search by-laws
 
--- src/walk.rt:69:1
+-- src/walk.rt:95:1
 headed-same-length-6 : (t : ℕ) → headed-lts.Need-same-length-6 (
   load-at-below t,
   load-at.Post,
@@ -1467,7 +1467,7 @@ headed-same-length-6 : (t : ℕ) → headed-lts.Need-same-length-6 (
 ) (headed-at t) headed.Post
 headed-same-length-6 t c = search needs
 
--- src/walk.rt:69:1
+-- src/walk.rt:95:1
 headed-returns-6 : (t : ℕ) → headed-lts.Need-returns-6 (
   load-at-below t,
   load-at.Post,
@@ -1490,7 +1490,7 @@ headed-returns-6 : (t : ℕ) → headed-lts.Need-returns-6 (
 ) (headed-at t) headed.Post
 headed-returns-6 t c = search by-laws
 
--- src/walk.rt:69:1
+-- src/walk.rt:95:1
 headed-same-length-7 : (t : ℕ) → headed-lts.Need-same-length-7 (
   load-at-below t,
   load-at.Post,
@@ -1513,7 +1513,7 @@ headed-same-length-7 : (t : ℕ) → headed-lts.Need-same-length-7 (
 ) (headed-at t) headed.Post
 headed-same-length-7 t c = search needs
 
--- src/walk.rt:69:1
+-- src/walk.rt:95:1
 headed-returns-7 : (t : ℕ) → headed-lts.Need-returns-7 (
   load-at-below t,
   load-at.Post,
@@ -1536,7 +1536,7 @@ headed-returns-7 : (t : ℕ) → headed-lts.Need-returns-7 (
 ) (headed-at t) headed.Post
 headed-returns-7 t c = search by-laws
 
--- src/walk.rt:69:1
+-- src/walk.rt:95:1
 headed-same-length-8 : (t : ℕ) → headed-lts.Need-same-length-8 (
   load-at-below t,
   load-at.Post,
@@ -1559,7 +1559,7 @@ headed-same-length-8 : (t : ℕ) → headed-lts.Need-same-length-8 (
 ) (headed-at t) headed.Post
 headed-same-length-8 t c = search needs
 
--- src/walk.rt:69:1
+-- src/walk.rt:95:1
 headed-returns-8 : (t : ℕ) → headed-lts.Need-returns-8 (
   load-at-below t,
   load-at.Post,
@@ -1582,7 +1582,7 @@ headed-returns-8 : (t : ℕ) → headed-lts.Need-returns-8 (
 ) (headed-at t) headed.Post
 headed-returns-8 t c = search by-laws
 
--- src/walk.rt:69:1
+-- src/walk.rt:95:1
 headed-returns-9 : (t : ℕ) → headed-lts.Need-returns-9 (
   load-at-below t,
   load-at.Post,
@@ -1605,7 +1605,7 @@ headed-returns-9 : (t : ℕ) → headed-lts.Need-returns-9 (
 ) (headed-at t) headed.Post
 headed-returns-9 t c = search by-laws
 
--- src/walk.rt:60:9
+-- src/walk.rt:77:9
 inner-part-at-requires : (t : ℕ) → inner-lts.Need-part-at-requires (
   part-at-reads.Asked,
   part-at-reads.Learnt,
@@ -1618,7 +1618,7 @@ inner-part-at-requires : (t : ℕ) → inner-lts.Need-part-at-requires (
 ) (inner-at t) inner.Post
 inner-part-at-requires t c κs = search needs
 
--- src/walk.rt:62:20
+-- src/walk.rt:79:20
 inner-enum-known-p : (t : ℕ) → inner-lts.Need-enum-known-p (
   part-at-reads.Asked,
   part-at-reads.Learnt,
@@ -1631,7 +1631,7 @@ inner-enum-known-p : (t : ℕ) → inner-lts.Need-enum-known-p (
 ) (inner-at t) inner.Post
 inner-enum-known-p t c = search needs
 
--- src/walk.rt:62:73
+-- src/walk.rt:84:13
 inner-expr-head-requires : (t : ℕ) → inner-lts.Need-expr-head-requires (
   part-at-reads.Asked,
   part-at-reads.Learnt,
@@ -1644,7 +1644,7 @@ inner-expr-head-requires : (t : ℕ) → inner-lts.Need-expr-head-requires (
 ) (inner-at t) inner.Post
 inner-expr-head-requires t c κs = search needs
 
--- src/walk.rt:62:32
+-- src/walk.rt:79:32
 inner-headed-requires : (t : ℕ) → inner-lts.Need-headed-requires (
   part-at-reads.Asked,
   part-at-reads.Learnt,
@@ -1657,7 +1657,7 @@ inner-headed-requires : (t : ℕ) → inner-lts.Need-headed-requires (
 ) (inner-at t) inner.Post
 inner-headed-requires t c κs = search needs
 
--- src/walk.rt:63:20
+-- src/walk.rt:89:20
 inner-enum-known-p-2 : (t : ℕ) → inner-lts.Need-enum-known-p-2 (
   part-at-reads.Asked,
   part-at-reads.Learnt,
@@ -1670,7 +1670,7 @@ inner-enum-known-p-2 : (t : ℕ) → inner-lts.Need-enum-known-p-2 (
 ) (inner-at t) inner.Post
 inner-enum-known-p-2 t c = search needs
 
--- src/walk.rt:63:26
+-- src/walk.rt:89:26
 inner-failed-requires : (t : ℕ) → inner-lts.Need-failed-requires (
   part-at-reads.Asked,
   part-at-reads.Learnt,
@@ -1683,7 +1683,7 @@ inner-failed-requires : (t : ℕ) → inner-lts.Need-failed-requires (
 ) (inner-at t) inner.Post
 inner-failed-requires t c κs = search needs
 
--- src/walk.rt:64:20
+-- src/walk.rt:90:20
 inner-enum-known-p-3 : (t : ℕ) → inner-lts.Need-enum-known-p-3 (
   part-at-reads.Asked,
   part-at-reads.Learnt,
@@ -1696,7 +1696,7 @@ inner-enum-known-p-3 : (t : ℕ) → inner-lts.Need-enum-known-p-3 (
 ) (inner-at t) inner.Post
 inner-enum-known-p-3 t c = search needs
 
--- src/walk.rt:64:26
+-- src/walk.rt:90:26
 inner-failed-requires-2 : (t : ℕ) → inner-lts.Need-failed-requires-2 (
   part-at-reads.Asked,
   part-at-reads.Learnt,
@@ -1709,7 +1709,7 @@ inner-failed-requires-2 : (t : ℕ) → inner-lts.Need-failed-requires-2 (
 ) (inner-at t) inner.Post
 inner-failed-requires-2 t c κs = search needs
 
--- src/walk.rt:57:1
+-- src/walk.rt:66:1
 inner-same-length : (t : ℕ) → inner-lts.Need-same-length (
   part-at-reads.Asked,
   part-at-reads.Learnt,
@@ -1722,7 +1722,7 @@ inner-same-length : (t : ℕ) → inner-lts.Need-same-length (
 ) (inner-at t) inner.Post
 inner-same-length t c = search needs
 
--- src/walk.rt:57:1
+-- src/walk.rt:66:1
 inner-returns : (t : ℕ) → inner-lts.Need-returns (
   part-at-reads.Asked,
   part-at-reads.Learnt,
@@ -1735,7 +1735,7 @@ inner-returns : (t : ℕ) → inner-lts.Need-returns (
 ) (inner-at t) inner.Post
 inner-returns t c = search inner-laws
 
--- src/walk.rt:57:1
+-- src/walk.rt:66:1
 inner-returns-2 : (t : ℕ) → inner-lts.Need-returns-2 (
   part-at-reads.Asked,
   part-at-reads.Learnt,
@@ -1748,7 +1748,7 @@ inner-returns-2 : (t : ℕ) → inner-lts.Need-returns-2 (
 ) (inner-at t) inner.Post
 inner-returns-2 t c = search inner-laws
 
--- src/walk.rt:57:1
+-- src/walk.rt:66:1
 inner-returns-3 : (t : ℕ) → inner-lts.Need-returns-3 (
   part-at-reads.Asked,
   part-at-reads.Learnt,
@@ -1761,7 +1761,7 @@ inner-returns-3 : (t : ℕ) → inner-lts.Need-returns-3 (
 ) (inner-at t) inner.Post
 inner-returns-3 t c = search inner-laws
 
--- src/walk.rt:207:9
+-- src/walk.rt:329:9
 load-at-element-requires : (t : ℕ) → load-at-lts.Need-element-requires (
   element-below t,
   element.Post,
@@ -1770,7 +1770,7 @@ load-at-element-requires : (t : ℕ) → load-at-lts.Need-element-requires (
 ) (load-at-at t) load-at.Post
 load-at-element-requires t c κs = search needs
 
--- src/walk.rt:208:5
+-- src/walk.rt:330:5
 load-at-load-requires : (t : ℕ) → load-at-lts.Need-load-requires (
   element-below t,
   element.Post,
@@ -1779,7 +1779,7 @@ load-at-load-requires : (t : ℕ) → load-at-lts.Need-load-requires (
 ) (load-at-at t) load-at.Post
 load-at-load-requires t c κs = search needs
 
--- src/walk.rt:204:1
+-- src/walk.rt:318:1
 load-at-same-length : (t : ℕ) → load-at-lts.Need-same-length (
   element-below t,
   element.Post,
@@ -1788,7 +1788,7 @@ load-at-same-length : (t : ℕ) → load-at-lts.Need-same-length (
 ) (load-at-at t) load-at.Post
 load-at-same-length t c = search needs
 
--- src/walk.rt:204:1
+-- src/walk.rt:318:1
 load-at-returns : (t : ℕ) → load-at-lts.Need-returns (
   element-below t,
   element.Post,
@@ -1797,7 +1797,7 @@ load-at-returns : (t : ℕ) → load-at-lts.Need-returns (
 ) (load-at-at t) load-at.Post
 load-at-returns t c = search loads-at
 
--- src/walk.rt:215:9
+-- src/walk.rt:345:9
 load-dot-field-requires : (t : ℕ) → load-dot-lts.Need-field-requires (
   field-below t,
   field.Post,
@@ -1806,7 +1806,7 @@ load-dot-field-requires : (t : ℕ) → load-dot-lts.Need-field-requires (
 ) (load-dot-at t) load-dot.Post
 load-dot-field-requires t c κs = search needs
 
--- src/walk.rt:216:5
+-- src/walk.rt:346:5
 load-dot-load-requires : (t : ℕ) → load-dot-lts.Need-load-requires (
   field-below t,
   field.Post,
@@ -1815,7 +1815,7 @@ load-dot-load-requires : (t : ℕ) → load-dot-lts.Need-load-requires (
 ) (load-dot-at t) load-dot.Post
 load-dot-load-requires t c κs = search needs
 
--- src/walk.rt:212:1
+-- src/walk.rt:334:1
 load-dot-same-length : (t : ℕ) → load-dot-lts.Need-same-length (
   field-below t,
   field.Post,
@@ -1824,7 +1824,7 @@ load-dot-same-length : (t : ℕ) → load-dot-lts.Need-same-length (
 ) (load-dot-at t) load-dot.Post
 load-dot-same-length t c = search needs
 
--- src/walk.rt:212:1
+-- src/walk.rt:334:1
 load-dot-returns : (t : ℕ) → load-dot-lts.Need-returns (
   field-below t,
   field.Post,
@@ -1834,12 +1834,12 @@ load-dot-returns : (t : ℕ) → load-dot-lts.Need-returns (
 load-dot-returns t c = search loads-dot
 
 abbrev member-list-Inv-loop : member-list-lts.InvT-loop
-member-list-Inv-loop text work₀ types count newest base depth at chain top next₀ link₀ free₀ fault₀ work next link free fault = (length work ≡ length work₀) × Sofar text work₀ types count newest base depth at chain top fault next link free work
+member-list-Inv-loop text work₀ types scope base depth at chain top next₀ link₀ free₀ fault₀ work next link free fault = (length work ≡ length work₀) × Sofar text work₀ types scope base depth at chain top fault next link free work
 
 abbrev member-list-μ-loop : member-list-lts.MeasureT-loop
-member-list-μ-loop text work₀ types count newest base depth at chain top next₀ link₀ free₀ fault₀ work next link free fault = many (first (stackAt text next))
+member-list-μ-loop text work₀ types scope base depth at chain top next₀ link₀ free₀ fault₀ work next link free fault = many (first (stackAt text next))
 
--- src/walk.rt:183:5
+-- src/walk.rt:297:5
 member-list-loop-holds : (t : ℕ) → member-list-lts.Need-loop-holds (
   end-at-reads.Asked,
   end-at-reads.Learnt,
@@ -1858,9 +1858,9 @@ member-list-loop-holds : (t : ℕ) → member-list-lts.Need-loop-holds (
   slot-after-reads.Asked,
   slot-after-reads.Learnt,
 ) (member-list-at t) member-list.Post member-list-Inv-loop member-list-μ-loop
-member-list-loop-holds t c = (refl, sofar-start _ _ _ _ _ _ _ _ _ _)
+member-list-loop-holds t c = (refl, sofar-start _ _ _ _ _ _ _ _ _)
 
--- src/walk.rt:184:13
+-- src/walk.rt:298:13
 member-list-end-at-requires : (t : ℕ) → member-list-lts.Need-end-at-requires (
   end-at-reads.Asked,
   end-at-reads.Learnt,
@@ -1881,7 +1881,7 @@ member-list-end-at-requires : (t : ℕ) → member-list-lts.Need-end-at-requires
 ) (member-list-at t) member-list.Post member-list-Inv-loop member-list-μ-loop
 member-list-end-at-requires t c κs = search needs
 
--- src/walk.rt:186:23
+-- src/walk.rt:300:23
 member-list-enum-known-e : (t : ℕ) → member-list-lts.Need-enum-known-e (
   end-at-reads.Asked,
   end-at-reads.Learnt,
@@ -1902,7 +1902,7 @@ member-list-enum-known-e : (t : ℕ) → member-list-lts.Need-enum-known-e (
 ) (member-list-at t) member-list.Post member-list-Inv-loop member-list-μ-loop
 member-list-enum-known-e t c = search needs
 
--- src/walk.rt:187:17
+-- src/walk.rt:301:17
 member-list-failed-requires : (t : ℕ) → member-list-lts.Need-failed-requires (
   end-at-reads.Asked,
   end-at-reads.Learnt,
@@ -1923,7 +1923,7 @@ member-list-failed-requires : (t : ℕ) → member-list-lts.Need-failed-requires
 ) (member-list-at t) member-list.Post member-list-Inv-loop member-list-μ-loop
 member-list-failed-requires t c κs = search needs
 
--- src/walk.rt:187:17
+-- src/walk.rt:301:17
 member-list-same-length : (t : ℕ) → member-list-lts.Need-same-length (
   end-at-reads.Asked,
   end-at-reads.Learnt,
@@ -1944,7 +1944,7 @@ member-list-same-length : (t : ℕ) → member-list-lts.Need-same-length (
 ) (member-list-at t) member-list.Post member-list-Inv-loop member-list-μ-loop
 member-list-same-length t c = search needs
 
--- src/walk.rt:187:17
+-- src/walk.rt:301:17
 member-list-returns : (t : ℕ) → member-list-lts.Need-returns (
   end-at-reads.Asked,
   end-at-reads.Learnt,
@@ -1985,7 +1985,7 @@ member-list-enum-told : (t : ℕ) → member-list-lts.Need-enum-told (
 ) (member-list-at t) member-list.Post member-list-Inv-loop member-list-μ-loop
 member-list-enum-told t c = search needs
 
--- src/walk.rt:191:13
+-- src/walk.rt:305:13
 member-list-expr-requires : (t : ℕ) → member-list-lts.Need-expr-requires (
   end-at-reads.Asked,
   end-at-reads.Learnt,
@@ -2006,7 +2006,7 @@ member-list-expr-requires : (t : ℕ) → member-list-lts.Need-expr-requires (
 ) (member-list-at t) member-list.Post member-list-Inv-loop member-list-μ-loop
 member-list-expr-requires t c κs = search needs
 
--- src/walk.rt:193:12
+-- src/walk.rt:307:12
 member-list-is-form-requires : (t : ℕ) → member-list-lts.Need-is-form-requires (
   end-at-reads.Asked,
   end-at-reads.Learnt,
@@ -2027,7 +2027,7 @@ member-list-is-form-requires : (t : ℕ) → member-list-lts.Need-is-form-requir
 ) (member-list-at t) member-list.Post member-list-Inv-loop member-list-μ-loop
 member-list-is-form-requires t c κs = search needs
 
--- src/walk.rt:194:13
+-- src/walk.rt:308:13
 member-list-same-length-2 : (t : ℕ) → member-list-lts.Need-same-length-2 (
   end-at-reads.Asked,
   end-at-reads.Learnt,
@@ -2048,7 +2048,7 @@ member-list-same-length-2 : (t : ℕ) → member-list-lts.Need-same-length-2 (
 ) (member-list-at t) member-list.Post member-list-Inv-loop member-list-μ-loop
 member-list-same-length-2 t c = search needs
 
--- src/walk.rt:194:13
+-- src/walk.rt:308:13
 member-list-returns-2 : (t : ℕ) → member-list-lts.Need-returns-2 (
   end-at-reads.Asked,
   end-at-reads.Learnt,
@@ -2069,7 +2069,7 @@ member-list-returns-2 : (t : ℕ) → member-list-lts.Need-returns-2 (
 ) (member-list-at t) member-list.Post member-list-Inv-loop member-list-μ-loop
 member-list-returns-2 t c = search members-laws
 
--- src/walk.rt:196:31
+-- src/walk.rt:310:31
 member-list-member-fault-requires : (t : ℕ) → member-list-lts.Need-member-fault-requires (
   end-at-reads.Asked,
   end-at-reads.Learnt,
@@ -2090,7 +2090,7 @@ member-list-member-fault-requires : (t : ℕ) → member-list-lts.Need-member-fa
 ) (member-list-at t) member-list.Post member-list-Inv-loop member-list-μ-loop
 member-list-member-fault-requires t c κs = search needs
 
--- src/walk.rt:196:9
+-- src/walk.rt:310:9
 member-list-lowest-requires : (t : ℕ) → member-list-lts.Need-lowest-requires (
   end-at-reads.Asked,
   end-at-reads.Learnt,
@@ -2111,7 +2111,7 @@ member-list-lowest-requires : (t : ℕ) → member-list-lts.Need-lowest-requires
 ) (member-list-at t) member-list.Post member-list-Inv-loop member-list-μ-loop
 member-list-lowest-requires t c κs = search needs
 
--- src/walk.rt:197:9
+-- src/walk.rt:311:9
 member-list-link-to-requires : (t : ℕ) → member-list-lts.Need-link-to-requires (
   end-at-reads.Asked,
   end-at-reads.Learnt,
@@ -2132,7 +2132,7 @@ member-list-link-to-requires : (t : ℕ) → member-list-lts.Need-link-to-requir
 ) (member-list-at t) member-list.Post member-list-Inv-loop member-list-μ-loop
 member-list-link-to-requires t c κs = search needs
 
--- src/walk.rt:198:9
+-- src/walk.rt:312:9
 member-list-slot-after-requires : (t : ℕ) → member-list-lts.Need-slot-after-requires (
   end-at-reads.Asked,
   end-at-reads.Learnt,
@@ -2153,7 +2153,7 @@ member-list-slot-after-requires : (t : ℕ) → member-list-lts.Need-slot-after-
 ) (member-list-at t) member-list.Post member-list-Inv-loop member-list-μ-loop
 member-list-slot-after-requires t c κs = search needs
 
--- src/walk.rt:183:5
+-- src/walk.rt:297:5
 member-list-loop-less : (t : ℕ) → member-list-lts.Need-loop-less (
   end-at-reads.Asked,
   end-at-reads.Learnt,
@@ -2174,7 +2174,7 @@ member-list-loop-less : (t : ℕ) → member-list-lts.Need-loop-less (
 ) (member-list-at t) member-list.Post member-list-Inv-loop member-list-μ-loop
 member-list-loop-less t c = search members-falls
 
--- src/walk.rt:183:5
+-- src/walk.rt:297:5
 member-list-loop-again : (t : ℕ) → member-list-lts.Need-loop-again (
   end-at-reads.Asked,
   end-at-reads.Learnt,
@@ -2195,7 +2195,7 @@ member-list-loop-again : (t : ℕ) → member-list-lts.Need-loop-again (
 ) (member-list-at t) member-list.Post member-list-Inv-loop member-list-μ-loop
 member-list-loop-again t c = (search needs, search members-again)
 
--- src/walk.rt:136:9
+-- src/walk.rt:214:9
 minus-number-alone-requires : (t : ℕ) → minus-lts.Need-number-alone-requires (
   number-alone-reads.Asked,
   number-alone-reads.Learnt,
@@ -2206,7 +2206,7 @@ minus-number-alone-requires : (t : ℕ) → minus-lts.Need-number-alone-requires
 ) (minus-at t) minus.Post
 minus-number-alone-requires t c κs = search needs
 
--- src/walk.rt:138:23
+-- src/walk.rt:216:23
 minus-enum-known-n : (t : ℕ) → minus-lts.Need-enum-known-n (
   number-alone-reads.Asked,
   number-alone-reads.Learnt,
@@ -2217,7 +2217,7 @@ minus-enum-known-n : (t : ℕ) → minus-lts.Need-enum-known-n (
 ) (minus-at t) minus.Post
 minus-enum-known-n t c = search needs
 
--- src/walk.rt:138:32
+-- src/walk.rt:216:32
 minus-negative-requires : (t : ℕ) → minus-lts.Need-negative-requires (
   number-alone-reads.Asked,
   number-alone-reads.Learnt,
@@ -2228,7 +2228,7 @@ minus-negative-requires : (t : ℕ) → minus-lts.Need-negative-requires (
 ) (minus-at t) minus.Post
 minus-negative-requires t c κs = search needs
 
--- src/walk.rt:139:40
+-- src/walk.rt:217:40
 minus-enum-told : (t : ℕ) → minus-lts.Need-enum-told (
   number-alone-reads.Asked,
   number-alone-reads.Learnt,
@@ -2239,7 +2239,7 @@ minus-enum-told : (t : ℕ) → minus-lts.Need-enum-told (
 ) (minus-at t) minus.Post
 minus-enum-told t c = search needs
 
--- src/walk.rt:139:22
+-- src/walk.rt:217:22
 minus-minus-parts-requires : (t : ℕ) → minus-lts.Need-minus-parts-requires (
   number-alone-reads.Asked,
   number-alone-reads.Learnt,
@@ -2250,7 +2250,7 @@ minus-minus-parts-requires : (t : ℕ) → minus-lts.Need-minus-parts-requires (
 ) (minus-at t) minus.Post
 minus-minus-parts-requires t c κs = search needs
 
--- src/walk.rt:133:1
+-- src/walk.rt:203:1
 minus-same-length : (t : ℕ) → minus-lts.Need-same-length (
   number-alone-reads.Asked,
   number-alone-reads.Learnt,
@@ -2261,7 +2261,7 @@ minus-same-length : (t : ℕ) → minus-lts.Need-same-length (
 ) (minus-at t) minus.Post
 minus-same-length t c = search needs
 
--- src/walk.rt:133:1
+-- src/walk.rt:203:1
 minus-returns : (t : ℕ) → minus-lts.Need-returns (
   number-alone-reads.Asked,
   number-alone-reads.Learnt,
@@ -2272,7 +2272,7 @@ minus-returns : (t : ℕ) → minus-lts.Need-returns (
 ) (minus-at t) minus.Post
 minus-returns t c = search (minus-laws, sfits-of)
 
--- src/walk.rt:133:1
+-- src/walk.rt:203:1
 minus-same-length-2 : (t : ℕ) → minus-lts.Need-same-length-2 (
   number-alone-reads.Asked,
   number-alone-reads.Learnt,
@@ -2283,7 +2283,7 @@ minus-same-length-2 : (t : ℕ) → minus-lts.Need-same-length-2 (
 ) (minus-at t) minus.Post
 minus-same-length-2 t c = search needs
 
--- src/walk.rt:133:1
+-- src/walk.rt:203:1
 minus-returns-2 : (t : ℕ) → minus-lts.Need-returns-2 (
   number-alone-reads.Asked,
   number-alone-reads.Learnt,
@@ -2294,7 +2294,7 @@ minus-returns-2 : (t : ℕ) → minus-lts.Need-returns-2 (
 ) (minus-at t) minus.Post
 minus-returns-2 t c = search (minus-laws, sfits-of)
 
--- src/walk.rt:147:9
+-- src/walk.rt:233:9
 minus-parts-expr-requires : (t : ℕ) → minus-parts-lts.Need-expr-requires (
   expr-below t,
   expr.Post,
@@ -2311,7 +2311,7 @@ minus-parts-expr-requires : (t : ℕ) → minus-parts-lts.Need-expr-requires (
 ) (minus-parts-at t) minus-parts.Post
 minus-parts-expr-requires t c κs = search needs
 
--- src/walk.rt:149:8
+-- src/walk.rt:235:8
 minus-parts-is-form-requires : (t : ℕ) → minus-parts-lts.Need-is-form-requires (
   expr-below t,
   expr.Post,
@@ -2328,7 +2328,7 @@ minus-parts-is-form-requires : (t : ℕ) → minus-parts-lts.Need-is-form-requir
 ) (minus-parts-at t) minus-parts.Post
 minus-parts-is-form-requires t c κs = search needs
 
--- src/walk.rt:150:9
+-- src/walk.rt:236:9
 minus-parts-same-length : (t : ℕ) → minus-parts-lts.Need-same-length (
   expr-below t,
   expr.Post,
@@ -2345,7 +2345,7 @@ minus-parts-same-length : (t : ℕ) → minus-parts-lts.Need-same-length (
 ) (minus-parts-at t) minus-parts.Post
 minus-parts-same-length t c = search needs
 
--- src/walk.rt:150:9
+-- src/walk.rt:236:9
 minus-parts-returns : (t : ℕ) → minus-parts-lts.Need-returns (
   expr-below t,
   expr.Post,
@@ -2362,7 +2362,7 @@ minus-parts-returns : (t : ℕ) → minus-parts-lts.Need-returns (
 ) (minus-parts-at t) minus-parts.Post
 minus-parts-returns t c = search minus-parts-laws
 
--- src/walk.rt:152:9
+-- src/walk.rt:238:9
 minus-parts-end-at-requires : (t : ℕ) → minus-parts-lts.Need-end-at-requires (
   expr-below t,
   expr.Post,
@@ -2379,7 +2379,7 @@ minus-parts-end-at-requires : (t : ℕ) → minus-parts-lts.Need-end-at-requires
 ) (minus-parts-at t) minus-parts.Post
 minus-parts-end-at-requires t c κs = search needs
 
--- src/walk.rt:154:31
+-- src/walk.rt:240:31
 minus-parts-enum-told : (t : ℕ) → minus-parts-lts.Need-enum-told (
   expr-below t,
   expr.Post,
@@ -2396,7 +2396,7 @@ minus-parts-enum-told : (t : ℕ) → minus-parts-lts.Need-enum-told (
 ) (minus-parts-at t) minus-parts.Post
 minus-parts-enum-told t c = search needs
 
--- src/walk.rt:154:47
+-- src/walk.rt:240:47
 minus-parts-closing-requires : (t : ℕ) → minus-parts-lts.Need-closing-requires (
   expr-below t,
   expr.Post,
@@ -2413,7 +2413,7 @@ minus-parts-closing-requires : (t : ℕ) → minus-parts-lts.Need-closing-requir
 ) (minus-parts-at t) minus-parts.Post
 minus-parts-closing-requires t c κs = search needs
 
--- src/walk.rt:154:25
+-- src/walk.rt:240:25
 minus-parts-apply-requires : (t : ℕ) → minus-parts-lts.Need-apply-requires (
   expr-below t,
   expr.Post,
@@ -2430,7 +2430,7 @@ minus-parts-apply-requires : (t : ℕ) → minus-parts-lts.Need-apply-requires (
 ) (minus-parts-at t) minus-parts.Post
 minus-parts-apply-requires t c κs = search needs
 
--- src/walk.rt:155:35
+-- src/walk.rt:241:35
 minus-parts-enum-told-2 : (t : ℕ) → minus-parts-lts.Need-enum-told-2 (
   expr-below t,
   expr.Post,
@@ -2447,7 +2447,7 @@ minus-parts-enum-told-2 : (t : ℕ) → minus-parts-lts.Need-enum-told-2 (
 ) (minus-parts-at t) minus-parts.Post
 minus-parts-enum-told-2 t c = search needs
 
--- src/walk.rt:155:22
+-- src/walk.rt:241:22
 minus-parts-second-requires : (t : ℕ) → minus-parts-lts.Need-second-requires (
   expr-below t,
   expr.Post,
@@ -2464,7 +2464,7 @@ minus-parts-second-requires : (t : ℕ) → minus-parts-lts.Need-second-requires
 ) (minus-parts-at t) minus-parts.Post
 minus-parts-second-requires t c κs = search needs
 
--- src/walk.rt:144:1
+-- src/walk.rt:222:1
 minus-parts-same-length-2 : (t : ℕ) → minus-parts-lts.Need-same-length-2 (
   expr-below t,
   expr.Post,
@@ -2481,7 +2481,7 @@ minus-parts-same-length-2 : (t : ℕ) → minus-parts-lts.Need-same-length-2 (
 ) (minus-parts-at t) minus-parts.Post
 minus-parts-same-length-2 t c = search needs
 
--- src/walk.rt:144:1
+-- src/walk.rt:222:1
 minus-parts-returns-2 : (t : ℕ) → minus-parts-lts.Need-returns-2 (
   expr-below t,
   expr.Post,
@@ -2498,7 +2498,7 @@ minus-parts-returns-2 : (t : ℕ) → minus-parts-lts.Need-returns-2 (
 ) (minus-parts-at t) minus-parts.Post
 minus-parts-returns-2 t c = search minus-parts-laws
 
--- src/walk.rt:144:1
+-- src/walk.rt:222:1
 minus-parts-same-length-3 : (t : ℕ) → minus-parts-lts.Need-same-length-3 (
   expr-below t,
   expr.Post,
@@ -2515,7 +2515,7 @@ minus-parts-same-length-3 : (t : ℕ) → minus-parts-lts.Need-same-length-3 (
 ) (minus-parts-at t) minus-parts.Post
 minus-parts-same-length-3 t c = search needs
 
--- src/walk.rt:144:1
+-- src/walk.rt:222:1
 minus-parts-returns-3 : (t : ℕ) → minus-parts-lts.Need-returns-3 (
   expr-below t,
   expr.Post,
@@ -2532,7 +2532,7 @@ minus-parts-returns-3 : (t : ℕ) → minus-parts-lts.Need-returns-3 (
 ) (minus-parts-at t) minus-parts.Post
 minus-parts-returns-3 t c = search minus-parts-laws
 
--- src/walk.rt:126:9
+-- src/walk.rt:196:9
 one-failed-requires : (t : ℕ) → one-lts.Need-failed-requires (
   failed-reads.Asked,
   failed-reads.Learnt,
@@ -2545,7 +2545,7 @@ one-failed-requires : (t : ℕ) → one-lts.Need-failed-requires (
 ) (one-at t) one.Post
 one-failed-requires t c κs = search needs
 
--- src/walk.rt:126:9
+-- src/walk.rt:196:9
 one-returns : (t : ℕ) → one-lts.Need-returns (
   failed-reads.Asked,
   failed-reads.Learnt,
@@ -2558,7 +2558,7 @@ one-returns : (t : ℕ) → one-lts.Need-returns (
 ) (one-at t) one.Post
 one-returns t c = search one-laws
 
--- src/walk.rt:128:9
+-- src/walk.rt:198:9
 one-expr-requires : (t : ℕ) → one-lts.Need-expr-requires (
   failed-reads.Asked,
   failed-reads.Learnt,
@@ -2571,7 +2571,7 @@ one-expr-requires : (t : ℕ) → one-lts.Need-expr-requires (
 ) (one-at t) one.Post
 one-expr-requires t c κs = search needs
 
--- src/walk.rt:129:27
+-- src/walk.rt:199:27
 one-closing-requires : (t : ℕ) → one-lts.Need-closing-requires (
   failed-reads.Asked,
   failed-reads.Learnt,
@@ -2584,7 +2584,7 @@ one-closing-requires : (t : ℕ) → one-lts.Need-closing-requires (
 ) (one-at t) one.Post
 one-closing-requires t c κs = search needs
 
--- src/walk.rt:129:5
+-- src/walk.rt:199:5
 one-apply-requires : (t : ℕ) → one-lts.Need-apply-requires (
   failed-reads.Asked,
   failed-reads.Learnt,
@@ -2597,7 +2597,7 @@ one-apply-requires : (t : ℕ) → one-lts.Need-apply-requires (
 ) (one-at t) one.Post
 one-apply-requires t c κs = search needs
 
--- src/walk.rt:122:1
+-- src/walk.rt:183:1
 one-same-length : (t : ℕ) → one-lts.Need-same-length (
   failed-reads.Asked,
   failed-reads.Learnt,
@@ -2610,7 +2610,7 @@ one-same-length : (t : ℕ) → one-lts.Need-same-length (
 ) (one-at t) one.Post
 one-same-length t c = search needs
 
--- src/walk.rt:122:1
+-- src/walk.rt:183:1
 one-returns-2 : (t : ℕ) → one-lts.Need-returns-2 (
   failed-reads.Asked,
   failed-reads.Learnt,
@@ -2623,7 +2623,7 @@ one-returns-2 : (t : ℕ) → one-lts.Need-returns-2 (
 ) (one-at t) one.Post
 one-returns-2 t c = search one-laws
 
--- src/walk.rt:238:9
+-- src/walk.rt:384:9
 place-part-at-requires : (t : ℕ) → place-lts.Need-part-at-requires (
   part-at-reads.Asked,
   part-at-reads.Learnt,
@@ -2636,7 +2636,7 @@ place-part-at-requires : (t : ℕ) → place-lts.Need-part-at-requires (
 ) (place-at t) place.Post
 place-part-at-requires t c κs = search needs
 
--- src/walk.rt:240:20
+-- src/walk.rt:386:20
 place-enum-known-p : (t : ℕ) → place-lts.Need-enum-known-p (
   part-at-reads.Asked,
   part-at-reads.Learnt,
@@ -2649,7 +2649,7 @@ place-enum-known-p : (t : ℕ) → place-lts.Need-enum-known-p (
 ) (place-at t) place.Post
 place-enum-known-p t c = search needs
 
--- src/walk.rt:240:79
+-- src/walk.rt:391:13
 place-expr-head-requires : (t : ℕ) → place-lts.Need-expr-head-requires (
   part-at-reads.Asked,
   part-at-reads.Learnt,
@@ -2662,7 +2662,7 @@ place-expr-head-requires : (t : ℕ) → place-lts.Need-expr-head-requires (
 ) (place-at t) place.Post
 place-expr-head-requires t c κs = search needs
 
--- src/walk.rt:240:32
+-- src/walk.rt:386:32
 place-place-headed-requires : (t : ℕ) → place-lts.Need-place-headed-requires (
   part-at-reads.Asked,
   part-at-reads.Learnt,
@@ -2675,7 +2675,7 @@ place-place-headed-requires : (t : ℕ) → place-lts.Need-place-headed-requires
 ) (place-at t) place.Post
 place-place-headed-requires t c κs = search needs
 
--- src/walk.rt:241:20
+-- src/walk.rt:396:20
 place-enum-known-p-2 : (t : ℕ) → place-lts.Need-enum-known-p-2 (
   part-at-reads.Asked,
   part-at-reads.Learnt,
@@ -2688,7 +2688,7 @@ place-enum-known-p-2 : (t : ℕ) → place-lts.Need-enum-known-p-2 (
 ) (place-at t) place.Post
 place-enum-known-p-2 t c = search needs
 
--- src/walk.rt:241:26
+-- src/walk.rt:396:26
 place-failed-requires : (t : ℕ) → place-lts.Need-failed-requires (
   part-at-reads.Asked,
   part-at-reads.Learnt,
@@ -2701,7 +2701,7 @@ place-failed-requires : (t : ℕ) → place-lts.Need-failed-requires (
 ) (place-at t) place.Post
 place-failed-requires t c κs = search needs
 
--- src/walk.rt:242:20
+-- src/walk.rt:397:20
 place-enum-known-p-3 : (t : ℕ) → place-lts.Need-enum-known-p-3 (
   part-at-reads.Asked,
   part-at-reads.Learnt,
@@ -2714,7 +2714,7 @@ place-enum-known-p-3 : (t : ℕ) → place-lts.Need-enum-known-p-3 (
 ) (place-at t) place.Post
 place-enum-known-p-3 t c = search needs
 
--- src/walk.rt:242:26
+-- src/walk.rt:397:26
 place-failed-requires-2 : (t : ℕ) → place-lts.Need-failed-requires-2 (
   part-at-reads.Asked,
   part-at-reads.Learnt,
@@ -2727,7 +2727,7 @@ place-failed-requires-2 : (t : ℕ) → place-lts.Need-failed-requires-2 (
 ) (place-at t) place.Post
 place-failed-requires-2 t c κs = search needs
 
--- src/walk.rt:235:1
+-- src/walk.rt:373:1
 place-same-length : (t : ℕ) → place-lts.Need-same-length (
   part-at-reads.Asked,
   part-at-reads.Learnt,
@@ -2740,7 +2740,7 @@ place-same-length : (t : ℕ) → place-lts.Need-same-length (
 ) (place-at t) place.Post
 place-same-length t c = search needs
 
--- src/walk.rt:235:1
+-- src/walk.rt:373:1
 place-returns : (t : ℕ) → place-lts.Need-returns (
   part-at-reads.Asked,
   part-at-reads.Learnt,
@@ -2753,7 +2753,7 @@ place-returns : (t : ℕ) → place-lts.Need-returns (
 ) (place-at t) place.Post
 place-returns t c = search place-laws
 
--- src/walk.rt:235:1
+-- src/walk.rt:373:1
 place-returns-2 : (t : ℕ) → place-lts.Need-returns-2 (
   part-at-reads.Asked,
   part-at-reads.Learnt,
@@ -2766,7 +2766,7 @@ place-returns-2 : (t : ℕ) → place-lts.Need-returns-2 (
 ) (place-at t) place.Post
 place-returns-2 t c = search place-laws
 
--- src/walk.rt:235:1
+-- src/walk.rt:373:1
 place-returns-3 : (t : ℕ) → place-lts.Need-returns-3 (
   part-at-reads.Asked,
   part-at-reads.Learnt,
@@ -2779,7 +2779,7 @@ place-returns-3 : (t : ℕ) → place-lts.Need-returns-3 (
 ) (place-at t) place.Post
 place-returns-3 t c = search place-laws
 
--- src/walk.rt:251:39
+-- src/walk.rt:415:39
 place-headed-enum-told : (t : ℕ) → place-headed-lts.Need-enum-told (
   element-below t,
   element.Post,
@@ -2790,7 +2790,7 @@ place-headed-enum-told : (t : ℕ) → place-headed-lts.Need-enum-told (
 ) (place-headed-at t) place-headed.Post
 place-headed-enum-told t c = search needs
 
--- src/walk.rt:251:25
+-- src/walk.rt:415:25
 place-headed-element-requires : (t : ℕ) → place-headed-lts.Need-element-requires (
   element-below t,
   element.Post,
@@ -2801,7 +2801,7 @@ place-headed-element-requires : (t : ℕ) → place-headed-lts.Need-element-requ
 ) (place-headed-at t) place-headed.Post
 place-headed-element-requires t c κs = search needs
 
--- src/walk.rt:252:38
+-- src/walk.rt:416:38
 place-headed-enum-told-2 : (t : ℕ) → place-headed-lts.Need-enum-told-2 (
   element-below t,
   element.Post,
@@ -2812,7 +2812,7 @@ place-headed-enum-told-2 : (t : ℕ) → place-headed-lts.Need-enum-told-2 (
 ) (place-headed-at t) place-headed.Post
 place-headed-enum-told-2 t c = search needs
 
--- src/walk.rt:252:26
+-- src/walk.rt:416:26
 place-headed-field-requires : (t : ℕ) → place-headed-lts.Need-field-requires (
   element-below t,
   element.Post,
@@ -2823,7 +2823,7 @@ place-headed-field-requires : (t : ℕ) → place-headed-lts.Need-field-requires
 ) (place-headed-at t) place-headed.Post
 place-headed-field-requires t c κs = search needs
 
--- src/walk.rt:253:37
+-- src/walk.rt:417:37
 place-headed-enum-told-3 : (t : ℕ) → place-headed-lts.Need-enum-told-3 (
   element-below t,
   element.Post,
@@ -2834,7 +2834,7 @@ place-headed-enum-told-3 : (t : ℕ) → place-headed-lts.Need-enum-told-3 (
 ) (place-headed-at t) place-headed.Post
 place-headed-enum-told-3 t c = search needs
 
--- src/walk.rt:253:30
+-- src/walk.rt:417:30
 place-headed-failed-requires : (t : ℕ) → place-headed-lts.Need-failed-requires (
   element-below t,
   element.Post,
@@ -2845,7 +2845,7 @@ place-headed-failed-requires : (t : ℕ) → place-headed-lts.Need-failed-requir
 ) (place-headed-at t) place-headed.Post
 place-headed-failed-requires t c κs = search needs
 
--- src/walk.rt:254:35
+-- src/walk.rt:418:35
 place-headed-enum-told-4 : (t : ℕ) → place-headed-lts.Need-enum-told-4 (
   element-below t,
   element.Post,
@@ -2856,7 +2856,7 @@ place-headed-enum-told-4 : (t : ℕ) → place-headed-lts.Need-enum-told-4 (
 ) (place-headed-at t) place-headed.Post
 place-headed-enum-told-4 t c = search needs
 
--- src/walk.rt:254:28
+-- src/walk.rt:418:28
 place-headed-failed-requires-2 : (t : ℕ) → place-headed-lts.Need-failed-requires-2 (
   element-below t,
   element.Post,
@@ -2867,7 +2867,7 @@ place-headed-failed-requires-2 : (t : ℕ) → place-headed-lts.Need-failed-requ
 ) (place-headed-at t) place-headed.Post
 place-headed-failed-requires-2 t c κs = search needs
 
--- src/walk.rt:255:38
+-- src/walk.rt:419:38
 place-headed-enum-told-5 : (t : ℕ) → place-headed-lts.Need-enum-told-5 (
   element-below t,
   element.Post,
@@ -2878,7 +2878,7 @@ place-headed-enum-told-5 : (t : ℕ) → place-headed-lts.Need-enum-told-5 (
 ) (place-headed-at t) place-headed.Post
 place-headed-enum-told-5 t c = search needs
 
--- src/walk.rt:255:31
+-- src/walk.rt:419:31
 place-headed-failed-requires-3 : (t : ℕ) → place-headed-lts.Need-failed-requires-3 (
   element-below t,
   element.Post,
@@ -2889,7 +2889,7 @@ place-headed-failed-requires-3 : (t : ℕ) → place-headed-lts.Need-failed-requ
 ) (place-headed-at t) place-headed.Post
 place-headed-failed-requires-3 t c κs = search needs
 
--- src/walk.rt:256:38
+-- src/walk.rt:420:38
 place-headed-enum-told-6 : (t : ℕ) → place-headed-lts.Need-enum-told-6 (
   element-below t,
   element.Post,
@@ -2900,7 +2900,7 @@ place-headed-enum-told-6 : (t : ℕ) → place-headed-lts.Need-enum-told-6 (
 ) (place-headed-at t) place-headed.Post
 place-headed-enum-told-6 t c = search needs
 
--- src/walk.rt:256:31
+-- src/walk.rt:420:31
 place-headed-failed-requires-4 : (t : ℕ) → place-headed-lts.Need-failed-requires-4 (
   element-below t,
   element.Post,
@@ -2911,7 +2911,7 @@ place-headed-failed-requires-4 : (t : ℕ) → place-headed-lts.Need-failed-requ
 ) (place-headed-at t) place-headed.Post
 place-headed-failed-requires-4 t c κs = search needs
 
--- src/walk.rt:257:36
+-- src/walk.rt:421:36
 place-headed-enum-told-7 : (t : ℕ) → place-headed-lts.Need-enum-told-7 (
   element-below t,
   element.Post,
@@ -2922,7 +2922,7 @@ place-headed-enum-told-7 : (t : ℕ) → place-headed-lts.Need-enum-told-7 (
 ) (place-headed-at t) place-headed.Post
 place-headed-enum-told-7 t c = search needs
 
--- src/walk.rt:257:29
+-- src/walk.rt:421:29
 place-headed-failed-requires-5 : (t : ℕ) → place-headed-lts.Need-failed-requires-5 (
   element-below t,
   element.Post,
@@ -2933,7 +2933,7 @@ place-headed-failed-requires-5 : (t : ℕ) → place-headed-lts.Need-failed-requ
 ) (place-headed-at t) place-headed.Post
 place-headed-failed-requires-5 t c κs = search needs
 
--- src/walk.rt:258:36
+-- src/walk.rt:422:36
 place-headed-enum-told-8 : (t : ℕ) → place-headed-lts.Need-enum-told-8 (
   element-below t,
   element.Post,
@@ -2944,7 +2944,7 @@ place-headed-enum-told-8 : (t : ℕ) → place-headed-lts.Need-enum-told-8 (
 ) (place-headed-at t) place-headed.Post
 place-headed-enum-told-8 t c = search needs
 
--- src/walk.rt:258:29
+-- src/walk.rt:422:29
 place-headed-failed-requires-6 : (t : ℕ) → place-headed-lts.Need-failed-requires-6 (
   element-below t,
   element.Post,
@@ -2955,7 +2955,7 @@ place-headed-failed-requires-6 : (t : ℕ) → place-headed-lts.Need-failed-requ
 ) (place-headed-at t) place-headed.Post
 place-headed-failed-requires-6 t c κs = search needs
 
--- src/walk.rt:259:37
+-- src/walk.rt:423:37
 place-headed-enum-told-9 : (t : ℕ) → place-headed-lts.Need-enum-told-9 (
   element-below t,
   element.Post,
@@ -2966,7 +2966,7 @@ place-headed-enum-told-9 : (t : ℕ) → place-headed-lts.Need-enum-told-9 (
 ) (place-headed-at t) place-headed.Post
 place-headed-enum-told-9 t c = search needs
 
--- src/walk.rt:259:30
+-- src/walk.rt:423:30
 place-headed-failed-requires-7 : (t : ℕ) → place-headed-lts.Need-failed-requires-7 (
   element-below t,
   element.Post,
@@ -2977,7 +2977,7 @@ place-headed-failed-requires-7 : (t : ℕ) → place-headed-lts.Need-failed-requ
 ) (place-headed-at t) place-headed.Post
 place-headed-failed-requires-7 t c κs = search needs
 
--- src/walk.rt:247:1
+-- src/walk.rt:402:1
 place-headed-same-length : (t : ℕ) → place-headed-lts.Need-same-length (
   element-below t,
   element.Post,
@@ -2988,7 +2988,7 @@ place-headed-same-length : (t : ℕ) → place-headed-lts.Need-same-length (
 ) (place-headed-at t) place-headed.Post
 place-headed-same-length t c = search needs
 
--- src/walk.rt:247:1
+-- src/walk.rt:402:1
 place-headed-returns : (t : ℕ) → place-headed-lts.Need-returns (
   element-below t,
   element.Post,
@@ -2999,7 +2999,7 @@ place-headed-returns : (t : ℕ) → place-headed-lts.Need-returns (
 ) (place-headed-at t) place-headed.Post
 place-headed-returns t c = search by-place-laws
 
--- src/walk.rt:247:1
+-- src/walk.rt:402:1
 place-headed-same-length-2 : (t : ℕ) → place-headed-lts.Need-same-length-2 (
   element-below t,
   element.Post,
@@ -3010,7 +3010,7 @@ place-headed-same-length-2 : (t : ℕ) → place-headed-lts.Need-same-length-2 (
 ) (place-headed-at t) place-headed.Post
 place-headed-same-length-2 t c = search needs
 
--- src/walk.rt:247:1
+-- src/walk.rt:402:1
 place-headed-returns-2 : (t : ℕ) → place-headed-lts.Need-returns-2 (
   element-below t,
   element.Post,
@@ -3021,7 +3021,7 @@ place-headed-returns-2 : (t : ℕ) → place-headed-lts.Need-returns-2 (
 ) (place-headed-at t) place-headed.Post
 place-headed-returns-2 t c = search by-place-laws
 
--- src/walk.rt:247:1
+-- src/walk.rt:402:1
 place-headed-returns-3 : (t : ℕ) → place-headed-lts.Need-returns-3 (
   element-below t,
   element.Post,
@@ -3032,7 +3032,7 @@ place-headed-returns-3 : (t : ℕ) → place-headed-lts.Need-returns-3 (
 ) (place-headed-at t) place-headed.Post
 place-headed-returns-3 t c = search by-place-laws
 
--- src/walk.rt:247:1
+-- src/walk.rt:402:1
 place-headed-returns-4 : (t : ℕ) → place-headed-lts.Need-returns-4 (
   element-below t,
   element.Post,
@@ -3043,7 +3043,7 @@ place-headed-returns-4 : (t : ℕ) → place-headed-lts.Need-returns-4 (
 ) (place-headed-at t) place-headed.Post
 place-headed-returns-4 t c = search by-place-laws
 
--- src/walk.rt:247:1
+-- src/walk.rt:402:1
 place-headed-returns-5 : (t : ℕ) → place-headed-lts.Need-returns-5 (
   element-below t,
   element.Post,
@@ -3054,7 +3054,7 @@ place-headed-returns-5 : (t : ℕ) → place-headed-lts.Need-returns-5 (
 ) (place-headed-at t) place-headed.Post
 place-headed-returns-5 t c = search by-place-laws
 
--- src/walk.rt:247:1
+-- src/walk.rt:402:1
 place-headed-returns-6 : (t : ℕ) → place-headed-lts.Need-returns-6 (
   element-below t,
   element.Post,
@@ -3065,7 +3065,7 @@ place-headed-returns-6 : (t : ℕ) → place-headed-lts.Need-returns-6 (
 ) (place-headed-at t) place-headed.Post
 place-headed-returns-6 t c = search by-place-laws
 
--- src/walk.rt:247:1
+-- src/walk.rt:402:1
 place-headed-returns-7 : (t : ℕ) → place-headed-lts.Need-returns-7 (
   element-below t,
   element.Post,
@@ -3076,7 +3076,7 @@ place-headed-returns-7 : (t : ℕ) → place-headed-lts.Need-returns-7 (
 ) (place-headed-at t) place-headed.Post
 place-headed-returns-7 t c = search by-place-laws
 
--- src/walk.rt:247:1
+-- src/walk.rt:402:1
 place-headed-returns-8 : (t : ℕ) → place-headed-lts.Need-returns-8 (
   element-below t,
   element.Post,
@@ -3087,7 +3087,7 @@ place-headed-returns-8 : (t : ℕ) → place-headed-lts.Need-returns-8 (
 ) (place-headed-at t) place-headed.Post
 place-headed-returns-8 t c = search by-place-laws
 
--- src/walk.rt:247:1
+-- src/walk.rt:402:1
 place-headed-returns-9 : (t : ℕ) → place-headed-lts.Need-returns-9 (
   element-below t,
   element.Post,
@@ -3098,7 +3098,7 @@ place-headed-returns-9 : (t : ℕ) → place-headed-lts.Need-returns-9 (
 ) (place-headed-at t) place-headed.Post
 place-headed-returns-9 t c = search by-place-laws
 
--- src/walk.rt:104:9
+-- src/walk.rt:156:9
 second-expr-requires : (t : ℕ) → second-lts.Need-expr-requires (
   expr-below t,
   expr.Post,
@@ -3109,7 +3109,7 @@ second-expr-requires : (t : ℕ) → second-lts.Need-expr-requires (
 ) (second-at t) second.Post
 second-expr-requires t c κs = search needs
 
--- src/walk.rt:105:30
+-- src/walk.rt:157:30
 second-closing-requires : (t : ℕ) → second-lts.Need-closing-requires (
   expr-below t,
   expr.Post,
@@ -3120,7 +3120,7 @@ second-closing-requires : (t : ℕ) → second-lts.Need-closing-requires (
 ) (second-at t) second.Post
 second-closing-requires t c κs = search needs
 
--- src/walk.rt:105:5
+-- src/walk.rt:157:5
 second-pair-requires : (t : ℕ) → second-lts.Need-pair-requires (
   expr-below t,
   expr.Post,
@@ -3131,7 +3131,7 @@ second-pair-requires : (t : ℕ) → second-lts.Need-pair-requires (
 ) (second-at t) second.Post
 second-pair-requires t c κs = search needs
 
--- src/walk.rt:101:1
+-- src/walk.rt:145:1
 second-same-length : (t : ℕ) → second-lts.Need-same-length (
   expr-below t,
   expr.Post,
@@ -3142,7 +3142,7 @@ second-same-length : (t : ℕ) → second-lts.Need-same-length (
 ) (second-at t) second.Post
 second-same-length t c = search needs
 
--- src/walk.rt:101:1
+-- src/walk.rt:145:1
 second-returns : (t : ℕ) → second-lts.Need-returns (
   expr-below t,
   expr.Post,
@@ -3153,7 +3153,7 @@ second-returns : (t : ℕ) → second-lts.Need-returns (
 ) (second-at t) second.Post
 second-returns t c = search second-is
 
--- src/walk.rt:163:9
+-- src/walk.rt:257:9
 set-form-type-name-requires : (t : ℕ) → set-form-lts.Need-type-name-requires (
   type-name-reads.Asked,
   type-name-reads.Learnt,
@@ -3172,7 +3172,7 @@ set-form-type-name-requires : (t : ℕ) → set-form-lts.Need-type-name-requires
 ) (set-form-at t) set-form.Post
 set-form-type-name-requires t c κs = search needs
 
--- src/walk.rt:165:8
+-- src/walk.rt:259:8
 set-form-is-form-requires : (t : ℕ) → set-form-lts.Need-is-form-requires (
   type-name-reads.Asked,
   type-name-reads.Learnt,
@@ -3191,7 +3191,7 @@ set-form-is-form-requires : (t : ℕ) → set-form-lts.Need-is-form-requires (
 ) (set-form-at t) set-form.Post
 set-form-is-form-requires t c κs = search needs
 
--- src/walk.rt:166:9
+-- src/walk.rt:260:9
 set-form-failed-requires : (t : ℕ) → set-form-lts.Need-failed-requires (
   type-name-reads.Asked,
   type-name-reads.Learnt,
@@ -3210,7 +3210,7 @@ set-form-failed-requires : (t : ℕ) → set-form-lts.Need-failed-requires (
 ) (set-form-at t) set-form.Post
 set-form-failed-requires t c κs = search needs
 
--- src/walk.rt:166:9
+-- src/walk.rt:260:9
 set-form-same-length : (t : ℕ) → set-form-lts.Need-same-length (
   type-name-reads.Asked,
   type-name-reads.Learnt,
@@ -3229,7 +3229,7 @@ set-form-same-length : (t : ℕ) → set-form-lts.Need-same-length (
 ) (set-form-at t) set-form.Post
 set-form-same-length t c = search needs
 
--- src/walk.rt:166:9
+-- src/walk.rt:260:9
 set-form-returns : (t : ℕ) → set-form-lts.Need-returns (
   type-name-reads.Asked,
   type-name-reads.Learnt,
@@ -3248,7 +3248,7 @@ set-form-returns : (t : ℕ) → set-form-lts.Need-returns (
 ) (set-form-at t) set-form.Post
 set-form-returns t c = search set-form-laws
 
--- src/walk.rt:168:9
+-- src/walk.rt:262:9
 set-form-base-of-requires : (t : ℕ) → set-form-lts.Need-base-of-requires (
   type-name-reads.Asked,
   type-name-reads.Learnt,
@@ -3267,7 +3267,7 @@ set-form-base-of-requires : (t : ℕ) → set-form-lts.Need-base-of-requires (
 ) (set-form-at t) set-form.Post
 set-form-base-of-requires t c κs = search needs
 
--- src/walk.rt:169:9
+-- src/walk.rt:263:9
 set-form-slot-requires : (t : ℕ) → set-form-lts.Need-slot-requires (
   type-name-reads.Asked,
   type-name-reads.Learnt,
@@ -3286,7 +3286,7 @@ set-form-slot-requires : (t : ℕ) → set-form-lts.Need-slot-requires (
 ) (set-form-at t) set-form.Post
 set-form-slot-requires t c κs = search needs
 
--- src/walk.rt:170:9
+-- src/walk.rt:264:9
 set-form-member-list-requires : (t : ℕ) → set-form-lts.Need-member-list-requires (
   type-name-reads.Asked,
   type-name-reads.Learnt,
@@ -3305,7 +3305,7 @@ set-form-member-list-requires : (t : ℕ) → set-form-lts.Need-member-list-requ
 ) (set-form-at t) set-form.Post
 set-form-member-list-requires t c κs = search needs
 
--- src/walk.rt:172:5
+-- src/walk.rt:276:5
 set-form-set-of-requires : (t : ℕ) → set-form-lts.Need-set-of-requires (
   type-name-reads.Asked,
   type-name-reads.Learnt,
@@ -3324,7 +3324,7 @@ set-form-set-of-requires : (t : ℕ) → set-form-lts.Need-set-of-requires (
 ) (set-form-at t) set-form.Post
 set-form-set-of-requires t c κs = search needs
 
--- src/walk.rt:160:1
+-- src/walk.rt:246:1
 set-form-same-length-2 : (t : ℕ) → set-form-lts.Need-same-length-2 (
   type-name-reads.Asked,
   type-name-reads.Learnt,
@@ -3343,7 +3343,7 @@ set-form-same-length-2 : (t : ℕ) → set-form-lts.Need-same-length-2 (
 ) (set-form-at t) set-form.Post
 set-form-same-length-2 t c = search needs
 
--- src/walk.rt:160:1
+-- src/walk.rt:246:1
 set-form-returns-2 : (t : ℕ) → set-form-lts.Need-returns-2 (
   type-name-reads.Asked,
   type-name-reads.Learnt,
@@ -3362,7 +3362,7 @@ set-form-returns-2 : (t : ℕ) → set-form-lts.Need-returns-2 (
 ) (set-form-at t) set-form.Post
 set-form-returns-2 t c = search set-form-laws
 
--- src/walk.rt:112:9
+-- src/walk.rt:173:9
 short-expr-requires : (t : ℕ) → short-lts.Need-expr-requires (
   expr-below t,
   expr.Post,
@@ -3375,7 +3375,7 @@ short-expr-requires : (t : ℕ) → short-lts.Need-expr-requires (
 ) (short-at t) short.Post
 short-expr-requires t c κs = search needs
 
--- src/walk.rt:114:8
+-- src/walk.rt:175:8
 short-is-form-requires : (t : ℕ) → short-lts.Need-is-form-requires (
   expr-below t,
   expr.Post,
@@ -3388,7 +3388,7 @@ short-is-form-requires : (t : ℕ) → short-lts.Need-is-form-requires (
 ) (short-at t) short.Post
 short-is-form-requires t c κs = search needs
 
--- src/walk.rt:115:9
+-- src/walk.rt:176:9
 short-same-length : (t : ℕ) → short-lts.Need-same-length (
   expr-below t,
   expr.Post,
@@ -3401,7 +3401,7 @@ short-same-length : (t : ℕ) → short-lts.Need-same-length (
 ) (short-at t) short.Post
 short-same-length t c = search needs
 
--- src/walk.rt:115:9
+-- src/walk.rt:176:9
 short-returns : (t : ℕ) → short-lts.Need-returns (
   expr-below t,
   expr.Post,
@@ -3414,7 +3414,7 @@ short-returns : (t : ℕ) → short-lts.Need-returns (
 ) (short-at t) short.Post
 short-returns t c = search short-laws
 
--- src/walk.rt:117:9
+-- src/walk.rt:178:9
 short-expr-requires-2 : (t : ℕ) → short-lts.Need-expr-requires-2 (
   expr-below t,
   expr.Post,
@@ -3427,7 +3427,7 @@ short-expr-requires-2 : (t : ℕ) → short-lts.Need-expr-requires-2 (
 ) (short-at t) short.Post
 short-expr-requires-2 t c κs = search needs
 
--- src/walk.rt:118:32
+-- src/walk.rt:179:32
 short-closing-requires : (t : ℕ) → short-lts.Need-closing-requires (
   expr-below t,
   expr.Post,
@@ -3440,7 +3440,7 @@ short-closing-requires : (t : ℕ) → short-lts.Need-closing-requires (
 ) (short-at t) short.Post
 short-closing-requires t c κs = search needs
 
--- src/walk.rt:118:5
+-- src/walk.rt:179:5
 short-short-pair-requires : (t : ℕ) → short-lts.Need-short-pair-requires (
   expr-below t,
   expr.Post,
@@ -3453,7 +3453,7 @@ short-short-pair-requires : (t : ℕ) → short-lts.Need-short-pair-requires (
 ) (short-at t) short.Post
 short-short-pair-requires t c κs = search needs
 
--- src/walk.rt:109:1
+-- src/walk.rt:161:1
 short-same-length-2 : (t : ℕ) → short-lts.Need-same-length-2 (
   expr-below t,
   expr.Post,
@@ -3466,7 +3466,7 @@ short-same-length-2 : (t : ℕ) → short-lts.Need-same-length-2 (
 ) (short-at t) short.Post
 short-same-length-2 t c = search needs
 
--- src/walk.rt:109:1
+-- src/walk.rt:161:1
 short-returns-2 : (t : ℕ) → short-lts.Need-returns-2 (
   expr-below t,
   expr.Post,
@@ -3479,7 +3479,7 @@ short-returns-2 : (t : ℕ) → short-lts.Need-returns-2 (
 ) (short-at t) short.Post
 short-returns-2 t c = search short-laws
 
--- src/walk.rt:224:9
+-- src/walk.rt:362:9
 target-failed-requires : (t : ℕ) → target-lts.Need-failed-requires (
   failed-reads.Asked,
   failed-reads.Learnt,
@@ -3492,7 +3492,7 @@ target-failed-requires : (t : ℕ) → target-lts.Need-failed-requires (
 ) (target-at t) target.Post
 target-failed-requires t c κs = search needs
 
--- src/walk.rt:224:9
+-- src/walk.rt:362:9
 target-returns : (t : ℕ) → target-lts.Need-returns (
   failed-reads.Asked,
   failed-reads.Learnt,
@@ -3505,7 +3505,7 @@ target-returns : (t : ℕ) → target-lts.Need-returns (
 ) (target-at t) target.Post
 target-returns t c = search target-laws
 
--- src/walk.rt:226:9
+-- src/walk.rt:364:9
 target-part-at-requires : (t : ℕ) → target-lts.Need-part-at-requires (
   failed-reads.Asked,
   failed-reads.Learnt,
@@ -3518,7 +3518,7 @@ target-part-at-requires : (t : ℕ) → target-lts.Need-part-at-requires (
 ) (target-at t) target.Post
 target-part-at-requires t c κs = search needs
 
--- src/walk.rt:228:20
+-- src/walk.rt:366:20
 target-enum-known-p : (t : ℕ) → target-lts.Need-enum-known-p (
   failed-reads.Asked,
   failed-reads.Learnt,
@@ -3531,7 +3531,7 @@ target-enum-known-p : (t : ℕ) → target-lts.Need-enum-known-p (
 ) (target-at t) target.Post
 target-enum-known-p t c = search needs
 
--- src/walk.rt:228:32
+-- src/walk.rt:366:32
 target-variable-requires : (t : ℕ) → target-lts.Need-variable-requires (
   failed-reads.Asked,
   failed-reads.Learnt,
@@ -3544,7 +3544,7 @@ target-variable-requires : (t : ℕ) → target-lts.Need-variable-requires (
 ) (target-at t) target.Post
 target-variable-requires t c κs = search needs
 
--- src/walk.rt:229:20
+-- src/walk.rt:367:20
 target-enum-known-p-2 : (t : ℕ) → target-lts.Need-enum-known-p-2 (
   failed-reads.Asked,
   failed-reads.Learnt,
@@ -3557,7 +3557,7 @@ target-enum-known-p-2 : (t : ℕ) → target-lts.Need-enum-known-p-2 (
 ) (target-at t) target.Post
 target-enum-known-p-2 t c = search needs
 
--- src/walk.rt:229:66
+-- src/walk.rt:367:58
 target-sub-place : (t : ℕ) → target-lts.Need-sub-place (
   failed-reads.Asked,
   failed-reads.Learnt,
@@ -3570,7 +3570,7 @@ target-sub-place : (t : ℕ) → target-lts.Need-sub-place (
 ) (target-at t) target.Post
 target-sub-place t c = search needs
 
--- src/walk.rt:229:26
+-- src/walk.rt:367:26
 target-place-requires : (t : ℕ) → target-lts.Need-place-requires (
   failed-reads.Asked,
   failed-reads.Learnt,
@@ -3583,7 +3583,7 @@ target-place-requires : (t : ℕ) → target-lts.Need-place-requires (
 ) (target-at t) target.Post
 target-place-requires t c κs = search needs
 
--- src/walk.rt:230:20
+-- src/walk.rt:368:20
 target-enum-known-p-3 : (t : ℕ) → target-lts.Need-enum-known-p-3 (
   failed-reads.Asked,
   failed-reads.Learnt,
@@ -3596,7 +3596,7 @@ target-enum-known-p-3 : (t : ℕ) → target-lts.Need-enum-known-p-3 (
 ) (target-at t) target.Post
 target-enum-known-p-3 t c = search needs
 
--- src/walk.rt:230:26
+-- src/walk.rt:368:26
 target-failed-requires-2 : (t : ℕ) → target-lts.Need-failed-requires-2 (
   failed-reads.Asked,
   failed-reads.Learnt,
@@ -3609,7 +3609,7 @@ target-failed-requires-2 : (t : ℕ) → target-lts.Need-failed-requires-2 (
 ) (target-at t) target.Post
 target-failed-requires-2 t c κs = search needs
 
--- src/walk.rt:220:1
+-- src/walk.rt:350:1
 target-same-length : (t : ℕ) → target-lts.Need-same-length (
   failed-reads.Asked,
   failed-reads.Learnt,
@@ -3622,7 +3622,7 @@ target-same-length : (t : ℕ) → target-lts.Need-same-length (
 ) (target-at t) target.Post
 target-same-length t c = search needs
 
--- src/walk.rt:220:1
+-- src/walk.rt:350:1
 target-returns-2 : (t : ℕ) → target-lts.Need-returns-2 (
   failed-reads.Asked,
   failed-reads.Learnt,
@@ -3635,7 +3635,7 @@ target-returns-2 : (t : ℕ) → target-lts.Need-returns-2 (
 ) (target-at t) target.Post
 target-returns-2 t c = search target-laws
 
--- src/walk.rt:220:1
+-- src/walk.rt:350:1
 target-same-length-2 : (t : ℕ) → target-lts.Need-same-length-2 (
   failed-reads.Asked,
   failed-reads.Learnt,
@@ -3648,7 +3648,7 @@ target-same-length-2 : (t : ℕ) → target-lts.Need-same-length-2 (
 ) (target-at t) target.Post
 target-same-length-2 t c = search needs
 
--- src/walk.rt:220:1
+-- src/walk.rt:350:1
 target-returns-3 : (t : ℕ) → target-lts.Need-returns-3 (
   failed-reads.Asked,
   failed-reads.Learnt,
@@ -3661,7 +3661,7 @@ target-returns-3 : (t : ℕ) → target-lts.Need-returns-3 (
 ) (target-at t) target.Post
 target-returns-3 t c = search target-laws
 
--- src/walk.rt:220:1
+-- src/walk.rt:350:1
 target-returns-4 : (t : ℕ) → target-lts.Need-returns-4 (
   failed-reads.Asked,
   failed-reads.Learnt,
@@ -3674,7 +3674,7 @@ target-returns-4 : (t : ℕ) → target-lts.Need-returns-4 (
 ) (target-at t) target.Post
 target-returns-4 t c = search target-laws
 
--- src/walk.rt:90:9
+-- src/walk.rt:134:9
 two-failed-requires : (t : ℕ) → two-lts.Need-failed-requires (
   failed-reads.Asked,
   failed-reads.Learnt,
@@ -3687,7 +3687,7 @@ two-failed-requires : (t : ℕ) → two-lts.Need-failed-requires (
 ) (two-at t) two.Post
 two-failed-requires t c κs = search needs
 
--- src/walk.rt:90:9
+-- src/walk.rt:134:9
 two-returns : (t : ℕ) → two-lts.Need-returns (
   failed-reads.Asked,
   failed-reads.Learnt,
@@ -3700,7 +3700,7 @@ two-returns : (t : ℕ) → two-lts.Need-returns (
 ) (two-at t) two.Post
 two-returns t c = search two-laws
 
--- src/walk.rt:92:9
+-- src/walk.rt:136:9
 two-expr-requires : (t : ℕ) → two-lts.Need-expr-requires (
   failed-reads.Asked,
   failed-reads.Learnt,
@@ -3713,7 +3713,7 @@ two-expr-requires : (t : ℕ) → two-lts.Need-expr-requires (
 ) (two-at t) two.Post
 two-expr-requires t c κs = search needs
 
--- src/walk.rt:94:8
+-- src/walk.rt:138:8
 two-is-form-requires : (t : ℕ) → two-lts.Need-is-form-requires (
   failed-reads.Asked,
   failed-reads.Learnt,
@@ -3726,7 +3726,7 @@ two-is-form-requires : (t : ℕ) → two-lts.Need-is-form-requires (
 ) (two-at t) two.Post
 two-is-form-requires t c κs = search needs
 
--- src/walk.rt:95:9
+-- src/walk.rt:139:9
 two-same-length : (t : ℕ) → two-lts.Need-same-length (
   failed-reads.Asked,
   failed-reads.Learnt,
@@ -3739,7 +3739,7 @@ two-same-length : (t : ℕ) → two-lts.Need-same-length (
 ) (two-at t) two.Post
 two-same-length t c = search needs
 
--- src/walk.rt:95:9
+-- src/walk.rt:139:9
 two-returns-2 : (t : ℕ) → two-lts.Need-returns-2 (
   failed-reads.Asked,
   failed-reads.Learnt,
@@ -3752,7 +3752,7 @@ two-returns-2 : (t : ℕ) → two-lts.Need-returns-2 (
 ) (two-at t) two.Post
 two-returns-2 t c = search two-laws
 
--- src/walk.rt:97:5
+-- src/walk.rt:141:5
 two-second-requires : (t : ℕ) → two-lts.Need-second-requires (
   failed-reads.Asked,
   failed-reads.Learnt,
@@ -3765,7 +3765,7 @@ two-second-requires : (t : ℕ) → two-lts.Need-second-requires (
 ) (two-at t) two.Post
 two-second-requires t c κs = search needs
 
--- src/walk.rt:86:1
+-- src/walk.rt:121:1
 two-same-length-2 : (t : ℕ) → two-lts.Need-same-length-2 (
   failed-reads.Asked,
   failed-reads.Learnt,
@@ -3778,7 +3778,7 @@ two-same-length-2 : (t : ℕ) → two-lts.Need-same-length-2 (
 ) (two-at t) two.Post
 two-same-length-2 t c = search needs
 
--- src/walk.rt:86:1
+-- src/walk.rt:121:1
 two-returns-3 : (t : ℕ) → two-lts.Need-returns-3 (
   failed-reads.Asked,
   failed-reads.Learnt,

@@ -4,28 +4,23 @@ use Rattle.judge.proofs.entering.proc_end.Statement.{statement}
 use Rattle.judge.proofs.entering.proc_end.Tie as tie
 use Rattle.judge.proofs.entering.proc_end.Reads as reads
 use Rattle.judge.proofs.entering.proc_end.Lts as lts
-use Rattle.declarations.proofs.narrow.Reads as narrow-reads
 use Rattle.judge.proofs.entering.proc_entry.Reads as proc-entry-reads
 use Rattle.parts.proofs.is_clear.Reads as is-clear-reads
 use Rattle.symbols.proofs.declare.Reads as declare-reads
 
--- src/entering.rt:103:8
+-- src/entering.rt:96:8
 is-clear-requires : tie.Need-is-clear-requires
 is-clear-requires c κs = search needs
 
--- src/entering.rt:105:38
-narrow-requires : tie.Need-narrow-requires
-narrow-requires c κs = search needs
-
--- src/entering.rt:105:53
+-- src/entering.rt:102:17
 mul-declare : tie.Need-mul-declare
 mul-declare c = search needs
 
--- src/entering.rt:105:49
+-- src/entering.rt:102:13
 add-declare : tie.Need-add-declare
 add-declare c = search needs
 
--- src/entering.rt:105:13
+-- src/entering.rt:98:13
 declare-requires : tie.Need-declare-requires
 declare-requires c κs = search needs
 
@@ -45,7 +40,7 @@ returns c = search proc-end-laws
 proc-entry-requires-2 : tie.Need-proc-entry-requires-2
 proc-entry-requires-2 c κs = search needs
 
--- src/entering.rt:100:1
+-- src/entering.rt:93:1
 returns-2 : tie.Need-returns-2
 returns-2 c = search proc-end-laws
 
@@ -54,7 +49,6 @@ proc-end-spec =
     tie.close
     (tie.spec
     is-clear-requires
-    narrow-requires
     mul-declare
     add-declare
     declare-requires

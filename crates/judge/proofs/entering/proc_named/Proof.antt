@@ -8,28 +8,33 @@ use Rattle.declarations.proofs.named_fault.Reads as named-fault-reads
 use Rattle.judge.proofs.entering.proc_end.Reads as proc-end-reads
 use Rattle.parts.proofs.lowest.Reads as lowest-reads
 use Rattle.statements.proofs.body.body.Reads as body-reads
+use Rattle.symbols.proofs.keys.name_number.Reads as name-number-reads
 
--- src/entering.rt:140:9
+-- src/entering.rt:123:9
 named-fault-requires : tie.Need-named-fault-requires
 named-fault-requires c κs = search needs
 
--- src/entering.rt:141:9
+-- src/entering.rt:124:9
 body-requires : tie.Need-body-requires
 body-requires c κs = search needs
 
--- src/entering.rt:153:24
+-- src/entering.rt:135:9
+name-number-requires : tie.Need-name-number-requires
+name-number-requires c κs = search needs
+
+-- src/entering.rt:136:24
 lowest-requires : tie.Need-lowest-requires
 lowest-requires c κs = search needs
 
--- src/entering.rt:153:5
+-- src/entering.rt:136:5
 proc-end-requires : tie.Need-proc-end-requires
 proc-end-requires c κs = search needs
 
--- src/entering.rt:129:1
+-- src/entering.rt:112:1
 same-length : tie.Need-same-length
 same-length c = search needs
 
--- src/entering.rt:129:1
+-- src/entering.rt:112:1
 returns : tie.Need-returns
 returns c = search proc-named-is
 
@@ -39,6 +44,7 @@ proc-named-spec =
     (tie.spec
     named-fault-requires
     body-requires
+    name-number-requires
     lowest-requires
     proc-end-requires
     same-length

@@ -8,39 +8,39 @@ use Rattle.kept.proofs.control.start_by.Reads as start-by-reads
 use Rattle.parts.proofs.part_at.Reads as part-at-reads
 use Rattle.tables.proofs.meaning_of.Reads as meaning-of-reads
 
--- src/control.rt:133:9
+-- src/control.rt:124:9
 part-at-requires : tie.Need-part-at-requires
 part-at-requires c κs = search needs
 
--- src/control.rt:135:23
+-- src/control.rt:126:23
 enum-known-part : tie.Need-enum-known-part
 enum-known-part c = search needs
 
--- src/control.rt:135:54
+-- src/control.rt:126:54
 meaning-of-requires : tie.Need-meaning-of-requires
 meaning-of-requires c κs = search needs
 
--- src/control.rt:135:32
+-- src/control.rt:126:32
 start-by-requires : tie.Need-start-by-requires
 start-by-requires c κs = search needs
 
--- src/control.rt:136:26
+-- src/control.rt:127:26
 enum-told : tie.Need-enum-told
 enum-told c = search needs
 
--- src/control.rt:137:26
+-- src/control.rt:128:26
 enum-told-2 : tie.Need-enum-told-2
 enum-told-2 c = search needs
 
--- src/control.rt:123:1
+-- src/control.rt:121:1
 returns : tie.Need-returns
 returns c = search start-laws
 
--- src/control.rt:123:1
+-- src/control.rt:121:1
 returns-2 : tie.Need-returns-2
 returns-2 c = search start-laws
 
--- src/control.rt:123:1
+-- src/control.rt:121:1
 returns-3 : tie.Need-returns-3
 returns-3 c = search start-laws
 

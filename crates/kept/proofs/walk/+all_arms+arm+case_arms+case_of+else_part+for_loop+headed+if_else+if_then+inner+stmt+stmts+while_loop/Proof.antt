@@ -57,6 +57,7 @@ use Rattle.plain.proofs.plain_part.Reads as plain-part-reads
 use Rattle.shapes.proofs.verb_of.Reads as verb-of-reads
 use Rattle.skips.proofs.skip.Reads as skip-reads
 use Rattle.statements.proofs.arms.arm_at.Reads as arm-at-reads
+use Rattle.tables.proofs.with_loop.Reads as with-loop-reads
 use Rattle.kept.proofs.walk.+all_arms+arm+case_arms+case_of+else_part+for_loop+headed+if_else+if_then+inner+stmt+stmts+while_loop.{
   statement,
 }
@@ -65,43 +66,43 @@ use Rattle.kept.proofs.walk.+all_arms+arm+case_arms+case_of+else_part+f
 }
 
 abbrev μ-all-arms : Measures 2 all-arms-kinds.ps ℕ
-μ-all-arms κs a = 8 * a .1 .1 .1 .1 .1 .0 + 3
+μ-all-arms κs a = 8 * a .1 .1 .1 .1 .0 + 3
 
 abbrev μ-arm : Measures 2 arm-kinds.ps ℕ
-μ-arm κs a = 8 * a .1 .1 .1 .1 .1 .0 + 2
+μ-arm κs a = 8 * a .1 .1 .1 .1 .0 + 2
 
 abbrev μ-case-arms : Measures 2 case-arms-kinds.ps ℕ
-μ-case-arms κs a = 8 * a .1 .1 .1 .1 .1 .0 + 4
+μ-case-arms κs a = 8 * a .1 .1 .1 .1 .0 + 4
 
 abbrev μ-case-of : Measures 2 case-of-kinds.ps ℕ
-μ-case-of κs a = 8 * a .1 .1 .1 .1 .1 .0 + 5
+μ-case-of κs a = 8 * a .1 .1 .1 .1 .0 + 5
 
 abbrev μ-else-part : Measures 2 else-part-kinds.ps ℕ
-μ-else-part κs a = 8 * a .1 .1 .1 .1 .1 .0 + 1
+μ-else-part κs a = 8 * a .1 .1 .1 .1 .0 + 1
 
 abbrev μ-for-loop : Measures 2 for-loop-kinds.ps ℕ
-μ-for-loop κs a = 8 * a .1 .1 .1 .1 .1 .0 + 1
+μ-for-loop κs a = 8 * a .1 .1 .1 .1 .0 + 1
 
 abbrev μ-headed : Measures 2 headed-kinds.ps ℕ
-μ-headed κs a = 8 * a .1 .1 .1 .1 .1 .1 .0 + 6
+μ-headed κs a = 8 * a .1 .1 .1 .1 .1 .0 + 6
 
 abbrev μ-if-else : Measures 2 if-else-kinds.ps ℕ
-μ-if-else κs a = 8 * a .1 .1 .1 .1 .1 .0 + 3
+μ-if-else κs a = 8 * a .1 .1 .1 .1 .0 + 3
 
 abbrev μ-if-then : Measures 2 if-then-kinds.ps ℕ
-μ-if-then κs a = 8 * a .1 .1 .1 .1 .1 .0 + 2
+μ-if-then κs a = 8 * a .1 .1 .1 .1 .0 + 2
 
 abbrev μ-inner : Measures 2 inner-kinds.ps ℕ
-μ-inner κs a = 8 * a .1 .1 .1 .1 .1 .0 + 7
+μ-inner κs a = 8 * a .1 .1 .1 .1 .0 + 7
 
 abbrev μ-stmt : Measures 2 stmt-kinds.ps ℕ
-μ-stmt κs a = 8 * a .1 .1 .1 .1 .1 .0
+μ-stmt κs a = 8 * a .1 .1 .1 .1 .0
 
 abbrev μ-stmts : Measures 2 stmts-kinds.ps ℕ
-μ-stmts κs a = 8 * a .1 .1 .1 .1 .1 .0 + 1
+μ-stmts κs a = 8 * a .1 .1 .1 .1 .0 + 1
 
 abbrev μ-while-loop : Measures 2 while-loop-kinds.ps ℕ
-μ-while-loop κs a = 8 * a .1 .1 .1 .1 .1 .0 + 1
+μ-while-loop κs a = 8 * a .1 .1 .1 .1 .0 + 1
 
 abbrev all-arms-at : ℕ → In 2 all-arms-kinds.ps
 all-arms-at t = and 2 all-arms-kinds.ps (is 2 all-arms-kinds.ps μ-all-arms t) all-arms.Pre
@@ -188,12 +189,12 @@ while-loop-below t =
     and 2 while-loop-kinds.ps (falls 2 while-loop-kinds.ps _<_ μ-while-loop t) while-loop.Pre
 
 abbrev all-arms-Inv-loop : all-arms-lts.InvT-loop
-all-arms-Inv-loop text work count newest loops depth at p₀ p = Arming text work count newest loops depth at p
+all-arms-Inv-loop text work scope loops depth at p₀ p = Arming text work scope loops depth at p
 
 abbrev all-arms-μ-loop : all-arms-lts.MeasureT-loop
-all-arms-μ-loop text work count newest loops depth at p₀ p = many (first (stackAt text p))
+all-arms-μ-loop text work scope loops depth at p₀ p = many (first (stackAt text p))
 
--- src/walk.rt:269:5
+-- src/walk.rt:259:5
 all-arms-loop-holds : (t : ℕ) → all-arms-lts.Need-loop-holds (
   arm-at-reads.Asked,
   arm-at-reads.Learnt,
@@ -204,9 +205,9 @@ all-arms-loop-holds : (t : ℕ) → all-arms-lts.Need-loop-holds (
   skip-reads.Asked,
   skip-reads.Learnt,
 ) (all-arms-at t) all-arms.Post all-arms-Inv-loop all-arms-μ-loop
-all-arms-loop-holds t c = arms-start _ _ _ _ _ _ _
+all-arms-loop-holds t c = arms-start _ _ _ _ _ _
 
--- src/walk.rt:270:13
+-- src/walk.rt:260:13
 all-arms-arm-at-requires : (t : ℕ) → all-arms-lts.Need-arm-at-requires (
   arm-at-reads.Asked,
   arm-at-reads.Learnt,
@@ -219,7 +220,7 @@ all-arms-arm-at-requires : (t : ℕ) → all-arms-lts.Need-arm-at-requires (
 ) (all-arms-at t) all-arms.Post all-arms-Inv-loop all-arms-μ-loop
 all-arms-arm-at-requires t c κs = search needs
 
--- src/walk.rt:273:17
+-- src/walk.rt:263:17
 all-arms-enum-told : (t : ℕ) → all-arms-lts.Need-enum-told (
   arm-at-reads.Asked,
   arm-at-reads.Learnt,
@@ -232,7 +233,7 @@ all-arms-enum-told : (t : ℕ) → all-arms-lts.Need-enum-told (
 ) (all-arms-at t) all-arms.Post all-arms-Inv-loop all-arms-μ-loop
 all-arms-enum-told t c = search needs
 
--- src/walk.rt:273:17
+-- src/walk.rt:263:17
 all-arms-returns : (t : ℕ) → all-arms-lts.Need-returns (
   arm-at-reads.Asked,
   arm-at-reads.Learnt,
@@ -245,7 +246,7 @@ all-arms-returns : (t : ℕ) → all-arms-lts.Need-returns (
 ) (all-arms-at t) all-arms.Post all-arms-Inv-loop all-arms-μ-loop
 all-arms-returns t c = search arms-laws
 
--- src/walk.rt:275:27
+-- src/walk.rt:265:27
 all-arms-enum-known-e : (t : ℕ) → all-arms-lts.Need-enum-known-e (
   arm-at-reads.Asked,
   arm-at-reads.Learnt,
@@ -258,7 +259,7 @@ all-arms-enum-known-e : (t : ℕ) → all-arms-lts.Need-enum-known-e (
 ) (all-arms-at t) all-arms.Post all-arms-Inv-loop all-arms-μ-loop
 all-arms-enum-known-e t c = search needs
 
--- src/walk.rt:276:17
+-- src/walk.rt:266:17
 all-arms-stmt-requires : (t : ℕ) → all-arms-lts.Need-stmt-requires (
   arm-at-reads.Asked,
   arm-at-reads.Learnt,
@@ -271,7 +272,7 @@ all-arms-stmt-requires : (t : ℕ) → all-arms-lts.Need-stmt-requires (
 ) (all-arms-at t) all-arms.Post all-arms-Inv-loop all-arms-μ-loop
 all-arms-stmt-requires t c κs = search needs
 
--- src/walk.rt:276:17
+-- src/walk.rt:266:17
 all-arms-returns-2 : (t : ℕ) → all-arms-lts.Need-returns-2 (
   arm-at-reads.Asked,
   arm-at-reads.Learnt,
@@ -284,7 +285,7 @@ all-arms-returns-2 : (t : ℕ) → all-arms-lts.Need-returns-2 (
 ) (all-arms-at t) all-arms.Post all-arms-Inv-loop all-arms-μ-loop
 all-arms-returns-2 t c = search arms-laws
 
--- src/walk.rt:279:17
+-- src/walk.rt:269:17
 all-arms-enum-told-2 : (t : ℕ) → all-arms-lts.Need-enum-told-2 (
   arm-at-reads.Asked,
   arm-at-reads.Learnt,
@@ -297,7 +298,7 @@ all-arms-enum-told-2 : (t : ℕ) → all-arms-lts.Need-enum-told-2 (
 ) (all-arms-at t) all-arms.Post all-arms-Inv-loop all-arms-μ-loop
 all-arms-enum-told-2 t c = search needs
 
--- src/walk.rt:279:17
+-- src/walk.rt:269:17
 all-arms-returns-3 : (t : ℕ) → all-arms-lts.Need-returns-3 (
   arm-at-reads.Asked,
   arm-at-reads.Learnt,
@@ -310,7 +311,7 @@ all-arms-returns-3 : (t : ℕ) → all-arms-lts.Need-returns-3 (
 ) (all-arms-at t) all-arms.Post all-arms-Inv-loop all-arms-μ-loop
 all-arms-returns-3 t c = search arms-laws
 
--- src/walk.rt:281:26
+-- src/walk.rt:271:26
 all-arms-enum-known-e-2 : (t : ℕ) → all-arms-lts.Need-enum-known-e-2 (
   arm-at-reads.Asked,
   arm-at-reads.Learnt,
@@ -323,7 +324,7 @@ all-arms-enum-known-e-2 : (t : ℕ) → all-arms-lts.Need-enum-known-e-2 (
 ) (all-arms-at t) all-arms.Post all-arms-Inv-loop all-arms-μ-loop
 all-arms-enum-known-e-2 t c = search needs
 
--- src/walk.rt:282:20
+-- src/walk.rt:272:20
 all-arms-arm-requires : (t : ℕ) → all-arms-lts.Need-arm-requires (
   arm-at-reads.Asked,
   arm-at-reads.Learnt,
@@ -336,7 +337,7 @@ all-arms-arm-requires : (t : ℕ) → all-arms-lts.Need-arm-requires (
 ) (all-arms-at t) all-arms.Post all-arms-Inv-loop all-arms-μ-loop
 all-arms-arm-requires t c κs = search needs
 
--- src/walk.rt:283:21
+-- src/walk.rt:273:21
 all-arms-skip-requires : (t : ℕ) → all-arms-lts.Need-skip-requires (
   arm-at-reads.Asked,
   arm-at-reads.Learnt,
@@ -349,7 +350,7 @@ all-arms-skip-requires : (t : ℕ) → all-arms-lts.Need-skip-requires (
 ) (all-arms-at t) all-arms.Post all-arms-Inv-loop all-arms-μ-loop
 all-arms-skip-requires t c κs = search needs
 
--- src/walk.rt:269:5
+-- src/walk.rt:259:5
 all-arms-loop-less : (t : ℕ) → all-arms-lts.Need-loop-less (
   arm-at-reads.Asked,
   arm-at-reads.Learnt,
@@ -362,7 +363,7 @@ all-arms-loop-less : (t : ℕ) → all-arms-lts.Need-loop-less (
 ) (all-arms-at t) all-arms.Post all-arms-Inv-loop all-arms-μ-loop
 all-arms-loop-less t c = search arms-falls
 
--- src/walk.rt:269:5
+-- src/walk.rt:259:5
 all-arms-loop-again : (t : ℕ) → all-arms-lts.Need-loop-again (
   arm-at-reads.Asked,
   arm-at-reads.Learnt,
@@ -375,7 +376,7 @@ all-arms-loop-again : (t : ℕ) → all-arms-lts.Need-loop-again (
 ) (all-arms-at t) all-arms.Post all-arms-Inv-loop all-arms-μ-loop
 all-arms-loop-again t c = search arms-laws
 
--- src/walk.rt:285:21
+-- src/walk.rt:275:21
 all-arms-returns-4 : (t : ℕ) → all-arms-lts.Need-returns-4 (
   arm-at-reads.Asked,
   arm-at-reads.Learnt,
@@ -388,7 +389,7 @@ all-arms-returns-4 : (t : ℕ) → all-arms-lts.Need-returns-4 (
 ) (all-arms-at t) all-arms.Post all-arms-Inv-loop all-arms-μ-loop
 all-arms-returns-4 t c = search arms-laws
 
--- src/walk.rt:304:9
+-- src/walk.rt:293:9
 arm-after-labels-requires : (t : ℕ) → arm-lts.Need-after-labels-requires (
   after-labels-reads.Asked,
   after-labels-reads.Learnt,
@@ -397,7 +398,7 @@ arm-after-labels-requires : (t : ℕ) → arm-lts.Need-after-labels-requires (
 ) (arm-at t) arm.Post
 arm-after-labels-requires t c κs = search needs
 
--- src/walk.rt:306:24
+-- src/walk.rt:295:24
 arm-enum-known-x : (t : ℕ) → arm-lts.Need-enum-known-x (
   after-labels-reads.Asked,
   after-labels-reads.Learnt,
@@ -406,7 +407,7 @@ arm-enum-known-x : (t : ℕ) → arm-lts.Need-enum-known-x (
 ) (arm-at t) arm.Post
 arm-enum-known-x t c = search needs
 
--- src/walk.rt:306:30
+-- src/walk.rt:295:30
 arm-stmt-requires : (t : ℕ) → arm-lts.Need-stmt-requires (
   after-labels-reads.Asked,
   after-labels-reads.Learnt,
@@ -415,7 +416,7 @@ arm-stmt-requires : (t : ℕ) → arm-lts.Need-stmt-requires (
 ) (arm-at t) arm.Post
 arm-stmt-requires t c κs = search needs
 
--- src/walk.rt:307:29
+-- src/walk.rt:296:29
 arm-enum-told : (t : ℕ) → arm-lts.Need-enum-told (
   after-labels-reads.Asked,
   after-labels-reads.Learnt,
@@ -424,7 +425,7 @@ arm-enum-told : (t : ℕ) → arm-lts.Need-enum-told (
 ) (arm-at t) arm.Post
 arm-enum-told t c = search needs
 
--- src/walk.rt:308:30
+-- src/walk.rt:297:30
 arm-enum-told-2 : (t : ℕ) → arm-lts.Need-enum-told-2 (
   after-labels-reads.Asked,
   after-labels-reads.Learnt,
@@ -433,7 +434,7 @@ arm-enum-told-2 : (t : ℕ) → arm-lts.Need-enum-told-2 (
 ) (arm-at t) arm.Post
 arm-enum-told-2 t c = search needs
 
--- src/walk.rt:293:1
+-- src/walk.rt:283:1
 arm-returns : (t : ℕ) → arm-lts.Need-returns (
   after-labels-reads.Asked,
   after-labels-reads.Learnt,
@@ -442,7 +443,7 @@ arm-returns : (t : ℕ) → arm-lts.Need-returns (
 ) (arm-at t) arm.Post
 arm-returns t c = search arm-laws
 
--- src/walk.rt:293:1
+-- src/walk.rt:283:1
 arm-returns-2 : (t : ℕ) → arm-lts.Need-returns-2 (
   after-labels-reads.Asked,
   after-labels-reads.Learnt,
@@ -451,7 +452,7 @@ arm-returns-2 : (t : ℕ) → arm-lts.Need-returns-2 (
 ) (arm-at t) arm.Post
 arm-returns-2 t c = search arm-laws
 
--- src/walk.rt:293:1
+-- src/walk.rt:283:1
 arm-returns-3 : (t : ℕ) → arm-lts.Need-returns-3 (
   after-labels-reads.Asked,
   after-labels-reads.Learnt,
@@ -460,7 +461,7 @@ arm-returns-3 : (t : ℕ) → arm-lts.Need-returns-3 (
 ) (arm-at t) arm.Post
 arm-returns-3 t c = search arm-laws
 
--- src/walk.rt:250:8
+-- src/walk.rt:241:8
 case-arms-all-arms-requires : (t : ℕ) → case-arms-lts.Need-all-arms-requires (
   all-arms-below t,
   all-arms.Post,
@@ -469,7 +470,7 @@ case-arms-all-arms-requires : (t : ℕ) → case-arms-lts.Need-all-arms-requires
 ) (case-arms-at t) case-arms.Post
 case-arms-all-arms-requires t c κs = search needs
 
--- src/walk.rt:251:9
+-- src/walk.rt:242:9
 case-arms-labels-differ-requires : (t : ℕ) → case-arms-lts.Need-labels-differ-requires (
   all-arms-below t,
   all-arms.Post,
@@ -478,7 +479,7 @@ case-arms-labels-differ-requires : (t : ℕ) → case-arms-lts.Need-labels-diffe
 ) (case-arms-at t) case-arms.Post
 case-arms-labels-differ-requires t c κs = search needs
 
--- src/walk.rt:251:9
+-- src/walk.rt:242:9
 case-arms-returns : (t : ℕ) → case-arms-lts.Need-returns (
   all-arms-below t,
   all-arms.Post,
@@ -487,7 +488,7 @@ case-arms-returns : (t : ℕ) → case-arms-lts.Need-returns (
 ) (case-arms-at t) case-arms.Post
 case-arms-returns t c = search cases-laws
 
--- src/walk.rt:239:1
+-- src/walk.rt:231:1
 case-arms-returns-2 : (t : ℕ) → case-arms-lts.Need-returns-2 (
   all-arms-below t,
   all-arms.Post,
@@ -496,7 +497,7 @@ case-arms-returns-2 : (t : ℕ) → case-arms-lts.Need-returns-2 (
 ) (case-arms-at t) case-arms.Post
 case-arms-returns-2 t c = search cases-laws
 
--- src/walk.rt:231:8
+-- src/walk.rt:223:8
 case-of-plain-part-requires : (t : ℕ) → case-of-lts.Need-plain-part-requires (
   plain-part-reads.Asked,
   plain-part-reads.Learnt,
@@ -507,7 +508,7 @@ case-of-plain-part-requires : (t : ℕ) → case-of-lts.Need-plain-part-requires
 ) (case-of-at t) case-of.Post
 case-of-plain-part-requires t c κs = search needs
 
--- src/walk.rt:232:13
+-- src/walk.rt:224:13
 case-of-skip-requires : (t : ℕ) → case-of-lts.Need-skip-requires (
   plain-part-reads.Asked,
   plain-part-reads.Learnt,
@@ -518,7 +519,7 @@ case-of-skip-requires : (t : ℕ) → case-of-lts.Need-skip-requires (
 ) (case-of-at t) case-of.Post
 case-of-skip-requires t c κs = search needs
 
--- src/walk.rt:233:9
+-- src/walk.rt:225:9
 case-of-case-arms-requires : (t : ℕ) → case-of-lts.Need-case-arms-requires (
   plain-part-reads.Asked,
   plain-part-reads.Learnt,
@@ -529,7 +530,7 @@ case-of-case-arms-requires : (t : ℕ) → case-of-lts.Need-case-arms-requires (
 ) (case-of-at t) case-of.Post
 case-of-case-arms-requires t c κs = search needs
 
--- src/walk.rt:233:9
+-- src/walk.rt:225:9
 case-of-returns : (t : ℕ) → case-of-lts.Need-returns (
   plain-part-reads.Asked,
   plain-part-reads.Learnt,
@@ -540,7 +541,7 @@ case-of-returns : (t : ℕ) → case-of-lts.Need-returns (
 ) (case-of-at t) case-of.Post
 case-of-returns t c = search case-laws
 
--- src/walk.rt:220:1
+-- src/walk.rt:213:1
 case-of-returns-2 : (t : ℕ) → case-of-lts.Need-returns-2 (
   plain-part-reads.Asked,
   plain-part-reads.Learnt,
@@ -551,7 +552,7 @@ case-of-returns-2 : (t : ℕ) → case-of-lts.Need-returns-2 (
 ) (case-of-at t) case-of.Post
 case-of-returns-2 t c = search case-laws
 
--- src/walk.rt:163:9
+-- src/walk.rt:158:9
 else-part-end-at-requires : (t : ℕ) → else-part-lts.Need-end-at-requires (
   end-at-reads.Asked,
   end-at-reads.Learnt,
@@ -560,7 +561,7 @@ else-part-end-at-requires : (t : ℕ) → else-part-lts.Need-end-at-requires (
 ) (else-part-at t) else-part.Post
 else-part-end-at-requires t c κs = search needs
 
--- src/walk.rt:165:25
+-- src/walk.rt:160:25
 else-part-enum-told : (t : ℕ) → else-part-lts.Need-enum-told (
   end-at-reads.Asked,
   end-at-reads.Learnt,
@@ -569,7 +570,7 @@ else-part-enum-told : (t : ℕ) → else-part-lts.Need-enum-told (
 ) (else-part-at t) else-part.Post
 else-part-enum-told t c = search needs
 
--- src/walk.rt:166:22
+-- src/walk.rt:161:22
 else-part-enum-told-2 : (t : ℕ) → else-part-lts.Need-enum-told-2 (
   end-at-reads.Asked,
   end-at-reads.Learnt,
@@ -578,7 +579,7 @@ else-part-enum-told-2 : (t : ℕ) → else-part-lts.Need-enum-told-2 (
 ) (else-part-at t) else-part.Post
 else-part-enum-told-2 t c = search needs
 
--- src/walk.rt:166:22
+-- src/walk.rt:161:22
 else-part-stmt-requires : (t : ℕ) → else-part-lts.Need-stmt-requires (
   end-at-reads.Asked,
   end-at-reads.Learnt,
@@ -587,7 +588,7 @@ else-part-stmt-requires : (t : ℕ) → else-part-lts.Need-stmt-requires (
 ) (else-part-at t) else-part.Post
 else-part-stmt-requires t c κs = search needs
 
--- src/walk.rt:152:1
+-- src/walk.rt:148:1
 else-part-returns : (t : ℕ) → else-part-lts.Need-returns (
   end-at-reads.Asked,
   end-at-reads.Learnt,
@@ -596,7 +597,7 @@ else-part-returns : (t : ℕ) → else-part-lts.Need-returns (
 ) (else-part-at t) else-part.Post
 else-part-returns t c = search else-laws
 
--- src/walk.rt:152:1
+-- src/walk.rt:148:1
 else-part-returns-2 : (t : ℕ) → else-part-lts.Need-returns-2 (
   end-at-reads.Asked,
   end-at-reads.Learnt,
@@ -605,61 +606,84 @@ else-part-returns-2 : (t : ℕ) → else-part-lts.Need-returns-2 (
 ) (else-part-at t) else-part.Post
 else-part-returns-2 t c = search else-laws
 
--- src/walk.rt:182:9
+-- src/walk.rt:176:9
 for-loop-start-at-requires : (t : ℕ) → for-loop-lts.Need-start-at-requires (
   start-at-reads.Asked,
   start-at-reads.Learnt,
+  with-loop-reads.Asked,
+  with-loop-reads.Learnt,
   stmt-below t,
   stmt.Post,
 ) (for-loop-at t) for-loop.Post
 for-loop-start-at-requires t c κs = search needs
 
--- src/walk.rt:184:21
+-- src/walk.rt:178:21
 for-loop-enum-known-x : (t : ℕ) → for-loop-lts.Need-enum-known-x (
   start-at-reads.Asked,
   start-at-reads.Learnt,
+  with-loop-reads.Asked,
+  with-loop-reads.Learnt,
   stmt-below t,
   stmt.Post,
 ) (for-loop-at t) for-loop.Post
 for-loop-enum-known-x t c = search needs
 
--- src/walk.rt:184:30
+-- src/walk.rt:178:54
+for-loop-with-loop-requires : (t : ℕ) → for-loop-lts.Need-with-loop-requires (
+  start-at-reads.Asked,
+  start-at-reads.Learnt,
+  with-loop-reads.Asked,
+  with-loop-reads.Learnt,
+  stmt-below t,
+  stmt.Post,
+) (for-loop-at t) for-loop.Post
+for-loop-with-loop-requires t c κs = search needs
+
+-- src/walk.rt:178:30
 for-loop-stmt-requires : (t : ℕ) → for-loop-lts.Need-stmt-requires (
   start-at-reads.Asked,
   start-at-reads.Learnt,
+  with-loop-reads.Asked,
+  with-loop-reads.Learnt,
   stmt-below t,
   stmt.Post,
 ) (for-loop-at t) for-loop.Post
 for-loop-stmt-requires t c κs = search needs
 
--- src/walk.rt:185:26
+-- src/walk.rt:179:26
 for-loop-enum-told : (t : ℕ) → for-loop-lts.Need-enum-told (
   start-at-reads.Asked,
   start-at-reads.Learnt,
+  with-loop-reads.Asked,
+  with-loop-reads.Learnt,
   stmt-below t,
   stmt.Post,
 ) (for-loop-at t) for-loop.Post
 for-loop-enum-told t c = search needs
 
--- src/walk.rt:171:1
+-- src/walk.rt:166:1
 for-loop-returns : (t : ℕ) → for-loop-lts.Need-returns (
   start-at-reads.Asked,
   start-at-reads.Learnt,
+  with-loop-reads.Asked,
+  with-loop-reads.Learnt,
   stmt-below t,
   stmt.Post,
 ) (for-loop-at t) for-loop.Post
 for-loop-returns t c = search for-laws
 
--- src/walk.rt:171:1
+-- src/walk.rt:166:1
 for-loop-returns-2 : (t : ℕ) → for-loop-lts.Need-returns-2 (
   start-at-reads.Asked,
   start-at-reads.Learnt,
+  with-loop-reads.Asked,
+  with-loop-reads.Learnt,
   stmt-below t,
   stmt.Post,
 ) (for-loop-at t) for-loop.Post
 for-loop-returns-2 t c = search for-laws
 
--- src/walk.rt:82:25
+-- src/walk.rt:81:25
 headed-enum-told : (t : ℕ) → headed-lts.Need-enum-told (
   assign-kept-reads.Asked,
   assign-kept-reads.Learnt,
@@ -678,7 +702,7 @@ headed-enum-told : (t : ℕ) → headed-lts.Need-enum-told (
 ) (headed-at t) headed.Post
 headed-enum-told t c = search needs
 
--- src/walk.rt:82:25
+-- src/walk.rt:81:25
 headed-assign-kept-requires : (t : ℕ) → headed-lts.Need-assign-kept-requires (
   assign-kept-reads.Asked,
   assign-kept-reads.Learnt,
@@ -697,7 +721,7 @@ headed-assign-kept-requires : (t : ℕ) → headed-lts.Need-assign-kept-requires
 ) (headed-at t) headed.Post
 headed-assign-kept-requires t c κs = search needs
 
--- src/walk.rt:83:24
+-- src/walk.rt:82:24
 headed-enum-told-2 : (t : ℕ) → headed-lts.Need-enum-told-2 (
   assign-kept-reads.Asked,
   assign-kept-reads.Learnt,
@@ -716,7 +740,7 @@ headed-enum-told-2 : (t : ℕ) → headed-lts.Need-enum-told-2 (
 ) (headed-at t) headed.Post
 headed-enum-told-2 t c = search needs
 
--- src/walk.rt:83:24
+-- src/walk.rt:82:24
 headed-stmts-requires : (t : ℕ) → headed-lts.Need-stmts-requires (
   assign-kept-reads.Asked,
   assign-kept-reads.Learnt,
@@ -735,7 +759,7 @@ headed-stmts-requires : (t : ℕ) → headed-lts.Need-stmts-requires (
 ) (headed-at t) headed.Post
 headed-stmts-requires t c κs = search needs
 
--- src/walk.rt:84:21
+-- src/walk.rt:83:21
 headed-enum-told-3 : (t : ℕ) → headed-lts.Need-enum-told-3 (
   assign-kept-reads.Asked,
   assign-kept-reads.Learnt,
@@ -754,7 +778,7 @@ headed-enum-told-3 : (t : ℕ) → headed-lts.Need-enum-told-3 (
 ) (headed-at t) headed.Post
 headed-enum-told-3 t c = search needs
 
--- src/walk.rt:84:21
+-- src/walk.rt:83:21
 headed-if-else-requires : (t : ℕ) → headed-lts.Need-if-else-requires (
   assign-kept-reads.Asked,
   assign-kept-reads.Learnt,
@@ -773,7 +797,7 @@ headed-if-else-requires : (t : ℕ) → headed-lts.Need-if-else-requires (
 ) (headed-at t) headed.Post
 headed-if-else-requires t c κs = search needs
 
--- src/walk.rt:85:24
+-- src/walk.rt:84:24
 headed-enum-told-4 : (t : ℕ) → headed-lts.Need-enum-told-4 (
   assign-kept-reads.Asked,
   assign-kept-reads.Learnt,
@@ -792,7 +816,7 @@ headed-enum-told-4 : (t : ℕ) → headed-lts.Need-enum-told-4 (
 ) (headed-at t) headed.Post
 headed-enum-told-4 t c = search needs
 
--- src/walk.rt:85:24
+-- src/walk.rt:84:24
 headed-while-loop-requires : (t : ℕ) → headed-lts.Need-while-loop-requires (
   assign-kept-reads.Asked,
   assign-kept-reads.Learnt,
@@ -811,7 +835,7 @@ headed-while-loop-requires : (t : ℕ) → headed-lts.Need-while-loop-requires (
 ) (headed-at t) headed.Post
 headed-while-loop-requires t c κs = search needs
 
--- src/walk.rt:86:22
+-- src/walk.rt:85:22
 headed-enum-told-5 : (t : ℕ) → headed-lts.Need-enum-told-5 (
   assign-kept-reads.Asked,
   assign-kept-reads.Learnt,
@@ -830,7 +854,7 @@ headed-enum-told-5 : (t : ℕ) → headed-lts.Need-enum-told-5 (
 ) (headed-at t) headed.Post
 headed-enum-told-5 t c = search needs
 
--- src/walk.rt:86:22
+-- src/walk.rt:85:22
 headed-for-loop-requires : (t : ℕ) → headed-lts.Need-for-loop-requires (
   assign-kept-reads.Asked,
   assign-kept-reads.Learnt,
@@ -849,7 +873,7 @@ headed-for-loop-requires : (t : ℕ) → headed-lts.Need-for-loop-requires (
 ) (headed-at t) headed.Post
 headed-for-loop-requires t c κs = search needs
 
--- src/walk.rt:87:23
+-- src/walk.rt:86:23
 headed-enum-told-6 : (t : ℕ) → headed-lts.Need-enum-told-6 (
   assign-kept-reads.Asked,
   assign-kept-reads.Learnt,
@@ -868,7 +892,7 @@ headed-enum-told-6 : (t : ℕ) → headed-lts.Need-enum-told-6 (
 ) (headed-at t) headed.Post
 headed-enum-told-6 t c = search needs
 
--- src/walk.rt:87:23
+-- src/walk.rt:86:23
 headed-case-of-requires : (t : ℕ) → headed-lts.Need-case-of-requires (
   assign-kept-reads.Asked,
   assign-kept-reads.Learnt,
@@ -887,7 +911,7 @@ headed-case-of-requires : (t : ℕ) → headed-lts.Need-case-of-requires (
 ) (headed-at t) headed.Post
 headed-case-of-requires t c κs = search needs
 
--- src/walk.rt:88:23
+-- src/walk.rt:87:23
 headed-enum-told-7 : (t : ℕ) → headed-lts.Need-enum-told-7 (
   assign-kept-reads.Asked,
   assign-kept-reads.Learnt,
@@ -906,7 +930,7 @@ headed-enum-told-7 : (t : ℕ) → headed-lts.Need-enum-told-7 (
 ) (headed-at t) headed.Post
 headed-enum-told-7 t c = search needs
 
--- src/walk.rt:89:24
+-- src/walk.rt:88:24
 headed-enum-told-8 : (t : ℕ) → headed-lts.Need-enum-told-8 (
   assign-kept-reads.Asked,
   assign-kept-reads.Learnt,
@@ -925,7 +949,7 @@ headed-enum-told-8 : (t : ℕ) → headed-lts.Need-enum-told-8 (
 ) (headed-at t) headed.Post
 headed-enum-told-8 t c = search needs
 
--- src/walk.rt:89:24
+-- src/walk.rt:88:24
 headed-plain-part-requires : (t : ℕ) → headed-lts.Need-plain-part-requires (
   assign-kept-reads.Asked,
   assign-kept-reads.Learnt,
@@ -944,7 +968,7 @@ headed-plain-part-requires : (t : ℕ) → headed-lts.Need-plain-part-requires (
 ) (headed-at t) headed.Post
 headed-plain-part-requires t c κs = search needs
 
--- src/walk.rt:90:26
+-- src/walk.rt:89:26
 headed-enum-told-9 : (t : ℕ) → headed-lts.Need-enum-told-9 (
   assign-kept-reads.Asked,
   assign-kept-reads.Learnt,
@@ -1134,7 +1158,7 @@ headed-returns-9 : (t : ℕ) → headed-lts.Need-returns-9 (
 ) (headed-at t) headed.Post
 headed-returns-9 t c = search verb-laws
 
--- src/walk.rt:125:8
+-- src/walk.rt:122:8
 if-else-plain-part-requires : (t : ℕ) → if-else-lts.Need-plain-part-requires (
   plain-part-reads.Asked,
   plain-part-reads.Learnt,
@@ -1145,7 +1169,7 @@ if-else-plain-part-requires : (t : ℕ) → if-else-lts.Need-plain-part-requires
 ) (if-else-at t) if-else.Post
 if-else-plain-part-requires t c κs = search needs
 
--- src/walk.rt:126:13
+-- src/walk.rt:123:13
 if-else-skip-requires : (t : ℕ) → if-else-lts.Need-skip-requires (
   plain-part-reads.Asked,
   plain-part-reads.Learnt,
@@ -1156,7 +1180,7 @@ if-else-skip-requires : (t : ℕ) → if-else-lts.Need-skip-requires (
 ) (if-else-at t) if-else.Post
 if-else-skip-requires t c κs = search needs
 
--- src/walk.rt:127:9
+-- src/walk.rt:124:9
 if-else-if-then-requires : (t : ℕ) → if-else-lts.Need-if-then-requires (
   plain-part-reads.Asked,
   plain-part-reads.Learnt,
@@ -1167,7 +1191,7 @@ if-else-if-then-requires : (t : ℕ) → if-else-lts.Need-if-then-requires (
 ) (if-else-at t) if-else.Post
 if-else-if-then-requires t c κs = search needs
 
--- src/walk.rt:127:9
+-- src/walk.rt:124:9
 if-else-returns : (t : ℕ) → if-else-lts.Need-returns (
   plain-part-reads.Asked,
   plain-part-reads.Learnt,
@@ -1178,7 +1202,7 @@ if-else-returns : (t : ℕ) → if-else-lts.Need-returns (
 ) (if-else-at t) if-else.Post
 if-else-returns t c = search if-laws
 
--- src/walk.rt:114:1
+-- src/walk.rt:112:1
 if-else-returns-2 : (t : ℕ) → if-else-lts.Need-returns-2 (
   plain-part-reads.Asked,
   plain-part-reads.Learnt,
@@ -1189,7 +1213,7 @@ if-else-returns-2 : (t : ℕ) → if-else-lts.Need-returns-2 (
 ) (if-else-at t) if-else.Post
 if-else-returns-2 t c = search if-laws
 
--- src/walk.rt:144:8
+-- src/walk.rt:140:8
 if-then-stmt-requires : (t : ℕ) → if-then-lts.Need-stmt-requires (
   stmt-below t,
   stmt.Post,
@@ -1200,7 +1224,7 @@ if-then-stmt-requires : (t : ℕ) → if-then-lts.Need-stmt-requires (
 ) (if-then-at t) if-then.Post
 if-then-stmt-requires t c κs = search needs
 
--- src/walk.rt:145:13
+-- src/walk.rt:141:13
 if-then-skip-requires : (t : ℕ) → if-then-lts.Need-skip-requires (
   stmt-below t,
   stmt.Post,
@@ -1211,7 +1235,7 @@ if-then-skip-requires : (t : ℕ) → if-then-lts.Need-skip-requires (
 ) (if-then-at t) if-then.Post
 if-then-skip-requires t c κs = search needs
 
--- src/walk.rt:146:9
+-- src/walk.rt:142:9
 if-then-else-part-requires : (t : ℕ) → if-then-lts.Need-else-part-requires (
   stmt-below t,
   stmt.Post,
@@ -1222,7 +1246,7 @@ if-then-else-part-requires : (t : ℕ) → if-then-lts.Need-else-part-requires (
 ) (if-then-at t) if-then.Post
 if-then-else-part-requires t c κs = search needs
 
--- src/walk.rt:146:9
+-- src/walk.rt:142:9
 if-then-returns : (t : ℕ) → if-then-lts.Need-returns (
   stmt-below t,
   stmt.Post,
@@ -1233,7 +1257,7 @@ if-then-returns : (t : ℕ) → if-then-lts.Need-returns (
 ) (if-then-at t) if-then.Post
 if-then-returns t c = search then-laws
 
--- src/walk.rt:133:1
+-- src/walk.rt:130:1
 if-then-returns-2 : (t : ℕ) → if-then-lts.Need-returns-2 (
   stmt-below t,
   stmt.Post,
@@ -1310,7 +1334,7 @@ inner-enum-told-2 : (t : ℕ) → inner-lts.Need-enum-told-2 (
 ) (inner-at t) inner.Post
 inner-enum-told-2 t c = search needs
 
--- src/walk.rt:46:1
+-- src/walk.rt:47:1
 inner-returns : (t : ℕ) → inner-lts.Need-returns (
   part-at-reads.Asked,
   part-at-reads.Learnt,
@@ -1321,7 +1345,7 @@ inner-returns : (t : ℕ) → inner-lts.Need-returns (
 ) (inner-at t) inner.Post
 inner-returns t c = search inner-laws
 
--- src/walk.rt:46:1
+-- src/walk.rt:47:1
 inner-returns-2 : (t : ℕ) → inner-lts.Need-returns-2 (
   part-at-reads.Asked,
   part-at-reads.Learnt,
@@ -1332,7 +1356,7 @@ inner-returns-2 : (t : ℕ) → inner-lts.Need-returns-2 (
 ) (inner-at t) inner.Post
 inner-returns-2 t c = search inner-laws
 
--- src/walk.rt:46:1
+-- src/walk.rt:47:1
 inner-returns-3 : (t : ℕ) → inner-lts.Need-returns-3 (
   part-at-reads.Asked,
   part-at-reads.Learnt,
@@ -1343,7 +1367,7 @@ inner-returns-3 : (t : ℕ) → inner-lts.Need-returns-3 (
 ) (inner-at t) inner.Post
 inner-returns-3 t c = search inner-laws
 
--- src/walk.rt:35:9
+-- src/walk.rt:36:9
 stmt-returns : (t : ℕ) → stmt-lts.Need-returns (
   part-at-reads.Asked,
   part-at-reads.Learnt,
@@ -1352,7 +1376,7 @@ stmt-returns : (t : ℕ) → stmt-lts.Need-returns (
 ) (stmt-at t) stmt.Post
 stmt-returns t c = search stmt-laws
 
--- src/walk.rt:37:9
+-- src/walk.rt:38:9
 stmt-part-at-requires : (t : ℕ) → stmt-lts.Need-part-at-requires (
   part-at-reads.Asked,
   part-at-reads.Learnt,
@@ -1361,7 +1385,7 @@ stmt-part-at-requires : (t : ℕ) → stmt-lts.Need-part-at-requires (
 ) (stmt-at t) stmt.Post
 stmt-part-at-requires t c κs = search needs
 
--- src/walk.rt:39:32
+-- src/walk.rt:40:32
 stmt-enum-told : (t : ℕ) → stmt-lts.Need-enum-told (
   part-at-reads.Asked,
   part-at-reads.Learnt,
@@ -1370,7 +1394,7 @@ stmt-enum-told : (t : ℕ) → stmt-lts.Need-enum-told (
 ) (stmt-at t) stmt.Post
 stmt-enum-told t c = search needs
 
--- src/walk.rt:40:20
+-- src/walk.rt:41:20
 stmt-enum-known-part : (t : ℕ) → stmt-lts.Need-enum-known-part (
   part-at-reads.Asked,
   part-at-reads.Learnt,
@@ -1379,7 +1403,7 @@ stmt-enum-known-part : (t : ℕ) → stmt-lts.Need-enum-known-part (
 ) (stmt-at t) stmt.Post
 stmt-enum-known-part t c = search needs
 
--- src/walk.rt:40:66
+-- src/walk.rt:41:58
 stmt-sub-inner : (t : ℕ) → stmt-lts.Need-sub-inner (
   part-at-reads.Asked,
   part-at-reads.Learnt,
@@ -1388,7 +1412,7 @@ stmt-sub-inner : (t : ℕ) → stmt-lts.Need-sub-inner (
 ) (stmt-at t) stmt.Post
 stmt-sub-inner t c = search needs
 
--- src/walk.rt:40:26
+-- src/walk.rt:41:26
 stmt-inner-requires : (t : ℕ) → stmt-lts.Need-inner-requires (
   part-at-reads.Asked,
   part-at-reads.Learnt,
@@ -1397,7 +1421,7 @@ stmt-inner-requires : (t : ℕ) → stmt-lts.Need-inner-requires (
 ) (stmt-at t) stmt.Post
 stmt-inner-requires t c κs = search needs
 
--- src/walk.rt:41:26
+-- src/walk.rt:42:26
 stmt-enum-told-2 : (t : ℕ) → stmt-lts.Need-enum-told-2 (
   part-at-reads.Asked,
   part-at-reads.Learnt,
@@ -1406,7 +1430,7 @@ stmt-enum-told-2 : (t : ℕ) → stmt-lts.Need-enum-told-2 (
 ) (stmt-at t) stmt.Post
 stmt-enum-told-2 t c = search needs
 
--- src/walk.rt:23:1
+-- src/walk.rt:25:1
 stmt-returns-2 : (t : ℕ) → stmt-lts.Need-returns-2 (
   part-at-reads.Asked,
   part-at-reads.Learnt,
@@ -1415,7 +1439,7 @@ stmt-returns-2 : (t : ℕ) → stmt-lts.Need-returns-2 (
 ) (stmt-at t) stmt.Post
 stmt-returns-2 t c = search stmt-laws
 
--- src/walk.rt:23:1
+-- src/walk.rt:25:1
 stmt-returns-3 : (t : ℕ) → stmt-lts.Need-returns-3 (
   part-at-reads.Asked,
   part-at-reads.Learnt,
@@ -1424,7 +1448,7 @@ stmt-returns-3 : (t : ℕ) → stmt-lts.Need-returns-3 (
 ) (stmt-at t) stmt.Post
 stmt-returns-3 t c = search stmt-laws
 
--- src/walk.rt:23:1
+-- src/walk.rt:25:1
 stmt-returns-4 : (t : ℕ) → stmt-lts.Need-returns-4 (
   part-at-reads.Asked,
   part-at-reads.Learnt,
@@ -1434,12 +1458,12 @@ stmt-returns-4 : (t : ℕ) → stmt-lts.Need-returns-4 (
 stmt-returns-4 t c = search stmt-laws
 
 abbrev stmts-Inv-loop : stmts-lts.InvT-loop
-stmts-Inv-loop text work count newest loops depth at p₀ p = Doing text work count newest loops depth at p
+stmts-Inv-loop text work scope loops depth at p₀ p = Doing text work scope loops depth at p
 
 abbrev stmts-μ-loop : stmts-lts.MeasureT-loop
-stmts-μ-loop text work count newest loops depth at p₀ p = many (first (stackAt text p))
+stmts-μ-loop text work scope loops depth at p₀ p = many (first (stackAt text p))
 
--- src/walk.rt:202:5
+-- src/walk.rt:195:5
 stmts-loop-holds : (t : ℕ) → stmts-lts.Need-loop-holds (
   end-at-reads.Asked,
   end-at-reads.Learnt,
@@ -1448,9 +1472,9 @@ stmts-loop-holds : (t : ℕ) → stmts-lts.Need-loop-holds (
   skip-reads.Asked,
   skip-reads.Learnt,
 ) (stmts-at t) stmts.Post stmts-Inv-loop stmts-μ-loop
-stmts-loop-holds t c = do-start _ _ _ _ _ _ _
+stmts-loop-holds t c = do-start _ _ _ _ _ _
 
--- src/walk.rt:203:13
+-- src/walk.rt:196:13
 stmts-end-at-requires : (t : ℕ) → stmts-lts.Need-end-at-requires (
   end-at-reads.Asked,
   end-at-reads.Learnt,
@@ -1461,7 +1485,7 @@ stmts-end-at-requires : (t : ℕ) → stmts-lts.Need-end-at-requires (
 ) (stmts-at t) stmts.Post stmts-Inv-loop stmts-μ-loop
 stmts-end-at-requires t c κs = search needs
 
--- src/walk.rt:206:17
+-- src/walk.rt:199:17
 stmts-enum-told : (t : ℕ) → stmts-lts.Need-enum-told (
   end-at-reads.Asked,
   end-at-reads.Learnt,
@@ -1472,7 +1496,7 @@ stmts-enum-told : (t : ℕ) → stmts-lts.Need-enum-told (
 ) (stmts-at t) stmts.Post stmts-Inv-loop stmts-μ-loop
 stmts-enum-told t c = search needs
 
--- src/walk.rt:206:17
+-- src/walk.rt:199:17
 stmts-returns : (t : ℕ) → stmts-lts.Need-returns (
   end-at-reads.Asked,
   end-at-reads.Learnt,
@@ -1483,7 +1507,7 @@ stmts-returns : (t : ℕ) → stmts-lts.Need-returns (
 ) (stmts-at t) stmts.Post stmts-Inv-loop stmts-μ-loop
 stmts-returns t c = search do-laws
 
--- src/walk.rt:209:20
+-- src/walk.rt:202:20
 stmts-enum-told-2 : (t : ℕ) → stmts-lts.Need-enum-told-2 (
   end-at-reads.Asked,
   end-at-reads.Learnt,
@@ -1494,7 +1518,7 @@ stmts-enum-told-2 : (t : ℕ) → stmts-lts.Need-enum-told-2 (
 ) (stmts-at t) stmts.Post stmts-Inv-loop stmts-μ-loop
 stmts-enum-told-2 t c = search needs
 
--- src/walk.rt:209:20
+-- src/walk.rt:202:20
 stmts-stmt-requires : (t : ℕ) → stmts-lts.Need-stmt-requires (
   end-at-reads.Asked,
   end-at-reads.Learnt,
@@ -1505,7 +1529,7 @@ stmts-stmt-requires : (t : ℕ) → stmts-lts.Need-stmt-requires (
 ) (stmts-at t) stmts.Post stmts-Inv-loop stmts-μ-loop
 stmts-stmt-requires t c κs = search needs
 
--- src/walk.rt:210:21
+-- src/walk.rt:203:21
 stmts-skip-requires : (t : ℕ) → stmts-lts.Need-skip-requires (
   end-at-reads.Asked,
   end-at-reads.Learnt,
@@ -1516,7 +1540,7 @@ stmts-skip-requires : (t : ℕ) → stmts-lts.Need-skip-requires (
 ) (stmts-at t) stmts.Post stmts-Inv-loop stmts-μ-loop
 stmts-skip-requires t c κs = search needs
 
--- src/walk.rt:202:5
+-- src/walk.rt:195:5
 stmts-loop-less : (t : ℕ) → stmts-lts.Need-loop-less (
   end-at-reads.Asked,
   end-at-reads.Learnt,
@@ -1527,7 +1551,7 @@ stmts-loop-less : (t : ℕ) → stmts-lts.Need-loop-less (
 ) (stmts-at t) stmts.Post stmts-Inv-loop stmts-μ-loop
 stmts-loop-less t c = search do-falls
 
--- src/walk.rt:202:5
+-- src/walk.rt:195:5
 stmts-loop-again : (t : ℕ) → stmts-lts.Need-loop-again (
   end-at-reads.Asked,
   end-at-reads.Learnt,
@@ -1538,7 +1562,7 @@ stmts-loop-again : (t : ℕ) → stmts-lts.Need-loop-again (
 ) (stmts-at t) stmts.Post stmts-Inv-loop stmts-μ-loop
 stmts-loop-again t c = search do-laws
 
--- src/walk.rt:212:21
+-- src/walk.rt:205:21
 stmts-returns-2 : (t : ℕ) → stmts-lts.Need-returns-2 (
   end-at-reads.Asked,
   end-at-reads.Learnt,
@@ -1549,7 +1573,7 @@ stmts-returns-2 : (t : ℕ) → stmts-lts.Need-returns-2 (
 ) (stmts-at t) stmts.Post stmts-Inv-loop stmts-μ-loop
 stmts-returns-2 t c = search do-laws
 
--- src/walk.rt:106:8
+-- src/walk.rt:104:8
 while-loop-plain-part-requires : (t : ℕ) → while-loop-lts.Need-plain-part-requires (
   plain-part-reads.Asked,
   plain-part-reads.Learnt,
@@ -1560,7 +1584,7 @@ while-loop-plain-part-requires : (t : ℕ) → while-loop-lts.Need-plain-part-re
 ) (while-loop-at t) while-loop.Post
 while-loop-plain-part-requires t c κs = search needs
 
--- src/walk.rt:107:13
+-- src/walk.rt:105:13
 while-loop-skip-requires : (t : ℕ) → while-loop-lts.Need-skip-requires (
   plain-part-reads.Asked,
   plain-part-reads.Learnt,
@@ -1571,7 +1595,7 @@ while-loop-skip-requires : (t : ℕ) → while-loop-lts.Need-skip-requires (
 ) (while-loop-at t) while-loop.Post
 while-loop-skip-requires t c κs = search needs
 
--- src/walk.rt:108:9
+-- src/walk.rt:106:9
 while-loop-stmt-requires : (t : ℕ) → while-loop-lts.Need-stmt-requires (
   plain-part-reads.Asked,
   plain-part-reads.Learnt,
@@ -1582,7 +1606,7 @@ while-loop-stmt-requires : (t : ℕ) → while-loop-lts.Need-stmt-requires (
 ) (while-loop-at t) while-loop.Post
 while-loop-stmt-requires t c κs = search needs
 
--- src/walk.rt:108:9
+-- src/walk.rt:106:9
 while-loop-returns : (t : ℕ) → while-loop-lts.Need-returns (
   plain-part-reads.Asked,
   plain-part-reads.Learnt,
@@ -1593,7 +1617,7 @@ while-loop-returns : (t : ℕ) → while-loop-lts.Need-returns (
 ) (while-loop-at t) while-loop.Post
 while-loop-returns t c = search while-laws
 
--- src/walk.rt:95:1
+-- src/walk.rt:94:1
 while-loop-returns-2 : (t : ℕ) → while-loop-lts.Need-returns-2 (
   plain-part-reads.Asked,
   plain-part-reads.Learnt,
@@ -1703,12 +1727,19 @@ pub +all-arms+arm+case-arms+case-of+else-part+for-loop+headed+if-else+if-then+in
     (else-part-stmt-requires t)
     (else-part-returns t)
     (else-part-returns-2 t))
-    (λ t. for-loop-lts.spec
-    (start-at-reads.Asked, start-at-reads.Learnt, stmt-below t, stmt.Post)
+    (λ t. for-loop-lts.spec (
+      start-at-reads.Asked,
+      start-at-reads.Learnt,
+      with-loop-reads.Asked,
+      with-loop-reads.Learnt,
+      stmt-below t,
+      stmt.Post,
+    )
     (for-loop-at t)
     for-loop.Post
     (for-loop-start-at-requires t)
     (for-loop-enum-known-x t)
+    (for-loop-with-loop-requires t)
     (for-loop-stmt-requires t)
     (for-loop-enum-told t)
     (for-loop-returns t)

@@ -9,36 +9,41 @@ use Rattle.loosely.proofs.bodied.proc_end.Reads as proc-end-reads
 use Rattle.loosely.proofs.easing.loose_body.Reads as loose-body-reads
 use Rattle.noting.proofs.note_body.Reads as note-body-reads
 use Rattle.parts.proofs.lowest.Reads as lowest-reads
+use Rattle.symbols.proofs.keys.name_number.Reads as name-number-reads
 
--- src/bodied.rt:131:9
+-- src/bodied.rt:115:9
 named-fault-requires : tie.Need-named-fault-requires
 named-fault-requires c κs = search needs
 
--- src/bodied.rt:132:9
+-- src/bodied.rt:116:9
 loose-body-requires : tie.Need-loose-body-requires
 loose-body-requires c κs = search needs
 
--- src/bodied.rt:134:5
+-- src/bodied.rt:118:5
 note-body-requires : tie.Need-note-body-requires
 note-body-requires c κs = search needs
 
--- src/bodied.rt:135:24
+-- src/bodied.rt:119:9
+name-number-requires : tie.Need-name-number-requires
+name-number-requires c κs = search needs
+
+-- src/bodied.rt:120:24
 lowest-requires : tie.Need-lowest-requires
 lowest-requires c κs = search needs
 
--- src/bodied.rt:135:5
+-- src/bodied.rt:120:5
 proc-end-requires : tie.Need-proc-end-requires
 proc-end-requires c κs = search needs
 
--- src/bodied.rt:119:1
+-- src/bodied.rt:103:1
 same-length : tie.Need-same-length
 same-length c = search needs
 
--- src/bodied.rt:119:1
+-- src/bodied.rt:103:1
 same-length-2 : tie.Need-same-length-2
 same-length-2 c = search needs
 
--- src/bodied.rt:119:1
+-- src/bodied.rt:103:1
 returns : tie.Need-returns
 returns c = search proc-enters
 
@@ -49,6 +54,7 @@ proc-named-spec =
     named-fault-requires
     loose-body-requires
     note-body-requires
+    name-number-requires
     lowest-requires
     proc-end-requires
     same-length

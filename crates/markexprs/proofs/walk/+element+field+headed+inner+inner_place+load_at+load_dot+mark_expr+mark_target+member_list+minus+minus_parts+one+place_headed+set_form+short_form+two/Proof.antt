@@ -64,9 +64,6 @@ use Rattle.atoms.proofs.type_name.Reads as type-name-reads
 use Rattle.carried.proofs.constants.negative.Reads as negative-reads
 use Rattle.carried.proofs.members.is_set.Reads as is-set-reads
 use Rattle.carried.proofs.members.member.Reads as member-reads
-use Rattle.markops.proofs.apply.Reads as apply-reads
-use Rattle.markops.proofs.operate.Reads as operate-reads
-use Rattle.markops.proofs.short.Reads as short-reads
 use Rattle.carried.proofs.places.index.Reads as index-reads
 use Rattle.carried.proofs.places.load.Reads as load-reads
 use Rattle.carried.proofs.places.place.Reads as place-reads
@@ -77,6 +74,9 @@ use Rattle.exprleaves.proofs.words.number_alone.Reads as number-alone-reads
 use Rattle.markexprs.proofs.words.bound.Reads as bound-reads
 use Rattle.markexprs.proofs.words.variable.Reads as variable-reads
 use Rattle.markexprs.proofs.words.word.Reads as word-reads
+use Rattle.markops.proofs.apply.Reads as apply-reads
+use Rattle.markops.proofs.operate.Reads as operate-reads
+use Rattle.markops.proofs.short.Reads as short-reads
 use Rattle.parts.proofs.end_at.Reads as end-at-reads
 use Rattle.parts.proofs.part_at.Reads as part-at-reads
 use Rattle.sets.proofs.insert.Reads as insert-reads
@@ -91,55 +91,55 @@ use Rattle.markexprs.proofs.walk.+element+field+headed+inner+inner_plac
 }
 
 abbrev μ-element : Measures 4 element-kinds.ps ℕ
-μ-element κs a = 8 * a .1 .1 .1 .1 .1 .1 .0 + 2
+μ-element κs a = 8 * a .1 .1 .1 .1 .1 .0 + 2
 
 abbrev μ-field : Measures 4 field-kinds.ps ℕ
-μ-field κs a = 8 * a .1 .1 .1 .1 .1 .1 .0 + 2
+μ-field κs a = 8 * a .1 .1 .1 .1 .1 .0 + 2
 
 abbrev μ-headed : Measures 4 headed-kinds.ps ℕ
-μ-headed κs a = 8 * a .1 .1 .1 .1 .1 .1 .1 .0 + 4
+μ-headed κs a = 8 * a .1 .1 .1 .1 .1 .1 .0 + 4
 
 abbrev μ-inner : Measures 4 inner-kinds.ps ℕ
-μ-inner κs a = 8 * a .1 .1 .1 .1 .1 .1 .0 + 5
+μ-inner κs a = 8 * a .1 .1 .1 .1 .1 .0 + 5
 
 abbrev μ-inner-place : Measures 4 inner-place-kinds.ps ℕ
-μ-inner-place κs a = 8 * a .1 .1 .1 .1 .1 .1 .0 + 5
+μ-inner-place κs a = 8 * a .1 .1 .1 .1 .1 .0 + 5
 
 abbrev μ-load-at : Measures 4 load-at-kinds.ps ℕ
-μ-load-at κs a = 8 * a .1 .1 .1 .1 .1 .1 .0 + 3
+μ-load-at κs a = 8 * a .1 .1 .1 .1 .1 .0 + 3
 
 abbrev μ-load-dot : Measures 4 load-dot-kinds.ps ℕ
-μ-load-dot κs a = 8 * a .1 .1 .1 .1 .1 .1 .0 + 3
+μ-load-dot κs a = 8 * a .1 .1 .1 .1 .1 .0 + 3
 
 abbrev μ-mark-expr : Measures 4 mark-expr-kinds.ps ℕ
-μ-mark-expr κs a = 8 * a .1 .1 .1 .1 .1 .1 .0
+μ-mark-expr κs a = 8 * a .1 .1 .1 .1 .1 .0
 
 abbrev μ-mark-target : Measures 4 mark-target-kinds.ps ℕ
-μ-mark-target κs a = 8 * a .1 .1 .1 .1 .1 .1 .0
+μ-mark-target κs a = 8 * a .1 .1 .1 .1 .1 .0
 
 abbrev μ-member-list : Measures 4 member-list-kinds.ps ℕ
-μ-member-list κs a = 8 * a .1 .1 .1 .1 .1 .1 .1 .0 + 2
+μ-member-list κs a = 8 * a .1 .1 .1 .1 .1 .1 .0 + 2
 
 abbrev μ-minus : Measures 4 minus-kinds.ps ℕ
-μ-minus κs a = 8 * a .1 .1 .1 .1 .1 .1 .0 + 3
+μ-minus κs a = 8 * a .1 .1 .1 .1 .1 .0 + 3
 
 abbrev μ-minus-parts : Measures 4 minus-parts-kinds.ps ℕ
-μ-minus-parts κs a = 8 * a .1 .1 .1 .1 .1 .1 .0 + 2
+μ-minus-parts κs a = 8 * a .1 .1 .1 .1 .1 .0 + 2
 
 abbrev μ-one : Measures 4 one-kinds.ps ℕ
-μ-one κs a = 8 * a .1 .1 .1 .1 .1 .1 .1 .0 + 2
+μ-one κs a = 8 * a .1 .1 .1 .1 .1 .1 .0 + 2
 
 abbrev μ-place-headed : Measures 4 place-headed-kinds.ps ℕ
-μ-place-headed κs a = 8 * a .1 .1 .1 .1 .1 .1 .1 .0 + 4
+μ-place-headed κs a = 8 * a .1 .1 .1 .1 .1 .1 .0 + 4
 
 abbrev μ-set-form : Measures 4 set-form-kinds.ps ℕ
-μ-set-form κs a = 8 * a .1 .1 .1 .1 .1 .1 .0 + 3
+μ-set-form κs a = 8 * a .1 .1 .1 .1 .1 .0 + 3
 
 abbrev μ-short-form : Measures 4 short-form-kinds.ps ℕ
-μ-short-form κs a = 8 * a .1 .1 .1 .1 .1 .1 .1 .0 + 2
+μ-short-form κs a = 8 * a .1 .1 .1 .1 .1 .1 .0 + 2
 
 abbrev μ-two : Measures 4 two-kinds.ps ℕ
-μ-two κs a = 8 * a .1 .1 .1 .1 .1 .1 .1 .0 + 2
+μ-two κs a = 8 * a .1 .1 .1 .1 .1 .1 .0 + 2
 
 abbrev element-at : ℕ → In 4 element-kinds.ps
 element-at t = and 4 element-kinds.ps (is 4 element-kinds.ps μ-element t) element.Pre
@@ -262,7 +262,7 @@ two-at t = and 4 two-kinds.ps (is 4 two-kinds.ps μ-two t) two.Pre
 abbrev two-below : ℕ → In 4 two-kinds.ps
 two-below t = and 4 two-kinds.ps (falls 4 two-kinds.ps _<_ μ-two t) two.Pre
 
--- src/walk.rt:448:9
+-- src/walk.rt:428:9
 element-mark-target-requires : (t : ℕ) → element-lts.Need-mark-target-requires (
   mark-target-below t,
   mark-target.Post,
@@ -275,7 +275,7 @@ element-mark-target-requires : (t : ℕ) → element-lts.Need-mark-target-requir
 ) (element-at t) element.Post
 element-mark-target-requires t c κs = search needs
 
--- src/walk.rt:457:9
+-- src/walk.rt:436:9
 element-skip-requires : (t : ℕ) → element-lts.Need-skip-requires (
   mark-target-below t,
   mark-target.Post,
@@ -288,7 +288,7 @@ element-skip-requires : (t : ℕ) → element-lts.Need-skip-requires (
 ) (element-at t) element.Post
 element-skip-requires t c κs = search needs
 
--- src/walk.rt:449:9
+-- src/walk.rt:429:9
 element-mark-expr-requires : (t : ℕ) → element-lts.Need-mark-expr-requires (
   mark-target-below t,
   mark-target.Post,
@@ -301,7 +301,7 @@ element-mark-expr-requires : (t : ℕ) → element-lts.Need-mark-expr-requires (
 ) (element-at t) element.Post
 element-mark-expr-requires t c κs = search needs
 
--- src/walk.rt:459:5
+-- src/walk.rt:438:5
 element-index-requires : (t : ℕ) → element-lts.Need-index-requires (
   mark-target-below t,
   mark-target.Post,
@@ -314,7 +314,7 @@ element-index-requires : (t : ℕ) → element-lts.Need-index-requires (
 ) (element-at t) element.Post
 element-index-requires t c κs = search needs
 
--- src/walk.rt:436:1
+-- src/walk.rt:417:1
 element-returns : (t : ℕ) → element-lts.Need-returns (
   mark-target-below t,
   mark-target.Post,
@@ -327,7 +327,7 @@ element-returns : (t : ℕ) → element-lts.Need-returns (
 ) (element-at t) element.Post
 element-returns t c = search element-is
 
--- src/walk.rt:475:9
+-- src/walk.rt:453:9
 field-mark-target-requires : (t : ℕ) → field-lts.Need-mark-target-requires (
   mark-target-below t,
   mark-target.Post,
@@ -342,7 +342,7 @@ field-mark-target-requires : (t : ℕ) → field-lts.Need-mark-target-requires (
 ) (field-at t) field.Post
 field-mark-target-requires t c κs = search needs
 
--- src/walk.rt:476:29
+-- src/walk.rt:454:29
 field-skip-requires : (t : ℕ) → field-lts.Need-skip-requires (
   mark-target-below t,
   mark-target.Post,
@@ -357,7 +357,7 @@ field-skip-requires : (t : ℕ) → field-lts.Need-skip-requires (
 ) (field-at t) field.Post
 field-skip-requires t c κs = search needs
 
--- src/walk.rt:476:9
+-- src/walk.rt:454:9
 field-sole-name-requires : (t : ℕ) → field-lts.Need-sole-name-requires (
   mark-target-below t,
   mark-target.Post,
@@ -372,7 +372,7 @@ field-sole-name-requires : (t : ℕ) → field-lts.Need-sole-name-requires (
 ) (field-at t) field.Post
 field-sole-name-requires t c κs = search needs
 
--- src/walk.rt:478:20
+-- src/walk.rt:456:20
 field-enum-known-n : (t : ℕ) → field-lts.Need-enum-known-n (
   mark-target-below t,
   mark-target.Post,
@@ -387,7 +387,7 @@ field-enum-known-n : (t : ℕ) → field-lts.Need-enum-known-n (
 ) (field-at t) field.Post
 field-enum-known-n t c = search needs
 
--- src/walk.rt:478:29
+-- src/walk.rt:456:29
 field-select-requires : (t : ℕ) → field-lts.Need-select-requires (
   mark-target-below t,
   mark-target.Post,
@@ -402,7 +402,7 @@ field-select-requires : (t : ℕ) → field-lts.Need-select-requires (
 ) (field-at t) field.Post
 field-select-requires t c κs = search needs
 
--- src/walk.rt:479:26
+-- src/walk.rt:457:26
 field-enum-told : (t : ℕ) → field-lts.Need-enum-told (
   mark-target-below t,
   mark-target.Post,
@@ -417,7 +417,7 @@ field-enum-told : (t : ℕ) → field-lts.Need-enum-told (
 ) (field-at t) field.Post
 field-enum-told t c = search needs
 
--- src/walk.rt:479:26
+-- src/walk.rt:457:26
 field-place-requires : (t : ℕ) → field-lts.Need-place-requires (
   mark-target-below t,
   mark-target.Post,
@@ -432,7 +432,7 @@ field-place-requires : (t : ℕ) → field-lts.Need-place-requires (
 ) (field-at t) field.Post
 field-place-requires t c κs = search needs
 
--- src/walk.rt:463:1
+-- src/walk.rt:442:1
 field-returns : (t : ℕ) → field-lts.Need-returns (
   mark-target-below t,
   mark-target.Post,
@@ -447,7 +447,7 @@ field-returns : (t : ℕ) → field-lts.Need-returns (
 ) (field-at t) field.Post
 field-returns t c = search field-laws
 
--- src/walk.rt:463:1
+-- src/walk.rt:442:1
 field-returns-2 : (t : ℕ) → field-lts.Need-returns-2 (
   mark-target-below t,
   mark-target.Post,
@@ -462,7 +462,7 @@ field-returns-2 : (t : ℕ) → field-lts.Need-returns-2 (
 ) (field-at t) field.Post
 field-returns-2 t c = search field-laws
 
--- src/walk.rt:106:25
+-- src/walk.rt:104:25
 headed-enum-told : (t : ℕ) → headed-lts.Need-enum-told (
   load-at-below t,
   load-at.Post,
@@ -485,7 +485,7 @@ headed-enum-told : (t : ℕ) → headed-lts.Need-enum-told (
 ) (headed-at t) headed.Post
 headed-enum-told t c = search needs
 
--- src/walk.rt:106:25
+-- src/walk.rt:104:25
 headed-load-at-requires : (t : ℕ) → headed-lts.Need-load-at-requires (
   load-at-below t,
   load-at.Post,
@@ -508,7 +508,7 @@ headed-load-at-requires : (t : ℕ) → headed-lts.Need-load-at-requires (
 ) (headed-at t) headed.Post
 headed-load-at-requires t c κs = search needs
 
--- src/walk.rt:107:26
+-- src/walk.rt:105:26
 headed-enum-told-2 : (t : ℕ) → headed-lts.Need-enum-told-2 (
   load-at-below t,
   load-at.Post,
@@ -531,7 +531,7 @@ headed-enum-told-2 : (t : ℕ) → headed-lts.Need-enum-told-2 (
 ) (headed-at t) headed.Post
 headed-enum-told-2 t c = search needs
 
--- src/walk.rt:107:26
+-- src/walk.rt:105:26
 headed-load-dot-requires : (t : ℕ) → headed-lts.Need-load-dot-requires (
   load-at-below t,
   load-at.Post,
@@ -554,7 +554,7 @@ headed-load-dot-requires : (t : ℕ) → headed-lts.Need-load-dot-requires (
 ) (headed-at t) headed.Post
 headed-load-dot-requires t c κs = search needs
 
--- src/walk.rt:108:30
+-- src/walk.rt:106:30
 headed-enum-told-3 : (t : ℕ) → headed-lts.Need-enum-told-3 (
   load-at-below t,
   load-at.Post,
@@ -577,7 +577,7 @@ headed-enum-told-3 : (t : ℕ) → headed-lts.Need-enum-told-3 (
 ) (headed-at t) headed.Post
 headed-enum-told-3 t c = search needs
 
--- src/walk.rt:108:30
+-- src/walk.rt:106:30
 headed-set-form-requires : (t : ℕ) → headed-lts.Need-set-form-requires (
   load-at-below t,
   load-at.Post,
@@ -600,7 +600,7 @@ headed-set-form-requires : (t : ℕ) → headed-lts.Need-set-form-requires (
 ) (headed-at t) headed.Post
 headed-set-form-requires t c κs = search needs
 
--- src/walk.rt:109:28
+-- src/walk.rt:107:28
 headed-enum-told-4 : (t : ℕ) → headed-lts.Need-enum-told-4 (
   load-at-below t,
   load-at.Post,
@@ -623,7 +623,7 @@ headed-enum-told-4 : (t : ℕ) → headed-lts.Need-enum-told-4 (
 ) (headed-at t) headed.Post
 headed-enum-told-4 t c = search needs
 
--- src/walk.rt:109:28
+-- src/walk.rt:107:28
 headed-minus-requires : (t : ℕ) → headed-lts.Need-minus-requires (
   load-at-below t,
   load-at.Post,
@@ -646,7 +646,7 @@ headed-minus-requires : (t : ℕ) → headed-lts.Need-minus-requires (
 ) (headed-at t) headed.Post
 headed-minus-requires t c κs = search needs
 
--- src/walk.rt:110:25
+-- src/walk.rt:108:25
 headed-enum-known-head : (t : ℕ) → headed-lts.Need-enum-known-head (
   load-at-below t,
   load-at.Post,
@@ -669,7 +669,7 @@ headed-enum-known-head : (t : ℕ) → headed-lts.Need-enum-known-head (
 ) (headed-at t) headed.Post
 headed-enum-known-head t c = search needs
 
--- src/walk.rt:110:34
+-- src/walk.rt:108:34
 headed-bound-requires : (t : ℕ) → headed-lts.Need-bound-requires (
   load-at-below t,
   load-at.Post,
@@ -692,7 +692,7 @@ headed-bound-requires : (t : ℕ) → headed-lts.Need-bound-requires (
 ) (headed-at t) headed.Post
 headed-bound-requires t c κs = search needs
 
--- src/walk.rt:111:25
+-- src/walk.rt:109:25
 headed-enum-known-head-2 : (t : ℕ) → headed-lts.Need-enum-known-head-2 (
   load-at-below t,
   load-at.Post,
@@ -715,7 +715,7 @@ headed-enum-known-head-2 : (t : ℕ) → headed-lts.Need-enum-known-head-2 (
 ) (headed-at t) headed.Post
 headed-enum-known-head-2 t c = search needs
 
--- src/walk.rt:111:35
+-- src/walk.rt:109:35
 headed-short-form-requires : (t : ℕ) → headed-lts.Need-short-form-requires (
   load-at-below t,
   load-at.Post,
@@ -738,7 +738,7 @@ headed-short-form-requires : (t : ℕ) → headed-lts.Need-short-form-requires (
 ) (headed-at t) headed.Post
 headed-short-form-requires t c κs = search needs
 
--- src/walk.rt:122:23
+-- src/walk.rt:119:23
 headed-enum-known-head-3 : (t : ℕ) → headed-lts.Need-enum-known-head-3 (
   load-at-below t,
   load-at.Post,
@@ -761,7 +761,7 @@ headed-enum-known-head-3 : (t : ℕ) → headed-lts.Need-enum-known-head-3 (
 ) (headed-at t) headed.Post
 headed-enum-known-head-3 t c = search needs
 
--- src/walk.rt:122:30
+-- src/walk.rt:119:30
 headed-two-requires : (t : ℕ) → headed-lts.Need-two-requires (
   load-at-below t,
   load-at.Post,
@@ -784,7 +784,7 @@ headed-two-requires : (t : ℕ) → headed-lts.Need-two-requires (
 ) (headed-at t) headed.Post
 headed-two-requires t c κs = search needs
 
--- src/walk.rt:123:23
+-- src/walk.rt:120:23
 headed-enum-known-head-4 : (t : ℕ) → headed-lts.Need-enum-known-head-4 (
   load-at-below t,
   load-at.Post,
@@ -807,7 +807,7 @@ headed-enum-known-head-4 : (t : ℕ) → headed-lts.Need-enum-known-head-4 (
 ) (headed-at t) headed.Post
 headed-enum-known-head-4 t c = search needs
 
--- src/walk.rt:123:29
+-- src/walk.rt:120:29
 headed-one-requires : (t : ℕ) → headed-lts.Need-one-requires (
   load-at-below t,
   load-at.Post,
@@ -830,7 +830,7 @@ headed-one-requires : (t : ℕ) → headed-lts.Need-one-requires (
 ) (headed-at t) headed.Post
 headed-one-requires t c κs = search needs
 
--- src/walk.rt:124:30
+-- src/walk.rt:121:30
 headed-enum-told-5 : (t : ℕ) → headed-lts.Need-enum-told-5 (
   load-at-below t,
   load-at.Post,
@@ -853,7 +853,7 @@ headed-enum-told-5 : (t : ℕ) → headed-lts.Need-enum-told-5 (
 ) (headed-at t) headed.Post
 headed-enum-told-5 t c = search needs
 
--- src/walk.rt:124:30
+-- src/walk.rt:121:30
 headed-value-requires : (t : ℕ) → headed-lts.Need-value-requires (
   load-at-below t,
   load-at.Post,
@@ -876,7 +876,7 @@ headed-value-requires : (t : ℕ) → headed-lts.Need-value-requires (
 ) (headed-at t) headed.Post
 headed-value-requires t c κs = search needs
 
--- src/walk.rt:92:1
+-- src/walk.rt:91:1
 headed-returns : (t : ℕ) → headed-lts.Need-returns (
   load-at-below t,
   load-at.Post,
@@ -899,7 +899,7 @@ headed-returns : (t : ℕ) → headed-lts.Need-returns (
 ) (headed-at t) headed.Post
 headed-returns t c = search by-laws
 
--- src/walk.rt:92:1
+-- src/walk.rt:91:1
 headed-returns-2 : (t : ℕ) → headed-lts.Need-returns-2 (
   load-at-below t,
   load-at.Post,
@@ -922,7 +922,7 @@ headed-returns-2 : (t : ℕ) → headed-lts.Need-returns-2 (
 ) (headed-at t) headed.Post
 headed-returns-2 t c = search by-laws
 
--- src/walk.rt:92:1
+-- src/walk.rt:91:1
 headed-returns-3 : (t : ℕ) → headed-lts.Need-returns-3 (
   load-at-below t,
   load-at.Post,
@@ -945,7 +945,7 @@ headed-returns-3 : (t : ℕ) → headed-lts.Need-returns-3 (
 ) (headed-at t) headed.Post
 headed-returns-3 t c = search by-laws
 
--- src/walk.rt:92:1
+-- src/walk.rt:91:1
 headed-returns-4 : (t : ℕ) → headed-lts.Need-returns-4 (
   load-at-below t,
   load-at.Post,
@@ -968,7 +968,7 @@ headed-returns-4 : (t : ℕ) → headed-lts.Need-returns-4 (
 ) (headed-at t) headed.Post
 headed-returns-4 t c = search by-laws
 
--- src/walk.rt:92:1
+-- src/walk.rt:91:1
 headed-returns-5 : (t : ℕ) → headed-lts.Need-returns-5 (
   load-at-below t,
   load-at.Post,
@@ -991,7 +991,7 @@ headed-returns-5 : (t : ℕ) → headed-lts.Need-returns-5 (
 ) (headed-at t) headed.Post
 headed-returns-5 t c = search by-laws
 
--- src/walk.rt:92:1
+-- src/walk.rt:91:1
 headed-returns-6 : (t : ℕ) → headed-lts.Need-returns-6 (
   load-at-below t,
   load-at.Post,
@@ -1014,7 +1014,7 @@ headed-returns-6 : (t : ℕ) → headed-lts.Need-returns-6 (
 ) (headed-at t) headed.Post
 headed-returns-6 t c = search by-laws
 
--- src/walk.rt:92:1
+-- src/walk.rt:91:1
 headed-returns-7 : (t : ℕ) → headed-lts.Need-returns-7 (
   load-at-below t,
   load-at.Post,
@@ -1037,7 +1037,7 @@ headed-returns-7 : (t : ℕ) → headed-lts.Need-returns-7 (
 ) (headed-at t) headed.Post
 headed-returns-7 t c = search by-laws
 
--- src/walk.rt:92:1
+-- src/walk.rt:91:1
 headed-returns-8 : (t : ℕ) → headed-lts.Need-returns-8 (
   load-at-below t,
   load-at.Post,
@@ -1060,7 +1060,7 @@ headed-returns-8 : (t : ℕ) → headed-lts.Need-returns-8 (
 ) (headed-at t) headed.Post
 headed-returns-8 t c = search by-laws
 
--- src/walk.rt:92:1
+-- src/walk.rt:91:1
 headed-returns-9 : (t : ℕ) → headed-lts.Need-returns-9 (
   load-at-below t,
   load-at.Post,
@@ -1109,7 +1109,7 @@ inner-enum-known-p : (t : ℕ) → inner-lts.Need-enum-known-p (
 ) (inner-at t) inner.Post
 inner-enum-known-p t c = search needs
 
--- src/walk.rt:82:13
+-- src/walk.rt:81:13
 inner-expr-head-requires : (t : ℕ) → inner-lts.Need-expr-head-requires (
   part-at-reads.Asked,
   part-at-reads.Learnt,
@@ -1135,7 +1135,7 @@ inner-headed-requires : (t : ℕ) → inner-lts.Need-headed-requires (
 ) (inner-at t) inner.Post
 inner-headed-requires t c κs = search needs
 
--- src/walk.rt:86:26
+-- src/walk.rt:85:26
 inner-enum-told : (t : ℕ) → inner-lts.Need-enum-told (
   part-at-reads.Asked,
   part-at-reads.Learnt,
@@ -1148,7 +1148,7 @@ inner-enum-told : (t : ℕ) → inner-lts.Need-enum-told (
 ) (inner-at t) inner.Post
 inner-enum-told t c = search needs
 
--- src/walk.rt:86:26
+-- src/walk.rt:85:26
 inner-value-requires : (t : ℕ) → inner-lts.Need-value-requires (
   part-at-reads.Asked,
   part-at-reads.Learnt,
@@ -1161,7 +1161,7 @@ inner-value-requires : (t : ℕ) → inner-lts.Need-value-requires (
 ) (inner-at t) inner.Post
 inner-value-requires t c κs = search needs
 
--- src/walk.rt:87:26
+-- src/walk.rt:86:26
 inner-enum-told-2 : (t : ℕ) → inner-lts.Need-enum-told-2 (
   part-at-reads.Asked,
   part-at-reads.Learnt,
@@ -1174,7 +1174,7 @@ inner-enum-told-2 : (t : ℕ) → inner-lts.Need-enum-told-2 (
 ) (inner-at t) inner.Post
 inner-enum-told-2 t c = search needs
 
--- src/walk.rt:87:26
+-- src/walk.rt:86:26
 inner-value-requires-2 : (t : ℕ) → inner-lts.Need-value-requires-2 (
   part-at-reads.Asked,
   part-at-reads.Learnt,
@@ -1187,7 +1187,7 @@ inner-value-requires-2 : (t : ℕ) → inner-lts.Need-value-requires-2 (
 ) (inner-at t) inner.Post
 inner-value-requires-2 t c κs = search needs
 
--- src/walk.rt:61:1
+-- src/walk.rt:62:1
 inner-returns : (t : ℕ) → inner-lts.Need-returns (
   part-at-reads.Asked,
   part-at-reads.Learnt,
@@ -1200,7 +1200,7 @@ inner-returns : (t : ℕ) → inner-lts.Need-returns (
 ) (inner-at t) inner.Post
 inner-returns t c = search inner-laws
 
--- src/walk.rt:61:1
+-- src/walk.rt:62:1
 inner-returns-2 : (t : ℕ) → inner-lts.Need-returns-2 (
   part-at-reads.Asked,
   part-at-reads.Learnt,
@@ -1213,7 +1213,7 @@ inner-returns-2 : (t : ℕ) → inner-lts.Need-returns-2 (
 ) (inner-at t) inner.Post
 inner-returns-2 t c = search inner-laws
 
--- src/walk.rt:61:1
+-- src/walk.rt:62:1
 inner-returns-3 : (t : ℕ) → inner-lts.Need-returns-3 (
   part-at-reads.Asked,
   part-at-reads.Learnt,
@@ -1226,7 +1226,7 @@ inner-returns-3 : (t : ℕ) → inner-lts.Need-returns-3 (
 ) (inner-at t) inner.Post
 inner-returns-3 t c = search inner-laws
 
--- src/walk.rt:390:9
+-- src/walk.rt:373:9
 inner-place-part-at-requires : (t : ℕ) → inner-place-lts.Need-part-at-requires (
   part-at-reads.Asked,
   part-at-reads.Learnt,
@@ -1239,7 +1239,7 @@ inner-place-part-at-requires : (t : ℕ) → inner-place-lts.Need-part-at-requir
 ) (inner-place-at t) inner-place.Post
 inner-place-part-at-requires t c κs = search needs
 
--- src/walk.rt:392:20
+-- src/walk.rt:375:20
 inner-place-enum-known-p : (t : ℕ) → inner-place-lts.Need-enum-known-p (
   part-at-reads.Asked,
   part-at-reads.Learnt,
@@ -1252,7 +1252,7 @@ inner-place-enum-known-p : (t : ℕ) → inner-place-lts.Need-enum-known-p (
 ) (inner-place-at t) inner-place.Post
 inner-place-enum-known-p t c = search needs
 
--- src/walk.rt:399:13
+-- src/walk.rt:381:13
 inner-place-expr-head-requires : (t : ℕ) → inner-place-lts.Need-expr-head-requires (
   part-at-reads.Asked,
   part-at-reads.Learnt,
@@ -1265,7 +1265,7 @@ inner-place-expr-head-requires : (t : ℕ) → inner-place-lts.Need-expr-head-re
 ) (inner-place-at t) inner-place.Post
 inner-place-expr-head-requires t c κs = search needs
 
--- src/walk.rt:392:32
+-- src/walk.rt:375:32
 inner-place-place-headed-requires : (t : ℕ) → inner-place-lts.Need-place-headed-requires (
   part-at-reads.Asked,
   part-at-reads.Learnt,
@@ -1278,7 +1278,7 @@ inner-place-place-headed-requires : (t : ℕ) → inner-place-lts.Need-place-hea
 ) (inner-place-at t) inner-place.Post
 inner-place-place-headed-requires t c κs = search needs
 
--- src/walk.rt:403:26
+-- src/walk.rt:385:26
 inner-place-enum-told : (t : ℕ) → inner-place-lts.Need-enum-told (
   part-at-reads.Asked,
   part-at-reads.Learnt,
@@ -1291,7 +1291,7 @@ inner-place-enum-told : (t : ℕ) → inner-place-lts.Need-enum-told (
 ) (inner-place-at t) inner-place.Post
 inner-place-enum-told t c = search needs
 
--- src/walk.rt:403:26
+-- src/walk.rt:385:26
 inner-place-place-requires : (t : ℕ) → inner-place-lts.Need-place-requires (
   part-at-reads.Asked,
   part-at-reads.Learnt,
@@ -1304,7 +1304,7 @@ inner-place-place-requires : (t : ℕ) → inner-place-lts.Need-place-requires (
 ) (inner-place-at t) inner-place.Post
 inner-place-place-requires t c κs = search needs
 
--- src/walk.rt:404:26
+-- src/walk.rt:386:26
 inner-place-enum-told-2 : (t : ℕ) → inner-place-lts.Need-enum-told-2 (
   part-at-reads.Asked,
   part-at-reads.Learnt,
@@ -1317,7 +1317,7 @@ inner-place-enum-told-2 : (t : ℕ) → inner-place-lts.Need-enum-told-2 (
 ) (inner-place-at t) inner-place.Post
 inner-place-enum-told-2 t c = search needs
 
--- src/walk.rt:404:26
+-- src/walk.rt:386:26
 inner-place-place-requires-2 : (t : ℕ) → inner-place-lts.Need-place-requires-2 (
   part-at-reads.Asked,
   part-at-reads.Learnt,
@@ -1330,7 +1330,7 @@ inner-place-place-requires-2 : (t : ℕ) → inner-place-lts.Need-place-requires
 ) (inner-place-at t) inner-place.Post
 inner-place-place-requires-2 t c κs = search needs
 
--- src/walk.rt:378:1
+-- src/walk.rt:362:1
 inner-place-returns : (t : ℕ) → inner-place-lts.Need-returns (
   part-at-reads.Asked,
   part-at-reads.Learnt,
@@ -1343,7 +1343,7 @@ inner-place-returns : (t : ℕ) → inner-place-lts.Need-returns (
 ) (inner-place-at t) inner-place.Post
 inner-place-returns t c = search inner-place-laws
 
--- src/walk.rt:378:1
+-- src/walk.rt:362:1
 inner-place-returns-2 : (t : ℕ) → inner-place-lts.Need-returns-2 (
   part-at-reads.Asked,
   part-at-reads.Learnt,
@@ -1356,7 +1356,7 @@ inner-place-returns-2 : (t : ℕ) → inner-place-lts.Need-returns-2 (
 ) (inner-place-at t) inner-place.Post
 inner-place-returns-2 t c = search inner-place-laws
 
--- src/walk.rt:378:1
+-- src/walk.rt:362:1
 inner-place-returns-3 : (t : ℕ) → inner-place-lts.Need-returns-3 (
   part-at-reads.Asked,
   part-at-reads.Learnt,
@@ -1369,7 +1369,7 @@ inner-place-returns-3 : (t : ℕ) → inner-place-lts.Need-returns-3 (
 ) (inner-place-at t) inner-place.Post
 inner-place-returns-3 t c = search inner-place-laws
 
--- src/walk.rt:332:9
+-- src/walk.rt:318:9
 load-at-element-requires : (t : ℕ) → load-at-lts.Need-element-requires (
   element-below t,
   element.Post,
@@ -1378,7 +1378,7 @@ load-at-element-requires : (t : ℕ) → load-at-lts.Need-element-requires (
 ) (load-at-at t) load-at.Post
 load-at-element-requires t c κs = search needs
 
--- src/walk.rt:333:5
+-- src/walk.rt:319:5
 load-at-load-requires : (t : ℕ) → load-at-lts.Need-load-requires (
   element-below t,
   element.Post,
@@ -1387,7 +1387,7 @@ load-at-load-requires : (t : ℕ) → load-at-lts.Need-load-requires (
 ) (load-at-at t) load-at.Post
 load-at-load-requires t c κs = search needs
 
--- src/walk.rt:320:1
+-- src/walk.rt:307:1
 load-at-returns : (t : ℕ) → load-at-lts.Need-returns (
   element-below t,
   element.Post,
@@ -1396,7 +1396,7 @@ load-at-returns : (t : ℕ) → load-at-lts.Need-returns (
 ) (load-at-at t) load-at.Post
 load-at-returns t c = search load-at-is
 
--- src/walk.rt:349:9
+-- src/walk.rt:334:9
 load-dot-field-requires : (t : ℕ) → load-dot-lts.Need-field-requires (
   field-below t,
   field.Post,
@@ -1405,7 +1405,7 @@ load-dot-field-requires : (t : ℕ) → load-dot-lts.Need-field-requires (
 ) (load-dot-at t) load-dot.Post
 load-dot-field-requires t c κs = search needs
 
--- src/walk.rt:350:5
+-- src/walk.rt:335:5
 load-dot-load-requires : (t : ℕ) → load-dot-lts.Need-load-requires (
   field-below t,
   field.Post,
@@ -1414,7 +1414,7 @@ load-dot-load-requires : (t : ℕ) → load-dot-lts.Need-load-requires (
 ) (load-dot-at t) load-dot.Post
 load-dot-load-requires t c κs = search needs
 
--- src/walk.rt:337:1
+-- src/walk.rt:323:1
 load-dot-returns : (t : ℕ) → load-dot-lts.Need-returns (
   field-below t,
   field.Post,
@@ -1423,7 +1423,7 @@ load-dot-returns : (t : ℕ) → load-dot-lts.Need-returns (
 ) (load-dot-at t) load-dot.Post
 load-dot-returns t c = search load-dot-is
 
--- src/walk.rt:50:9
+-- src/walk.rt:51:9
 mark-expr-value-requires : (t : ℕ) → mark-expr-lts.Need-value-requires (
   values-value-reads.Asked,
   values-value-reads.Learnt,
@@ -1436,7 +1436,7 @@ mark-expr-value-requires : (t : ℕ) → mark-expr-lts.Need-value-requires (
 ) (mark-expr-at t) mark-expr.Post
 mark-expr-value-requires t c κs = search needs
 
--- src/walk.rt:50:9
+-- src/walk.rt:51:9
 mark-expr-returns : (t : ℕ) → mark-expr-lts.Need-returns (
   values-value-reads.Asked,
   values-value-reads.Learnt,
@@ -1449,7 +1449,7 @@ mark-expr-returns : (t : ℕ) → mark-expr-lts.Need-returns (
 ) (mark-expr-at t) mark-expr.Post
 mark-expr-returns t c = search expr-laws
 
--- src/walk.rt:52:9
+-- src/walk.rt:53:9
 mark-expr-part-at-requires : (t : ℕ) → mark-expr-lts.Need-part-at-requires (
   values-value-reads.Asked,
   values-value-reads.Learnt,
@@ -1462,7 +1462,7 @@ mark-expr-part-at-requires : (t : ℕ) → mark-expr-lts.Need-part-at-requires (
 ) (mark-expr-at t) mark-expr.Post
 mark-expr-part-at-requires t c κs = search needs
 
--- src/walk.rt:54:20
+-- src/walk.rt:55:20
 mark-expr-enum-known-p : (t : ℕ) → mark-expr-lts.Need-enum-known-p (
   values-value-reads.Asked,
   values-value-reads.Learnt,
@@ -1475,7 +1475,7 @@ mark-expr-enum-known-p : (t : ℕ) → mark-expr-lts.Need-enum-known-p (
 ) (mark-expr-at t) mark-expr.Post
 mark-expr-enum-known-p t c = search needs
 
--- src/walk.rt:54:32
+-- src/walk.rt:55:32
 mark-expr-word-requires : (t : ℕ) → mark-expr-lts.Need-word-requires (
   values-value-reads.Asked,
   values-value-reads.Learnt,
@@ -1488,7 +1488,7 @@ mark-expr-word-requires : (t : ℕ) → mark-expr-lts.Need-word-requires (
 ) (mark-expr-at t) mark-expr.Post
 mark-expr-word-requires t c κs = search needs
 
--- src/walk.rt:55:20
+-- src/walk.rt:56:20
 mark-expr-enum-known-p-2 : (t : ℕ) → mark-expr-lts.Need-enum-known-p-2 (
   values-value-reads.Asked,
   values-value-reads.Learnt,
@@ -1501,7 +1501,7 @@ mark-expr-enum-known-p-2 : (t : ℕ) → mark-expr-lts.Need-enum-known-p-2 (
 ) (mark-expr-at t) mark-expr.Post
 mark-expr-enum-known-p-2 t c = search needs
 
--- src/walk.rt:55:73
+-- src/walk.rt:56:65
 mark-expr-sub-inner : (t : ℕ) → mark-expr-lts.Need-sub-inner (
   values-value-reads.Asked,
   values-value-reads.Learnt,
@@ -1514,7 +1514,7 @@ mark-expr-sub-inner : (t : ℕ) → mark-expr-lts.Need-sub-inner (
 ) (mark-expr-at t) mark-expr.Post
 mark-expr-sub-inner t c = search needs
 
--- src/walk.rt:55:26
+-- src/walk.rt:56:26
 mark-expr-inner-requires : (t : ℕ) → mark-expr-lts.Need-inner-requires (
   values-value-reads.Asked,
   values-value-reads.Learnt,
@@ -1527,7 +1527,7 @@ mark-expr-inner-requires : (t : ℕ) → mark-expr-lts.Need-inner-requires (
 ) (mark-expr-at t) mark-expr.Post
 mark-expr-inner-requires t c κs = search needs
 
--- src/walk.rt:56:26
+-- src/walk.rt:57:26
 mark-expr-enum-told : (t : ℕ) → mark-expr-lts.Need-enum-told (
   values-value-reads.Asked,
   values-value-reads.Learnt,
@@ -1540,7 +1540,7 @@ mark-expr-enum-told : (t : ℕ) → mark-expr-lts.Need-enum-told (
 ) (mark-expr-at t) mark-expr.Post
 mark-expr-enum-told t c = search needs
 
--- src/walk.rt:56:26
+-- src/walk.rt:57:26
 mark-expr-value-requires-2 : (t : ℕ) → mark-expr-lts.Need-value-requires-2 (
   values-value-reads.Asked,
   values-value-reads.Learnt,
@@ -1553,7 +1553,7 @@ mark-expr-value-requires-2 : (t : ℕ) → mark-expr-lts.Need-value-requires-2 (
 ) (mark-expr-at t) mark-expr.Post
 mark-expr-value-requires-2 t c κs = search needs
 
--- src/walk.rt:37:1
+-- src/walk.rt:39:1
 mark-expr-returns-2 : (t : ℕ) → mark-expr-lts.Need-returns-2 (
   values-value-reads.Asked,
   values-value-reads.Learnt,
@@ -1566,7 +1566,7 @@ mark-expr-returns-2 : (t : ℕ) → mark-expr-lts.Need-returns-2 (
 ) (mark-expr-at t) mark-expr.Post
 mark-expr-returns-2 t c = search expr-laws
 
--- src/walk.rt:37:1
+-- src/walk.rt:39:1
 mark-expr-returns-3 : (t : ℕ) → mark-expr-lts.Need-returns-3 (
   values-value-reads.Asked,
   values-value-reads.Learnt,
@@ -1579,7 +1579,7 @@ mark-expr-returns-3 : (t : ℕ) → mark-expr-lts.Need-returns-3 (
 ) (mark-expr-at t) mark-expr.Post
 mark-expr-returns-3 t c = search expr-laws
 
--- src/walk.rt:37:1
+-- src/walk.rt:39:1
 mark-expr-returns-4 : (t : ℕ) → mark-expr-lts.Need-returns-4 (
   values-value-reads.Asked,
   values-value-reads.Learnt,
@@ -1592,7 +1592,7 @@ mark-expr-returns-4 : (t : ℕ) → mark-expr-lts.Need-returns-4 (
 ) (mark-expr-at t) mark-expr.Post
 mark-expr-returns-4 t c = search expr-laws
 
--- src/walk.rt:367:9
+-- src/walk.rt:351:9
 mark-target-place-requires : (t : ℕ) → mark-target-lts.Need-place-requires (
   place-reads.Asked,
   place-reads.Learnt,
@@ -1605,7 +1605,7 @@ mark-target-place-requires : (t : ℕ) → mark-target-lts.Need-place-requires (
 ) (mark-target-at t) mark-target.Post
 mark-target-place-requires t c κs = search needs
 
--- src/walk.rt:367:9
+-- src/walk.rt:351:9
 mark-target-returns : (t : ℕ) → mark-target-lts.Need-returns (
   place-reads.Asked,
   place-reads.Learnt,
@@ -1618,7 +1618,7 @@ mark-target-returns : (t : ℕ) → mark-target-lts.Need-returns (
 ) (mark-target-at t) mark-target.Post
 mark-target-returns t c = search target-laws
 
--- src/walk.rt:369:9
+-- src/walk.rt:353:9
 mark-target-part-at-requires : (t : ℕ) → mark-target-lts.Need-part-at-requires (
   place-reads.Asked,
   place-reads.Learnt,
@@ -1631,7 +1631,7 @@ mark-target-part-at-requires : (t : ℕ) → mark-target-lts.Need-part-at-requir
 ) (mark-target-at t) mark-target.Post
 mark-target-part-at-requires t c κs = search needs
 
--- src/walk.rt:371:20
+-- src/walk.rt:355:20
 mark-target-enum-known-p : (t : ℕ) → mark-target-lts.Need-enum-known-p (
   place-reads.Asked,
   place-reads.Learnt,
@@ -1644,7 +1644,7 @@ mark-target-enum-known-p : (t : ℕ) → mark-target-lts.Need-enum-known-p (
 ) (mark-target-at t) mark-target.Post
 mark-target-enum-known-p t c = search needs
 
--- src/walk.rt:371:32
+-- src/walk.rt:355:32
 mark-target-variable-requires : (t : ℕ) → mark-target-lts.Need-variable-requires (
   place-reads.Asked,
   place-reads.Learnt,
@@ -1657,7 +1657,7 @@ mark-target-variable-requires : (t : ℕ) → mark-target-lts.Need-variable-requ
 ) (mark-target-at t) mark-target.Post
 mark-target-variable-requires t c κs = search needs
 
--- src/walk.rt:372:20
+-- src/walk.rt:356:20
 mark-target-enum-known-p-2 : (t : ℕ) → mark-target-lts.Need-enum-known-p-2 (
   place-reads.Asked,
   place-reads.Learnt,
@@ -1670,7 +1670,7 @@ mark-target-enum-known-p-2 : (t : ℕ) → mark-target-lts.Need-enum-known-p-2 (
 ) (mark-target-at t) mark-target.Post
 mark-target-enum-known-p-2 t c = search needs
 
--- src/walk.rt:372:79
+-- src/walk.rt:356:71
 mark-target-sub-inner-place : (t : ℕ) → mark-target-lts.Need-sub-inner-place (
   place-reads.Asked,
   place-reads.Learnt,
@@ -1683,7 +1683,7 @@ mark-target-sub-inner-place : (t : ℕ) → mark-target-lts.Need-sub-inner-place
 ) (mark-target-at t) mark-target.Post
 mark-target-sub-inner-place t c = search needs
 
--- src/walk.rt:372:26
+-- src/walk.rt:356:26
 mark-target-inner-place-requires : (t : ℕ) → mark-target-lts.Need-inner-place-requires (
   place-reads.Asked,
   place-reads.Learnt,
@@ -1696,7 +1696,7 @@ mark-target-inner-place-requires : (t : ℕ) → mark-target-lts.Need-inner-plac
 ) (mark-target-at t) mark-target.Post
 mark-target-inner-place-requires t c κs = search needs
 
--- src/walk.rt:373:26
+-- src/walk.rt:357:26
 mark-target-enum-told : (t : ℕ) → mark-target-lts.Need-enum-told (
   place-reads.Asked,
   place-reads.Learnt,
@@ -1709,7 +1709,7 @@ mark-target-enum-told : (t : ℕ) → mark-target-lts.Need-enum-told (
 ) (mark-target-at t) mark-target.Post
 mark-target-enum-told t c = search needs
 
--- src/walk.rt:373:26
+-- src/walk.rt:357:26
 mark-target-place-requires-2 : (t : ℕ) → mark-target-lts.Need-place-requires-2 (
   place-reads.Asked,
   place-reads.Learnt,
@@ -1722,7 +1722,7 @@ mark-target-place-requires-2 : (t : ℕ) → mark-target-lts.Need-place-requires
 ) (mark-target-at t) mark-target.Post
 mark-target-place-requires-2 t c κs = search needs
 
--- src/walk.rt:354:1
+-- src/walk.rt:339:1
 mark-target-returns-2 : (t : ℕ) → mark-target-lts.Need-returns-2 (
   place-reads.Asked,
   place-reads.Learnt,
@@ -1735,7 +1735,7 @@ mark-target-returns-2 : (t : ℕ) → mark-target-lts.Need-returns-2 (
 ) (mark-target-at t) mark-target.Post
 mark-target-returns-2 t c = search target-laws
 
--- src/walk.rt:354:1
+-- src/walk.rt:339:1
 mark-target-returns-3 : (t : ℕ) → mark-target-lts.Need-returns-3 (
   place-reads.Asked,
   place-reads.Learnt,
@@ -1748,7 +1748,7 @@ mark-target-returns-3 : (t : ℕ) → mark-target-lts.Need-returns-3 (
 ) (mark-target-at t) mark-target.Post
 mark-target-returns-3 t c = search target-laws
 
--- src/walk.rt:354:1
+-- src/walk.rt:339:1
 mark-target-returns-4 : (t : ℕ) → mark-target-lts.Need-returns-4 (
   place-reads.Asked,
   place-reads.Learnt,
@@ -1762,12 +1762,12 @@ mark-target-returns-4 : (t : ℕ) → mark-target-lts.Need-returns-4 (
 mark-target-returns-4 t c = search target-laws
 
 abbrev member-list-Inv-loop : member-list-lts.InvT-loop
-member-list-Inv-loop text work types count newest store t depth at next₀ set₀ next set = Sofar text work types store count newest t depth at next set
+member-list-Inv-loop text work types scope store t depth at next₀ set₀ next set = Sofar text work types store scope t depth at next set
 
 abbrev member-list-μ-loop : member-list-lts.MeasureT-loop
-member-list-μ-loop text work types count newest store t depth at next₀ set₀ next set = many (first (stackAt text next))
+member-list-μ-loop text work types scope store t depth at next₀ set₀ next set = many (first (stackAt text next))
 
--- src/walk.rt:297:5
+-- src/walk.rt:284:5
 member-list-loop-holds : (t : ℕ) → member-list-lts.Need-loop-holds (
   end-at-reads.Asked,
   end-at-reads.Learnt,
@@ -1782,9 +1782,9 @@ member-list-loop-holds : (t : ℕ) → member-list-lts.Need-loop-holds (
   skip-reads.Asked,
   skip-reads.Learnt,
 ) (member-list-at t) member-list.Post member-list-Inv-loop member-list-μ-loop
-member-list-loop-holds t c = sofar-start _ _ _ _ _ _ _ _ _
+member-list-loop-holds t c = sofar-start _ _ _ _ _ _ _ _
 
--- src/walk.rt:298:13
+-- src/walk.rt:285:13
 member-list-end-at-requires : (t : ℕ) → member-list-lts.Need-end-at-requires (
   end-at-reads.Asked,
   end-at-reads.Learnt,
@@ -1801,7 +1801,7 @@ member-list-end-at-requires : (t : ℕ) → member-list-lts.Need-end-at-requires
 ) (member-list-at t) member-list.Post member-list-Inv-loop member-list-μ-loop
 member-list-end-at-requires t c κs = search needs
 
--- src/walk.rt:301:17
+-- src/walk.rt:288:17
 member-list-enum-told : (t : ℕ) → member-list-lts.Need-enum-told (
   end-at-reads.Asked,
   end-at-reads.Learnt,
@@ -1818,7 +1818,7 @@ member-list-enum-told : (t : ℕ) → member-list-lts.Need-enum-told (
 ) (member-list-at t) member-list.Post member-list-Inv-loop member-list-μ-loop
 member-list-enum-told t c = search needs
 
--- src/walk.rt:301:17
+-- src/walk.rt:288:17
 member-list-value-requires : (t : ℕ) → member-list-lts.Need-value-requires (
   end-at-reads.Asked,
   end-at-reads.Learnt,
@@ -1835,7 +1835,7 @@ member-list-value-requires : (t : ℕ) → member-list-lts.Need-value-requires (
 ) (member-list-at t) member-list.Post member-list-Inv-loop member-list-μ-loop
 member-list-value-requires t c κs = search needs
 
--- src/walk.rt:301:17
+-- src/walk.rt:288:17
 member-list-returns : (t : ℕ) → member-list-lts.Need-returns (
   end-at-reads.Asked,
   end-at-reads.Learnt,
@@ -1868,7 +1868,7 @@ member-list-enum-told-2 : (t : ℕ) → member-list-lts.Need-enum-told-2 (
 ) (member-list-at t) member-list.Post member-list-Inv-loop member-list-μ-loop
 member-list-enum-told-2 t c = search needs
 
--- src/walk.rt:309:13
+-- src/walk.rt:296:13
 member-list-mark-expr-requires : (t : ℕ) → member-list-lts.Need-mark-expr-requires (
   end-at-reads.Asked,
   end-at-reads.Learnt,
@@ -1885,7 +1885,7 @@ member-list-mark-expr-requires : (t : ℕ) → member-list-lts.Need-mark-expr-re
 ) (member-list-at t) member-list.Post member-list-Inv-loop member-list-μ-loop
 member-list-mark-expr-requires t c κs = search needs
 
--- src/walk.rt:305:13
+-- src/walk.rt:292:13
 member-list-member-requires : (t : ℕ) → member-list-lts.Need-member-requires (
   end-at-reads.Asked,
   end-at-reads.Learnt,
@@ -1902,7 +1902,7 @@ member-list-member-requires : (t : ℕ) → member-list-lts.Need-member-requires
 ) (member-list-at t) member-list.Post member-list-Inv-loop member-list-μ-loop
 member-list-member-requires t c κs = search needs
 
--- src/walk.rt:312:13
+-- src/walk.rt:299:13
 member-list-returns-2 : (t : ℕ) → member-list-lts.Need-returns-2 (
   end-at-reads.Asked,
   end-at-reads.Learnt,
@@ -1919,7 +1919,7 @@ member-list-returns-2 : (t : ℕ) → member-list-lts.Need-returns-2 (
 ) (member-list-at t) member-list.Post member-list-Inv-loop member-list-μ-loop
 member-list-returns-2 t c = search members-laws
 
--- src/walk.rt:314:9
+-- src/walk.rt:301:9
 member-list-insert-requires : (t : ℕ) → member-list-lts.Need-insert-requires (
   end-at-reads.Asked,
   end-at-reads.Learnt,
@@ -1936,7 +1936,7 @@ member-list-insert-requires : (t : ℕ) → member-list-lts.Need-insert-requires
 ) (member-list-at t) member-list.Post member-list-Inv-loop member-list-μ-loop
 member-list-insert-requires t c κs = search needs
 
--- src/walk.rt:315:9
+-- src/walk.rt:302:9
 member-list-skip-requires : (t : ℕ) → member-list-lts.Need-skip-requires (
   end-at-reads.Asked,
   end-at-reads.Learnt,
@@ -1953,7 +1953,7 @@ member-list-skip-requires : (t : ℕ) → member-list-lts.Need-skip-requires (
 ) (member-list-at t) member-list.Post member-list-Inv-loop member-list-μ-loop
 member-list-skip-requires t c κs = search needs
 
--- src/walk.rt:297:5
+-- src/walk.rt:284:5
 member-list-loop-less : (t : ℕ) → member-list-lts.Need-loop-less (
   end-at-reads.Asked,
   end-at-reads.Learnt,
@@ -1970,7 +1970,7 @@ member-list-loop-less : (t : ℕ) → member-list-lts.Need-loop-less (
 ) (member-list-at t) member-list.Post member-list-Inv-loop member-list-μ-loop
 member-list-loop-less t c = search members-falls
 
--- src/walk.rt:297:5
+-- src/walk.rt:284:5
 member-list-loop-again : (t : ℕ) → member-list-lts.Need-loop-again (
   end-at-reads.Asked,
   end-at-reads.Learnt,
@@ -1987,7 +1987,7 @@ member-list-loop-again : (t : ℕ) → member-list-lts.Need-loop-again (
 ) (member-list-at t) member-list.Post member-list-Inv-loop member-list-μ-loop
 member-list-loop-again t c = search members-again
 
--- src/walk.rt:215:9
+-- src/walk.rt:206:9
 minus-number-alone-requires : (t : ℕ) → minus-lts.Need-number-alone-requires (
   number-alone-reads.Asked,
   number-alone-reads.Learnt,
@@ -1998,7 +1998,7 @@ minus-number-alone-requires : (t : ℕ) → minus-lts.Need-number-alone-requires
 ) (minus-at t) minus.Post
 minus-number-alone-requires t c κs = search needs
 
--- src/walk.rt:217:23
+-- src/walk.rt:208:23
 minus-enum-known-n : (t : ℕ) → minus-lts.Need-enum-known-n (
   number-alone-reads.Asked,
   number-alone-reads.Learnt,
@@ -2009,7 +2009,7 @@ minus-enum-known-n : (t : ℕ) → minus-lts.Need-enum-known-n (
 ) (minus-at t) minus.Post
 minus-enum-known-n t c = search needs
 
--- src/walk.rt:217:32
+-- src/walk.rt:208:32
 minus-negative-requires : (t : ℕ) → minus-lts.Need-negative-requires (
   number-alone-reads.Asked,
   number-alone-reads.Learnt,
@@ -2020,7 +2020,7 @@ minus-negative-requires : (t : ℕ) → minus-lts.Need-negative-requires (
 ) (minus-at t) minus.Post
 minus-negative-requires t c κs = search needs
 
--- src/walk.rt:218:22
+-- src/walk.rt:209:22
 minus-enum-told : (t : ℕ) → minus-lts.Need-enum-told (
   number-alone-reads.Asked,
   number-alone-reads.Learnt,
@@ -2031,7 +2031,7 @@ minus-enum-told : (t : ℕ) → minus-lts.Need-enum-told (
 ) (minus-at t) minus.Post
 minus-enum-told t c = search needs
 
--- src/walk.rt:218:22
+-- src/walk.rt:209:22
 minus-minus-parts-requires : (t : ℕ) → minus-lts.Need-minus-parts-requires (
   number-alone-reads.Asked,
   number-alone-reads.Learnt,
@@ -2042,7 +2042,7 @@ minus-minus-parts-requires : (t : ℕ) → minus-lts.Need-minus-parts-requires (
 ) (minus-at t) minus.Post
 minus-minus-parts-requires t c κs = search needs
 
--- src/walk.rt:203:1
+-- src/walk.rt:195:1
 minus-returns : (t : ℕ) → minus-lts.Need-returns (
   number-alone-reads.Asked,
   number-alone-reads.Learnt,
@@ -2053,7 +2053,7 @@ minus-returns : (t : ℕ) → minus-lts.Need-returns (
 ) (minus-at t) minus.Post
 minus-returns t c = search minus-laws
 
--- src/walk.rt:203:1
+-- src/walk.rt:195:1
 minus-returns-2 : (t : ℕ) → minus-lts.Need-returns-2 (
   number-alone-reads.Asked,
   number-alone-reads.Learnt,
@@ -2064,7 +2064,7 @@ minus-returns-2 : (t : ℕ) → minus-lts.Need-returns-2 (
 ) (minus-at t) minus.Post
 minus-returns-2 t c = search minus-laws
 
--- src/walk.rt:235:9
+-- src/walk.rt:225:9
 minus-parts-mark-expr-requires : (t : ℕ) → minus-parts-lts.Need-mark-expr-requires (
   mark-expr-below t,
   mark-expr.Post,
@@ -2079,7 +2079,7 @@ minus-parts-mark-expr-requires : (t : ℕ) → minus-parts-lts.Need-mark-expr-re
 ) (minus-parts-at t) minus-parts.Post
 minus-parts-mark-expr-requires t c κs = search needs
 
--- src/walk.rt:236:9
+-- src/walk.rt:226:9
 minus-parts-skip-requires : (t : ℕ) → minus-parts-lts.Need-skip-requires (
   mark-expr-below t,
   mark-expr.Post,
@@ -2094,7 +2094,7 @@ minus-parts-skip-requires : (t : ℕ) → minus-parts-lts.Need-skip-requires (
 ) (minus-parts-at t) minus-parts.Post
 minus-parts-skip-requires t c κs = search needs
 
--- src/walk.rt:237:9
+-- src/walk.rt:227:9
 minus-parts-end-at-requires : (t : ℕ) → minus-parts-lts.Need-end-at-requires (
   mark-expr-below t,
   mark-expr.Post,
@@ -2109,7 +2109,7 @@ minus-parts-end-at-requires : (t : ℕ) → minus-parts-lts.Need-end-at-requires
 ) (minus-parts-at t) minus-parts.Post
 minus-parts-end-at-requires t c κs = search needs
 
--- src/walk.rt:239:25
+-- src/walk.rt:229:25
 minus-parts-enum-told : (t : ℕ) → minus-parts-lts.Need-enum-told (
   mark-expr-below t,
   mark-expr.Post,
@@ -2124,7 +2124,7 @@ minus-parts-enum-told : (t : ℕ) → minus-parts-lts.Need-enum-told (
 ) (minus-parts-at t) minus-parts.Post
 minus-parts-enum-told t c = search needs
 
--- src/walk.rt:239:25
+-- src/walk.rt:229:25
 minus-parts-apply-requires : (t : ℕ) → minus-parts-lts.Need-apply-requires (
   mark-expr-below t,
   mark-expr.Post,
@@ -2139,7 +2139,7 @@ minus-parts-apply-requires : (t : ℕ) → minus-parts-lts.Need-apply-requires (
 ) (minus-parts-at t) minus-parts.Post
 minus-parts-apply-requires t c κs = search needs
 
--- src/walk.rt:245:13
+-- src/walk.rt:235:13
 minus-parts-enum-told-2 : (t : ℕ) → minus-parts-lts.Need-enum-told-2 (
   mark-expr-below t,
   mark-expr.Post,
@@ -2154,7 +2154,7 @@ minus-parts-enum-told-2 : (t : ℕ) → minus-parts-lts.Need-enum-told-2 (
 ) (minus-parts-at t) minus-parts.Post
 minus-parts-enum-told-2 t c = search needs
 
--- src/walk.rt:245:13
+-- src/walk.rt:235:13
 minus-parts-mark-expr-requires-2 : (t : ℕ) → minus-parts-lts.Need-mark-expr-requires-2 (
   mark-expr-below t,
   mark-expr.Post,
@@ -2169,7 +2169,7 @@ minus-parts-mark-expr-requires-2 : (t : ℕ) → minus-parts-lts.Need-mark-expr-
 ) (minus-parts-at t) minus-parts.Post
 minus-parts-mark-expr-requires-2 t c κs = search needs
 
--- src/walk.rt:240:22
+-- src/walk.rt:230:22
 minus-parts-operate-requires : (t : ℕ) → minus-parts-lts.Need-operate-requires (
   mark-expr-below t,
   mark-expr.Post,
@@ -2184,7 +2184,7 @@ minus-parts-operate-requires : (t : ℕ) → minus-parts-lts.Need-operate-requir
 ) (minus-parts-at t) minus-parts.Post
 minus-parts-operate-requires t c κs = search needs
 
--- src/walk.rt:223:1
+-- src/walk.rt:214:1
 minus-parts-returns : (t : ℕ) → minus-parts-lts.Need-returns (
   mark-expr-below t,
   mark-expr.Post,
@@ -2199,7 +2199,7 @@ minus-parts-returns : (t : ℕ) → minus-parts-lts.Need-returns (
 ) (minus-parts-at t) minus-parts.Post
 minus-parts-returns t c = search minus-parts-laws
 
--- src/walk.rt:223:1
+-- src/walk.rt:214:1
 minus-parts-returns-2 : (t : ℕ) → minus-parts-lts.Need-returns-2 (
   mark-expr-below t,
   mark-expr.Post,
@@ -2214,7 +2214,7 @@ minus-parts-returns-2 : (t : ℕ) → minus-parts-lts.Need-returns-2 (
 ) (minus-parts-at t) minus-parts.Post
 minus-parts-returns-2 t c = search minus-parts-laws
 
--- src/walk.rt:198:9
+-- src/walk.rt:190:9
 one-mark-expr-requires : (t : ℕ) → one-lts.Need-mark-expr-requires (
   mark-expr-below t,
   mark-expr.Post,
@@ -2223,7 +2223,7 @@ one-mark-expr-requires : (t : ℕ) → one-lts.Need-mark-expr-requires (
 ) (one-at t) one.Post
 one-mark-expr-requires t c κs = search needs
 
--- src/walk.rt:199:5
+-- src/walk.rt:191:5
 one-apply-requires : (t : ℕ) → one-lts.Need-apply-requires (
   mark-expr-below t,
   mark-expr.Post,
@@ -2232,7 +2232,7 @@ one-apply-requires : (t : ℕ) → one-lts.Need-apply-requires (
 ) (one-at t) one.Post
 one-apply-requires t c κs = search needs
 
--- src/walk.rt:185:1
+-- src/walk.rt:178:1
 one-returns : (t : ℕ) → one-lts.Need-returns (
   mark-expr-below t,
   mark-expr.Post,
@@ -2241,7 +2241,7 @@ one-returns : (t : ℕ) → one-lts.Need-returns (
 ) (one-at t) one.Post
 one-returns t c = search one-is
 
--- src/walk.rt:423:25
+-- src/walk.rt:404:25
 place-headed-enum-told : (t : ℕ) → place-headed-lts.Need-enum-told (
   element-below t,
   element.Post,
@@ -2252,7 +2252,7 @@ place-headed-enum-told : (t : ℕ) → place-headed-lts.Need-enum-told (
 ) (place-headed-at t) place-headed.Post
 place-headed-enum-told t c = search needs
 
--- src/walk.rt:423:25
+-- src/walk.rt:404:25
 place-headed-element-requires : (t : ℕ) → place-headed-lts.Need-element-requires (
   element-below t,
   element.Post,
@@ -2263,7 +2263,7 @@ place-headed-element-requires : (t : ℕ) → place-headed-lts.Need-element-requ
 ) (place-headed-at t) place-headed.Post
 place-headed-element-requires t c κs = search needs
 
--- src/walk.rt:424:26
+-- src/walk.rt:405:26
 place-headed-enum-told-2 : (t : ℕ) → place-headed-lts.Need-enum-told-2 (
   element-below t,
   element.Post,
@@ -2274,7 +2274,7 @@ place-headed-enum-told-2 : (t : ℕ) → place-headed-lts.Need-enum-told-2 (
 ) (place-headed-at t) place-headed.Post
 place-headed-enum-told-2 t c = search needs
 
--- src/walk.rt:424:26
+-- src/walk.rt:405:26
 place-headed-field-requires : (t : ℕ) → place-headed-lts.Need-field-requires (
   element-below t,
   element.Post,
@@ -2285,7 +2285,7 @@ place-headed-field-requires : (t : ℕ) → place-headed-lts.Need-field-requires
 ) (place-headed-at t) place-headed.Post
 place-headed-field-requires t c κs = search needs
 
--- src/walk.rt:425:30
+-- src/walk.rt:406:30
 place-headed-enum-told-3 : (t : ℕ) → place-headed-lts.Need-enum-told-3 (
   element-below t,
   element.Post,
@@ -2296,7 +2296,7 @@ place-headed-enum-told-3 : (t : ℕ) → place-headed-lts.Need-enum-told-3 (
 ) (place-headed-at t) place-headed.Post
 place-headed-enum-told-3 t c = search needs
 
--- src/walk.rt:425:30
+-- src/walk.rt:406:30
 place-headed-place-requires : (t : ℕ) → place-headed-lts.Need-place-requires (
   element-below t,
   element.Post,
@@ -2307,7 +2307,7 @@ place-headed-place-requires : (t : ℕ) → place-headed-lts.Need-place-requires
 ) (place-headed-at t) place-headed.Post
 place-headed-place-requires t c κs = search needs
 
--- src/walk.rt:426:28
+-- src/walk.rt:407:28
 place-headed-enum-told-4 : (t : ℕ) → place-headed-lts.Need-enum-told-4 (
   element-below t,
   element.Post,
@@ -2318,7 +2318,7 @@ place-headed-enum-told-4 : (t : ℕ) → place-headed-lts.Need-enum-told-4 (
 ) (place-headed-at t) place-headed.Post
 place-headed-enum-told-4 t c = search needs
 
--- src/walk.rt:426:28
+-- src/walk.rt:407:28
 place-headed-place-requires-2 : (t : ℕ) → place-headed-lts.Need-place-requires-2 (
   element-below t,
   element.Post,
@@ -2329,7 +2329,7 @@ place-headed-place-requires-2 : (t : ℕ) → place-headed-lts.Need-place-requir
 ) (place-headed-at t) place-headed.Post
 place-headed-place-requires-2 t c κs = search needs
 
--- src/walk.rt:427:31
+-- src/walk.rt:408:31
 place-headed-enum-told-5 : (t : ℕ) → place-headed-lts.Need-enum-told-5 (
   element-below t,
   element.Post,
@@ -2340,7 +2340,7 @@ place-headed-enum-told-5 : (t : ℕ) → place-headed-lts.Need-enum-told-5 (
 ) (place-headed-at t) place-headed.Post
 place-headed-enum-told-5 t c = search needs
 
--- src/walk.rt:427:31
+-- src/walk.rt:408:31
 place-headed-place-requires-3 : (t : ℕ) → place-headed-lts.Need-place-requires-3 (
   element-below t,
   element.Post,
@@ -2351,7 +2351,7 @@ place-headed-place-requires-3 : (t : ℕ) → place-headed-lts.Need-place-requir
 ) (place-headed-at t) place-headed.Post
 place-headed-place-requires-3 t c κs = search needs
 
--- src/walk.rt:428:31
+-- src/walk.rt:409:31
 place-headed-enum-told-6 : (t : ℕ) → place-headed-lts.Need-enum-told-6 (
   element-below t,
   element.Post,
@@ -2362,7 +2362,7 @@ place-headed-enum-told-6 : (t : ℕ) → place-headed-lts.Need-enum-told-6 (
 ) (place-headed-at t) place-headed.Post
 place-headed-enum-told-6 t c = search needs
 
--- src/walk.rt:428:31
+-- src/walk.rt:409:31
 place-headed-place-requires-4 : (t : ℕ) → place-headed-lts.Need-place-requires-4 (
   element-below t,
   element.Post,
@@ -2373,7 +2373,7 @@ place-headed-place-requires-4 : (t : ℕ) → place-headed-lts.Need-place-requir
 ) (place-headed-at t) place-headed.Post
 place-headed-place-requires-4 t c κs = search needs
 
--- src/walk.rt:429:29
+-- src/walk.rt:410:29
 place-headed-enum-told-7 : (t : ℕ) → place-headed-lts.Need-enum-told-7 (
   element-below t,
   element.Post,
@@ -2384,7 +2384,7 @@ place-headed-enum-told-7 : (t : ℕ) → place-headed-lts.Need-enum-told-7 (
 ) (place-headed-at t) place-headed.Post
 place-headed-enum-told-7 t c = search needs
 
--- src/walk.rt:429:29
+-- src/walk.rt:410:29
 place-headed-place-requires-5 : (t : ℕ) → place-headed-lts.Need-place-requires-5 (
   element-below t,
   element.Post,
@@ -2395,7 +2395,7 @@ place-headed-place-requires-5 : (t : ℕ) → place-headed-lts.Need-place-requir
 ) (place-headed-at t) place-headed.Post
 place-headed-place-requires-5 t c κs = search needs
 
--- src/walk.rt:430:29
+-- src/walk.rt:411:29
 place-headed-enum-told-8 : (t : ℕ) → place-headed-lts.Need-enum-told-8 (
   element-below t,
   element.Post,
@@ -2406,7 +2406,7 @@ place-headed-enum-told-8 : (t : ℕ) → place-headed-lts.Need-enum-told-8 (
 ) (place-headed-at t) place-headed.Post
 place-headed-enum-told-8 t c = search needs
 
--- src/walk.rt:430:29
+-- src/walk.rt:411:29
 place-headed-place-requires-6 : (t : ℕ) → place-headed-lts.Need-place-requires-6 (
   element-below t,
   element.Post,
@@ -2417,7 +2417,7 @@ place-headed-place-requires-6 : (t : ℕ) → place-headed-lts.Need-place-requir
 ) (place-headed-at t) place-headed.Post
 place-headed-place-requires-6 t c κs = search needs
 
--- src/walk.rt:431:30
+-- src/walk.rt:412:30
 place-headed-enum-told-9 : (t : ℕ) → place-headed-lts.Need-enum-told-9 (
   element-below t,
   element.Post,
@@ -2428,7 +2428,7 @@ place-headed-enum-told-9 : (t : ℕ) → place-headed-lts.Need-enum-told-9 (
 ) (place-headed-at t) place-headed.Post
 place-headed-enum-told-9 t c = search needs
 
--- src/walk.rt:431:30
+-- src/walk.rt:412:30
 place-headed-place-requires-7 : (t : ℕ) → place-headed-lts.Need-place-requires-7 (
   element-below t,
   element.Post,
@@ -2439,7 +2439,7 @@ place-headed-place-requires-7 : (t : ℕ) → place-headed-lts.Need-place-requir
 ) (place-headed-at t) place-headed.Post
 place-headed-place-requires-7 t c κs = search needs
 
--- src/walk.rt:409:1
+-- src/walk.rt:391:1
 place-headed-returns : (t : ℕ) → place-headed-lts.Need-returns (
   element-below t,
   element.Post,
@@ -2450,7 +2450,7 @@ place-headed-returns : (t : ℕ) → place-headed-lts.Need-returns (
 ) (place-headed-at t) place-headed.Post
 place-headed-returns t c = search by-place-laws
 
--- src/walk.rt:409:1
+-- src/walk.rt:391:1
 place-headed-returns-2 : (t : ℕ) → place-headed-lts.Need-returns-2 (
   element-below t,
   element.Post,
@@ -2461,7 +2461,7 @@ place-headed-returns-2 : (t : ℕ) → place-headed-lts.Need-returns-2 (
 ) (place-headed-at t) place-headed.Post
 place-headed-returns-2 t c = search by-place-laws
 
--- src/walk.rt:409:1
+-- src/walk.rt:391:1
 place-headed-returns-3 : (t : ℕ) → place-headed-lts.Need-returns-3 (
   element-below t,
   element.Post,
@@ -2472,7 +2472,7 @@ place-headed-returns-3 : (t : ℕ) → place-headed-lts.Need-returns-3 (
 ) (place-headed-at t) place-headed.Post
 place-headed-returns-3 t c = search by-place-laws
 
--- src/walk.rt:409:1
+-- src/walk.rt:391:1
 place-headed-returns-4 : (t : ℕ) → place-headed-lts.Need-returns-4 (
   element-below t,
   element.Post,
@@ -2483,7 +2483,7 @@ place-headed-returns-4 : (t : ℕ) → place-headed-lts.Need-returns-4 (
 ) (place-headed-at t) place-headed.Post
 place-headed-returns-4 t c = search by-place-laws
 
--- src/walk.rt:409:1
+-- src/walk.rt:391:1
 place-headed-returns-5 : (t : ℕ) → place-headed-lts.Need-returns-5 (
   element-below t,
   element.Post,
@@ -2494,7 +2494,7 @@ place-headed-returns-5 : (t : ℕ) → place-headed-lts.Need-returns-5 (
 ) (place-headed-at t) place-headed.Post
 place-headed-returns-5 t c = search by-place-laws
 
--- src/walk.rt:409:1
+-- src/walk.rt:391:1
 place-headed-returns-6 : (t : ℕ) → place-headed-lts.Need-returns-6 (
   element-below t,
   element.Post,
@@ -2505,7 +2505,7 @@ place-headed-returns-6 : (t : ℕ) → place-headed-lts.Need-returns-6 (
 ) (place-headed-at t) place-headed.Post
 place-headed-returns-6 t c = search by-place-laws
 
--- src/walk.rt:409:1
+-- src/walk.rt:391:1
 place-headed-returns-7 : (t : ℕ) → place-headed-lts.Need-returns-7 (
   element-below t,
   element.Post,
@@ -2516,7 +2516,7 @@ place-headed-returns-7 : (t : ℕ) → place-headed-lts.Need-returns-7 (
 ) (place-headed-at t) place-headed.Post
 place-headed-returns-7 t c = search by-place-laws
 
--- src/walk.rt:409:1
+-- src/walk.rt:391:1
 place-headed-returns-8 : (t : ℕ) → place-headed-lts.Need-returns-8 (
   element-below t,
   element.Post,
@@ -2527,7 +2527,7 @@ place-headed-returns-8 : (t : ℕ) → place-headed-lts.Need-returns-8 (
 ) (place-headed-at t) place-headed.Post
 place-headed-returns-8 t c = search by-place-laws
 
--- src/walk.rt:409:1
+-- src/walk.rt:391:1
 place-headed-returns-9 : (t : ℕ) → place-headed-lts.Need-returns-9 (
   element-below t,
   element.Post,
@@ -2538,7 +2538,7 @@ place-headed-returns-9 : (t : ℕ) → place-headed-lts.Need-returns-9 (
 ) (place-headed-at t) place-headed.Post
 place-headed-returns-9 t c = search by-place-laws
 
--- src/walk.rt:263:9
+-- src/walk.rt:252:9
 set-form-type-name-requires : (t : ℕ) → set-form-lts.Need-type-name-requires (
   type-name-reads.Asked,
   type-name-reads.Learnt,
@@ -2553,7 +2553,7 @@ set-form-type-name-requires : (t : ℕ) → set-form-lts.Need-type-name-requires
 ) (set-form-at t) set-form.Post
 set-form-type-name-requires t c κs = search needs
 
--- src/walk.rt:264:8
+-- src/walk.rt:253:8
 set-form-is-set-requires : (t : ℕ) → set-form-lts.Need-is-set-requires (
   type-name-reads.Asked,
   type-name-reads.Learnt,
@@ -2568,7 +2568,7 @@ set-form-is-set-requires : (t : ℕ) → set-form-lts.Need-is-set-requires (
 ) (set-form-at t) set-form.Post
 set-form-is-set-requires t c κs = search needs
 
--- src/walk.rt:274:13
+-- src/walk.rt:262:13
 set-form-skip-requires : (t : ℕ) → set-form-lts.Need-skip-requires (
   type-name-reads.Asked,
   type-name-reads.Learnt,
@@ -2583,7 +2583,7 @@ set-form-skip-requires : (t : ℕ) → set-form-lts.Need-skip-requires (
 ) (set-form-at t) set-form.Post
 set-form-skip-requires t c κs = search needs
 
--- src/walk.rt:265:13
+-- src/walk.rt:254:13
 set-form-member-list-requires : (t : ℕ) → set-form-lts.Need-member-list-requires (
   type-name-reads.Asked,
   type-name-reads.Learnt,
@@ -2598,7 +2598,7 @@ set-form-member-list-requires : (t : ℕ) → set-form-lts.Need-member-list-requ
 ) (set-form-at t) set-form.Post
 set-form-member-list-requires t c κs = search needs
 
--- src/walk.rt:276:9
+-- src/walk.rt:264:9
 set-form-value-requires : (t : ℕ) → set-form-lts.Need-value-requires (
   type-name-reads.Asked,
   type-name-reads.Learnt,
@@ -2613,7 +2613,7 @@ set-form-value-requires : (t : ℕ) → set-form-lts.Need-value-requires (
 ) (set-form-at t) set-form.Post
 set-form-value-requires t c κs = search needs
 
--- src/walk.rt:276:9
+-- src/walk.rt:264:9
 set-form-returns : (t : ℕ) → set-form-lts.Need-returns (
   type-name-reads.Asked,
   type-name-reads.Learnt,
@@ -2628,7 +2628,7 @@ set-form-returns : (t : ℕ) → set-form-lts.Need-returns (
 ) (set-form-at t) set-form.Post
 set-form-returns t c = search set-laws
 
--- src/walk.rt:278:5
+-- src/walk.rt:266:5
 set-form-value-requires-2 : (t : ℕ) → set-form-lts.Need-value-requires-2 (
   type-name-reads.Asked,
   type-name-reads.Learnt,
@@ -2643,7 +2643,7 @@ set-form-value-requires-2 : (t : ℕ) → set-form-lts.Need-value-requires-2 (
 ) (set-form-at t) set-form.Post
 set-form-value-requires-2 t c κs = search needs
 
--- src/walk.rt:251:1
+-- src/walk.rt:241:1
 set-form-returns-2 : (t : ℕ) → set-form-lts.Need-returns-2 (
   type-name-reads.Asked,
   type-name-reads.Learnt,
@@ -2658,7 +2658,7 @@ set-form-returns-2 : (t : ℕ) → set-form-lts.Need-returns-2 (
 ) (set-form-at t) set-form.Post
 set-form-returns-2 t c = search set-laws
 
--- src/walk.rt:170:9
+-- src/walk.rt:164:9
 short-form-mark-expr-requires : (t : ℕ) → short-form-lts.Need-mark-expr-requires (
   mark-expr-below t,
   mark-expr.Post,
@@ -2669,7 +2669,7 @@ short-form-mark-expr-requires : (t : ℕ) → short-form-lts.Need-mark-expr-requ
 ) (short-form-at t) short-form.Post
 short-form-mark-expr-requires t c κs = search needs
 
--- src/walk.rt:179:9
+-- src/walk.rt:172:9
 short-form-skip-requires : (t : ℕ) → short-form-lts.Need-skip-requires (
   mark-expr-below t,
   mark-expr.Post,
@@ -2680,7 +2680,7 @@ short-form-skip-requires : (t : ℕ) → short-form-lts.Need-skip-requires (
 ) (short-form-at t) short-form.Post
 short-form-skip-requires t c κs = search needs
 
--- src/walk.rt:171:9
+-- src/walk.rt:165:9
 short-form-mark-expr-requires-2 : (t : ℕ) → short-form-lts.Need-mark-expr-requires-2 (
   mark-expr-below t,
   mark-expr.Post,
@@ -2691,7 +2691,7 @@ short-form-mark-expr-requires-2 : (t : ℕ) → short-form-lts.Need-mark-expr-re
 ) (short-form-at t) short-form.Post
 short-form-mark-expr-requires-2 t c κs = search needs
 
--- src/walk.rt:181:5
+-- src/walk.rt:174:5
 short-form-short-requires : (t : ℕ) → short-form-lts.Need-short-requires (
   mark-expr-below t,
   mark-expr.Post,
@@ -2702,7 +2702,7 @@ short-form-short-requires : (t : ℕ) → short-form-lts.Need-short-requires (
 ) (short-form-at t) short-form.Post
 short-form-short-requires t c κs = search needs
 
--- src/walk.rt:157:1
+-- src/walk.rt:152:1
 short-form-returns : (t : ℕ) → short-form-lts.Need-returns (
   mark-expr-below t,
   mark-expr.Post,
@@ -2713,7 +2713,7 @@ short-form-returns : (t : ℕ) → short-form-lts.Need-returns (
 ) (short-form-at t) short-form.Post
 short-form-returns t c = search short-is
 
--- src/walk.rt:142:9
+-- src/walk.rt:138:9
 two-mark-expr-requires : (t : ℕ) → two-lts.Need-mark-expr-requires (
   mark-expr-below t,
   mark-expr.Post,
@@ -2724,7 +2724,7 @@ two-mark-expr-requires : (t : ℕ) → two-lts.Need-mark-expr-requires (
 ) (two-at t) two.Post
 two-mark-expr-requires t c κs = search needs
 
--- src/walk.rt:151:9
+-- src/walk.rt:146:9
 two-skip-requires : (t : ℕ) → two-lts.Need-skip-requires (
   mark-expr-below t,
   mark-expr.Post,
@@ -2735,7 +2735,7 @@ two-skip-requires : (t : ℕ) → two-lts.Need-skip-requires (
 ) (two-at t) two.Post
 two-skip-requires t c κs = search needs
 
--- src/walk.rt:143:9
+-- src/walk.rt:139:9
 two-mark-expr-requires-2 : (t : ℕ) → two-lts.Need-mark-expr-requires-2 (
   mark-expr-below t,
   mark-expr.Post,
@@ -2746,7 +2746,7 @@ two-mark-expr-requires-2 : (t : ℕ) → two-lts.Need-mark-expr-requires-2 (
 ) (two-at t) two.Post
 two-mark-expr-requires-2 t c κs = search needs
 
--- src/walk.rt:153:5
+-- src/walk.rt:148:5
 two-operate-requires : (t : ℕ) → two-lts.Need-operate-requires (
   mark-expr-below t,
   mark-expr.Post,
@@ -2757,7 +2757,7 @@ two-operate-requires : (t : ℕ) → two-lts.Need-operate-requires (
 ) (two-at t) two.Post
 two-operate-requires t c κs = search needs
 
--- src/walk.rt:129:1
+-- src/walk.rt:126:1
 two-returns : (t : ℕ) → two-lts.Need-returns (
   mark-expr-below t,
   mark-expr.Post,

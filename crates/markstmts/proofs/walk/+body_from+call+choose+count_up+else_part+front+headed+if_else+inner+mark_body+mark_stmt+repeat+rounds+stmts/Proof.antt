@@ -92,46 +92,46 @@ use Rattle.markstmts.proofs.walk.+body_from+call+choose+count_up+else_p
 }
 
 abbrev μ-body-from : Measures 6 body-from-kinds.ps ℕ
-μ-body-from κs a = 16 * (a .1 .1 .1 .1 .1 .1 .1 .0 * 4294967296 + 33) + 4
+μ-body-from κs a = 16 * (a .1 .1 .1 .1 .1 .1 .0 * 4294967296 + 33) + 4
 
 abbrev μ-call : Measures 6 call-kinds.ps ℕ
-μ-call κs a = 16 * (a .1 .1 .1 .1 .1 .1 .1 .0 * 4294967296 + a .1 .1 .1 .1 .1 .1 .1 .1 .0) + 2
+μ-call κs a = 16 * (a .1 .1 .1 .1 .1 .1 .0 * 4294967296 + a .1 .1 .1 .1 .1 .1 .1 .0) + 2
 
 abbrev μ-choose : Measures 6 choose-kinds.ps ℕ
-μ-choose κs a = 16 * (a .1 .1 .1 .1 .1 .1 .1 .0 * 4294967296 + a .1 .1 .1 .1 .1 .1 .1 .1 .0) + 2
+μ-choose κs a = 16 * (a .1 .1 .1 .1 .1 .1 .0 * 4294967296 + a .1 .1 .1 .1 .1 .1 .1 .0) + 2
 
 abbrev μ-count-up : Measures 6 count-up-kinds.ps ℕ
-μ-count-up κs a = 16 * (a .1 .1 .1 .1 .1 .1 .1 .0 * 4294967296 + a .1 .1 .1 .1 .1 .1 .1 .1 .0) + 4
+μ-count-up κs a = 16 * (a .1 .1 .1 .1 .1 .1 .0 * 4294967296 + a .1 .1 .1 .1 .1 .1 .1 .0) + 4
 
 abbrev μ-else-part : Measures 6 else-part-kinds.ps ℕ
-μ-else-part κs a = 16 * (a .1 .1 .1 .1 .1 .1 .1 .0 * 4294967296 + a .1 .1 .1 .1 .1 .1 .1 .1 .0) + 1
+μ-else-part κs a = 16 * (a .1 .1 .1 .1 .1 .1 .0 * 4294967296 + a .1 .1 .1 .1 .1 .1 .1 .0) + 1
 
 abbrev μ-front : Measures 6 front-kinds.ps ℕ
-μ-front κs a = 16 * (a .1 .1 .1 .1 .1 .1 .1 .0 * 4294967296 + 33) + 3
+μ-front κs a = 16 * (a .1 .1 .1 .1 .1 .1 .0 * 4294967296 + 33) + 3
 
 abbrev μ-headed : Measures 6 headed-kinds.ps ℕ
-μ-headed κs a = 16 * (a .1 .1 .1 .1 .1 .1 .1 .0 * 4294967296 + a .1 .1 .1 .1 .1 .1 .1 .1 .0) + 8
+μ-headed κs a = 16 * (a .1 .1 .1 .1 .1 .1 .0 * 4294967296 + a .1 .1 .1 .1 .1 .1 .1 .0) + 8
 
 abbrev μ-if-else : Measures 6 if-else-kinds.ps ℕ
-μ-if-else κs a = 16 * (a .1 .1 .1 .1 .1 .1 .1 .0 * 4294967296 + a .1 .1 .1 .1 .1 .1 .1 .1 .0) + 3
+μ-if-else κs a = 16 * (a .1 .1 .1 .1 .1 .1 .0 * 4294967296 + a .1 .1 .1 .1 .1 .1 .1 .0) + 3
 
 abbrev μ-inner : Measures 6 inner-kinds.ps ℕ
-μ-inner κs a = 16 * (a .1 .1 .1 .1 .1 .1 .1 .0 * 4294967296 + a .1 .1 .1 .1 .1 .1 .1 .1 .0) + 9
+μ-inner κs a = 16 * (a .1 .1 .1 .1 .1 .1 .0 * 4294967296 + a .1 .1 .1 .1 .1 .1 .1 .0) + 9
 
 abbrev μ-mark-body : Measures 5 mark-body-kinds.ps ℕ
 μ-mark-body κs a = 16 * (a .1 .1 .1 .1 .0 * 4294967296 + 33) + 5
 
 abbrev μ-mark-stmt : Measures 6 mark-stmt-kinds.ps ℕ
-μ-mark-stmt κs a = 16 * (a .1 .1 .1 .1 .1 .1 .1 .0 * 4294967296 + a .1 .1 .1 .1 .1 .1 .1 .1 .0) + 0
+μ-mark-stmt κs a = 16 * (a .1 .1 .1 .1 .1 .1 .0 * 4294967296 + a .1 .1 .1 .1 .1 .1 .1 .0) + 0
 
 abbrev μ-repeat : Measures 6 repeat-kinds.ps ℕ
-μ-repeat κs a = 16 * (a .1 .1 .1 .1 .1 .1 .1 .0 * 4294967296 + a .1 .1 .1 .1 .1 .1 .1 .1 .0) + 2
+μ-repeat κs a = 16 * (a .1 .1 .1 .1 .1 .1 .0 * 4294967296 + a .1 .1 .1 .1 .1 .1 .1 .0) + 2
 
 abbrev μ-rounds : Measures 6 rounds-kinds.ps ℕ
-μ-rounds κs a = 16 * (a .1 .1 .1 .1 .1 .1 .1 .0 * 4294967296 + a .1 .1 .1 .1 .1 .1 .1 .1 .0) + 2
+μ-rounds κs a = 16 * (a .1 .1 .1 .1 .1 .1 .0 * 4294967296 + a .1 .1 .1 .1 .1 .1 .1 .0) + 2
 
 abbrev μ-stmts : Measures 6 stmts-kinds.ps ℕ
-μ-stmts κs a = 16 * (a .1 .1 .1 .1 .1 .1 .1 .0 * 4294967296 + a .1 .1 .1 .1 .1 .1 .1 .1 .0) + 2
+μ-stmts κs a = 16 * (a .1 .1 .1 .1 .1 .1 .0 * 4294967296 + a .1 .1 .1 .1 .1 .1 .1 .0) + 2
 
 abbrev body-from-at : ℕ → In 6 body-from-kinds.ps
 body-from-at t = and 6 body-from-kinds.ps (is 6 body-from-kinds.ps μ-body-from t) body-from.Pre
@@ -222,7 +222,7 @@ stmts-at t = and 6 stmts-kinds.ps (is 6 stmts-kinds.ps μ-stmts t) stmts.Pre
 abbrev stmts-below : ℕ → In 6 stmts-kinds.ps
 stmts-below t = and 6 stmts-kinds.ps (falls 6 stmts-kinds.ps _<_ μ-stmts t) stmts.Pre
 
--- src/walk.rt:701:9
+-- src/walk.rt:674:9
 body-from-front-requires : (t : ℕ) → body-from-lts.Need-front-requires (
   front-below t,
   front.Post,
@@ -235,7 +235,7 @@ body-from-front-requires : (t : ℕ) → body-from-lts.Need-front-requires (
 ) (body-from-at t) body-from.Post
 body-from-front-requires t c κs = search needs
 
--- src/walk.rt:716:9
+-- src/walk.rt:688:9
 body-from-returns : (t : ℕ) → body-from-lts.Need-returns (
   front-below t,
   front.Post,
@@ -248,7 +248,7 @@ body-from-returns : (t : ℕ) → body-from-lts.Need-returns (
 ) (body-from-at t) body-from.Post
 body-from-returns t c = search within-laws
 
--- src/walk.rt:719:9
+-- src/walk.rt:691:9
 body-from-returns-2 : (t : ℕ) → body-from-lts.Need-returns-2 (
   front-below t,
   front.Post,
@@ -261,7 +261,7 @@ body-from-returns-2 : (t : ℕ) → body-from-lts.Need-returns-2 (
 ) (body-from-at t) body-from.Post
 body-from-returns-2 t c = search within-laws
 
--- src/walk.rt:721:9
+-- src/walk.rt:693:9
 body-from-handler-of-requires : (t : ℕ) → body-from-lts.Need-handler-of-requires (
   front-below t,
   front.Post,
@@ -274,7 +274,7 @@ body-from-handler-of-requires : (t : ℕ) → body-from-lts.Need-handler-of-requ
 ) (body-from-at t) body-from.Post
 body-from-handler-of-requires t c κs = search needs
 
--- src/walk.rt:723:23
+-- src/walk.rt:695:23
 body-from-enum-known-h : (t : ℕ) → body-from-lts.Need-enum-known-h (
   front-below t,
   front.Post,
@@ -287,7 +287,7 @@ body-from-enum-known-h : (t : ℕ) → body-from-lts.Need-enum-known-h (
 ) (body-from-at t) body-from.Post
 body-from-enum-known-h t c = search needs
 
--- src/walk.rt:734:13
+-- src/walk.rt:705:13
 body-from-left-in-requires : (t : ℕ) → body-from-lts.Need-left-in-requires (
   front-below t,
   front.Post,
@@ -300,7 +300,7 @@ body-from-left-in-requires : (t : ℕ) → body-from-lts.Need-left-in-requires (
 ) (body-from-at t) body-from.Post
 body-from-left-in-requires t c κs = search needs
 
--- src/walk.rt:723:32
+-- src/walk.rt:695:32
 body-from-stmts-requires : (t : ℕ) → body-from-lts.Need-stmts-requires (
   front-below t,
   front.Post,
@@ -313,7 +313,7 @@ body-from-stmts-requires : (t : ℕ) → body-from-lts.Need-stmts-requires (
 ) (body-from-at t) body-from.Post
 body-from-stmts-requires t c κs = search needs
 
--- src/walk.rt:738:29
+-- src/walk.rt:709:29
 body-from-enum-told : (t : ℕ) → body-from-lts.Need-enum-told (
   front-below t,
   front.Post,
@@ -326,7 +326,7 @@ body-from-enum-told : (t : ℕ) → body-from-lts.Need-enum-told (
 ) (body-from-at t) body-from.Post
 body-from-enum-told t c = search needs
 
--- src/walk.rt:685:1
+-- src/walk.rt:659:1
 body-from-returns-3 : (t : ℕ) → body-from-lts.Need-returns-3 (
   front-below t,
   front.Post,
@@ -339,7 +339,7 @@ body-from-returns-3 : (t : ℕ) → body-from-lts.Need-returns-3 (
 ) (body-from-at t) body-from.Post
 body-from-returns-3 t c = search within-laws
 
--- src/walk.rt:685:1
+-- src/walk.rt:659:1
 body-from-returns-4 : (t : ℕ) → body-from-lts.Need-returns-4 (
   front-below t,
   front.Post,
@@ -352,7 +352,7 @@ body-from-returns-4 : (t : ℕ) → body-from-lts.Need-returns-4 (
 ) (body-from-at t) body-from.Post
 body-from-returns-4 t c = search within-laws
 
--- src/walk.rt:622:9
+-- src/walk.rt:598:9
 call-returns : (t : ℕ) → call-lts.Need-returns (
   callee-reads.Asked,
   callee-reads.Learnt,
@@ -361,7 +361,7 @@ call-returns : (t : ℕ) → call-lts.Need-returns (
 ) (call-at t) call.Post
 call-returns t c = search call-laws
 
--- src/walk.rt:624:9
+-- src/walk.rt:600:9
 call-callee-requires : (t : ℕ) → call-lts.Need-callee-requires (
   callee-reads.Asked,
   callee-reads.Learnt,
@@ -370,7 +370,7 @@ call-callee-requires : (t : ℕ) → call-lts.Need-callee-requires (
 ) (call-at t) call.Post
 call-callee-requires t c κs = search needs
 
--- src/walk.rt:625:40
+-- src/walk.rt:601:40
 call-sub-mark-body : (t : ℕ) → call-lts.Need-sub-mark-body (
   callee-reads.Asked,
   callee-reads.Learnt,
@@ -379,7 +379,7 @@ call-sub-mark-body : (t : ℕ) → call-lts.Need-sub-mark-body (
 ) (call-at t) call.Post
 call-sub-mark-body t c = search needs
 
--- src/walk.rt:625:5
+-- src/walk.rt:601:5
 call-mark-body-requires : (t : ℕ) → call-lts.Need-mark-body-requires (
   callee-reads.Asked,
   callee-reads.Learnt,
@@ -388,7 +388,7 @@ call-mark-body-requires : (t : ℕ) → call-lts.Need-mark-body-requires (
 ) (call-at t) call.Post
 call-mark-body-requires t c κs = search needs
 
--- src/walk.rt:604:1
+-- src/walk.rt:581:1
 call-returns-2 : (t : ℕ) → call-lts.Need-returns-2 (
   callee-reads.Asked,
   callee-reads.Learnt,
@@ -397,7 +397,7 @@ call-returns-2 : (t : ℕ) → call-lts.Need-returns-2 (
 ) (call-at t) call.Post
 call-returns-2 t c = search call-laws
 
--- src/walk.rt:576:9
+-- src/walk.rt:554:9
 choose-selector-requires : (t : ℕ) → choose-lts.Need-selector-requires (
   selector-reads.Asked,
   selector-reads.Learnt,
@@ -416,7 +416,7 @@ choose-selector-requires : (t : ℕ) → choose-lts.Need-selector-requires (
 ) (choose-at t) choose.Post
 choose-selector-requires t c κs = search needs
 
--- src/walk.rt:579:9
+-- src/walk.rt:557:9
 choose-halting-requires : (t : ℕ) → choose-lts.Need-halting-requires (
   selector-reads.Asked,
   selector-reads.Learnt,
@@ -435,7 +435,7 @@ choose-halting-requires : (t : ℕ) → choose-lts.Need-halting-requires (
 ) (choose-at t) choose.Post
 choose-halting-requires t c κs = search needs
 
--- src/walk.rt:579:9
+-- src/walk.rt:557:9
 choose-returns : (t : ℕ) → choose-lts.Need-returns (
   selector-reads.Asked,
   selector-reads.Learnt,
@@ -454,7 +454,7 @@ choose-returns : (t : ℕ) → choose-lts.Need-returns (
 ) (choose-at t) choose.Post
 choose-returns t c = search case-laws
 
--- src/walk.rt:581:65
+-- src/walk.rt:559:57
 choose-skip-requires : (t : ℕ) → choose-lts.Need-skip-requires (
   selector-reads.Asked,
   selector-reads.Learnt,
@@ -473,7 +473,7 @@ choose-skip-requires : (t : ℕ) → choose-lts.Need-skip-requires (
 ) (choose-at t) choose.Post
 choose-skip-requires t c κs = search needs
 
--- src/walk.rt:581:9
+-- src/walk.rt:559:9
 choose-choose-arm-requires : (t : ℕ) → choose-lts.Need-choose-arm-requires (
   selector-reads.Asked,
   selector-reads.Learnt,
@@ -492,7 +492,7 @@ choose-choose-arm-requires : (t : ℕ) → choose-lts.Need-choose-arm-requires (
 ) (choose-at t) choose.Post
 choose-choose-arm-requires t c κs = search needs
 
--- src/walk.rt:583:20
+-- src/walk.rt:561:20
 choose-enum-known-a : (t : ℕ) → choose-lts.Need-enum-known-a (
   selector-reads.Asked,
   selector-reads.Learnt,
@@ -511,7 +511,7 @@ choose-enum-known-a : (t : ℕ) → choose-lts.Need-enum-known-a (
 ) (choose-at t) choose.Post
 choose-enum-known-a t c = search needs
 
--- src/walk.rt:583:29
+-- src/walk.rt:561:29
 choose-mark-stmt-requires : (t : ℕ) → choose-lts.Need-mark-stmt-requires (
   selector-reads.Asked,
   selector-reads.Learnt,
@@ -530,7 +530,7 @@ choose-mark-stmt-requires : (t : ℕ) → choose-lts.Need-mark-stmt-requires (
 ) (choose-at t) choose.Post
 choose-mark-stmt-requires t c κs = search needs
 
--- src/walk.rt:598:32
+-- src/walk.rt:575:32
 choose-enum-told : (t : ℕ) → choose-lts.Need-enum-told (
   selector-reads.Asked,
   selector-reads.Learnt,
@@ -549,7 +549,7 @@ choose-enum-told : (t : ℕ) → choose-lts.Need-enum-told (
 ) (choose-at t) choose.Post
 choose-enum-told t c = search needs
 
--- src/walk.rt:598:24
+-- src/walk.rt:575:24
 choose-raising-requires : (t : ℕ) → choose-lts.Need-raising-requires (
   selector-reads.Asked,
   selector-reads.Learnt,
@@ -568,7 +568,7 @@ choose-raising-requires : (t : ℕ) → choose-lts.Need-raising-requires (
 ) (choose-at t) choose.Post
 choose-raising-requires t c κs = search needs
 
--- src/walk.rt:599:23
+-- src/walk.rt:576:23
 choose-enum-told-2 : (t : ℕ) → choose-lts.Need-enum-told-2 (
   selector-reads.Asked,
   selector-reads.Learnt,
@@ -587,7 +587,7 @@ choose-enum-told-2 : (t : ℕ) → choose-lts.Need-enum-told-2 (
 ) (choose-at t) choose.Post
 choose-enum-told-2 t c = search needs
 
--- src/walk.rt:599:23
+-- src/walk.rt:576:23
 choose-sticking-requires : (t : ℕ) → choose-lts.Need-sticking-requires (
   selector-reads.Asked,
   selector-reads.Learnt,
@@ -606,7 +606,7 @@ choose-sticking-requires : (t : ℕ) → choose-lts.Need-sticking-requires (
 ) (choose-at t) choose.Post
 choose-sticking-requires t c κs = search needs
 
--- src/walk.rt:559:1
+-- src/walk.rt:538:1
 choose-returns-2 : (t : ℕ) → choose-lts.Need-returns-2 (
   selector-reads.Asked,
   selector-reads.Learnt,
@@ -625,7 +625,7 @@ choose-returns-2 : (t : ℕ) → choose-lts.Need-returns-2 (
 ) (choose-at t) choose.Post
 choose-returns-2 t c = search case-laws
 
--- src/walk.rt:559:1
+-- src/walk.rt:538:1
 choose-returns-3 : (t : ℕ) → choose-lts.Need-returns-3 (
   selector-reads.Asked,
   selector-reads.Learnt,
@@ -644,7 +644,7 @@ choose-returns-3 : (t : ℕ) → choose-lts.Need-returns-3 (
 ) (choose-at t) choose.Post
 choose-returns-3 t c = search case-laws
 
--- src/walk.rt:559:1
+-- src/walk.rt:538:1
 choose-returns-4 : (t : ℕ) → choose-lts.Need-returns-4 (
   selector-reads.Asked,
   selector-reads.Learnt,
@@ -663,7 +663,7 @@ choose-returns-4 : (t : ℕ) → choose-lts.Need-returns-4 (
 ) (choose-at t) choose.Post
 choose-returns-4 t c = search case-laws
 
--- src/walk.rt:473:9
+-- src/walk.rt:455:9
 count-up-bounds-requires : (t : ℕ) → count-up-lts.Need-bounds-requires (
   bounds-reads.Asked,
   bounds-reads.Learnt,
@@ -680,7 +680,7 @@ count-up-bounds-requires : (t : ℕ) → count-up-lts.Need-bounds-requires (
 ) (count-up-at t) count-up.Post
 count-up-bounds-requires t c κs = search needs
 
--- src/walk.rt:474:9
+-- src/walk.rt:456:9
 count-up-plan-for-requires : (t : ℕ) → count-up-lts.Need-plan-for-requires (
   bounds-reads.Asked,
   bounds-reads.Learnt,
@@ -697,7 +697,7 @@ count-up-plan-for-requires : (t : ℕ) → count-up-lts.Need-plan-for-requires (
 ) (count-up-at t) count-up.Post
 count-up-plan-for-requires t c κs = search needs
 
--- src/walk.rt:476:22
+-- src/walk.rt:458:22
 count-up-enum-known-p : (t : ℕ) → count-up-lts.Need-enum-known-p (
   bounds-reads.Asked,
   bounds-reads.Learnt,
@@ -714,7 +714,7 @@ count-up-enum-known-p : (t : ℕ) → count-up-lts.Need-enum-known-p (
 ) (count-up-at t) count-up.Post
 count-up-enum-known-p t c = search needs
 
--- src/walk.rt:477:43
+-- src/walk.rt:459:43
 count-up-skip-requires : (t : ℕ) → count-up-lts.Need-skip-requires (
   bounds-reads.Asked,
   bounds-reads.Learnt,
@@ -731,7 +731,7 @@ count-up-skip-requires : (t : ℕ) → count-up-lts.Need-skip-requires (
 ) (count-up-at t) count-up.Post
 count-up-skip-requires t c κs = search needs
 
--- src/walk.rt:477:32
+-- src/walk.rt:459:32
 count-up-skip-requires-2 : (t : ℕ) → count-up-lts.Need-skip-requires-2 (
   bounds-reads.Asked,
   bounds-reads.Learnt,
@@ -748,7 +748,7 @@ count-up-skip-requires-2 : (t : ℕ) → count-up-lts.Need-skip-requires-2 (
 ) (count-up-at t) count-up.Post
 count-up-skip-requires-2 t c κs = search needs
 
--- src/walk.rt:477:17
+-- src/walk.rt:459:17
 count-up-skip-requires-3 : (t : ℕ) → count-up-lts.Need-skip-requires-3 (
   bounds-reads.Asked,
   bounds-reads.Learnt,
@@ -765,7 +765,7 @@ count-up-skip-requires-3 : (t : ℕ) → count-up-lts.Need-skip-requires-3 (
 ) (count-up-at t) count-up.Post
 count-up-skip-requires-3 t c κs = search needs
 
--- src/walk.rt:478:13
+-- src/walk.rt:460:13
 count-up-rounds-requires : (t : ℕ) → count-up-lts.Need-rounds-requires (
   bounds-reads.Asked,
   bounds-reads.Learnt,
@@ -782,7 +782,7 @@ count-up-rounds-requires : (t : ℕ) → count-up-lts.Need-rounds-requires (
 ) (count-up-at t) count-up.Post
 count-up-rounds-requires t c κs = search needs
 
--- src/walk.rt:497:26
+-- src/walk.rt:478:26
 count-up-enum-told : (t : ℕ) → count-up-lts.Need-enum-told (
   bounds-reads.Asked,
   bounds-reads.Learnt,
@@ -799,7 +799,7 @@ count-up-enum-told : (t : ℕ) → count-up-lts.Need-enum-told (
 ) (count-up-at t) count-up.Post
 count-up-enum-told t c = search needs
 
--- src/walk.rt:498:34
+-- src/walk.rt:479:34
 count-up-enum-told-2 : (t : ℕ) → count-up-lts.Need-enum-told-2 (
   bounds-reads.Asked,
   bounds-reads.Learnt,
@@ -816,7 +816,7 @@ count-up-enum-told-2 : (t : ℕ) → count-up-lts.Need-enum-told-2 (
 ) (count-up-at t) count-up.Post
 count-up-enum-told-2 t c = search needs
 
--- src/walk.rt:498:26
+-- src/walk.rt:479:26
 count-up-raising-requires : (t : ℕ) → count-up-lts.Need-raising-requires (
   bounds-reads.Asked,
   bounds-reads.Learnt,
@@ -833,7 +833,7 @@ count-up-raising-requires : (t : ℕ) → count-up-lts.Need-raising-requires (
 ) (count-up-at t) count-up.Post
 count-up-raising-requires t c κs = search needs
 
--- src/walk.rt:499:22
+-- src/walk.rt:480:22
 count-up-enum-known-p-2 : (t : ℕ) → count-up-lts.Need-enum-known-p-2 (
   bounds-reads.Asked,
   bounds-reads.Learnt,
@@ -850,7 +850,7 @@ count-up-enum-known-p-2 : (t : ℕ) → count-up-lts.Need-enum-known-p-2 (
 ) (count-up-at t) count-up.Post
 count-up-enum-known-p-2 t c = search needs
 
--- src/walk.rt:499:28
+-- src/walk.rt:480:28
 count-up-halting-requires : (t : ℕ) → count-up-lts.Need-halting-requires (
   bounds-reads.Asked,
   bounds-reads.Learnt,
@@ -867,7 +867,7 @@ count-up-halting-requires : (t : ℕ) → count-up-lts.Need-halting-requires (
 ) (count-up-at t) count-up.Post
 count-up-halting-requires t c κs = search needs
 
--- src/walk.rt:456:1
+-- src/walk.rt:439:1
 count-up-returns : (t : ℕ) → count-up-lts.Need-returns (
   bounds-reads.Asked,
   bounds-reads.Learnt,
@@ -884,7 +884,7 @@ count-up-returns : (t : ℕ) → count-up-lts.Need-returns (
 ) (count-up-at t) count-up.Post
 count-up-returns t c = search for-laws
 
--- src/walk.rt:456:1
+-- src/walk.rt:439:1
 count-up-returns-2 : (t : ℕ) → count-up-lts.Need-returns-2 (
   bounds-reads.Asked,
   bounds-reads.Learnt,
@@ -901,7 +901,7 @@ count-up-returns-2 : (t : ℕ) → count-up-lts.Need-returns-2 (
 ) (count-up-at t) count-up.Post
 count-up-returns-2 t c = search for-laws
 
--- src/walk.rt:456:1
+-- src/walk.rt:439:1
 count-up-returns-3 : (t : ℕ) → count-up-lts.Need-returns-3 (
   bounds-reads.Asked,
   bounds-reads.Learnt,
@@ -918,7 +918,7 @@ count-up-returns-3 : (t : ℕ) → count-up-lts.Need-returns-3 (
 ) (count-up-at t) count-up.Post
 count-up-returns-3 t c = search for-laws
 
--- src/walk.rt:456:1
+-- src/walk.rt:439:1
 count-up-returns-4 : (t : ℕ) → count-up-lts.Need-returns-4 (
   bounds-reads.Asked,
   bounds-reads.Learnt,
@@ -935,7 +935,7 @@ count-up-returns-4 : (t : ℕ) → count-up-lts.Need-returns-4 (
 ) (count-up-at t) count-up.Post
 count-up-returns-4 t c = search for-laws
 
--- src/walk.rt:380:9
+-- src/walk.rt:366:9
 else-part-end-at-requires : (t : ℕ) → else-part-lts.Need-end-at-requires (
   end-at-reads.Asked,
   end-at-reads.Learnt,
@@ -944,7 +944,7 @@ else-part-end-at-requires : (t : ℕ) → else-part-lts.Need-end-at-requires (
 ) (else-part-at t) else-part.Post
 else-part-end-at-requires t c κs = search needs
 
--- src/walk.rt:382:25
+-- src/walk.rt:368:25
 else-part-enum-told : (t : ℕ) → else-part-lts.Need-enum-told (
   end-at-reads.Asked,
   end-at-reads.Learnt,
@@ -953,7 +953,7 @@ else-part-enum-told : (t : ℕ) → else-part-lts.Need-enum-told (
 ) (else-part-at t) else-part.Post
 else-part-enum-told t c = search needs
 
--- src/walk.rt:393:13
+-- src/walk.rt:378:13
 else-part-enum-told-2 : (t : ℕ) → else-part-lts.Need-enum-told-2 (
   end-at-reads.Asked,
   end-at-reads.Learnt,
@@ -962,7 +962,7 @@ else-part-enum-told-2 : (t : ℕ) → else-part-lts.Need-enum-told-2 (
 ) (else-part-at t) else-part.Post
 else-part-enum-told-2 t c = search needs
 
--- src/walk.rt:383:22
+-- src/walk.rt:369:22
 else-part-mark-stmt-requires : (t : ℕ) → else-part-lts.Need-mark-stmt-requires (
   end-at-reads.Asked,
   end-at-reads.Learnt,
@@ -971,7 +971,7 @@ else-part-mark-stmt-requires : (t : ℕ) → else-part-lts.Need-mark-stmt-requir
 ) (else-part-at t) else-part.Post
 else-part-mark-stmt-requires t c κs = search needs
 
--- src/walk.rt:363:1
+-- src/walk.rt:350:1
 else-part-returns : (t : ℕ) → else-part-lts.Need-returns (
   end-at-reads.Asked,
   end-at-reads.Learnt,
@@ -980,7 +980,7 @@ else-part-returns : (t : ℕ) → else-part-lts.Need-returns (
 ) (else-part-at t) else-part.Post
 else-part-returns t c = search else-laws
 
--- src/walk.rt:363:1
+-- src/walk.rt:350:1
 else-part-returns-2 : (t : ℕ) → else-part-lts.Need-returns-2 (
   end-at-reads.Asked,
   end-at-reads.Learnt,
@@ -990,12 +990,12 @@ else-part-returns-2 : (t : ℕ) → else-part-lts.Need-returns-2 (
 else-part-returns-2 t c = search else-laws
 
 abbrev front-Inv-loop : front-lts.InvT-loop
-front-Inv-loop text work all types bodies count newest calls store₀ left n at t₀ m₀ p₀ store t m p = Following frontIn text work all types bodies count newest calls n at store₀ t₀ m p store t
+front-Inv-loop text work all types bodies scope calls store₀ left n at t₀ m₀ p₀ store t m p = Following frontIn text work all types bodies scope calls n at store₀ t₀ m p store t
 
 abbrev front-μ-loop : front-lts.MeasureT-loop
-front-μ-loop text work all types bodies count newest calls store₀ left n at t₀ m₀ p₀ store t m p = many (first (stackAt text p))
+front-μ-loop text work all types bodies scope calls store₀ left n at t₀ m₀ p₀ store t m p = many (first (stackAt text p))
 
--- src/walk.rt:648:5
+-- src/walk.rt:623:5
 front-loop-holds : (t : ℕ) → front-lts.Need-loop-holds (
   next-at-reads.Asked,
   next-at-reads.Learnt,
@@ -1012,7 +1012,7 @@ front-loop-holds : (t : ℕ) → front-lts.Need-loop-holds (
 ) (front-at t) front.Post front-Inv-loop front-μ-loop
 front-loop-holds t c = search front-start
 
--- src/walk.rt:649:13
+-- src/walk.rt:624:13
 front-next-at-requires : (t : ℕ) → front-lts.Need-next-at-requires (
   next-at-reads.Asked,
   next-at-reads.Learnt,
@@ -1029,7 +1029,7 @@ front-next-at-requires : (t : ℕ) → front-lts.Need-next-at-requires (
 ) (front-at t) front.Post front-Inv-loop front-μ-loop
 front-next-at-requires t c κs = search needs
 
--- src/walk.rt:652:17
+-- src/walk.rt:627:17
 front-enum-told : (t : ℕ) → front-lts.Need-enum-told (
   next-at-reads.Asked,
   next-at-reads.Learnt,
@@ -1046,7 +1046,7 @@ front-enum-told : (t : ℕ) → front-lts.Need-enum-told (
 ) (front-at t) front.Post front-Inv-loop front-μ-loop
 front-enum-told t c = search needs
 
--- src/walk.rt:652:17
+-- src/walk.rt:627:17
 front-returns : (t : ℕ) → front-lts.Need-returns (
   next-at-reads.Asked,
   next-at-reads.Learnt,
@@ -1063,7 +1063,7 @@ front-returns : (t : ℕ) → front-lts.Need-returns (
 ) (front-at t) front.Post front-Inv-loop front-μ-loop
 front-returns t c = search front-laws
 
--- src/walk.rt:655:17
+-- src/walk.rt:630:17
 front-enum-told-2 : (t : ℕ) → front-lts.Need-enum-told-2 (
   next-at-reads.Asked,
   next-at-reads.Learnt,
@@ -1080,7 +1080,7 @@ front-enum-told-2 : (t : ℕ) → front-lts.Need-enum-told-2 (
 ) (front-at t) front.Post front-Inv-loop front-μ-loop
 front-enum-told-2 t c = search needs
 
--- src/walk.rt:655:17
+-- src/walk.rt:630:17
 front-returns-2 : (t : ℕ) → front-lts.Need-returns-2 (
   next-at-reads.Asked,
   next-at-reads.Learnt,
@@ -1097,7 +1097,7 @@ front-returns-2 : (t : ℕ) → front-lts.Need-returns-2 (
 ) (front-at t) front.Post front-Inv-loop front-μ-loop
 front-returns-2 t c = search front-laws
 
--- src/walk.rt:668:21
+-- src/walk.rt:642:21
 front-enum-told-3 : (t : ℕ) → front-lts.Need-enum-told-3 (
   next-at-reads.Asked,
   next-at-reads.Learnt,
@@ -1114,7 +1114,7 @@ front-enum-told-3 : (t : ℕ) → front-lts.Need-enum-told-3 (
 ) (front-at t) front.Post front-Inv-loop front-μ-loop
 front-enum-told-3 t c = search needs
 
--- src/walk.rt:658:21
+-- src/walk.rt:633:21
 front-mark-stmt-requires : (t : ℕ) → front-lts.Need-mark-stmt-requires (
   next-at-reads.Asked,
   next-at-reads.Learnt,
@@ -1131,7 +1131,7 @@ front-mark-stmt-requires : (t : ℕ) → front-lts.Need-mark-stmt-requires (
 ) (front-at t) front.Post front-Inv-loop front-μ-loop
 front-mark-stmt-requires t c κs = search needs
 
--- src/walk.rt:673:20
+-- src/walk.rt:647:20
 front-stopped-requires : (t : ℕ) → front-lts.Need-stopped-requires (
   next-at-reads.Asked,
   next-at-reads.Learnt,
@@ -1148,7 +1148,7 @@ front-stopped-requires : (t : ℕ) → front-lts.Need-stopped-requires (
 ) (front-at t) front.Post front-Inv-loop front-μ-loop
 front-stopped-requires t c κs = search needs
 
--- src/walk.rt:674:21
+-- src/walk.rt:648:21
 front-returns-3 : (t : ℕ) → front-lts.Need-returns-3 (
   next-at-reads.Asked,
   next-at-reads.Learnt,
@@ -1165,7 +1165,7 @@ front-returns-3 : (t : ℕ) → front-lts.Need-returns-3 (
 ) (front-at t) front.Post front-Inv-loop front-μ-loop
 front-returns-3 t c = search front-laws
 
--- src/walk.rt:677:30
+-- src/walk.rt:651:30
 front-count-statements-requires : (t : ℕ) → front-lts.Need-count-statements-requires (
   next-at-reads.Asked,
   next-at-reads.Learnt,
@@ -1182,7 +1182,7 @@ front-count-statements-requires : (t : ℕ) → front-lts.Need-count-statements-
 ) (front-at t) front.Post front-Inv-loop front-μ-loop
 front-count-statements-requires t c κs = search needs
 
--- src/walk.rt:677:17
+-- src/walk.rt:651:17
 front-later-requires : (t : ℕ) → front-lts.Need-later-requires (
   next-at-reads.Asked,
   next-at-reads.Learnt,
@@ -1199,7 +1199,7 @@ front-later-requires : (t : ℕ) → front-lts.Need-later-requires (
 ) (front-at t) front.Post front-Inv-loop front-μ-loop
 front-later-requires t c κs = search needs
 
--- src/walk.rt:678:17
+-- src/walk.rt:652:17
 front-skip-requires : (t : ℕ) → front-lts.Need-skip-requires (
   next-at-reads.Asked,
   next-at-reads.Learnt,
@@ -1216,7 +1216,7 @@ front-skip-requires : (t : ℕ) → front-lts.Need-skip-requires (
 ) (front-at t) front.Post front-Inv-loop front-μ-loop
 front-skip-requires t c κs = search needs
 
--- src/walk.rt:648:5
+-- src/walk.rt:623:5
 front-loop-less : (t : ℕ) → front-lts.Need-loop-less (
   next-at-reads.Asked,
   next-at-reads.Learnt,
@@ -1233,7 +1233,7 @@ front-loop-less : (t : ℕ) → front-lts.Need-loop-less (
 ) (front-at t) front.Post front-Inv-loop front-μ-loop
 front-loop-less t c = search front-falls
 
--- src/walk.rt:648:5
+-- src/walk.rt:623:5
 front-loop-again : (t : ℕ) → front-lts.Need-loop-again (
   next-at-reads.Asked,
   next-at-reads.Learnt,
@@ -1250,7 +1250,7 @@ front-loop-again : (t : ℕ) → front-lts.Need-loop-again (
 ) (front-at t) front.Post front-Inv-loop front-μ-loop
 front-loop-again t c = search front-next
 
--- src/walk.rt:153:66
+-- src/walk.rt:151:58
 headed-enum-told : (t : ℕ) → headed-lts.Need-enum-told (
   assign-reads.Asked,
   assign-reads.Learnt,
@@ -1273,7 +1273,7 @@ headed-enum-told : (t : ℕ) → headed-lts.Need-enum-told (
 ) (headed-at t) headed.Post
 headed-enum-told t c = search needs
 
--- src/walk.rt:153:25
+-- src/walk.rt:151:25
 headed-assign-requires : (t : ℕ) → headed-lts.Need-assign-requires (
   assign-reads.Asked,
   assign-reads.Learnt,
@@ -1296,7 +1296,7 @@ headed-assign-requires : (t : ℕ) → headed-lts.Need-assign-requires (
 ) (headed-at t) headed.Post
 headed-assign-requires t c κs = search needs
 
--- src/walk.rt:164:13
+-- src/walk.rt:161:13
 headed-enum-told-2 : (t : ℕ) → headed-lts.Need-enum-told-2 (
   assign-reads.Asked,
   assign-reads.Learnt,
@@ -1319,7 +1319,7 @@ headed-enum-told-2 : (t : ℕ) → headed-lts.Need-enum-told-2 (
 ) (headed-at t) headed.Post
 headed-enum-told-2 t c = search needs
 
--- src/walk.rt:154:24
+-- src/walk.rt:152:24
 headed-stmts-requires : (t : ℕ) → headed-lts.Need-stmts-requires (
   assign-reads.Asked,
   assign-reads.Learnt,
@@ -1342,7 +1342,7 @@ headed-stmts-requires : (t : ℕ) → headed-lts.Need-stmts-requires (
 ) (headed-at t) headed.Post
 headed-stmts-requires t c κs = search needs
 
--- src/walk.rt:179:13
+-- src/walk.rt:175:13
 headed-enum-told-3 : (t : ℕ) → headed-lts.Need-enum-told-3 (
   assign-reads.Asked,
   assign-reads.Learnt,
@@ -1365,7 +1365,7 @@ headed-enum-told-3 : (t : ℕ) → headed-lts.Need-enum-told-3 (
 ) (headed-at t) headed.Post
 headed-enum-told-3 t c = search needs
 
--- src/walk.rt:169:21
+-- src/walk.rt:166:21
 headed-if-else-requires : (t : ℕ) → headed-lts.Need-if-else-requires (
   assign-reads.Asked,
   assign-reads.Learnt,
@@ -1388,7 +1388,7 @@ headed-if-else-requires : (t : ℕ) → headed-lts.Need-if-else-requires (
 ) (headed-at t) headed.Post
 headed-if-else-requires t c κs = search needs
 
--- src/walk.rt:194:13
+-- src/walk.rt:189:13
 headed-enum-told-4 : (t : ℕ) → headed-lts.Need-enum-told-4 (
   assign-reads.Asked,
   assign-reads.Learnt,
@@ -1411,7 +1411,7 @@ headed-enum-told-4 : (t : ℕ) → headed-lts.Need-enum-told-4 (
 ) (headed-at t) headed.Post
 headed-enum-told-4 t c = search needs
 
--- src/walk.rt:198:13
+-- src/walk.rt:193:13
 headed-skip-requires : (t : ℕ) → headed-lts.Need-skip-requires (
   assign-reads.Asked,
   assign-reads.Learnt,
@@ -1434,7 +1434,7 @@ headed-skip-requires : (t : ℕ) → headed-lts.Need-skip-requires (
 ) (headed-at t) headed.Post
 headed-skip-requires t c κs = search needs
 
--- src/walk.rt:184:24
+-- src/walk.rt:180:24
 headed-repeat-requires : (t : ℕ) → headed-lts.Need-repeat-requires (
   assign-reads.Asked,
   assign-reads.Learnt,
@@ -1457,7 +1457,7 @@ headed-repeat-requires : (t : ℕ) → headed-lts.Need-repeat-requires (
 ) (headed-at t) headed.Post
 headed-repeat-requires t c κs = search needs
 
--- src/walk.rt:210:13
+-- src/walk.rt:204:13
 headed-enum-told-5 : (t : ℕ) → headed-lts.Need-enum-told-5 (
   assign-reads.Asked,
   assign-reads.Learnt,
@@ -1480,7 +1480,7 @@ headed-enum-told-5 : (t : ℕ) → headed-lts.Need-enum-told-5 (
 ) (headed-at t) headed.Post
 headed-enum-told-5 t c = search needs
 
--- src/walk.rt:200:22
+-- src/walk.rt:195:22
 headed-count-up-requires : (t : ℕ) → headed-lts.Need-count-up-requires (
   assign-reads.Asked,
   assign-reads.Learnt,
@@ -1503,7 +1503,7 @@ headed-count-up-requires : (t : ℕ) → headed-lts.Need-count-up-requires (
 ) (headed-at t) headed.Post
 headed-count-up-requires t c κs = search needs
 
--- src/walk.rt:225:13
+-- src/walk.rt:218:13
 headed-enum-told-6 : (t : ℕ) → headed-lts.Need-enum-told-6 (
   assign-reads.Asked,
   assign-reads.Learnt,
@@ -1526,7 +1526,7 @@ headed-enum-told-6 : (t : ℕ) → headed-lts.Need-enum-told-6 (
 ) (headed-at t) headed.Post
 headed-enum-told-6 t c = search needs
 
--- src/walk.rt:215:23
+-- src/walk.rt:209:23
 headed-choose-requires : (t : ℕ) → headed-lts.Need-choose-requires (
   assign-reads.Asked,
   assign-reads.Learnt,
@@ -1549,7 +1549,7 @@ headed-choose-requires : (t : ℕ) → headed-lts.Need-choose-requires (
 ) (headed-at t) headed.Post
 headed-choose-requires t c κs = search needs
 
--- src/walk.rt:240:13
+-- src/walk.rt:232:13
 headed-enum-told-7 : (t : ℕ) → headed-lts.Need-enum-told-7 (
   assign-reads.Asked,
   assign-reads.Learnt,
@@ -1572,7 +1572,7 @@ headed-enum-told-7 : (t : ℕ) → headed-lts.Need-enum-told-7 (
 ) (headed-at t) headed.Post
 headed-enum-told-7 t c = search needs
 
--- src/walk.rt:230:23
+-- src/walk.rt:223:23
 headed-call-requires : (t : ℕ) → headed-lts.Need-call-requires (
   assign-reads.Asked,
   assign-reads.Learnt,
@@ -1595,7 +1595,7 @@ headed-call-requires : (t : ℕ) → headed-lts.Need-call-requires (
 ) (headed-at t) headed.Post
 headed-call-requires t c κs = search needs
 
--- src/walk.rt:245:64
+-- src/walk.rt:237:56
 headed-enum-told-8 : (t : ℕ) → headed-lts.Need-enum-told-8 (
   assign-reads.Asked,
   assign-reads.Learnt,
@@ -1618,7 +1618,7 @@ headed-enum-told-8 : (t : ℕ) → headed-lts.Need-enum-told-8 (
 ) (headed-at t) headed.Post
 headed-enum-told-8 t c = search needs
 
--- src/walk.rt:245:24
+-- src/walk.rt:237:24
 headed-raise-requires : (t : ℕ) → headed-lts.Need-raise-requires (
   assign-reads.Asked,
   assign-reads.Learnt,
@@ -1641,7 +1641,7 @@ headed-raise-requires : (t : ℕ) → headed-lts.Need-raise-requires (
 ) (headed-at t) headed.Post
 headed-raise-requires t c κs = search needs
 
--- src/walk.rt:246:26
+-- src/walk.rt:238:26
 headed-enum-told-9 : (t : ℕ) → headed-lts.Need-enum-told-9 (
   assign-reads.Asked,
   assign-reads.Learnt,
@@ -1664,7 +1664,7 @@ headed-enum-told-9 : (t : ℕ) → headed-lts.Need-enum-told-9 (
 ) (headed-at t) headed.Post
 headed-enum-told-9 t c = search needs
 
--- src/walk.rt:134:1
+-- src/walk.rt:133:1
 headed-returns : (t : ℕ) → headed-lts.Need-returns (
   assign-reads.Asked,
   assign-reads.Learnt,
@@ -1687,7 +1687,7 @@ headed-returns : (t : ℕ) → headed-lts.Need-returns (
 ) (headed-at t) headed.Post
 headed-returns t c = search verb-laws
 
--- src/walk.rt:134:1
+-- src/walk.rt:133:1
 headed-returns-2 : (t : ℕ) → headed-lts.Need-returns-2 (
   assign-reads.Asked,
   assign-reads.Learnt,
@@ -1710,7 +1710,7 @@ headed-returns-2 : (t : ℕ) → headed-lts.Need-returns-2 (
 ) (headed-at t) headed.Post
 headed-returns-2 t c = search verb-laws
 
--- src/walk.rt:134:1
+-- src/walk.rt:133:1
 headed-returns-3 : (t : ℕ) → headed-lts.Need-returns-3 (
   assign-reads.Asked,
   assign-reads.Learnt,
@@ -1733,7 +1733,7 @@ headed-returns-3 : (t : ℕ) → headed-lts.Need-returns-3 (
 ) (headed-at t) headed.Post
 headed-returns-3 t c = search verb-laws
 
--- src/walk.rt:134:1
+-- src/walk.rt:133:1
 headed-returns-4 : (t : ℕ) → headed-lts.Need-returns-4 (
   assign-reads.Asked,
   assign-reads.Learnt,
@@ -1756,7 +1756,7 @@ headed-returns-4 : (t : ℕ) → headed-lts.Need-returns-4 (
 ) (headed-at t) headed.Post
 headed-returns-4 t c = search verb-laws
 
--- src/walk.rt:134:1
+-- src/walk.rt:133:1
 headed-returns-5 : (t : ℕ) → headed-lts.Need-returns-5 (
   assign-reads.Asked,
   assign-reads.Learnt,
@@ -1779,7 +1779,7 @@ headed-returns-5 : (t : ℕ) → headed-lts.Need-returns-5 (
 ) (headed-at t) headed.Post
 headed-returns-5 t c = search verb-laws
 
--- src/walk.rt:134:1
+-- src/walk.rt:133:1
 headed-returns-6 : (t : ℕ) → headed-lts.Need-returns-6 (
   assign-reads.Asked,
   assign-reads.Learnt,
@@ -1802,7 +1802,7 @@ headed-returns-6 : (t : ℕ) → headed-lts.Need-returns-6 (
 ) (headed-at t) headed.Post
 headed-returns-6 t c = search verb-laws
 
--- src/walk.rt:134:1
+-- src/walk.rt:133:1
 headed-returns-7 : (t : ℕ) → headed-lts.Need-returns-7 (
   assign-reads.Asked,
   assign-reads.Learnt,
@@ -1825,7 +1825,7 @@ headed-returns-7 : (t : ℕ) → headed-lts.Need-returns-7 (
 ) (headed-at t) headed.Post
 headed-returns-7 t c = search verb-laws
 
--- src/walk.rt:134:1
+-- src/walk.rt:133:1
 headed-returns-8 : (t : ℕ) → headed-lts.Need-returns-8 (
   assign-reads.Asked,
   assign-reads.Learnt,
@@ -1848,7 +1848,7 @@ headed-returns-8 : (t : ℕ) → headed-lts.Need-returns-8 (
 ) (headed-at t) headed.Post
 headed-returns-8 t c = search verb-laws
 
--- src/walk.rt:134:1
+-- src/walk.rt:133:1
 headed-returns-9 : (t : ℕ) → headed-lts.Need-returns-9 (
   assign-reads.Asked,
   assign-reads.Learnt,
@@ -1871,7 +1871,7 @@ headed-returns-9 : (t : ℕ) → headed-lts.Need-returns-9 (
 ) (headed-at t) headed.Post
 headed-returns-9 t c = search verb-laws
 
--- src/walk.rt:322:9
+-- src/walk.rt:311:9
 if-else-condition-requires : (t : ℕ) → if-else-lts.Need-condition-requires (
   condition-reads.Asked,
   condition-reads.Learnt,
@@ -1890,7 +1890,7 @@ if-else-condition-requires : (t : ℕ) → if-else-lts.Need-condition-requires (
 ) (if-else-at t) if-else.Post
 if-else-condition-requires t c κs = search needs
 
--- src/walk.rt:324:9
+-- src/walk.rt:313:9
 if-else-halting-requires : (t : ℕ) → if-else-lts.Need-halting-requires (
   condition-reads.Asked,
   condition-reads.Learnt,
@@ -1909,7 +1909,7 @@ if-else-halting-requires : (t : ℕ) → if-else-lts.Need-halting-requires (
 ) (if-else-at t) if-else.Post
 if-else-halting-requires t c κs = search needs
 
--- src/walk.rt:324:9
+-- src/walk.rt:313:9
 if-else-returns : (t : ℕ) → if-else-lts.Need-returns (
   condition-reads.Asked,
   condition-reads.Learnt,
@@ -1928,7 +1928,7 @@ if-else-returns : (t : ℕ) → if-else-lts.Need-returns (
 ) (if-else-at t) if-else.Post
 if-else-returns t c = search if-laws
 
--- src/walk.rt:326:9
+-- src/walk.rt:315:9
 if-else-skip-requires : (t : ℕ) → if-else-lts.Need-skip-requires (
   condition-reads.Asked,
   condition-reads.Learnt,
@@ -1947,7 +1947,7 @@ if-else-skip-requires : (t : ℕ) → if-else-lts.Need-skip-requires (
 ) (if-else-at t) if-else.Post
 if-else-skip-requires t c κs = search needs
 
--- src/walk.rt:328:9
+-- src/walk.rt:317:9
 if-else-mark-stmt-requires : (t : ℕ) → if-else-lts.Need-mark-stmt-requires (
   condition-reads.Asked,
   condition-reads.Learnt,
@@ -1966,7 +1966,7 @@ if-else-mark-stmt-requires : (t : ℕ) → if-else-lts.Need-mark-stmt-requires (
 ) (if-else-at t) if-else.Post
 if-else-mark-stmt-requires t c κs = search needs
 
--- src/walk.rt:328:9
+-- src/walk.rt:317:9
 if-else-returns-2 : (t : ℕ) → if-else-lts.Need-returns-2 (
   condition-reads.Asked,
   condition-reads.Learnt,
@@ -1985,7 +1985,7 @@ if-else-returns-2 : (t : ℕ) → if-else-lts.Need-returns-2 (
 ) (if-else-at t) if-else.Post
 if-else-returns-2 t c = search if-laws
 
--- src/walk.rt:344:22
+-- src/walk.rt:332:22
 if-else-count-statements-requires : (t : ℕ) → if-else-lts.Need-count-statements-requires (
   condition-reads.Asked,
   condition-reads.Learnt,
@@ -2004,7 +2004,7 @@ if-else-count-statements-requires : (t : ℕ) → if-else-lts.Need-count-stateme
 ) (if-else-at t) if-else.Post
 if-else-count-statements-requires t c κs = search needs
 
--- src/walk.rt:344:9
+-- src/walk.rt:332:9
 if-else-later-requires : (t : ℕ) → if-else-lts.Need-later-requires (
   condition-reads.Asked,
   condition-reads.Learnt,
@@ -2023,7 +2023,7 @@ if-else-later-requires : (t : ℕ) → if-else-lts.Need-later-requires (
 ) (if-else-at t) if-else.Post
 if-else-later-requires t c κs = search needs
 
--- src/walk.rt:358:9
+-- src/walk.rt:345:9
 if-else-skip-requires-2 : (t : ℕ) → if-else-lts.Need-skip-requires-2 (
   condition-reads.Asked,
   condition-reads.Learnt,
@@ -2042,7 +2042,7 @@ if-else-skip-requires-2 : (t : ℕ) → if-else-lts.Need-skip-requires-2 (
 ) (if-else-at t) if-else.Post
 if-else-skip-requires-2 t c κs = search needs
 
--- src/walk.rt:345:5
+-- src/walk.rt:333:5
 if-else-else-part-requires : (t : ℕ) → if-else-lts.Need-else-part-requires (
   condition-reads.Asked,
   condition-reads.Learnt,
@@ -2061,7 +2061,7 @@ if-else-else-part-requires : (t : ℕ) → if-else-lts.Need-else-part-requires (
 ) (if-else-at t) if-else.Post
 if-else-else-part-requires t c κs = search needs
 
--- src/walk.rt:305:1
+-- src/walk.rt:295:1
 if-else-returns-3 : (t : ℕ) → if-else-lts.Need-returns-3 (
   condition-reads.Asked,
   condition-reads.Learnt,
@@ -2140,7 +2140,7 @@ inner-returns : (t : ℕ) → inner-lts.Need-returns (
 ) (inner-at t) inner.Post
 inner-returns t c = search inner-laws
 
--- src/walk.rt:123:17
+-- src/walk.rt:122:17
 inner-later-requires : (t : ℕ) → inner-lts.Need-later-requires (
   part-at-reads.Asked,
   part-at-reads.Learnt,
@@ -2155,7 +2155,7 @@ inner-later-requires : (t : ℕ) → inner-lts.Need-later-requires (
 ) (inner-at t) inner.Post
 inner-later-requires t c κs = search needs
 
--- src/walk.rt:124:17
+-- src/walk.rt:123:17
 inner-verb-of-requires : (t : ℕ) → inner-lts.Need-verb-of-requires (
   part-at-reads.Asked,
   part-at-reads.Learnt,
@@ -2185,7 +2185,7 @@ inner-headed-requires : (t : ℕ) → inner-lts.Need-headed-requires (
 ) (inner-at t) inner.Post
 inner-headed-requires t c κs = search needs
 
--- src/walk.rt:128:26
+-- src/walk.rt:127:26
 inner-enum-told : (t : ℕ) → inner-lts.Need-enum-told (
   part-at-reads.Asked,
   part-at-reads.Learnt,
@@ -2200,7 +2200,7 @@ inner-enum-told : (t : ℕ) → inner-lts.Need-enum-told (
 ) (inner-at t) inner.Post
 inner-enum-told t c = search needs
 
--- src/walk.rt:129:26
+-- src/walk.rt:128:26
 inner-enum-told-2 : (t : ℕ) → inner-lts.Need-enum-told-2 (
   part-at-reads.Asked,
   part-at-reads.Learnt,
@@ -2215,7 +2215,7 @@ inner-enum-told-2 : (t : ℕ) → inner-lts.Need-enum-told-2 (
 ) (inner-at t) inner.Post
 inner-enum-told-2 t c = search needs
 
--- src/walk.rt:87:1
+-- src/walk.rt:88:1
 inner-returns-2 : (t : ℕ) → inner-lts.Need-returns-2 (
   part-at-reads.Asked,
   part-at-reads.Learnt,
@@ -2230,7 +2230,7 @@ inner-returns-2 : (t : ℕ) → inner-lts.Need-returns-2 (
 ) (inner-at t) inner.Post
 inner-returns-2 t c = search inner-laws
 
--- src/walk.rt:87:1
+-- src/walk.rt:88:1
 inner-returns-3 : (t : ℕ) → inner-lts.Need-returns-3 (
   part-at-reads.Asked,
   part-at-reads.Learnt,
@@ -2245,7 +2245,7 @@ inner-returns-3 : (t : ℕ) → inner-lts.Need-returns-3 (
 ) (inner-at t) inner.Post
 inner-returns-3 t c = search inner-laws
 
--- src/walk.rt:87:1
+-- src/walk.rt:88:1
 inner-returns-4 : (t : ℕ) → inner-lts.Need-returns-4 (
   part-at-reads.Asked,
   part-at-reads.Learnt,
@@ -2260,7 +2260,7 @@ inner-returns-4 : (t : ℕ) → inner-lts.Need-returns-4 (
 ) (inner-at t) inner.Post
 inner-returns-4 t c = search inner-laws
 
--- src/walk.rt:755:9
+-- src/walk.rt:726:9
 mark-body-line-of-requires : (t : ℕ) → mark-body-lts.Need-line-of-requires (
   line-of-reads.Asked,
   line-of-reads.Learnt,
@@ -2271,7 +2271,7 @@ mark-body-line-of-requires : (t : ℕ) → mark-body-lts.Need-line-of-requires (
 ) (mark-body-at t) mark-body.Post
 mark-body-line-of-requires t c κs = search needs
 
--- src/walk.rt:757:32
+-- src/walk.rt:728:32
 mark-body-slice-aggregate-clip-types : (t : ℕ) → mark-body-lts.Need-slice-aggregate-clip-types (
   line-of-reads.Asked,
   line-of-reads.Learnt,
@@ -2282,7 +2282,7 @@ mark-body-slice-aggregate-clip-types : (t : ℕ) → mark-body-lts.Need-slice-ag
 ) (mark-body-at t) mark-body.Post
 mark-body-slice-aggregate-clip-types t c = search needs
 
--- src/walk.rt:757:5
+-- src/walk.rt:728:5
 mark-body-clip-types-requires : (t : ℕ) → mark-body-lts.Need-clip-types-requires (
   line-of-reads.Asked,
   line-of-reads.Learnt,
@@ -2293,7 +2293,7 @@ mark-body-clip-types-requires : (t : ℕ) → mark-body-lts.Need-clip-types-requ
 ) (mark-body-at t) mark-body.Post
 mark-body-clip-types-requires t c κs = search needs
 
--- src/walk.rt:762:9
+-- src/walk.rt:733:9
 mark-body-slice-aggregate-body-from : (t : ℕ) → mark-body-lts.Need-slice-aggregate-body-from (
   line-of-reads.Asked,
   line-of-reads.Learnt,
@@ -2304,7 +2304,7 @@ mark-body-slice-aggregate-body-from : (t : ℕ) → mark-body-lts.Need-slice-agg
 ) (mark-body-at t) mark-body.Post
 mark-body-slice-aggregate-body-from t c = search needs
 
--- src/walk.rt:758:5
+-- src/walk.rt:729:5
 mark-body-body-from-requires : (t : ℕ) → mark-body-lts.Need-body-from-requires (
   line-of-reads.Asked,
   line-of-reads.Learnt,
@@ -2315,7 +2315,7 @@ mark-body-body-from-requires : (t : ℕ) → mark-body-lts.Need-body-from-requir
 ) (mark-body-at t) mark-body.Post
 mark-body-body-from-requires t c κs = search needs
 
--- src/walk.rt:743:1
+-- src/walk.rt:714:1
 mark-body-returns : (t : ℕ) → mark-body-lts.Need-returns (
   line-of-reads.Asked,
   line-of-reads.Learnt,
@@ -2326,7 +2326,7 @@ mark-body-returns : (t : ℕ) → mark-body-lts.Need-returns (
 ) (mark-body-at t) mark-body.Post
 mark-body-returns t c = search (body-is, needs)
 
--- src/walk.rt:62:9
+-- src/walk.rt:64:9
 mark-stmt-returns : (t : ℕ) → mark-stmt-lts.Need-returns (
   part-at-reads.Asked,
   part-at-reads.Learnt,
@@ -2335,7 +2335,7 @@ mark-stmt-returns : (t : ℕ) → mark-stmt-lts.Need-returns (
 ) (mark-stmt-at t) mark-stmt.Post
 mark-stmt-returns t c = search stmt-laws
 
--- src/walk.rt:64:9
+-- src/walk.rt:66:9
 mark-stmt-part-at-requires : (t : ℕ) → mark-stmt-lts.Need-part-at-requires (
   part-at-reads.Asked,
   part-at-reads.Learnt,
@@ -2344,7 +2344,7 @@ mark-stmt-part-at-requires : (t : ℕ) → mark-stmt-lts.Need-part-at-requires (
 ) (mark-stmt-at t) mark-stmt.Post
 mark-stmt-part-at-requires t c κs = search needs
 
--- src/walk.rt:66:32
+-- src/walk.rt:68:32
 mark-stmt-enum-told : (t : ℕ) → mark-stmt-lts.Need-enum-told (
   part-at-reads.Asked,
   part-at-reads.Learnt,
@@ -2353,7 +2353,7 @@ mark-stmt-enum-told : (t : ℕ) → mark-stmt-lts.Need-enum-told (
 ) (mark-stmt-at t) mark-stmt.Post
 mark-stmt-enum-told t c = search needs
 
--- src/walk.rt:67:20
+-- src/walk.rt:69:20
 mark-stmt-enum-known-part : (t : ℕ) → mark-stmt-lts.Need-enum-known-part (
   part-at-reads.Asked,
   part-at-reads.Learnt,
@@ -2362,7 +2362,7 @@ mark-stmt-enum-known-part : (t : ℕ) → mark-stmt-lts.Need-enum-known-part (
 ) (mark-stmt-at t) mark-stmt.Post
 mark-stmt-enum-known-part t c = search needs
 
--- src/walk.rt:76:13
+-- src/walk.rt:77:13
 mark-stmt-sub-inner : (t : ℕ) → mark-stmt-lts.Need-sub-inner (
   part-at-reads.Asked,
   part-at-reads.Learnt,
@@ -2371,7 +2371,7 @@ mark-stmt-sub-inner : (t : ℕ) → mark-stmt-lts.Need-sub-inner (
 ) (mark-stmt-at t) mark-stmt.Post
 mark-stmt-sub-inner t c = search needs
 
--- src/walk.rt:67:26
+-- src/walk.rt:69:26
 mark-stmt-inner-requires : (t : ℕ) → mark-stmt-lts.Need-inner-requires (
   part-at-reads.Asked,
   part-at-reads.Learnt,
@@ -2380,7 +2380,7 @@ mark-stmt-inner-requires : (t : ℕ) → mark-stmt-lts.Need-inner-requires (
 ) (mark-stmt-at t) mark-stmt.Post
 mark-stmt-inner-requires t c κs = search needs
 
--- src/walk.rt:82:26
+-- src/walk.rt:83:26
 mark-stmt-enum-told-2 : (t : ℕ) → mark-stmt-lts.Need-enum-told-2 (
   part-at-reads.Asked,
   part-at-reads.Learnt,
@@ -2389,7 +2389,7 @@ mark-stmt-enum-told-2 : (t : ℕ) → mark-stmt-lts.Need-enum-told-2 (
 ) (mark-stmt-at t) mark-stmt.Post
 mark-stmt-enum-told-2 t c = search needs
 
--- src/walk.rt:44:1
+-- src/walk.rt:47:1
 mark-stmt-returns-2 : (t : ℕ) → mark-stmt-lts.Need-returns-2 (
   part-at-reads.Asked,
   part-at-reads.Learnt,
@@ -2398,7 +2398,7 @@ mark-stmt-returns-2 : (t : ℕ) → mark-stmt-lts.Need-returns-2 (
 ) (mark-stmt-at t) mark-stmt.Post
 mark-stmt-returns-2 t c = search stmt-laws
 
--- src/walk.rt:44:1
+-- src/walk.rt:47:1
 mark-stmt-returns-3 : (t : ℕ) → mark-stmt-lts.Need-returns-3 (
   part-at-reads.Asked,
   part-at-reads.Learnt,
@@ -2407,7 +2407,7 @@ mark-stmt-returns-3 : (t : ℕ) → mark-stmt-lts.Need-returns-3 (
 ) (mark-stmt-at t) mark-stmt.Post
 mark-stmt-returns-3 t c = search stmt-laws
 
--- src/walk.rt:44:1
+-- src/walk.rt:47:1
 mark-stmt-returns-4 : (t : ℕ) → mark-stmt-lts.Need-returns-4 (
   part-at-reads.Asked,
   part-at-reads.Learnt,
@@ -2417,12 +2417,12 @@ mark-stmt-returns-4 : (t : ℕ) → mark-stmt-lts.Need-returns-4 (
 mark-stmt-returns-4 t c = search stmt-laws
 
 abbrev repeat-Inv-loop : repeat-lts.InvT-loop
-repeat-Inv-loop text work all types bodies count newest calls depth store₀ left n c b t₀ store t = Repeating text work all types bodies count newest calls depth n c b store₀ t₀ store t
+repeat-Inv-loop text work all types bodies scope calls depth store₀ left n c b t₀ store t = Repeating text work all types bodies scope calls depth n c b store₀ t₀ store t
 
 abbrev repeat-μ-loop : repeat-lts.MeasureT-loop
-repeat-μ-loop text work all types bodies count newest calls depth store₀ left n c b t₀ store t = t
+repeat-μ-loop text work all types bodies scope calls depth store₀ left n c b t₀ store t = t
 
--- src/walk.rt:421:5
+-- src/walk.rt:405:5
 repeat-loop-holds : (t : ℕ) → repeat-lts.Need-loop-holds (
   condition-reads.Asked,
   condition-reads.Learnt,
@@ -2435,7 +2435,7 @@ repeat-loop-holds : (t : ℕ) → repeat-lts.Need-loop-holds (
 ) (repeat-at t) repeat.Post repeat-Inv-loop repeat-μ-loop
 repeat-loop-holds t c = search while-start
 
--- src/walk.rt:422:13
+-- src/walk.rt:406:13
 repeat-condition-requires : (t : ℕ) → repeat-lts.Need-condition-requires (
   condition-reads.Asked,
   condition-reads.Learnt,
@@ -2448,7 +2448,7 @@ repeat-condition-requires : (t : ℕ) → repeat-lts.Need-condition-requires (
 ) (repeat-at t) repeat.Post repeat-Inv-loop repeat-μ-loop
 repeat-condition-requires t c κs = search needs
 
--- src/walk.rt:424:13
+-- src/walk.rt:408:13
 repeat-halting-requires : (t : ℕ) → repeat-lts.Need-halting-requires (
   condition-reads.Asked,
   condition-reads.Learnt,
@@ -2461,7 +2461,7 @@ repeat-halting-requires : (t : ℕ) → repeat-lts.Need-halting-requires (
 ) (repeat-at t) repeat.Post repeat-Inv-loop repeat-μ-loop
 repeat-halting-requires t c κs = search needs
 
--- src/walk.rt:424:13
+-- src/walk.rt:408:13
 repeat-returns : (t : ℕ) → repeat-lts.Need-returns (
   condition-reads.Asked,
   condition-reads.Learnt,
@@ -2474,7 +2474,7 @@ repeat-returns : (t : ℕ) → repeat-lts.Need-returns (
 ) (repeat-at t) repeat.Post repeat-Inv-loop repeat-μ-loop
 repeat-returns t c = search while-laws
 
--- src/walk.rt:427:13
+-- src/walk.rt:411:13
 repeat-returns-2 : (t : ℕ) → repeat-lts.Need-returns-2 (
   condition-reads.Asked,
   condition-reads.Learnt,
@@ -2487,7 +2487,7 @@ repeat-returns-2 : (t : ℕ) → repeat-lts.Need-returns-2 (
 ) (repeat-at t) repeat.Post repeat-Inv-loop repeat-μ-loop
 repeat-returns-2 t c = search while-laws
 
--- src/walk.rt:429:13
+-- src/walk.rt:413:13
 repeat-stepped-requires : (t : ℕ) → repeat-lts.Need-stepped-requires (
   condition-reads.Asked,
   condition-reads.Learnt,
@@ -2500,7 +2500,7 @@ repeat-stepped-requires : (t : ℕ) → repeat-lts.Need-stepped-requires (
 ) (repeat-at t) repeat.Post repeat-Inv-loop repeat-μ-loop
 repeat-stepped-requires t c κs = search needs
 
--- src/walk.rt:431:13
+-- src/walk.rt:415:13
 repeat-returns-3 : (t : ℕ) → repeat-lts.Need-returns-3 (
   condition-reads.Asked,
   condition-reads.Learnt,
@@ -2513,7 +2513,7 @@ repeat-returns-3 : (t : ℕ) → repeat-lts.Need-returns-3 (
 ) (repeat-at t) repeat.Post repeat-Inv-loop repeat-μ-loop
 repeat-returns-3 t c = search while-laws
 
--- src/walk.rt:433:13
+-- src/walk.rt:417:13
 repeat-mark-stmt-requires : (t : ℕ) → repeat-lts.Need-mark-stmt-requires (
   condition-reads.Asked,
   condition-reads.Learnt,
@@ -2526,7 +2526,7 @@ repeat-mark-stmt-requires : (t : ℕ) → repeat-lts.Need-mark-stmt-requires (
 ) (repeat-at t) repeat.Post repeat-Inv-loop repeat-μ-loop
 repeat-mark-stmt-requires t c κs = search needs
 
--- src/walk.rt:449:13
+-- src/walk.rt:432:13
 repeat-returns-4 : (t : ℕ) → repeat-lts.Need-returns-4 (
   condition-reads.Asked,
   condition-reads.Learnt,
@@ -2539,7 +2539,7 @@ repeat-returns-4 : (t : ℕ) → repeat-lts.Need-returns-4 (
 ) (repeat-at t) repeat.Post repeat-Inv-loop repeat-μ-loop
 repeat-returns-4 t c = search (while-stops, sfits-of)
 
--- src/walk.rt:421:5
+-- src/walk.rt:405:5
 repeat-loop-less : (t : ℕ) → repeat-lts.Need-loop-less (
   condition-reads.Asked,
   condition-reads.Learnt,
@@ -2552,7 +2552,7 @@ repeat-loop-less : (t : ℕ) → repeat-lts.Need-loop-less (
 ) (repeat-at t) repeat.Post repeat-Inv-loop repeat-μ-loop
 repeat-loop-less t c = search (while-falls, sfits-of)
 
--- src/walk.rt:421:5
+-- src/walk.rt:405:5
 repeat-loop-again : (t : ℕ) → repeat-lts.Need-loop-again (
   condition-reads.Asked,
   condition-reads.Learnt,
@@ -2566,12 +2566,12 @@ repeat-loop-again : (t : ℕ) → repeat-lts.Need-loop-again (
 repeat-loop-again t c = search (while-next, sfits-of)
 
 abbrev rounds-Inv-loop : rounds-lts.InvT-loop
-rounds-Inv-loop text work all types bodies count newest calls depth store₀ left n a x y b z₀ t₀ store z t = Counting text work all types bodies count newest calls depth n a (toZ w64 x) (toZ w64 y) b store₀ t₀ (toZ w64 z) store t
+rounds-Inv-loop text work all types bodies scope calls depth store₀ left n a x y b z₀ t₀ store z t = Counting text work all types bodies scope calls depth n a (toZ w64 x) (toZ w64 y) b store₀ t₀ (toZ w64 z) store t
 
 abbrev rounds-μ-loop : rounds-lts.MeasureT-loop
-rounds-μ-loop text work all types bodies count newest calls depth store₀ left n a x y b z₀ t₀ store z t = t
+rounds-μ-loop text work all types bodies scope calls depth store₀ left n a x y b z₀ t₀ store z t = t
 
--- src/walk.rt:526:5
+-- src/walk.rt:506:5
 rounds-loop-holds : (t : ℕ) → rounds-lts.Need-loop-holds (
   stepped-reads.Asked,
   stepped-reads.Learnt,
@@ -2586,7 +2586,7 @@ rounds-loop-holds : (t : ℕ) → rounds-lts.Need-loop-holds (
 ) (rounds-at t) rounds.Post rounds-Inv-loop rounds-μ-loop
 rounds-loop-holds t c = search (turn-start, needs)
 
--- src/walk.rt:527:13
+-- src/walk.rt:507:13
 rounds-stepped-requires : (t : ℕ) → rounds-lts.Need-stepped-requires (
   stepped-reads.Asked,
   stepped-reads.Learnt,
@@ -2601,7 +2601,7 @@ rounds-stepped-requires : (t : ℕ) → rounds-lts.Need-stepped-requires (
 ) (rounds-at t) rounds.Post rounds-Inv-loop rounds-μ-loop
 rounds-stepped-requires t c κs = search needs
 
--- src/walk.rt:529:13
+-- src/walk.rt:509:13
 rounds-returns : (t : ℕ) → rounds-lts.Need-returns (
   stepped-reads.Asked,
   stepped-reads.Learnt,
@@ -2616,7 +2616,7 @@ rounds-returns : (t : ℕ) → rounds-lts.Need-returns (
 ) (rounds-at t) rounds.Post rounds-Inv-loop rounds-μ-loop
 rounds-returns t c = search rounds-laws
 
--- src/walk.rt:531:9
+-- src/walk.rt:511:9
 rounds-put-requires : (t : ℕ) → rounds-lts.Need-put-requires (
   stepped-reads.Asked,
   stepped-reads.Learnt,
@@ -2631,7 +2631,7 @@ rounds-put-requires : (t : ℕ) → rounds-lts.Need-put-requires (
 ) (rounds-at t) rounds.Post rounds-Inv-loop rounds-μ-loop
 rounds-put-requires t c κs = search needs
 
--- src/walk.rt:532:13
+-- src/walk.rt:512:13
 rounds-mark-stmt-requires : (t : ℕ) → rounds-lts.Need-mark-stmt-requires (
   stepped-reads.Asked,
   stepped-reads.Learnt,
@@ -2646,7 +2646,7 @@ rounds-mark-stmt-requires : (t : ℕ) → rounds-lts.Need-mark-stmt-requires (
 ) (rounds-at t) rounds.Post rounds-Inv-loop rounds-μ-loop
 rounds-mark-stmt-requires t c κs = search needs
 
--- src/walk.rt:548:13
+-- src/walk.rt:527:13
 rounds-returns-2 : (t : ℕ) → rounds-lts.Need-returns-2 (
   stepped-reads.Asked,
   stepped-reads.Learnt,
@@ -2661,7 +2661,7 @@ rounds-returns-2 : (t : ℕ) → rounds-lts.Need-returns-2 (
 ) (rounds-at t) rounds.Post rounds-Inv-loop rounds-μ-loop
 rounds-returns-2 t c = search rounds-laws
 
--- src/walk.rt:550:12
+-- src/walk.rt:529:12
 rounds-at-last-requires : (t : ℕ) → rounds-lts.Need-at-last-requires (
   stepped-reads.Asked,
   stepped-reads.Learnt,
@@ -2676,7 +2676,7 @@ rounds-at-last-requires : (t : ℕ) → rounds-lts.Need-at-last-requires (
 ) (rounds-at t) rounds.Post rounds-Inv-loop rounds-μ-loop
 rounds-at-last-requires t c κs = search needs
 
--- src/walk.rt:551:13
+-- src/walk.rt:530:13
 rounds-returns-3 : (t : ℕ) → rounds-lts.Need-returns-3 (
   stepped-reads.Asked,
   stepped-reads.Learnt,
@@ -2691,7 +2691,7 @@ rounds-returns-3 : (t : ℕ) → rounds-lts.Need-returns-3 (
 ) (rounds-at t) rounds.Post rounds-Inv-loop rounds-μ-loop
 rounds-returns-3 t c = search rounds-laws
 
--- src/walk.rt:553:9
+-- src/walk.rt:532:9
 rounds-next-of-requires : (t : ℕ) → rounds-lts.Need-next-of-requires (
   stepped-reads.Asked,
   stepped-reads.Learnt,
@@ -2706,7 +2706,7 @@ rounds-next-of-requires : (t : ℕ) → rounds-lts.Need-next-of-requires (
 ) (rounds-at t) rounds.Post rounds-Inv-loop rounds-μ-loop
 rounds-next-of-requires t c κs = search needs
 
--- src/walk.rt:526:5
+-- src/walk.rt:506:5
 rounds-loop-less : (t : ℕ) → rounds-lts.Need-loop-less (
   stepped-reads.Asked,
   stepped-reads.Learnt,
@@ -2721,7 +2721,7 @@ rounds-loop-less : (t : ℕ) → rounds-lts.Need-loop-less (
 ) (rounds-at t) rounds.Post rounds-Inv-loop rounds-μ-loop
 rounds-loop-less t c = search (turn-falls, sfits-of)
 
--- src/walk.rt:526:5
+-- src/walk.rt:506:5
 rounds-loop-again : (t : ℕ) → rounds-lts.Need-loop-again (
   stepped-reads.Asked,
   stepped-reads.Learnt,
@@ -2737,12 +2737,12 @@ rounds-loop-again : (t : ℕ) → rounds-lts.Need-loop-again (
 rounds-loop-again t c = search (rounds-next, sfits-of)
 
 abbrev stmts-Inv-loop : stmts-lts.InvT-loop
-stmts-Inv-loop text work all types bodies count newest calls depth store₀ left n at t₀ m₀ p₀ store t m p = Following (stmtsIn depth) text work all types bodies count newest calls n at store₀ t₀ m p store t
+stmts-Inv-loop text work all types bodies scope calls depth store₀ left n at t₀ m₀ p₀ store t m p = Following (stmtsIn depth) text work all types bodies scope calls n at store₀ t₀ m p store t
 
 abbrev stmts-μ-loop : stmts-lts.MeasureT-loop
-stmts-μ-loop text work all types bodies count newest calls depth store₀ left n at t₀ m₀ p₀ store t m p = many (first (stackAt text p))
+stmts-μ-loop text work all types bodies scope calls depth store₀ left n at t₀ m₀ p₀ store t m p = many (first (stackAt text p))
 
--- src/walk.rt:271:5
+-- src/walk.rt:262:5
 stmts-loop-holds : (t : ℕ) → stmts-lts.Need-loop-holds (
   end-at-reads.Asked,
   end-at-reads.Learnt,
@@ -2759,7 +2759,7 @@ stmts-loop-holds : (t : ℕ) → stmts-lts.Need-loop-holds (
 ) (stmts-at t) stmts.Post stmts-Inv-loop stmts-μ-loop
 stmts-loop-holds t c = search stmts-start
 
--- src/walk.rt:272:13
+-- src/walk.rt:263:13
 stmts-end-at-requires : (t : ℕ) → stmts-lts.Need-end-at-requires (
   end-at-reads.Asked,
   end-at-reads.Learnt,
@@ -2776,7 +2776,7 @@ stmts-end-at-requires : (t : ℕ) → stmts-lts.Need-end-at-requires (
 ) (stmts-at t) stmts.Post stmts-Inv-loop stmts-μ-loop
 stmts-end-at-requires t c κs = search needs
 
--- src/walk.rt:275:17
+-- src/walk.rt:266:17
 stmts-enum-told : (t : ℕ) → stmts-lts.Need-enum-told (
   end-at-reads.Asked,
   end-at-reads.Learnt,
@@ -2793,7 +2793,7 @@ stmts-enum-told : (t : ℕ) → stmts-lts.Need-enum-told (
 ) (stmts-at t) stmts.Post stmts-Inv-loop stmts-μ-loop
 stmts-enum-told t c = search needs
 
--- src/walk.rt:275:17
+-- src/walk.rt:266:17
 stmts-returns : (t : ℕ) → stmts-lts.Need-returns (
   end-at-reads.Asked,
   end-at-reads.Learnt,
@@ -2810,7 +2810,7 @@ stmts-returns : (t : ℕ) → stmts-lts.Need-returns (
 ) (stmts-at t) stmts.Post stmts-Inv-loop stmts-μ-loop
 stmts-returns t c = search stmts-laws
 
--- src/walk.rt:288:21
+-- src/walk.rt:278:21
 stmts-enum-told-2 : (t : ℕ) → stmts-lts.Need-enum-told-2 (
   end-at-reads.Asked,
   end-at-reads.Learnt,
@@ -2827,7 +2827,7 @@ stmts-enum-told-2 : (t : ℕ) → stmts-lts.Need-enum-told-2 (
 ) (stmts-at t) stmts.Post stmts-Inv-loop stmts-μ-loop
 stmts-enum-told-2 t c = search needs
 
--- src/walk.rt:278:21
+-- src/walk.rt:269:21
 stmts-mark-stmt-requires : (t : ℕ) → stmts-lts.Need-mark-stmt-requires (
   end-at-reads.Asked,
   end-at-reads.Learnt,
@@ -2844,7 +2844,7 @@ stmts-mark-stmt-requires : (t : ℕ) → stmts-lts.Need-mark-stmt-requires (
 ) (stmts-at t) stmts.Post stmts-Inv-loop stmts-μ-loop
 stmts-mark-stmt-requires t c κs = search needs
 
--- src/walk.rt:293:20
+-- src/walk.rt:283:20
 stmts-stopped-requires : (t : ℕ) → stmts-lts.Need-stopped-requires (
   end-at-reads.Asked,
   end-at-reads.Learnt,
@@ -2861,7 +2861,7 @@ stmts-stopped-requires : (t : ℕ) → stmts-lts.Need-stopped-requires (
 ) (stmts-at t) stmts.Post stmts-Inv-loop stmts-μ-loop
 stmts-stopped-requires t c κs = search needs
 
--- src/walk.rt:294:21
+-- src/walk.rt:284:21
 stmts-returns-2 : (t : ℕ) → stmts-lts.Need-returns-2 (
   end-at-reads.Asked,
   end-at-reads.Learnt,
@@ -2878,7 +2878,7 @@ stmts-returns-2 : (t : ℕ) → stmts-lts.Need-returns-2 (
 ) (stmts-at t) stmts.Post stmts-Inv-loop stmts-μ-loop
 stmts-returns-2 t c = search stmts-laws
 
--- src/walk.rt:297:30
+-- src/walk.rt:287:30
 stmts-count-statements-requires : (t : ℕ) → stmts-lts.Need-count-statements-requires (
   end-at-reads.Asked,
   end-at-reads.Learnt,
@@ -2895,7 +2895,7 @@ stmts-count-statements-requires : (t : ℕ) → stmts-lts.Need-count-statements-
 ) (stmts-at t) stmts.Post stmts-Inv-loop stmts-μ-loop
 stmts-count-statements-requires t c κs = search needs
 
--- src/walk.rt:297:17
+-- src/walk.rt:287:17
 stmts-later-requires : (t : ℕ) → stmts-lts.Need-later-requires (
   end-at-reads.Asked,
   end-at-reads.Learnt,
@@ -2912,7 +2912,7 @@ stmts-later-requires : (t : ℕ) → stmts-lts.Need-later-requires (
 ) (stmts-at t) stmts.Post stmts-Inv-loop stmts-μ-loop
 stmts-later-requires t c κs = search needs
 
--- src/walk.rt:298:17
+-- src/walk.rt:288:17
 stmts-skip-requires : (t : ℕ) → stmts-lts.Need-skip-requires (
   end-at-reads.Asked,
   end-at-reads.Learnt,
@@ -2929,7 +2929,7 @@ stmts-skip-requires : (t : ℕ) → stmts-lts.Need-skip-requires (
 ) (stmts-at t) stmts.Post stmts-Inv-loop stmts-μ-loop
 stmts-skip-requires t c κs = search needs
 
--- src/walk.rt:271:5
+-- src/walk.rt:262:5
 stmts-loop-less : (t : ℕ) → stmts-lts.Need-loop-less (
   end-at-reads.Asked,
   end-at-reads.Learnt,
@@ -2946,7 +2946,7 @@ stmts-loop-less : (t : ℕ) → stmts-lts.Need-loop-less (
 ) (stmts-at t) stmts.Post stmts-Inv-loop stmts-μ-loop
 stmts-loop-less t c = search stmts-falls
 
--- src/walk.rt:271:5
+-- src/walk.rt:262:5
 stmts-loop-again : (t : ℕ) → stmts-lts.Need-loop-again (
   end-at-reads.Asked,
   end-at-reads.Learnt,

@@ -1,12 +1,18 @@
 use Rattle.simplelines.proofs.ArrayTypes.{no-shape-is}
+use borrow.Author.Needs.{needs}
 use Rattle.simplelines.proofs.simple.no_shape.Statement.{statement}
 use Rattle.simplelines.proofs.simple.no_shape.Tie as tie
 use Rattle.simplelines.proofs.simple.no_shape.Reads as reads
 use Rattle.simplelines.proofs.simple.no_shape.Lts as lts
+use Rattle.tables.proofs.no_info.Reads as no-info-reads
 
--- src/simple.rt:85:1
+-- src/simple.rt:99:9
+no-info-requires : tie.Need-no-info-requires
+no-info-requires c κs = search needs
+
+-- src/simple.rt:96:1
 returns : tie.Need-returns
 returns c = search no-shape-is
 
 pub no-shape-spec : {M : Type 1} → statement M
-no-shape-spec = tie.close (tie.spec returns)
+no-shape-spec = tie.close (tie.spec no-info-requires returns)

@@ -76,12 +76,16 @@ use Rattle.parts.proofs.failed.Reads as failed-reads
 use Rattle.parts.proofs.is_form.Reads as is-form-reads
 use Rattle.parts.proofs.part_at.Reads as part-at-reads
 use Rattle.shapes.proofs.verb_of.Reads as verb-of-reads
+use Rattle.statements.proofs.arm_labels.labels.Reads as labels-reads
 use Rattle.statements.proofs.arms.arm_at.Reads as arm-at-reads
 use Rattle.statements.proofs.arms.arm_slot.Reads as arm-slot-reads
 use Rattle.statements.proofs.arms.case_end.Reads as case-end-reads
 use Rattle.statements.proofs.arms.link_arm.Reads as link-arm-reads
 use Rattle.statements.proofs.arms.selector_kind.Reads as selector-kind-reads
-use Rattle.statements.proofs.arm_labels.labels.Reads as labels-reads
+use Rattle.statements.proofs.simple.assign.Reads as assign-reads
+use Rattle.statements.proofs.simple.call.Reads as call-reads
+use Rattle.statements.proofs.simple.raise.Reads as raise-reads
+use Rattle.statements.proofs.simple.wanted_expr.Reads as wanted-expr-reads
 use Rattle.stmtnodes.proofs.nodes.after.Reads as after-reads
 use Rattle.stmtnodes.proofs.nodes.begin_node.Reads as begin-node-reads
 use Rattle.stmtnodes.proofs.nodes.chain.Reads as chain-reads
@@ -95,10 +99,6 @@ use Rattle.stmtnodes.proofs.nodes.no_act.Reads as no-act-reads
 use Rattle.stmtnodes.proofs.nodes.stepped.Reads as stepped-reads
 use Rattle.stmtnodes.proofs.nodes.while_node.Reads as while-node-reads
 use Rattle.stmtnodes.proofs.nodes.wide.Reads as wide-reads
-use Rattle.statements.proofs.simple.assign.Reads as assign-reads
-use Rattle.statements.proofs.simple.call.Reads as call-reads
-use Rattle.statements.proofs.simple.raise.Reads as raise-reads
-use Rattle.statements.proofs.simple.wanted_expr.Reads as wanted-expr-reads
 use Rattle.tables.proofs.host_of.Reads as host-of-reads
 use Rattle.tables.proofs.meaning_of.Reads as meaning-of-reads
 use Rattle.tables.proofs.with_loop.Reads as with-loop-reads
@@ -111,61 +111,61 @@ use Rattle.statements.proofs.walk.+acts+all_arms+arm+arm_stmt+begin+cas
 }
 
 abbrev μ-acts : Measures 3 acts-kinds.ps ℕ
-μ-acts κs a = 8 * a .1 .1 .1 .1 .1 .1 .0 + 2
+μ-acts κs a = 8 * a .1 .1 .1 .1 .1 .0 + 2
 
 abbrev μ-all-arms : Measures 3 all-arms-kinds.ps ℕ
-μ-all-arms κs a = 8 * a .1 .1 .1 .1 .1 .1 .1 .0 + 3
+μ-all-arms κs a = 8 * a .1 .1 .1 .1 .1 .1 .0 + 3
 
 abbrev μ-arm : Measures 3 arm-kinds.ps ℕ
-μ-arm κs a = 8 * a .1 .1 .1 .1 .1 .1 .1 .0 + 2
+μ-arm κs a = 8 * a .1 .1 .1 .1 .1 .1 .0 + 2
 
 abbrev μ-arm-stmt : Measures 3 arm-stmt-kinds.ps ℕ
-μ-arm-stmt κs a = 8 * a .1 .1 .1 .1 .1 .1 .0 + 1
+μ-arm-stmt κs a = 8 * a .1 .1 .1 .1 .1 .0 + 1
 
 abbrev μ-begin : Measures 3 begin-kinds.ps ℕ
-μ-begin κs a = 8 * a .1 .1 .1 .1 .1 .1 .0 + 3
+μ-begin κs a = 8 * a .1 .1 .1 .1 .1 .0 + 3
 
 abbrev μ-case-arms : Measures 3 case-arms-kinds.ps ℕ
-μ-case-arms κs a = 8 * a .1 .1 .1 .1 .1 .1 .1 .0 + 4
+μ-case-arms κs a = 8 * a .1 .1 .1 .1 .1 .1 .0 + 4
 
 abbrev μ-case-of : Measures 3 case-of-kinds.ps ℕ
-μ-case-of κs a = 8 * a .1 .1 .1 .1 .1 .1 .0 + 5
+μ-case-of κs a = 8 * a .1 .1 .1 .1 .1 .0 + 5
 
 abbrev μ-else-arm : Measures 3 else-arm-kinds.ps ℕ
-μ-else-arm κs a = 8 * a .1 .1 .1 .1 .1 .1 .0 + 1
+μ-else-arm κs a = 8 * a .1 .1 .1 .1 .1 .0 + 1
 
 abbrev μ-else-part : Measures 3 else-part-kinds.ps ℕ
-μ-else-part κs a = 8 * a .1 .1 .1 .1 .1 .1 .0 + 1
+μ-else-part κs a = 8 * a .1 .1 .1 .1 .1 .0 + 1
 
 abbrev μ-for-do : Measures 3 for-do-kinds.ps ℕ
-μ-for-do κs a = 8 * a .1 .1 .1 .1 .1 .1 .1 .1 .1 .0 + 1
+μ-for-do κs a = 8 * a .1 .1 .1 .1 .1 .1 .1 .1 .0 + 1
 
 abbrev μ-for-from : Measures 3 for-from-kinds.ps ℕ
-μ-for-from κs a = 8 * a .1 .1 .1 .1 .1 .1 .1 .0 + 3
+μ-for-from κs a = 8 * a .1 .1 .1 .1 .1 .1 .0 + 3
 
 abbrev μ-for-loop : Measures 3 for-loop-kinds.ps ℕ
-μ-for-loop κs a = 8 * a .1 .1 .1 .1 .1 .1 .0 + 4
+μ-for-loop κs a = 8 * a .1 .1 .1 .1 .1 .0 + 4
 
 abbrev μ-for-to : Measures 3 for-to-kinds.ps ℕ
-μ-for-to κs a = 8 * a .1 .1 .1 .1 .1 .1 .1 .1 .1 .0 + 2
+μ-for-to κs a = 8 * a .1 .1 .1 .1 .1 .1 .1 .1 .0 + 2
 
 abbrev μ-headed : Measures 3 headed-kinds.ps ℕ
-μ-headed κs a = 8 * a .1 .1 .1 .1 .1 .1 .1 .0 + 6
+μ-headed κs a = 8 * a .1 .1 .1 .1 .1 .1 .0 + 6
 
 abbrev μ-if-else : Measures 3 if-else-kinds.ps ℕ
-μ-if-else κs a = 8 * a .1 .1 .1 .1 .1 .1 .0 + 3
+μ-if-else κs a = 8 * a .1 .1 .1 .1 .1 .0 + 3
 
 abbrev μ-if-then : Measures 3 if-then-kinds.ps ℕ
-μ-if-then κs a = 8 * a .1 .1 .1 .1 .1 .1 .1 .0 + 2
+μ-if-then κs a = 8 * a .1 .1 .1 .1 .1 .1 .0 + 2
 
 abbrev μ-inner : Measures 3 inner-kinds.ps ℕ
-μ-inner κs a = 8 * a .1 .1 .1 .1 .1 .1 .0 + 7
+μ-inner κs a = 8 * a .1 .1 .1 .1 .1 .0 + 7
 
 abbrev μ-stmt : Measures 3 stmt-kinds.ps ℕ
-μ-stmt κs a = 8 * a .1 .1 .1 .1 .1 .1 .0
+μ-stmt κs a = 8 * a .1 .1 .1 .1 .1 .0
 
 abbrev μ-while-loop : Measures 3 while-loop-kinds.ps ℕ
-μ-while-loop κs a = 8 * a .1 .1 .1 .1 .1 .1 .0 + 3
+μ-while-loop κs a = 8 * a .1 .1 .1 .1 .1 .0 + 3
 
 abbrev acts-at : ℕ → In 3 acts-kinds.ps
 acts-at t = and 3 acts-kinds.ps (is 3 acts-kinds.ps μ-acts t) acts.Pre
@@ -291,12 +291,12 @@ while-loop-below t =
     and 3 while-loop-kinds.ps (falls 3 while-loop-kinds.ps _<_ μ-while-loop t) while-loop.Pre
 
 abbrev acts-Inv-loop : acts-lts.InvT-loop
-acts-Inv-loop text work₀ types count newest loops depth number first at top g₀ p₀ work g p = (length work ≡ length work₀) × Doing text work₀ types count newest loops depth number first at top g p work
+acts-Inv-loop text work₀ types scope loops depth number first at top g₀ p₀ work g p = (length work ≡ length work₀) × Doing text work₀ types scope loops depth number first at top g p work
 
 abbrev acts-μ-loop : acts-lts.MeasureT-loop
-acts-μ-loop text work₀ types count newest loops depth number first at top g₀ p₀ work g p = many (head (stackAt text (g .next)))
+acts-μ-loop text work₀ types scope loops depth number first at top g₀ p₀ work g p = many (head (stackAt text (g .next)))
 
--- src/walk.rt:218:9
+-- src/walk.rt:507:9
 acts-no-act-requires : (t : ℕ) → acts-lts.Need-no-act-requires (
   no-act-reads.Asked,
   no-act-reads.Learnt,
@@ -317,7 +317,7 @@ acts-no-act-requires : (t : ℕ) → acts-lts.Need-no-act-requires (
 ) (acts-at t) acts.Post acts-Inv-loop acts-μ-loop
 acts-no-act-requires t c κs = search needs
 
--- src/walk.rt:220:5
+-- src/walk.rt:509:5
 acts-loop-holds : (t : ℕ) → acts-lts.Need-loop-holds (
   no-act-reads.Asked,
   no-act-reads.Learnt,
@@ -338,7 +338,7 @@ acts-loop-holds : (t : ℕ) → acts-lts.Need-loop-holds (
 ) (acts-at t) acts.Post acts-Inv-loop acts-μ-loop
 acts-loop-holds t c = (refl, search chain-start)
 
--- src/walk.rt:221:13
+-- src/walk.rt:510:13
 acts-end-at-requires : (t : ℕ) → acts-lts.Need-end-at-requires (
   no-act-reads.Asked,
   no-act-reads.Learnt,
@@ -359,7 +359,7 @@ acts-end-at-requires : (t : ℕ) → acts-lts.Need-end-at-requires (
 ) (acts-at t) acts.Post acts-Inv-loop acts-μ-loop
 acts-end-at-requires t c κs = search needs
 
--- src/walk.rt:223:23
+-- src/walk.rt:512:23
 acts-enum-known-e : (t : ℕ) → acts-lts.Need-enum-known-e (
   no-act-reads.Asked,
   no-act-reads.Learnt,
@@ -380,7 +380,7 @@ acts-enum-known-e : (t : ℕ) → acts-lts.Need-enum-known-e (
 ) (acts-at t) acts.Post acts-Inv-loop acts-μ-loop
 acts-enum-known-e t c = search needs
 
--- src/walk.rt:224:17
+-- src/walk.rt:513:17
 acts-finished-requires : (t : ℕ) → acts-lts.Need-finished-requires (
   no-act-reads.Asked,
   no-act-reads.Learnt,
@@ -401,7 +401,7 @@ acts-finished-requires : (t : ℕ) → acts-lts.Need-finished-requires (
 ) (acts-at t) acts.Post acts-Inv-loop acts-μ-loop
 acts-finished-requires t c κs = search needs
 
--- src/walk.rt:224:17
+-- src/walk.rt:513:17
 acts-same-length : (t : ℕ) → acts-lts.Need-same-length (
   no-act-reads.Asked,
   no-act-reads.Learnt,
@@ -422,7 +422,7 @@ acts-same-length : (t : ℕ) → acts-lts.Need-same-length (
 ) (acts-at t) acts.Post acts-Inv-loop acts-μ-loop
 acts-same-length t c = search needs
 
--- src/walk.rt:224:17
+-- src/walk.rt:513:17
 acts-returns : (t : ℕ) → acts-lts.Need-returns (
   no-act-reads.Asked,
   no-act-reads.Learnt,
@@ -443,7 +443,7 @@ acts-returns : (t : ℕ) → acts-lts.Need-returns (
 ) (acts-at t) acts.Post acts-Inv-loop acts-μ-loop
 acts-returns t c = search chain-laws
 
--- src/walk.rt:227:36
+-- src/walk.rt:518:21
 acts-enum-told : (t : ℕ) → acts-lts.Need-enum-told (
   no-act-reads.Asked,
   no-act-reads.Learnt,
@@ -464,7 +464,7 @@ acts-enum-told : (t : ℕ) → acts-lts.Need-enum-told (
 ) (acts-at t) acts.Post acts-Inv-loop acts-μ-loop
 acts-enum-told t c = search needs
 
--- src/walk.rt:227:21
+-- src/walk.rt:516:21
 acts-stmt-requires : (t : ℕ) → acts-lts.Need-stmt-requires (
   no-act-reads.Asked,
   no-act-reads.Learnt,
@@ -485,7 +485,7 @@ acts-stmt-requires : (t : ℕ) → acts-lts.Need-stmt-requires (
 ) (acts-at t) acts.Post acts-Inv-loop acts-μ-loop
 acts-stmt-requires t c κs = search needs
 
--- src/walk.rt:229:20
+-- src/walk.rt:528:20
 acts-is-form-requires : (t : ℕ) → acts-lts.Need-is-form-requires (
   no-act-reads.Asked,
   no-act-reads.Learnt,
@@ -506,7 +506,7 @@ acts-is-form-requires : (t : ℕ) → acts-lts.Need-is-form-requires (
 ) (acts-at t) acts.Post acts-Inv-loop acts-μ-loop
 acts-is-form-requires t c κs = search needs
 
--- src/walk.rt:230:21
+-- src/walk.rt:529:21
 acts-same-length-2 : (t : ℕ) → acts-lts.Need-same-length-2 (
   no-act-reads.Asked,
   no-act-reads.Learnt,
@@ -527,7 +527,7 @@ acts-same-length-2 : (t : ℕ) → acts-lts.Need-same-length-2 (
 ) (acts-at t) acts.Post acts-Inv-loop acts-μ-loop
 acts-same-length-2 t c = search needs
 
--- src/walk.rt:230:21
+-- src/walk.rt:529:21
 acts-returns-2 : (t : ℕ) → acts-lts.Need-returns-2 (
   no-act-reads.Asked,
   no-act-reads.Learnt,
@@ -548,7 +548,7 @@ acts-returns-2 : (t : ℕ) → acts-lts.Need-returns-2 (
 ) (acts-at t) acts.Post acts-Inv-loop acts-μ-loop
 acts-returns-2 t c = search chain-laws
 
--- src/walk.rt:232:21
+-- src/walk.rt:531:21
 acts-chain-requires : (t : ℕ) → acts-lts.Need-chain-requires (
   no-act-reads.Asked,
   no-act-reads.Learnt,
@@ -569,7 +569,7 @@ acts-chain-requires : (t : ℕ) → acts-lts.Need-chain-requires (
 ) (acts-at t) acts.Post acts-Inv-loop acts-μ-loop
 acts-chain-requires t c κs = search needs
 
--- src/walk.rt:233:17
+-- src/walk.rt:532:17
 acts-after-requires : (t : ℕ) → acts-lts.Need-after-requires (
   no-act-reads.Asked,
   no-act-reads.Learnt,
@@ -590,7 +590,7 @@ acts-after-requires : (t : ℕ) → acts-lts.Need-after-requires (
 ) (acts-at t) acts.Post acts-Inv-loop acts-μ-loop
 acts-after-requires t c κs = search needs
 
--- src/walk.rt:234:17
+-- src/walk.rt:533:17
 acts-joined-requires : (t : ℕ) → acts-lts.Need-joined-requires (
   no-act-reads.Asked,
   no-act-reads.Learnt,
@@ -611,7 +611,7 @@ acts-joined-requires : (t : ℕ) → acts-lts.Need-joined-requires (
 ) (acts-at t) acts.Post acts-Inv-loop acts-μ-loop
 acts-joined-requires t c κs = search needs
 
--- src/walk.rt:220:5
+-- src/walk.rt:509:5
 acts-loop-less : (t : ℕ) → acts-lts.Need-loop-less (
   no-act-reads.Asked,
   no-act-reads.Learnt,
@@ -632,7 +632,7 @@ acts-loop-less : (t : ℕ) → acts-lts.Need-loop-less (
 ) (acts-at t) acts.Post acts-Inv-loop acts-μ-loop
 acts-loop-less t c = search chain-falls
 
--- src/walk.rt:220:5
+-- src/walk.rt:509:5
 acts-loop-again : (t : ℕ) → acts-lts.Need-loop-again (
   no-act-reads.Asked,
   no-act-reads.Learnt,
@@ -654,12 +654,12 @@ acts-loop-again : (t : ℕ) → acts-lts.Need-loop-again (
 acts-loop-again t c = (search needs, search chain-next)
 
 abbrev all-arms-Inv-loop : all-arms-lts.InvT-loop
-all-arms-Inv-loop text work₀ types count newest loops k depth number first at top g₀ p₀ work g p = (length work ≡ length work₀) × Arming text work₀ types count newest loops k depth number first at top g p work
+all-arms-Inv-loop text work₀ types scope loops k depth number first at top g₀ p₀ work g p = (length work ≡ length work₀) × Arming text work₀ types scope loops k depth number first at top g p work
 
 abbrev all-arms-μ-loop : all-arms-lts.MeasureT-loop
-all-arms-μ-loop text work₀ types count newest loops k depth number first at top g₀ p₀ work g p = many (head (stackAt text (g .next)))
+all-arms-μ-loop text work₀ types scope loops k depth number first at top g₀ p₀ work g p = many (head (stackAt text (g .next)))
 
--- src/walk.rt:267:9
+-- src/walk.rt:609:9
 all-arms-no-act-requires : (t : ℕ) → all-arms-lts.Need-no-act-requires (
   no-act-reads.Asked,
   no-act-reads.Learnt,
@@ -682,7 +682,7 @@ all-arms-no-act-requires : (t : ℕ) → all-arms-lts.Need-no-act-requires (
 ) (all-arms-at t) all-arms.Post all-arms-Inv-loop all-arms-μ-loop
 all-arms-no-act-requires t c κs = search needs
 
--- src/walk.rt:269:5
+-- src/walk.rt:611:5
 all-arms-loop-holds : (t : ℕ) → all-arms-lts.Need-loop-holds (
   no-act-reads.Asked,
   no-act-reads.Learnt,
@@ -705,7 +705,7 @@ all-arms-loop-holds : (t : ℕ) → all-arms-lts.Need-loop-holds (
 ) (all-arms-at t) all-arms.Post all-arms-Inv-loop all-arms-μ-loop
 all-arms-loop-holds t c = (refl, search arms-start)
 
--- src/walk.rt:270:13
+-- src/walk.rt:612:13
 all-arms-arm-at-requires : (t : ℕ) → all-arms-lts.Need-arm-at-requires (
   no-act-reads.Asked,
   no-act-reads.Learnt,
@@ -728,7 +728,7 @@ all-arms-arm-at-requires : (t : ℕ) → all-arms-lts.Need-arm-at-requires (
 ) (all-arms-at t) all-arms.Post all-arms-Inv-loop all-arms-μ-loop
 all-arms-arm-at-requires t c κs = search needs
 
--- src/walk.rt:272:27
+-- src/walk.rt:614:27
 all-arms-enum-known-e : (t : ℕ) → all-arms-lts.Need-enum-known-e (
   no-act-reads.Asked,
   no-act-reads.Learnt,
@@ -751,7 +751,7 @@ all-arms-enum-known-e : (t : ℕ) → all-arms-lts.Need-enum-known-e (
 ) (all-arms-at t) all-arms.Post all-arms-Inv-loop all-arms-μ-loop
 all-arms-enum-known-e t c = search needs
 
--- src/walk.rt:273:17
+-- src/walk.rt:615:17
 all-arms-finished-requires : (t : ℕ) → all-arms-lts.Need-finished-requires (
   no-act-reads.Asked,
   no-act-reads.Learnt,
@@ -774,7 +774,7 @@ all-arms-finished-requires : (t : ℕ) → all-arms-lts.Need-finished-requires (
 ) (all-arms-at t) all-arms.Post all-arms-Inv-loop all-arms-μ-loop
 all-arms-finished-requires t c κs = search needs
 
--- src/walk.rt:273:17
+-- src/walk.rt:615:17
 all-arms-same-length : (t : ℕ) → all-arms-lts.Need-same-length (
   no-act-reads.Asked,
   no-act-reads.Learnt,
@@ -797,7 +797,7 @@ all-arms-same-length : (t : ℕ) → all-arms-lts.Need-same-length (
 ) (all-arms-at t) all-arms.Post all-arms-Inv-loop all-arms-μ-loop
 all-arms-same-length t c = search needs
 
--- src/walk.rt:273:17
+-- src/walk.rt:615:17
 all-arms-returns : (t : ℕ) → all-arms-lts.Need-returns (
   no-act-reads.Asked,
   no-act-reads.Learnt,
@@ -820,7 +820,7 @@ all-arms-returns : (t : ℕ) → all-arms-lts.Need-returns (
 ) (all-arms-at t) all-arms.Post all-arms-Inv-loop all-arms-μ-loop
 all-arms-returns t c = search arms-laws
 
--- src/walk.rt:275:27
+-- src/walk.rt:617:27
 all-arms-enum-known-e-2 : (t : ℕ) → all-arms-lts.Need-enum-known-e-2 (
   no-act-reads.Asked,
   no-act-reads.Learnt,
@@ -843,7 +843,7 @@ all-arms-enum-known-e-2 : (t : ℕ) → all-arms-lts.Need-enum-known-e-2 (
 ) (all-arms-at t) all-arms.Post all-arms-Inv-loop all-arms-μ-loop
 all-arms-enum-known-e-2 t c = search needs
 
--- src/walk.rt:276:17
+-- src/walk.rt:618:17
 all-arms-else-arm-requires : (t : ℕ) → all-arms-lts.Need-else-arm-requires (
   no-act-reads.Asked,
   no-act-reads.Learnt,
@@ -866,7 +866,7 @@ all-arms-else-arm-requires : (t : ℕ) → all-arms-lts.Need-else-arm-requires (
 ) (all-arms-at t) all-arms.Post all-arms-Inv-loop all-arms-μ-loop
 all-arms-else-arm-requires t c κs = search needs
 
--- src/walk.rt:276:17
+-- src/walk.rt:618:17
 all-arms-same-length-2 : (t : ℕ) → all-arms-lts.Need-same-length-2 (
   no-act-reads.Asked,
   no-act-reads.Learnt,
@@ -889,7 +889,7 @@ all-arms-same-length-2 : (t : ℕ) → all-arms-lts.Need-same-length-2 (
 ) (all-arms-at t) all-arms.Post all-arms-Inv-loop all-arms-μ-loop
 all-arms-same-length-2 t c = search needs
 
--- src/walk.rt:276:17
+-- src/walk.rt:618:17
 all-arms-returns-2 : (t : ℕ) → all-arms-lts.Need-returns-2 (
   no-act-reads.Asked,
   no-act-reads.Learnt,
@@ -912,7 +912,7 @@ all-arms-returns-2 : (t : ℕ) → all-arms-lts.Need-returns-2 (
 ) (all-arms-at t) all-arms.Post all-arms-Inv-loop all-arms-μ-loop
 all-arms-returns-2 t c = search arms-laws
 
--- src/walk.rt:279:31
+-- src/walk.rt:621:31
 all-arms-enum-told : (t : ℕ) → all-arms-lts.Need-enum-told (
   no-act-reads.Asked,
   no-act-reads.Learnt,
@@ -935,7 +935,7 @@ all-arms-enum-told : (t : ℕ) → all-arms-lts.Need-enum-told (
 ) (all-arms-at t) all-arms.Post all-arms-Inv-loop all-arms-μ-loop
 all-arms-enum-told t c = search needs
 
--- src/walk.rt:279:17
+-- src/walk.rt:621:17
 all-arms-failed-requires : (t : ℕ) → all-arms-lts.Need-failed-requires (
   no-act-reads.Asked,
   no-act-reads.Learnt,
@@ -958,7 +958,7 @@ all-arms-failed-requires : (t : ℕ) → all-arms-lts.Need-failed-requires (
 ) (all-arms-at t) all-arms.Post all-arms-Inv-loop all-arms-μ-loop
 all-arms-failed-requires t c κs = search needs
 
--- src/walk.rt:279:17
+-- src/walk.rt:621:17
 all-arms-same-length-3 : (t : ℕ) → all-arms-lts.Need-same-length-3 (
   no-act-reads.Asked,
   no-act-reads.Learnt,
@@ -981,7 +981,7 @@ all-arms-same-length-3 : (t : ℕ) → all-arms-lts.Need-same-length-3 (
 ) (all-arms-at t) all-arms.Post all-arms-Inv-loop all-arms-μ-loop
 all-arms-same-length-3 t c = search needs
 
--- src/walk.rt:279:17
+-- src/walk.rt:621:17
 all-arms-returns-3 : (t : ℕ) → all-arms-lts.Need-returns-3 (
   no-act-reads.Asked,
   no-act-reads.Learnt,
@@ -1004,7 +1004,7 @@ all-arms-returns-3 : (t : ℕ) → all-arms-lts.Need-returns-3 (
 ) (all-arms-at t) all-arms.Post all-arms-Inv-loop all-arms-μ-loop
 all-arms-returns-3 t c = search arms-laws
 
--- src/walk.rt:281:26
+-- src/walk.rt:623:26
 all-arms-enum-known-e-3 : (t : ℕ) → all-arms-lts.Need-enum-known-e-3 (
   no-act-reads.Asked,
   no-act-reads.Learnt,
@@ -1027,7 +1027,7 @@ all-arms-enum-known-e-3 : (t : ℕ) → all-arms-lts.Need-enum-known-e-3 (
 ) (all-arms-at t) all-arms.Post all-arms-Inv-loop all-arms-μ-loop
 all-arms-enum-known-e-3 t c = search needs
 
--- src/walk.rt:282:21
+-- src/walk.rt:624:21
 all-arms-arm-requires : (t : ℕ) → all-arms-lts.Need-arm-requires (
   no-act-reads.Asked,
   no-act-reads.Learnt,
@@ -1050,7 +1050,7 @@ all-arms-arm-requires : (t : ℕ) → all-arms-lts.Need-arm-requires (
 ) (all-arms-at t) all-arms.Post all-arms-Inv-loop all-arms-μ-loop
 all-arms-arm-requires t c κs = search needs
 
--- src/walk.rt:284:20
+-- src/walk.rt:638:20
 all-arms-is-form-requires : (t : ℕ) → all-arms-lts.Need-is-form-requires (
   no-act-reads.Asked,
   no-act-reads.Learnt,
@@ -1073,7 +1073,7 @@ all-arms-is-form-requires : (t : ℕ) → all-arms-lts.Need-is-form-requires (
 ) (all-arms-at t) all-arms.Post all-arms-Inv-loop all-arms-μ-loop
 all-arms-is-form-requires t c κs = search needs
 
--- src/walk.rt:285:21
+-- src/walk.rt:639:21
 all-arms-same-length-4 : (t : ℕ) → all-arms-lts.Need-same-length-4 (
   no-act-reads.Asked,
   no-act-reads.Learnt,
@@ -1096,7 +1096,7 @@ all-arms-same-length-4 : (t : ℕ) → all-arms-lts.Need-same-length-4 (
 ) (all-arms-at t) all-arms.Post all-arms-Inv-loop all-arms-μ-loop
 all-arms-same-length-4 t c = search needs
 
--- src/walk.rt:285:21
+-- src/walk.rt:639:21
 all-arms-returns-4 : (t : ℕ) → all-arms-lts.Need-returns-4 (
   no-act-reads.Asked,
   no-act-reads.Learnt,
@@ -1119,7 +1119,7 @@ all-arms-returns-4 : (t : ℕ) → all-arms-lts.Need-returns-4 (
 ) (all-arms-at t) all-arms.Post all-arms-Inv-loop all-arms-μ-loop
 all-arms-returns-4 t c = search arms-laws
 
--- src/walk.rt:287:17
+-- src/walk.rt:641:17
 all-arms-arm-slot-requires : (t : ℕ) → all-arms-lts.Need-arm-slot-requires (
   no-act-reads.Asked,
   no-act-reads.Learnt,
@@ -1142,7 +1142,7 @@ all-arms-arm-slot-requires : (t : ℕ) → all-arms-lts.Need-arm-slot-requires (
 ) (all-arms-at t) all-arms.Post all-arms-Inv-loop all-arms-μ-loop
 all-arms-arm-slot-requires t c κs = search needs
 
--- src/walk.rt:288:17
+-- src/walk.rt:642:17
 all-arms-joined-requires : (t : ℕ) → all-arms-lts.Need-joined-requires (
   no-act-reads.Asked,
   no-act-reads.Learnt,
@@ -1165,7 +1165,7 @@ all-arms-joined-requires : (t : ℕ) → all-arms-lts.Need-joined-requires (
 ) (all-arms-at t) all-arms.Post all-arms-Inv-loop all-arms-μ-loop
 all-arms-joined-requires t c κs = search needs
 
--- src/walk.rt:269:5
+-- src/walk.rt:611:5
 all-arms-loop-less : (t : ℕ) → all-arms-lts.Need-loop-less (
   no-act-reads.Asked,
   no-act-reads.Learnt,
@@ -1188,7 +1188,7 @@ all-arms-loop-less : (t : ℕ) → all-arms-lts.Need-loop-less (
 ) (all-arms-at t) all-arms.Post all-arms-Inv-loop all-arms-μ-loop
 all-arms-loop-less t c = search arms-falls
 
--- src/walk.rt:269:5
+-- src/walk.rt:611:5
 all-arms-loop-again : (t : ℕ) → all-arms-lts.Need-loop-again (
   no-act-reads.Asked,
   no-act-reads.Learnt,
@@ -1211,7 +1211,7 @@ all-arms-loop-again : (t : ℕ) → all-arms-lts.Need-loop-again (
 ) (all-arms-at t) all-arms.Post all-arms-Inv-loop all-arms-μ-loop
 all-arms-loop-again t c = (search needs, search arms-next)
 
--- src/walk.rt:298:9
+-- src/walk.rt:664:9
 arm-slot-requires : (t : ℕ) → arm-lts.Need-slot-requires (
   slot-reads.Asked,
   slot-reads.Learnt,
@@ -1224,7 +1224,7 @@ arm-slot-requires : (t : ℕ) → arm-lts.Need-slot-requires (
 ) (arm-at t) arm.Post
 arm-slot-requires t c κs = search needs
 
--- src/walk.rt:299:9
+-- src/walk.rt:665:9
 arm-wide-requires : (t : ℕ) → arm-lts.Need-wide-requires (
   slot-reads.Asked,
   slot-reads.Learnt,
@@ -1237,7 +1237,7 @@ arm-wide-requires : (t : ℕ) → arm-lts.Need-wide-requires (
 ) (arm-at t) arm.Post
 arm-wide-requires t c κs = search needs
 
--- src/walk.rt:300:9
+-- src/walk.rt:666:9
 arm-labels-requires : (t : ℕ) → arm-lts.Need-labels-requires (
   slot-reads.Asked,
   slot-reads.Learnt,
@@ -1250,7 +1250,7 @@ arm-labels-requires : (t : ℕ) → arm-lts.Need-labels-requires (
 ) (arm-at t) arm.Post
 arm-labels-requires t c κs = search needs
 
--- src/walk.rt:301:5
+-- src/walk.rt:667:5
 arm-arm-stmt-requires : (t : ℕ) → arm-lts.Need-arm-stmt-requires (
   slot-reads.Asked,
   slot-reads.Learnt,
@@ -1263,7 +1263,7 @@ arm-arm-stmt-requires : (t : ℕ) → arm-lts.Need-arm-stmt-requires (
 ) (arm-at t) arm.Post
 arm-arm-stmt-requires t c κs = search needs
 
--- src/walk.rt:295:1
+-- src/walk.rt:649:1
 arm-same-length : (t : ℕ) → arm-lts.Need-same-length (
   slot-reads.Asked,
   slot-reads.Learnt,
@@ -1276,7 +1276,7 @@ arm-same-length : (t : ℕ) → arm-lts.Need-same-length (
 ) (arm-at t) arm.Post
 arm-same-length t c = search needs
 
--- src/walk.rt:295:1
+-- src/walk.rt:649:1
 arm-returns : (t : ℕ) → arm-lts.Need-returns (
   slot-reads.Asked,
   slot-reads.Learnt,
@@ -1289,7 +1289,7 @@ arm-returns : (t : ℕ) → arm-lts.Need-returns (
 ) (arm-at t) arm.Post
 arm-returns t c = search arm-way
 
--- src/walk.rt:308:9
+-- src/walk.rt:696:9
 arm-stmt-stmt-requires : (t : ℕ) → arm-stmt-lts.Need-stmt-requires (
   stmt-below t,
   stmt.Post,
@@ -1300,7 +1300,7 @@ arm-stmt-stmt-requires : (t : ℕ) → arm-stmt-lts.Need-stmt-requires (
 ) (arm-stmt-at t) arm-stmt.Post
 arm-stmt-stmt-requires t c κs = search needs
 
--- src/walk.rt:309:9
+-- src/walk.rt:707:9
 arm-stmt-closing-requires : (t : ℕ) → arm-stmt-lts.Need-closing-requires (
   stmt-below t,
   stmt.Post,
@@ -1311,7 +1311,7 @@ arm-stmt-closing-requires : (t : ℕ) → arm-stmt-lts.Need-closing-requires (
 ) (arm-stmt-at t) arm-stmt.Post
 arm-stmt-closing-requires t c κs = search needs
 
--- src/walk.rt:310:5
+-- src/walk.rt:708:5
 arm-stmt-link-arm-requires : (t : ℕ) → arm-stmt-lts.Need-link-arm-requires (
   stmt-below t,
   stmt.Post,
@@ -1322,7 +1322,7 @@ arm-stmt-link-arm-requires : (t : ℕ) → arm-stmt-lts.Need-link-arm-requires (
 ) (arm-stmt-at t) arm-stmt.Post
 arm-stmt-link-arm-requires t c κs = search needs
 
--- src/walk.rt:305:1
+-- src/walk.rt:682:1
 arm-stmt-same-length : (t : ℕ) → arm-stmt-lts.Need-same-length (
   stmt-below t,
   stmt.Post,
@@ -1333,7 +1333,7 @@ arm-stmt-same-length : (t : ℕ) → arm-stmt-lts.Need-same-length (
 ) (arm-stmt-at t) arm-stmt.Post
 arm-stmt-same-length t c = search needs
 
--- src/walk.rt:305:1
+-- src/walk.rt:682:1
 arm-stmt-returns : (t : ℕ) → arm-stmt-lts.Need-returns (
   stmt-below t,
   stmt.Post,
@@ -1344,7 +1344,7 @@ arm-stmt-returns : (t : ℕ) → arm-stmt-lts.Need-returns (
 ) (arm-stmt-at t) arm-stmt.Post
 arm-stmt-returns t c = search stmt-way
 
--- src/walk.rt:208:9
+-- src/walk.rt:475:9
 begin-slot-requires : (t : ℕ) → begin-lts.Need-slot-requires (
   slot-reads.Asked,
   slot-reads.Learnt,
@@ -1357,7 +1357,7 @@ begin-slot-requires : (t : ℕ) → begin-lts.Need-slot-requires (
 ) (begin-at t) begin.Post
 begin-slot-requires t c κs = search needs
 
--- src/walk.rt:209:9
+-- src/walk.rt:476:9
 begin-wide-requires : (t : ℕ) → begin-lts.Need-wide-requires (
   slot-reads.Asked,
   slot-reads.Learnt,
@@ -1370,7 +1370,7 @@ begin-wide-requires : (t : ℕ) → begin-lts.Need-wide-requires (
 ) (begin-at t) begin.Post
 begin-wide-requires t c κs = search needs
 
--- src/walk.rt:210:9
+-- src/walk.rt:477:9
 begin-acts-requires : (t : ℕ) → begin-lts.Need-acts-requires (
   slot-reads.Asked,
   slot-reads.Learnt,
@@ -1383,7 +1383,7 @@ begin-acts-requires : (t : ℕ) → begin-lts.Need-acts-requires (
 ) (begin-at t) begin.Post
 begin-acts-requires t c κs = search needs
 
--- src/walk.rt:211:5
+-- src/walk.rt:489:5
 begin-begin-node-requires : (t : ℕ) → begin-lts.Need-begin-node-requires (
   slot-reads.Asked,
   slot-reads.Learnt,
@@ -1396,7 +1396,7 @@ begin-begin-node-requires : (t : ℕ) → begin-lts.Need-begin-node-requires (
 ) (begin-at t) begin.Post
 begin-begin-node-requires t c κs = search needs
 
--- src/walk.rt:205:1
+-- src/walk.rt:462:1
 begin-same-length : (t : ℕ) → begin-lts.Need-same-length (
   slot-reads.Asked,
   slot-reads.Learnt,
@@ -1409,7 +1409,7 @@ begin-same-length : (t : ℕ) → begin-lts.Need-same-length (
 ) (begin-at t) begin.Post
 begin-same-length t c = search needs
 
--- src/walk.rt:205:1
+-- src/walk.rt:462:1
 begin-returns : (t : ℕ) → begin-lts.Need-returns (
   slot-reads.Asked,
   slot-reads.Learnt,
@@ -1422,7 +1422,7 @@ begin-returns : (t : ℕ) → begin-lts.Need-returns (
 ) (begin-at t) begin.Post
 begin-returns t c = search begin-way
 
--- src/walk.rt:256:9
+-- src/walk.rt:574:9
 case-arms-slot-requires : (t : ℕ) → case-arms-lts.Need-slot-requires (
   slot-reads.Asked,
   slot-reads.Learnt,
@@ -1437,7 +1437,7 @@ case-arms-slot-requires : (t : ℕ) → case-arms-lts.Need-slot-requires (
 ) (case-arms-at t) case-arms.Post
 case-arms-slot-requires t c κs = search needs
 
--- src/walk.rt:257:9
+-- src/walk.rt:575:9
 case-arms-wide-requires : (t : ℕ) → case-arms-lts.Need-wide-requires (
   slot-reads.Asked,
   slot-reads.Learnt,
@@ -1452,7 +1452,7 @@ case-arms-wide-requires : (t : ℕ) → case-arms-lts.Need-wide-requires (
 ) (case-arms-at t) case-arms.Post
 case-arms-wide-requires t c κs = search needs
 
--- src/walk.rt:258:9
+-- src/walk.rt:576:9
 case-arms-selector-kind-requires : (t : ℕ) → case-arms-lts.Need-selector-kind-requires (
   slot-reads.Asked,
   slot-reads.Learnt,
@@ -1467,7 +1467,7 @@ case-arms-selector-kind-requires : (t : ℕ) → case-arms-lts.Need-selector-kin
 ) (case-arms-at t) case-arms.Post
 case-arms-selector-kind-requires t c κs = search needs
 
--- src/walk.rt:259:9
+-- src/walk.rt:577:9
 case-arms-all-arms-requires : (t : ℕ) → case-arms-lts.Need-all-arms-requires (
   slot-reads.Asked,
   slot-reads.Learnt,
@@ -1482,7 +1482,7 @@ case-arms-all-arms-requires : (t : ℕ) → case-arms-lts.Need-all-arms-requires
 ) (case-arms-at t) case-arms.Post
 case-arms-all-arms-requires t c κs = search needs
 
--- src/walk.rt:260:5
+-- src/walk.rt:590:5
 case-arms-case-end-requires : (t : ℕ) → case-arms-lts.Need-case-end-requires (
   slot-reads.Asked,
   slot-reads.Learnt,
@@ -1497,7 +1497,7 @@ case-arms-case-end-requires : (t : ℕ) → case-arms-lts.Need-case-end-requires
 ) (case-arms-at t) case-arms.Post
 case-arms-case-end-requires t c κs = search needs
 
--- src/walk.rt:253:1
+-- src/walk.rt:562:1
 case-arms-same-length : (t : ℕ) → case-arms-lts.Need-same-length (
   slot-reads.Asked,
   slot-reads.Learnt,
@@ -1512,7 +1512,7 @@ case-arms-same-length : (t : ℕ) → case-arms-lts.Need-same-length (
 ) (case-arms-at t) case-arms.Post
 case-arms-same-length t c = search needs
 
--- src/walk.rt:253:1
+-- src/walk.rt:562:1
 case-arms-returns : (t : ℕ) → case-arms-lts.Need-returns (
   slot-reads.Asked,
   slot-reads.Learnt,
@@ -1527,7 +1527,7 @@ case-arms-returns : (t : ℕ) → case-arms-lts.Need-returns (
 ) (case-arms-at t) case-arms.Post
 case-arms-returns t c = search case-way
 
--- src/walk.rt:244:9
+-- src/walk.rt:553:9
 case-of-expr-requires : (t : ℕ) → case-of-lts.Need-expr-requires (
   expr-reads.Asked,
   expr-reads.Learnt,
@@ -1538,7 +1538,7 @@ case-of-expr-requires : (t : ℕ) → case-of-lts.Need-expr-requires (
 ) (case-of-at t) case-of.Post
 case-of-expr-requires t c κs = search needs
 
--- src/walk.rt:246:8
+-- src/walk.rt:555:8
 case-of-is-form-requires : (t : ℕ) → case-of-lts.Need-is-form-requires (
   expr-reads.Asked,
   expr-reads.Learnt,
@@ -1549,7 +1549,7 @@ case-of-is-form-requires : (t : ℕ) → case-of-lts.Need-is-form-requires (
 ) (case-of-at t) case-of.Post
 case-of-is-form-requires t c κs = search needs
 
--- src/walk.rt:247:9
+-- src/walk.rt:556:9
 case-of-same-length : (t : ℕ) → case-of-lts.Need-same-length (
   expr-reads.Asked,
   expr-reads.Learnt,
@@ -1560,7 +1560,7 @@ case-of-same-length : (t : ℕ) → case-of-lts.Need-same-length (
 ) (case-of-at t) case-of.Post
 case-of-same-length t c = search needs
 
--- src/walk.rt:247:9
+-- src/walk.rt:556:9
 case-of-returns : (t : ℕ) → case-of-lts.Need-returns (
   expr-reads.Asked,
   expr-reads.Learnt,
@@ -1571,7 +1571,7 @@ case-of-returns : (t : ℕ) → case-of-lts.Need-returns (
 ) (case-of-at t) case-of.Post
 case-of-returns t c = search case-laws
 
--- src/walk.rt:249:5
+-- src/walk.rt:558:5
 case-of-case-arms-requires : (t : ℕ) → case-of-lts.Need-case-arms-requires (
   expr-reads.Asked,
   expr-reads.Learnt,
@@ -1582,7 +1582,7 @@ case-of-case-arms-requires : (t : ℕ) → case-of-lts.Need-case-arms-requires (
 ) (case-of-at t) case-of.Post
 case-of-case-arms-requires t c κs = search needs
 
--- src/walk.rt:241:1
+-- src/walk.rt:540:1
 case-of-same-length-2 : (t : ℕ) → case-of-lts.Need-same-length-2 (
   expr-reads.Asked,
   expr-reads.Learnt,
@@ -1593,7 +1593,7 @@ case-of-same-length-2 : (t : ℕ) → case-of-lts.Need-same-length-2 (
 ) (case-of-at t) case-of.Post
 case-of-same-length-2 t c = search needs
 
--- src/walk.rt:241:1
+-- src/walk.rt:540:1
 case-of-returns-2 : (t : ℕ) → case-of-lts.Need-returns-2 (
   expr-reads.Asked,
   expr-reads.Learnt,
@@ -1604,7 +1604,7 @@ case-of-returns-2 : (t : ℕ) → case-of-lts.Need-returns-2 (
 ) (case-of-at t) case-of.Post
 case-of-returns-2 t c = search case-laws
 
--- src/walk.rt:317:9
+-- src/walk.rt:725:9
 else-arm-stmt-requires : (t : ℕ) → else-arm-lts.Need-stmt-requires (
   stmt-below t,
   stmt.Post,
@@ -1615,7 +1615,7 @@ else-arm-stmt-requires : (t : ℕ) → else-arm-lts.Need-stmt-requires (
 ) (else-arm-at t) else-arm.Post
 else-arm-stmt-requires t c κs = search needs
 
--- src/walk.rt:318:9
+-- src/walk.rt:736:9
 else-arm-closing-requires : (t : ℕ) → else-arm-lts.Need-closing-requires (
   stmt-below t,
   stmt.Post,
@@ -1626,7 +1626,7 @@ else-arm-closing-requires : (t : ℕ) → else-arm-lts.Need-closing-requires (
 ) (else-arm-at t) else-arm.Post
 else-arm-closing-requires t c κs = search needs
 
--- src/walk.rt:319:9
+-- src/walk.rt:737:9
 else-arm-closing-requires-2 : (t : ℕ) → else-arm-lts.Need-closing-requires-2 (
   stmt-below t,
   stmt.Post,
@@ -1637,7 +1637,7 @@ else-arm-closing-requires-2 : (t : ℕ) → else-arm-lts.Need-closing-requires-2
 ) (else-arm-at t) else-arm.Post
 else-arm-closing-requires-2 t c κs = search needs
 
--- src/walk.rt:320:5
+-- src/walk.rt:738:5
 else-arm-link-arm-requires : (t : ℕ) → else-arm-lts.Need-link-arm-requires (
   stmt-below t,
   stmt.Post,
@@ -1648,7 +1648,7 @@ else-arm-link-arm-requires : (t : ℕ) → else-arm-lts.Need-link-arm-requires (
 ) (else-arm-at t) else-arm.Post
 else-arm-link-arm-requires t c κs = search needs
 
--- src/walk.rt:314:1
+-- src/walk.rt:712:1
 else-arm-same-length : (t : ℕ) → else-arm-lts.Need-same-length (
   stmt-below t,
   stmt.Post,
@@ -1659,7 +1659,7 @@ else-arm-same-length : (t : ℕ) → else-arm-lts.Need-same-length (
 ) (else-arm-at t) else-arm.Post
 else-arm-same-length t c = search needs
 
--- src/walk.rt:314:1
+-- src/walk.rt:712:1
 else-arm-returns : (t : ℕ) → else-arm-lts.Need-returns (
   stmt-below t,
   stmt.Post,
@@ -1670,7 +1670,7 @@ else-arm-returns : (t : ℕ) → else-arm-lts.Need-returns (
 ) (else-arm-at t) else-arm.Post
 else-arm-returns t c = search else-way
 
--- src/walk.rt:140:9
+-- src/walk.rt:301:9
 else-part-end-at-requires : (t : ℕ) → else-part-lts.Need-end-at-requires (
   end-at-reads.Asked,
   end-at-reads.Learnt,
@@ -1683,7 +1683,7 @@ else-part-end-at-requires : (t : ℕ) → else-part-lts.Need-end-at-requires (
 ) (else-part-at t) else-part.Post
 else-part-end-at-requires t c κs = search needs
 
--- src/walk.rt:142:19
+-- src/walk.rt:303:19
 else-part-enum-known-e : (t : ℕ) → else-part-lts.Need-enum-known-e (
   end-at-reads.Asked,
   end-at-reads.Learnt,
@@ -1696,7 +1696,7 @@ else-part-enum-known-e : (t : ℕ) → else-part-lts.Need-enum-known-e (
 ) (else-part-at t) else-part.Post
 else-part-enum-known-e t c = search needs
 
--- src/walk.rt:142:25
+-- src/walk.rt:303:25
 else-part-no-act-requires : (t : ℕ) → else-part-lts.Need-no-act-requires (
   end-at-reads.Asked,
   end-at-reads.Learnt,
@@ -1709,7 +1709,7 @@ else-part-no-act-requires : (t : ℕ) → else-part-lts.Need-no-act-requires (
 ) (else-part-at t) else-part.Post
 else-part-no-act-requires t c κs = search needs
 
--- src/walk.rt:144:32
+-- src/walk.rt:307:17
 else-part-enum-told : (t : ℕ) → else-part-lts.Need-enum-told (
   end-at-reads.Asked,
   end-at-reads.Learnt,
@@ -1722,7 +1722,7 @@ else-part-enum-told : (t : ℕ) → else-part-lts.Need-enum-told (
 ) (else-part-at t) else-part.Post
 else-part-enum-told t c = search needs
 
--- src/walk.rt:144:17
+-- src/walk.rt:305:17
 else-part-stmt-requires : (t : ℕ) → else-part-lts.Need-stmt-requires (
   end-at-reads.Asked,
   end-at-reads.Learnt,
@@ -1735,7 +1735,7 @@ else-part-stmt-requires : (t : ℕ) → else-part-lts.Need-stmt-requires (
 ) (else-part-at t) else-part.Post
 else-part-stmt-requires t c κs = search needs
 
--- src/walk.rt:145:13
+-- src/walk.rt:316:13
 else-part-closing-requires : (t : ℕ) → else-part-lts.Need-closing-requires (
   end-at-reads.Asked,
   end-at-reads.Learnt,
@@ -1748,7 +1748,7 @@ else-part-closing-requires : (t : ℕ) → else-part-lts.Need-closing-requires (
 ) (else-part-at t) else-part.Post
 else-part-closing-requires t c κs = search needs
 
--- src/walk.rt:137:1
+-- src/walk.rt:288:1
 else-part-returns : (t : ℕ) → else-part-lts.Need-returns (
   end-at-reads.Asked,
   end-at-reads.Learnt,
@@ -1761,7 +1761,7 @@ else-part-returns : (t : ℕ) → else-part-lts.Need-returns (
 ) (else-part-at t) else-part.Post
 else-part-returns t c = search else-laws
 
--- src/walk.rt:137:1
+-- src/walk.rt:288:1
 else-part-same-length : (t : ℕ) → else-part-lts.Need-same-length (
   end-at-reads.Asked,
   end-at-reads.Learnt,
@@ -1774,7 +1774,7 @@ else-part-same-length : (t : ℕ) → else-part-lts.Need-same-length (
 ) (else-part-at t) else-part.Post
 else-part-same-length t c = search needs
 
--- src/walk.rt:137:1
+-- src/walk.rt:288:1
 else-part-returns-2 : (t : ℕ) → else-part-lts.Need-returns-2 (
   end-at-reads.Asked,
   end-at-reads.Learnt,
@@ -1787,7 +1787,7 @@ else-part-returns-2 : (t : ℕ) → else-part-lts.Need-returns-2 (
 ) (else-part-at t) else-part.Post
 else-part-returns-2 t c = search else-laws
 
--- src/walk.rt:198:9
+-- src/walk.rt:445:9
 for-do-with-loop-requires : (t : ℕ) → for-do-lts.Need-with-loop-requires (
   with-loop-reads.Asked,
   with-loop-reads.Learnt,
@@ -1800,7 +1800,7 @@ for-do-with-loop-requires : (t : ℕ) → for-do-lts.Need-with-loop-requires (
 ) (for-do-at t) for-do.Post
 for-do-with-loop-requires t c κs = search needs
 
--- src/walk.rt:199:9
+-- src/walk.rt:446:9
 for-do-stmt-requires : (t : ℕ) → for-do-lts.Need-stmt-requires (
   with-loop-reads.Asked,
   with-loop-reads.Learnt,
@@ -1813,7 +1813,7 @@ for-do-stmt-requires : (t : ℕ) → for-do-lts.Need-stmt-requires (
 ) (for-do-at t) for-do.Post
 for-do-stmt-requires t c κs = search needs
 
--- src/walk.rt:200:9
+-- src/walk.rt:457:9
 for-do-closing-requires : (t : ℕ) → for-do-lts.Need-closing-requires (
   with-loop-reads.Asked,
   with-loop-reads.Learnt,
@@ -1826,7 +1826,7 @@ for-do-closing-requires : (t : ℕ) → for-do-lts.Need-closing-requires (
 ) (for-do-at t) for-do.Post
 for-do-closing-requires t c κs = search needs
 
--- src/walk.rt:201:5
+-- src/walk.rt:458:5
 for-do-for-node-requires : (t : ℕ) → for-do-lts.Need-for-node-requires (
   with-loop-reads.Asked,
   with-loop-reads.Learnt,
@@ -1839,7 +1839,7 @@ for-do-for-node-requires : (t : ℕ) → for-do-lts.Need-for-node-requires (
 ) (for-do-at t) for-do.Post
 for-do-for-node-requires t c κs = search needs
 
--- src/walk.rt:195:1
+-- src/walk.rt:431:1
 for-do-same-length : (t : ℕ) → for-do-lts.Need-same-length (
   with-loop-reads.Asked,
   with-loop-reads.Learnt,
@@ -1852,7 +1852,7 @@ for-do-same-length : (t : ℕ) → for-do-lts.Need-same-length (
 ) (for-do-at t) for-do.Post
 for-do-same-length t c = search needs
 
--- src/walk.rt:195:1
+-- src/walk.rt:431:1
 for-do-returns : (t : ℕ) → for-do-lts.Need-returns (
   with-loop-reads.Asked,
   with-loop-reads.Learnt,
@@ -1865,7 +1865,7 @@ for-do-returns : (t : ℕ) → for-do-lts.Need-returns (
 ) (for-do-at t) for-do.Post
 for-do-returns t c = search for-do
 
--- src/walk.rt:173:9
+-- src/walk.rt:376:9
 for-from-host-of-requires : (t : ℕ) → for-from-lts.Need-host-of-requires (
   host-of-reads.Asked,
   host-of-reads.Learnt,
@@ -1878,7 +1878,7 @@ for-from-host-of-requires : (t : ℕ) → for-from-lts.Need-host-of-requires (
 ) (for-from-at t) for-from.Post
 for-from-host-of-requires t c κs = search needs
 
--- src/walk.rt:174:9
+-- src/walk.rt:377:9
 for-from-wanted-expr-requires : (t : ℕ) → for-from-lts.Need-wanted-expr-requires (
   host-of-reads.Asked,
   host-of-reads.Learnt,
@@ -1891,7 +1891,7 @@ for-from-wanted-expr-requires : (t : ℕ) → for-from-lts.Need-wanted-expr-requ
 ) (for-from-at t) for-from.Post
 for-from-wanted-expr-requires t c κs = search needs
 
--- src/walk.rt:176:8
+-- src/walk.rt:379:8
 for-from-is-form-requires : (t : ℕ) → for-from-lts.Need-is-form-requires (
   host-of-reads.Asked,
   host-of-reads.Learnt,
@@ -1904,7 +1904,7 @@ for-from-is-form-requires : (t : ℕ) → for-from-lts.Need-is-form-requires (
 ) (for-from-at t) for-from.Post
 for-from-is-form-requires t c κs = search needs
 
--- src/walk.rt:177:9
+-- src/walk.rt:380:9
 for-from-same-length : (t : ℕ) → for-from-lts.Need-same-length (
   host-of-reads.Asked,
   host-of-reads.Learnt,
@@ -1917,7 +1917,7 @@ for-from-same-length : (t : ℕ) → for-from-lts.Need-same-length (
 ) (for-from-at t) for-from.Post
 for-from-same-length t c = search needs
 
--- src/walk.rt:177:9
+-- src/walk.rt:380:9
 for-from-returns : (t : ℕ) → for-from-lts.Need-returns (
   host-of-reads.Asked,
   host-of-reads.Learnt,
@@ -1930,7 +1930,7 @@ for-from-returns : (t : ℕ) → for-from-lts.Need-returns (
 ) (for-from-at t) for-from.Post
 for-from-returns t c = search for-from-laws
 
--- src/walk.rt:179:5
+-- src/walk.rt:382:5
 for-from-for-to-requires : (t : ℕ) → for-from-lts.Need-for-to-requires (
   host-of-reads.Asked,
   host-of-reads.Learnt,
@@ -1943,7 +1943,7 @@ for-from-for-to-requires : (t : ℕ) → for-from-lts.Need-for-to-requires (
 ) (for-from-at t) for-from.Post
 for-from-for-to-requires t c κs = search needs
 
--- src/walk.rt:170:1
+-- src/walk.rt:362:1
 for-from-same-length-2 : (t : ℕ) → for-from-lts.Need-same-length-2 (
   host-of-reads.Asked,
   host-of-reads.Learnt,
@@ -1956,7 +1956,7 @@ for-from-same-length-2 : (t : ℕ) → for-from-lts.Need-same-length-2 (
 ) (for-from-at t) for-from.Post
 for-from-same-length-2 t c = search needs
 
--- src/walk.rt:170:1
+-- src/walk.rt:362:1
 for-from-returns-2 : (t : ℕ) → for-from-lts.Need-returns-2 (
   host-of-reads.Asked,
   host-of-reads.Learnt,
@@ -1969,7 +1969,7 @@ for-from-returns-2 : (t : ℕ) → for-from-lts.Need-returns-2 (
 ) (for-from-at t) for-from.Post
 for-from-returns-2 t c = search for-from-laws
 
--- src/walk.rt:154:9
+-- src/walk.rt:335:9
 for-loop-part-at-requires : (t : ℕ) → for-loop-lts.Need-part-at-requires (
   part-at-reads.Asked,
   part-at-reads.Learnt,
@@ -1986,7 +1986,7 @@ for-loop-part-at-requires : (t : ℕ) → for-loop-lts.Need-part-at-requires (
 ) (for-loop-at t) for-loop.Post
 for-loop-part-at-requires t c κs = search needs
 
--- src/walk.rt:156:20
+-- src/walk.rt:337:20
 for-loop-enum-known-part : (t : ℕ) → for-loop-lts.Need-enum-known-part (
   part-at-reads.Asked,
   part-at-reads.Learnt,
@@ -2003,7 +2003,7 @@ for-loop-enum-known-part : (t : ℕ) → for-loop-lts.Need-enum-known-part (
 ) (for-loop-at t) for-loop.Post
 for-loop-enum-known-part t c = search needs
 
--- src/walk.rt:157:16
+-- src/walk.rt:338:16
 for-loop-is-named-requires : (t : ℕ) → for-loop-lts.Need-is-named-requires (
   part-at-reads.Asked,
   part-at-reads.Learnt,
@@ -2020,7 +2020,7 @@ for-loop-is-named-requires : (t : ℕ) → for-loop-lts.Need-is-named-requires (
 ) (for-loop-at t) for-loop.Post
 for-loop-is-named-requires t c κs = search needs
 
--- src/walk.rt:158:21
+-- src/walk.rt:339:21
 for-loop-meaning-of-requires : (t : ℕ) → for-loop-lts.Need-meaning-of-requires (
   part-at-reads.Asked,
   part-at-reads.Learnt,
@@ -2037,7 +2037,7 @@ for-loop-meaning-of-requires : (t : ℕ) → for-loop-lts.Need-meaning-of-requir
 ) (for-loop-at t) for-loop.Post
 for-loop-meaning-of-requires t c κs = search needs
 
--- src/walk.rt:159:21
+-- src/walk.rt:340:21
 for-loop-stepped-requires : (t : ℕ) → for-loop-lts.Need-stepped-requires (
   part-at-reads.Asked,
   part-at-reads.Learnt,
@@ -2054,7 +2054,7 @@ for-loop-stepped-requires : (t : ℕ) → for-loop-lts.Need-stepped-requires (
 ) (for-loop-at t) for-loop.Post
 for-loop-stepped-requires t c κs = search needs
 
--- src/walk.rt:160:17
+-- src/walk.rt:341:17
 for-loop-for-from-requires : (t : ℕ) → for-loop-lts.Need-for-from-requires (
   part-at-reads.Asked,
   part-at-reads.Learnt,
@@ -2071,7 +2071,7 @@ for-loop-for-from-requires : (t : ℕ) → for-loop-lts.Need-for-from-requires (
 ) (for-loop-at t) for-loop.Post
 for-loop-for-from-requires t c κs = search needs
 
--- src/walk.rt:160:17
+-- src/walk.rt:341:17
 for-loop-same-length : (t : ℕ) → for-loop-lts.Need-same-length (
   part-at-reads.Asked,
   part-at-reads.Learnt,
@@ -2088,7 +2088,7 @@ for-loop-same-length : (t : ℕ) → for-loop-lts.Need-same-length (
 ) (for-loop-at t) for-loop.Post
 for-loop-same-length t c = search needs
 
--- src/walk.rt:160:17
+-- src/walk.rt:341:17
 for-loop-returns : (t : ℕ) → for-loop-lts.Need-returns (
   part-at-reads.Asked,
   part-at-reads.Learnt,
@@ -2105,7 +2105,7 @@ for-loop-returns : (t : ℕ) → for-loop-lts.Need-returns (
 ) (for-loop-at t) for-loop.Post
 for-loop-returns t c = search for-laws
 
--- src/walk.rt:162:13
+-- src/walk.rt:354:13
 for-loop-failed-requires : (t : ℕ) → for-loop-lts.Need-failed-requires (
   part-at-reads.Asked,
   part-at-reads.Learnt,
@@ -2122,7 +2122,7 @@ for-loop-failed-requires : (t : ℕ) → for-loop-lts.Need-failed-requires (
 ) (for-loop-at t) for-loop.Post
 for-loop-failed-requires t c κs = search needs
 
--- src/walk.rt:164:20
+-- src/walk.rt:356:20
 for-loop-enum-known-part-2 : (t : ℕ) → for-loop-lts.Need-enum-known-part-2 (
   part-at-reads.Asked,
   part-at-reads.Learnt,
@@ -2139,7 +2139,7 @@ for-loop-enum-known-part-2 : (t : ℕ) → for-loop-lts.Need-enum-known-part-2 (
 ) (for-loop-at t) for-loop.Post
 for-loop-enum-known-part-2 t c = search needs
 
--- src/walk.rt:164:26
+-- src/walk.rt:356:26
 for-loop-failed-requires-2 : (t : ℕ) → for-loop-lts.Need-failed-requires-2 (
   part-at-reads.Asked,
   part-at-reads.Learnt,
@@ -2156,7 +2156,7 @@ for-loop-failed-requires-2 : (t : ℕ) → for-loop-lts.Need-failed-requires-2 (
 ) (for-loop-at t) for-loop.Post
 for-loop-failed-requires-2 t c κs = search needs
 
--- src/walk.rt:165:20
+-- src/walk.rt:357:20
 for-loop-enum-known-part-3 : (t : ℕ) → for-loop-lts.Need-enum-known-part-3 (
   part-at-reads.Asked,
   part-at-reads.Learnt,
@@ -2173,7 +2173,7 @@ for-loop-enum-known-part-3 : (t : ℕ) → for-loop-lts.Need-enum-known-part-3 (
 ) (for-loop-at t) for-loop.Post
 for-loop-enum-known-part-3 t c = search needs
 
--- src/walk.rt:165:26
+-- src/walk.rt:357:26
 for-loop-failed-requires-3 : (t : ℕ) → for-loop-lts.Need-failed-requires-3 (
   part-at-reads.Asked,
   part-at-reads.Learnt,
@@ -2190,7 +2190,7 @@ for-loop-failed-requires-3 : (t : ℕ) → for-loop-lts.Need-failed-requires-3 (
 ) (for-loop-at t) for-loop.Post
 for-loop-failed-requires-3 t c κs = search needs
 
--- src/walk.rt:151:1
+-- src/walk.rt:322:1
 for-loop-returns-2 : (t : ℕ) → for-loop-lts.Need-returns-2 (
   part-at-reads.Asked,
   part-at-reads.Learnt,
@@ -2207,7 +2207,7 @@ for-loop-returns-2 : (t : ℕ) → for-loop-lts.Need-returns-2 (
 ) (for-loop-at t) for-loop.Post
 for-loop-returns-2 t c = search for-laws
 
--- src/walk.rt:151:1
+-- src/walk.rt:322:1
 for-loop-returns-3 : (t : ℕ) → for-loop-lts.Need-returns-3 (
   part-at-reads.Asked,
   part-at-reads.Learnt,
@@ -2224,7 +2224,7 @@ for-loop-returns-3 : (t : ℕ) → for-loop-lts.Need-returns-3 (
 ) (for-loop-at t) for-loop.Post
 for-loop-returns-3 t c = search for-laws
 
--- src/walk.rt:151:1
+-- src/walk.rt:322:1
 for-loop-returns-4 : (t : ℕ) → for-loop-lts.Need-returns-4 (
   part-at-reads.Asked,
   part-at-reads.Learnt,
@@ -2241,7 +2241,7 @@ for-loop-returns-4 : (t : ℕ) → for-loop-lts.Need-returns-4 (
 ) (for-loop-at t) for-loop.Post
 for-loop-returns-4 t c = search for-laws
 
--- src/walk.rt:186:9
+-- src/walk.rt:411:9
 for-to-wanted-expr-requires : (t : ℕ) → for-to-lts.Need-wanted-expr-requires (
   wanted-expr-reads.Asked,
   wanted-expr-reads.Learnt,
@@ -2252,7 +2252,7 @@ for-to-wanted-expr-requires : (t : ℕ) → for-to-lts.Need-wanted-expr-requires
 ) (for-to-at t) for-to.Post
 for-to-wanted-expr-requires t c κs = search needs
 
--- src/walk.rt:188:8
+-- src/walk.rt:413:8
 for-to-is-form-requires : (t : ℕ) → for-to-lts.Need-is-form-requires (
   wanted-expr-reads.Asked,
   wanted-expr-reads.Learnt,
@@ -2263,7 +2263,7 @@ for-to-is-form-requires : (t : ℕ) → for-to-lts.Need-is-form-requires (
 ) (for-to-at t) for-to.Post
 for-to-is-form-requires t c κs = search needs
 
--- src/walk.rt:189:9
+-- src/walk.rt:414:9
 for-to-same-length : (t : ℕ) → for-to-lts.Need-same-length (
   wanted-expr-reads.Asked,
   wanted-expr-reads.Learnt,
@@ -2274,7 +2274,7 @@ for-to-same-length : (t : ℕ) → for-to-lts.Need-same-length (
 ) (for-to-at t) for-to.Post
 for-to-same-length t c = search needs
 
--- src/walk.rt:189:9
+-- src/walk.rt:414:9
 for-to-returns : (t : ℕ) → for-to-lts.Need-returns (
   wanted-expr-reads.Asked,
   wanted-expr-reads.Learnt,
@@ -2285,7 +2285,7 @@ for-to-returns : (t : ℕ) → for-to-lts.Need-returns (
 ) (for-to-at t) for-to.Post
 for-to-returns t c = search for-to-laws
 
--- src/walk.rt:191:5
+-- src/walk.rt:416:5
 for-to-for-do-requires : (t : ℕ) → for-to-lts.Need-for-do-requires (
   wanted-expr-reads.Asked,
   wanted-expr-reads.Learnt,
@@ -2296,7 +2296,7 @@ for-to-for-do-requires : (t : ℕ) → for-to-lts.Need-for-do-requires (
 ) (for-to-at t) for-to.Post
 for-to-for-do-requires t c κs = search needs
 
--- src/walk.rt:183:1
+-- src/walk.rt:397:1
 for-to-same-length-2 : (t : ℕ) → for-to-lts.Need-same-length-2 (
   wanted-expr-reads.Asked,
   wanted-expr-reads.Learnt,
@@ -2307,7 +2307,7 @@ for-to-same-length-2 : (t : ℕ) → for-to-lts.Need-same-length-2 (
 ) (for-to-at t) for-to.Post
 for-to-same-length-2 t c = search needs
 
--- src/walk.rt:183:1
+-- src/walk.rt:397:1
 for-to-returns-2 : (t : ℕ) → for-to-lts.Need-returns-2 (
   wanted-expr-reads.Asked,
   wanted-expr-reads.Learnt,
@@ -2318,7 +2318,7 @@ for-to-returns-2 : (t : ℕ) → for-to-lts.Need-returns-2 (
 ) (for-to-at t) for-to.Post
 for-to-returns-2 t c = search for-to-laws
 
--- src/walk.rt:85:38
+-- src/walk.rt:127:38
 headed-enum-told : (t : ℕ) → headed-lts.Need-enum-told (
   assign-reads.Asked,
   assign-reads.Learnt,
@@ -2341,7 +2341,7 @@ headed-enum-told : (t : ℕ) → headed-lts.Need-enum-told (
 ) (headed-at t) headed.Post
 headed-enum-told t c = search needs
 
--- src/walk.rt:85:25
+-- src/walk.rt:127:25
 headed-assign-requires : (t : ℕ) → headed-lts.Need-assign-requires (
   assign-reads.Asked,
   assign-reads.Learnt,
@@ -2364,7 +2364,7 @@ headed-assign-requires : (t : ℕ) → headed-lts.Need-assign-requires (
 ) (headed-at t) headed.Post
 headed-assign-requires t c κs = search needs
 
--- src/walk.rt:86:36
+-- src/walk.rt:130:13
 headed-enum-told-2 : (t : ℕ) → headed-lts.Need-enum-told-2 (
   assign-reads.Asked,
   assign-reads.Learnt,
@@ -2387,7 +2387,7 @@ headed-enum-told-2 : (t : ℕ) → headed-lts.Need-enum-told-2 (
 ) (headed-at t) headed.Post
 headed-enum-told-2 t c = search needs
 
--- src/walk.rt:86:24
+-- src/walk.rt:128:24
 headed-begin-requires : (t : ℕ) → headed-lts.Need-begin-requires (
   assign-reads.Asked,
   assign-reads.Learnt,
@@ -2410,7 +2410,7 @@ headed-begin-requires : (t : ℕ) → headed-lts.Need-begin-requires (
 ) (headed-at t) headed.Post
 headed-begin-requires t c κs = search needs
 
--- src/walk.rt:87:35
+-- src/walk.rt:141:13
 headed-enum-told-3 : (t : ℕ) → headed-lts.Need-enum-told-3 (
   assign-reads.Asked,
   assign-reads.Learnt,
@@ -2433,7 +2433,7 @@ headed-enum-told-3 : (t : ℕ) → headed-lts.Need-enum-told-3 (
 ) (headed-at t) headed.Post
 headed-enum-told-3 t c = search needs
 
--- src/walk.rt:87:21
+-- src/walk.rt:139:21
 headed-if-else-requires : (t : ℕ) → headed-lts.Need-if-else-requires (
   assign-reads.Asked,
   assign-reads.Learnt,
@@ -2456,7 +2456,7 @@ headed-if-else-requires : (t : ℕ) → headed-lts.Need-if-else-requires (
 ) (headed-at t) headed.Post
 headed-if-else-requires t c κs = search needs
 
--- src/walk.rt:88:41
+-- src/walk.rt:152:13
 headed-enum-told-4 : (t : ℕ) → headed-lts.Need-enum-told-4 (
   assign-reads.Asked,
   assign-reads.Learnt,
@@ -2479,7 +2479,7 @@ headed-enum-told-4 : (t : ℕ) → headed-lts.Need-enum-told-4 (
 ) (headed-at t) headed.Post
 headed-enum-told-4 t c = search needs
 
--- src/walk.rt:88:24
+-- src/walk.rt:150:24
 headed-while-loop-requires : (t : ℕ) → headed-lts.Need-while-loop-requires (
   assign-reads.Asked,
   assign-reads.Learnt,
@@ -2502,7 +2502,7 @@ headed-while-loop-requires : (t : ℕ) → headed-lts.Need-while-loop-requires (
 ) (headed-at t) headed.Post
 headed-while-loop-requires t c κs = search needs
 
--- src/walk.rt:89:37
+-- src/walk.rt:163:13
 headed-enum-told-5 : (t : ℕ) → headed-lts.Need-enum-told-5 (
   assign-reads.Asked,
   assign-reads.Learnt,
@@ -2525,7 +2525,7 @@ headed-enum-told-5 : (t : ℕ) → headed-lts.Need-enum-told-5 (
 ) (headed-at t) headed.Post
 headed-enum-told-5 t c = search needs
 
--- src/walk.rt:89:22
+-- src/walk.rt:161:22
 headed-for-loop-requires : (t : ℕ) → headed-lts.Need-for-loop-requires (
   assign-reads.Asked,
   assign-reads.Learnt,
@@ -2548,7 +2548,7 @@ headed-for-loop-requires : (t : ℕ) → headed-lts.Need-for-loop-requires (
 ) (headed-at t) headed.Post
 headed-for-loop-requires t c κs = search needs
 
--- src/walk.rt:90:37
+-- src/walk.rt:174:13
 headed-enum-told-6 : (t : ℕ) → headed-lts.Need-enum-told-6 (
   assign-reads.Asked,
   assign-reads.Learnt,
@@ -2571,7 +2571,7 @@ headed-enum-told-6 : (t : ℕ) → headed-lts.Need-enum-told-6 (
 ) (headed-at t) headed.Post
 headed-enum-told-6 t c = search needs
 
--- src/walk.rt:90:23
+-- src/walk.rt:172:23
 headed-case-of-requires : (t : ℕ) → headed-lts.Need-case-of-requires (
   assign-reads.Asked,
   assign-reads.Learnt,
@@ -2594,7 +2594,7 @@ headed-case-of-requires : (t : ℕ) → headed-lts.Need-case-of-requires (
 ) (headed-at t) headed.Post
 headed-case-of-requires t c κs = search needs
 
--- src/walk.rt:91:34
+-- src/walk.rt:183:34
 headed-enum-told-7 : (t : ℕ) → headed-lts.Need-enum-told-7 (
   assign-reads.Asked,
   assign-reads.Learnt,
@@ -2617,7 +2617,7 @@ headed-enum-told-7 : (t : ℕ) → headed-lts.Need-enum-told-7 (
 ) (headed-at t) headed.Post
 headed-enum-told-7 t c = search needs
 
--- src/walk.rt:91:23
+-- src/walk.rt:183:23
 headed-call-requires : (t : ℕ) → headed-lts.Need-call-requires (
   assign-reads.Asked,
   assign-reads.Learnt,
@@ -2640,7 +2640,7 @@ headed-call-requires : (t : ℕ) → headed-lts.Need-call-requires (
 ) (headed-at t) headed.Post
 headed-call-requires t c κs = search needs
 
--- src/walk.rt:92:36
+-- src/walk.rt:184:36
 headed-enum-told-8 : (t : ℕ) → headed-lts.Need-enum-told-8 (
   assign-reads.Asked,
   assign-reads.Learnt,
@@ -2663,7 +2663,7 @@ headed-enum-told-8 : (t : ℕ) → headed-lts.Need-enum-told-8 (
 ) (headed-at t) headed.Post
 headed-enum-told-8 t c = search needs
 
--- src/walk.rt:92:24
+-- src/walk.rt:184:24
 headed-raise-requires : (t : ℕ) → headed-lts.Need-raise-requires (
   assign-reads.Asked,
   assign-reads.Learnt,
@@ -2686,7 +2686,7 @@ headed-raise-requires : (t : ℕ) → headed-lts.Need-raise-requires (
 ) (headed-at t) headed.Post
 headed-raise-requires t c κs = search needs
 
--- src/walk.rt:93:33
+-- src/walk.rt:185:33
 headed-enum-told-9 : (t : ℕ) → headed-lts.Need-enum-told-9 (
   assign-reads.Asked,
   assign-reads.Learnt,
@@ -2709,7 +2709,7 @@ headed-enum-told-9 : (t : ℕ) → headed-lts.Need-enum-told-9 (
 ) (headed-at t) headed.Post
 headed-enum-told-9 t c = search needs
 
--- src/walk.rt:93:26
+-- src/walk.rt:185:26
 headed-failed-requires : (t : ℕ) → headed-lts.Need-failed-requires (
   assign-reads.Asked,
   assign-reads.Learnt,
@@ -2732,7 +2732,7 @@ headed-failed-requires : (t : ℕ) → headed-lts.Need-failed-requires (
 ) (headed-at t) headed.Post
 headed-failed-requires t c κs = search needs
 
--- src/walk.rt:81:1
+-- src/walk.rt:112:1
 headed-same-length : (t : ℕ) → headed-lts.Need-same-length (
   assign-reads.Asked,
   assign-reads.Learnt,
@@ -2755,7 +2755,7 @@ headed-same-length : (t : ℕ) → headed-lts.Need-same-length (
 ) (headed-at t) headed.Post
 headed-same-length t c = search needs
 
--- src/walk.rt:81:1
+-- src/walk.rt:112:1
 headed-returns : (t : ℕ) → headed-lts.Need-returns (
   assign-reads.Asked,
   assign-reads.Learnt,
@@ -2778,7 +2778,7 @@ headed-returns : (t : ℕ) → headed-lts.Need-returns (
 ) (headed-at t) headed.Post
 headed-returns t c = search headed-laws
 
--- src/walk.rt:81:1
+-- src/walk.rt:112:1
 headed-same-length-2 : (t : ℕ) → headed-lts.Need-same-length-2 (
   assign-reads.Asked,
   assign-reads.Learnt,
@@ -2801,7 +2801,7 @@ headed-same-length-2 : (t : ℕ) → headed-lts.Need-same-length-2 (
 ) (headed-at t) headed.Post
 headed-same-length-2 t c = search needs
 
--- src/walk.rt:81:1
+-- src/walk.rt:112:1
 headed-returns-2 : (t : ℕ) → headed-lts.Need-returns-2 (
   assign-reads.Asked,
   assign-reads.Learnt,
@@ -2824,7 +2824,7 @@ headed-returns-2 : (t : ℕ) → headed-lts.Need-returns-2 (
 ) (headed-at t) headed.Post
 headed-returns-2 t c = search headed-laws
 
--- src/walk.rt:81:1
+-- src/walk.rt:112:1
 headed-same-length-3 : (t : ℕ) → headed-lts.Need-same-length-3 (
   assign-reads.Asked,
   assign-reads.Learnt,
@@ -2847,7 +2847,7 @@ headed-same-length-3 : (t : ℕ) → headed-lts.Need-same-length-3 (
 ) (headed-at t) headed.Post
 headed-same-length-3 t c = search needs
 
--- src/walk.rt:81:1
+-- src/walk.rt:112:1
 headed-returns-3 : (t : ℕ) → headed-lts.Need-returns-3 (
   assign-reads.Asked,
   assign-reads.Learnt,
@@ -2870,7 +2870,7 @@ headed-returns-3 : (t : ℕ) → headed-lts.Need-returns-3 (
 ) (headed-at t) headed.Post
 headed-returns-3 t c = search headed-laws
 
--- src/walk.rt:81:1
+-- src/walk.rt:112:1
 headed-same-length-4 : (t : ℕ) → headed-lts.Need-same-length-4 (
   assign-reads.Asked,
   assign-reads.Learnt,
@@ -2893,7 +2893,7 @@ headed-same-length-4 : (t : ℕ) → headed-lts.Need-same-length-4 (
 ) (headed-at t) headed.Post
 headed-same-length-4 t c = search needs
 
--- src/walk.rt:81:1
+-- src/walk.rt:112:1
 headed-returns-4 : (t : ℕ) → headed-lts.Need-returns-4 (
   assign-reads.Asked,
   assign-reads.Learnt,
@@ -2916,7 +2916,7 @@ headed-returns-4 : (t : ℕ) → headed-lts.Need-returns-4 (
 ) (headed-at t) headed.Post
 headed-returns-4 t c = search headed-laws
 
--- src/walk.rt:81:1
+-- src/walk.rt:112:1
 headed-same-length-5 : (t : ℕ) → headed-lts.Need-same-length-5 (
   assign-reads.Asked,
   assign-reads.Learnt,
@@ -2939,7 +2939,7 @@ headed-same-length-5 : (t : ℕ) → headed-lts.Need-same-length-5 (
 ) (headed-at t) headed.Post
 headed-same-length-5 t c = search needs
 
--- src/walk.rt:81:1
+-- src/walk.rt:112:1
 headed-returns-5 : (t : ℕ) → headed-lts.Need-returns-5 (
   assign-reads.Asked,
   assign-reads.Learnt,
@@ -2962,7 +2962,7 @@ headed-returns-5 : (t : ℕ) → headed-lts.Need-returns-5 (
 ) (headed-at t) headed.Post
 headed-returns-5 t c = search headed-laws
 
--- src/walk.rt:81:1
+-- src/walk.rt:112:1
 headed-same-length-6 : (t : ℕ) → headed-lts.Need-same-length-6 (
   assign-reads.Asked,
   assign-reads.Learnt,
@@ -2985,7 +2985,7 @@ headed-same-length-6 : (t : ℕ) → headed-lts.Need-same-length-6 (
 ) (headed-at t) headed.Post
 headed-same-length-6 t c = search needs
 
--- src/walk.rt:81:1
+-- src/walk.rt:112:1
 headed-returns-6 : (t : ℕ) → headed-lts.Need-returns-6 (
   assign-reads.Asked,
   assign-reads.Learnt,
@@ -3008,7 +3008,7 @@ headed-returns-6 : (t : ℕ) → headed-lts.Need-returns-6 (
 ) (headed-at t) headed.Post
 headed-returns-6 t c = search headed-laws
 
--- src/walk.rt:81:1
+-- src/walk.rt:112:1
 headed-same-length-7 : (t : ℕ) → headed-lts.Need-same-length-7 (
   assign-reads.Asked,
   assign-reads.Learnt,
@@ -3031,7 +3031,7 @@ headed-same-length-7 : (t : ℕ) → headed-lts.Need-same-length-7 (
 ) (headed-at t) headed.Post
 headed-same-length-7 t c = search needs
 
--- src/walk.rt:81:1
+-- src/walk.rt:112:1
 headed-returns-7 : (t : ℕ) → headed-lts.Need-returns-7 (
   assign-reads.Asked,
   assign-reads.Learnt,
@@ -3054,7 +3054,7 @@ headed-returns-7 : (t : ℕ) → headed-lts.Need-returns-7 (
 ) (headed-at t) headed.Post
 headed-returns-7 t c = search headed-laws
 
--- src/walk.rt:81:1
+-- src/walk.rt:112:1
 headed-same-length-8 : (t : ℕ) → headed-lts.Need-same-length-8 (
   assign-reads.Asked,
   assign-reads.Learnt,
@@ -3077,7 +3077,7 @@ headed-same-length-8 : (t : ℕ) → headed-lts.Need-same-length-8 (
 ) (headed-at t) headed.Post
 headed-same-length-8 t c = search needs
 
--- src/walk.rt:81:1
+-- src/walk.rt:112:1
 headed-returns-8 : (t : ℕ) → headed-lts.Need-returns-8 (
   assign-reads.Asked,
   assign-reads.Learnt,
@@ -3100,7 +3100,7 @@ headed-returns-8 : (t : ℕ) → headed-lts.Need-returns-8 (
 ) (headed-at t) headed.Post
 headed-returns-8 t c = search headed-laws
 
--- src/walk.rt:81:1
+-- src/walk.rt:112:1
 headed-returns-9 : (t : ℕ) → headed-lts.Need-returns-9 (
   assign-reads.Asked,
   assign-reads.Learnt,
@@ -3123,7 +3123,7 @@ headed-returns-9 : (t : ℕ) → headed-lts.Need-returns-9 (
 ) (headed-at t) headed.Post
 headed-returns-9 t c = search headed-laws
 
--- src/walk.rt:115:9
+-- src/walk.rt:237:9
 if-else-wanted-expr-requires : (t : ℕ) → if-else-lts.Need-wanted-expr-requires (
   wanted-expr-reads.Asked,
   wanted-expr-reads.Learnt,
@@ -3134,7 +3134,7 @@ if-else-wanted-expr-requires : (t : ℕ) → if-else-lts.Need-wanted-expr-requir
 ) (if-else-at t) if-else.Post
 if-else-wanted-expr-requires t c κs = search needs
 
--- src/walk.rt:117:8
+-- src/walk.rt:239:8
 if-else-is-form-requires : (t : ℕ) → if-else-lts.Need-is-form-requires (
   wanted-expr-reads.Asked,
   wanted-expr-reads.Learnt,
@@ -3145,7 +3145,7 @@ if-else-is-form-requires : (t : ℕ) → if-else-lts.Need-is-form-requires (
 ) (if-else-at t) if-else.Post
 if-else-is-form-requires t c κs = search needs
 
--- src/walk.rt:118:9
+-- src/walk.rt:240:9
 if-else-same-length : (t : ℕ) → if-else-lts.Need-same-length (
   wanted-expr-reads.Asked,
   wanted-expr-reads.Learnt,
@@ -3156,7 +3156,7 @@ if-else-same-length : (t : ℕ) → if-else-lts.Need-same-length (
 ) (if-else-at t) if-else.Post
 if-else-same-length t c = search needs
 
--- src/walk.rt:118:9
+-- src/walk.rt:240:9
 if-else-returns : (t : ℕ) → if-else-lts.Need-returns (
   wanted-expr-reads.Asked,
   wanted-expr-reads.Learnt,
@@ -3167,7 +3167,7 @@ if-else-returns : (t : ℕ) → if-else-lts.Need-returns (
 ) (if-else-at t) if-else.Post
 if-else-returns t c = search if-laws
 
--- src/walk.rt:120:5
+-- src/walk.rt:242:5
 if-else-if-then-requires : (t : ℕ) → if-else-lts.Need-if-then-requires (
   wanted-expr-reads.Asked,
   wanted-expr-reads.Learnt,
@@ -3178,7 +3178,7 @@ if-else-if-then-requires : (t : ℕ) → if-else-lts.Need-if-then-requires (
 ) (if-else-at t) if-else.Post
 if-else-if-then-requires t c κs = search needs
 
--- src/walk.rt:112:1
+-- src/walk.rt:224:1
 if-else-same-length-2 : (t : ℕ) → if-else-lts.Need-same-length-2 (
   wanted-expr-reads.Asked,
   wanted-expr-reads.Learnt,
@@ -3189,7 +3189,7 @@ if-else-same-length-2 : (t : ℕ) → if-else-lts.Need-same-length-2 (
 ) (if-else-at t) if-else.Post
 if-else-same-length-2 t c = search needs
 
--- src/walk.rt:112:1
+-- src/walk.rt:224:1
 if-else-returns-2 : (t : ℕ) → if-else-lts.Need-returns-2 (
   wanted-expr-reads.Asked,
   wanted-expr-reads.Learnt,
@@ -3200,7 +3200,7 @@ if-else-returns-2 : (t : ℕ) → if-else-lts.Need-returns-2 (
 ) (if-else-at t) if-else.Post
 if-else-returns-2 t c = search if-laws
 
--- src/walk.rt:127:9
+-- src/walk.rt:258:9
 if-then-stmt-requires : (t : ℕ) → if-then-lts.Need-stmt-requires (
   stmt-below t,
   stmt.Post,
@@ -3213,7 +3213,7 @@ if-then-stmt-requires : (t : ℕ) → if-then-lts.Need-stmt-requires (
 ) (if-then-at t) if-then.Post
 if-then-stmt-requires t c κs = search needs
 
--- src/walk.rt:129:8
+-- src/walk.rt:270:8
 if-then-is-form-requires : (t : ℕ) → if-then-lts.Need-is-form-requires (
   stmt-below t,
   stmt.Post,
@@ -3226,7 +3226,7 @@ if-then-is-form-requires : (t : ℕ) → if-then-lts.Need-is-form-requires (
 ) (if-then-at t) if-then.Post
 if-then-is-form-requires t c κs = search needs
 
--- src/walk.rt:130:9
+-- src/walk.rt:271:9
 if-then-same-length : (t : ℕ) → if-then-lts.Need-same-length (
   stmt-below t,
   stmt.Post,
@@ -3239,7 +3239,7 @@ if-then-same-length : (t : ℕ) → if-then-lts.Need-same-length (
 ) (if-then-at t) if-then.Post
 if-then-same-length t c = search needs
 
--- src/walk.rt:130:9
+-- src/walk.rt:271:9
 if-then-returns : (t : ℕ) → if-then-lts.Need-returns (
   stmt-below t,
   stmt.Post,
@@ -3252,7 +3252,7 @@ if-then-returns : (t : ℕ) → if-then-lts.Need-returns (
 ) (if-then-at t) if-then.Post
 if-then-returns t c = search then-laws
 
--- src/walk.rt:132:9
+-- src/walk.rt:273:9
 if-then-else-part-requires : (t : ℕ) → if-then-lts.Need-else-part-requires (
   stmt-below t,
   stmt.Post,
@@ -3265,7 +3265,7 @@ if-then-else-part-requires : (t : ℕ) → if-then-lts.Need-else-part-requires (
 ) (if-then-at t) if-then.Post
 if-then-else-part-requires t c κs = search needs
 
--- src/walk.rt:133:5
+-- src/walk.rt:284:5
 if-then-if-node-requires : (t : ℕ) → if-then-lts.Need-if-node-requires (
   stmt-below t,
   stmt.Post,
@@ -3278,7 +3278,7 @@ if-then-if-node-requires : (t : ℕ) → if-then-lts.Need-if-node-requires (
 ) (if-then-at t) if-then.Post
 if-then-if-node-requires t c κs = search needs
 
--- src/walk.rt:124:1
+-- src/walk.rt:246:1
 if-then-same-length-2 : (t : ℕ) → if-then-lts.Need-same-length-2 (
   stmt-below t,
   stmt.Post,
@@ -3291,7 +3291,7 @@ if-then-same-length-2 : (t : ℕ) → if-then-lts.Need-same-length-2 (
 ) (if-then-at t) if-then.Post
 if-then-same-length-2 t c = search needs
 
--- src/walk.rt:124:1
+-- src/walk.rt:246:1
 if-then-returns-2 : (t : ℕ) → if-then-lts.Need-returns-2 (
   stmt-below t,
   stmt.Post,
@@ -3304,7 +3304,7 @@ if-then-returns-2 : (t : ℕ) → if-then-lts.Need-returns-2 (
 ) (if-then-at t) if-then.Post
 if-then-returns-2 t c = search then-laws
 
--- src/walk.rt:68:9
+-- src/walk.rt:99:9
 inner-part-at-requires : (t : ℕ) → inner-lts.Need-part-at-requires (
   part-at-reads.Asked,
   part-at-reads.Learnt,
@@ -3319,7 +3319,7 @@ inner-part-at-requires : (t : ℕ) → inner-lts.Need-part-at-requires (
 ) (inner-at t) inner.Post
 inner-part-at-requires t c κs = search needs
 
--- src/walk.rt:70:20
+-- src/walk.rt:101:20
 inner-enum-known-part : (t : ℕ) → inner-lts.Need-enum-known-part (
   part-at-reads.Asked,
   part-at-reads.Learnt,
@@ -3334,7 +3334,7 @@ inner-enum-known-part : (t : ℕ) → inner-lts.Need-enum-known-part (
 ) (inner-at t) inner.Post
 inner-enum-known-part t c = search needs
 
--- src/walk.rt:71:17
+-- src/walk.rt:102:17
 inner-verb-of-requires : (t : ℕ) → inner-lts.Need-verb-of-requires (
   part-at-reads.Asked,
   part-at-reads.Learnt,
@@ -3349,7 +3349,7 @@ inner-verb-of-requires : (t : ℕ) → inner-lts.Need-verb-of-requires (
 ) (inner-at t) inner.Post
 inner-verb-of-requires t c κs = search needs
 
--- src/walk.rt:72:17
+-- src/walk.rt:103:17
 inner-next-number-requires : (t : ℕ) → inner-lts.Need-next-number-requires (
   part-at-reads.Asked,
   part-at-reads.Learnt,
@@ -3364,7 +3364,7 @@ inner-next-number-requires : (t : ℕ) → inner-lts.Need-next-number-requires (
 ) (inner-at t) inner.Post
 inner-next-number-requires t c κs = search needs
 
--- src/walk.rt:73:13
+-- src/walk.rt:104:13
 inner-headed-requires : (t : ℕ) → inner-lts.Need-headed-requires (
   part-at-reads.Asked,
   part-at-reads.Learnt,
@@ -3379,7 +3379,7 @@ inner-headed-requires : (t : ℕ) → inner-lts.Need-headed-requires (
 ) (inner-at t) inner.Post
 inner-headed-requires t c κs = search needs
 
--- src/walk.rt:75:20
+-- src/walk.rt:106:20
 inner-enum-known-part-2 : (t : ℕ) → inner-lts.Need-enum-known-part-2 (
   part-at-reads.Asked,
   part-at-reads.Learnt,
@@ -3394,7 +3394,7 @@ inner-enum-known-part-2 : (t : ℕ) → inner-lts.Need-enum-known-part-2 (
 ) (inner-at t) inner.Post
 inner-enum-known-part-2 t c = search needs
 
--- src/walk.rt:75:26
+-- src/walk.rt:106:26
 inner-failed-requires : (t : ℕ) → inner-lts.Need-failed-requires (
   part-at-reads.Asked,
   part-at-reads.Learnt,
@@ -3409,7 +3409,7 @@ inner-failed-requires : (t : ℕ) → inner-lts.Need-failed-requires (
 ) (inner-at t) inner.Post
 inner-failed-requires t c κs = search needs
 
--- src/walk.rt:76:20
+-- src/walk.rt:107:20
 inner-enum-known-part-3 : (t : ℕ) → inner-lts.Need-enum-known-part-3 (
   part-at-reads.Asked,
   part-at-reads.Learnt,
@@ -3424,7 +3424,7 @@ inner-enum-known-part-3 : (t : ℕ) → inner-lts.Need-enum-known-part-3 (
 ) (inner-at t) inner.Post
 inner-enum-known-part-3 t c = search needs
 
--- src/walk.rt:76:26
+-- src/walk.rt:107:26
 inner-failed-requires-2 : (t : ℕ) → inner-lts.Need-failed-requires-2 (
   part-at-reads.Asked,
   part-at-reads.Learnt,
@@ -3439,7 +3439,7 @@ inner-failed-requires-2 : (t : ℕ) → inner-lts.Need-failed-requires-2 (
 ) (inner-at t) inner.Post
 inner-failed-requires-2 t c κs = search needs
 
--- src/walk.rt:65:1
+-- src/walk.rt:86:1
 inner-same-length : (t : ℕ) → inner-lts.Need-same-length (
   part-at-reads.Asked,
   part-at-reads.Learnt,
@@ -3454,7 +3454,7 @@ inner-same-length : (t : ℕ) → inner-lts.Need-same-length (
 ) (inner-at t) inner.Post
 inner-same-length t c = search needs
 
--- src/walk.rt:65:1
+-- src/walk.rt:86:1
 inner-returns : (t : ℕ) → inner-lts.Need-returns (
   part-at-reads.Asked,
   part-at-reads.Learnt,
@@ -3469,7 +3469,7 @@ inner-returns : (t : ℕ) → inner-lts.Need-returns (
 ) (inner-at t) inner.Post
 inner-returns t c = search inner-laws
 
--- src/walk.rt:65:1
+-- src/walk.rt:86:1
 inner-returns-2 : (t : ℕ) → inner-lts.Need-returns-2 (
   part-at-reads.Asked,
   part-at-reads.Learnt,
@@ -3484,7 +3484,7 @@ inner-returns-2 : (t : ℕ) → inner-lts.Need-returns-2 (
 ) (inner-at t) inner.Post
 inner-returns-2 t c = search inner-laws
 
--- src/walk.rt:65:1
+-- src/walk.rt:86:1
 inner-returns-3 : (t : ℕ) → inner-lts.Need-returns-3 (
   part-at-reads.Asked,
   part-at-reads.Learnt,
@@ -3499,7 +3499,7 @@ inner-returns-3 : (t : ℕ) → inner-lts.Need-returns-3 (
 ) (inner-at t) inner.Post
 inner-returns-3 t c = search inner-laws
 
--- src/walk.rt:54:9
+-- src/walk.rt:65:9
 stmt-failed-requires : (t : ℕ) → stmt-lts.Need-failed-requires (
   failed-reads.Asked,
   failed-reads.Learnt,
@@ -3510,7 +3510,7 @@ stmt-failed-requires : (t : ℕ) → stmt-lts.Need-failed-requires (
 ) (stmt-at t) stmt.Post
 stmt-failed-requires t c κs = search needs
 
--- src/walk.rt:54:9
+-- src/walk.rt:65:9
 stmt-returns : (t : ℕ) → stmt-lts.Need-returns (
   failed-reads.Asked,
   failed-reads.Learnt,
@@ -3521,7 +3521,7 @@ stmt-returns : (t : ℕ) → stmt-lts.Need-returns (
 ) (stmt-at t) stmt.Post
 stmt-returns t c = search stmt-laws
 
--- src/walk.rt:56:9
+-- src/walk.rt:67:9
 stmt-part-at-requires : (t : ℕ) → stmt-lts.Need-part-at-requires (
   failed-reads.Asked,
   failed-reads.Learnt,
@@ -3532,7 +3532,7 @@ stmt-part-at-requires : (t : ℕ) → stmt-lts.Need-part-at-requires (
 ) (stmt-at t) stmt.Post
 stmt-part-at-requires t c κs = search needs
 
--- src/walk.rt:58:26
+-- src/walk.rt:69:26
 stmt-enum-known-part : (t : ℕ) → stmt-lts.Need-enum-known-part (
   failed-reads.Asked,
   failed-reads.Learnt,
@@ -3543,7 +3543,7 @@ stmt-enum-known-part : (t : ℕ) → stmt-lts.Need-enum-known-part (
 ) (stmt-at t) stmt.Post
 stmt-enum-known-part t c = search needs
 
--- src/walk.rt:58:32
+-- src/walk.rt:69:32
 stmt-failed-requires-2 : (t : ℕ) → stmt-lts.Need-failed-requires-2 (
   failed-reads.Asked,
   failed-reads.Learnt,
@@ -3554,7 +3554,7 @@ stmt-failed-requires-2 : (t : ℕ) → stmt-lts.Need-failed-requires-2 (
 ) (stmt-at t) stmt.Post
 stmt-failed-requires-2 t c κs = search needs
 
--- src/walk.rt:59:20
+-- src/walk.rt:70:20
 stmt-enum-known-part-2 : (t : ℕ) → stmt-lts.Need-enum-known-part-2 (
   failed-reads.Asked,
   failed-reads.Learnt,
@@ -3565,7 +3565,7 @@ stmt-enum-known-part-2 : (t : ℕ) → stmt-lts.Need-enum-known-part-2 (
 ) (stmt-at t) stmt.Post
 stmt-enum-known-part-2 t c = search needs
 
--- src/walk.rt:59:73
+-- src/walk.rt:76:13
 stmt-sub-inner : (t : ℕ) → stmt-lts.Need-sub-inner (
   failed-reads.Asked,
   failed-reads.Learnt,
@@ -3576,7 +3576,7 @@ stmt-sub-inner : (t : ℕ) → stmt-lts.Need-sub-inner (
 ) (stmt-at t) stmt.Post
 stmt-sub-inner t c = search needs
 
--- src/walk.rt:59:26
+-- src/walk.rt:70:26
 stmt-inner-requires : (t : ℕ) → stmt-lts.Need-inner-requires (
   failed-reads.Asked,
   failed-reads.Learnt,
@@ -3587,7 +3587,7 @@ stmt-inner-requires : (t : ℕ) → stmt-lts.Need-inner-requires (
 ) (stmt-at t) stmt.Post
 stmt-inner-requires t c κs = search needs
 
--- src/walk.rt:60:20
+-- src/walk.rt:81:20
 stmt-enum-known-part-3 : (t : ℕ) → stmt-lts.Need-enum-known-part-3 (
   failed-reads.Asked,
   failed-reads.Learnt,
@@ -3598,7 +3598,7 @@ stmt-enum-known-part-3 : (t : ℕ) → stmt-lts.Need-enum-known-part-3 (
 ) (stmt-at t) stmt.Post
 stmt-enum-known-part-3 t c = search needs
 
--- src/walk.rt:60:26
+-- src/walk.rt:81:26
 stmt-failed-requires-3 : (t : ℕ) → stmt-lts.Need-failed-requires-3 (
   failed-reads.Asked,
   failed-reads.Learnt,
@@ -3609,7 +3609,7 @@ stmt-failed-requires-3 : (t : ℕ) → stmt-lts.Need-failed-requires-3 (
 ) (stmt-at t) stmt.Post
 stmt-failed-requires-3 t c κs = search needs
 
--- src/walk.rt:50:1
+-- src/walk.rt:51:1
 stmt-returns-2 : (t : ℕ) → stmt-lts.Need-returns-2 (
   failed-reads.Asked,
   failed-reads.Learnt,
@@ -3620,7 +3620,7 @@ stmt-returns-2 : (t : ℕ) → stmt-lts.Need-returns-2 (
 ) (stmt-at t) stmt.Post
 stmt-returns-2 t c = search stmt-laws
 
--- src/walk.rt:50:1
+-- src/walk.rt:51:1
 stmt-same-length : (t : ℕ) → stmt-lts.Need-same-length (
   failed-reads.Asked,
   failed-reads.Learnt,
@@ -3631,7 +3631,7 @@ stmt-same-length : (t : ℕ) → stmt-lts.Need-same-length (
 ) (stmt-at t) stmt.Post
 stmt-same-length t c = search needs
 
--- src/walk.rt:50:1
+-- src/walk.rt:51:1
 stmt-returns-3 : (t : ℕ) → stmt-lts.Need-returns-3 (
   failed-reads.Asked,
   failed-reads.Learnt,
@@ -3642,7 +3642,7 @@ stmt-returns-3 : (t : ℕ) → stmt-lts.Need-returns-3 (
 ) (stmt-at t) stmt.Post
 stmt-returns-3 t c = search stmt-laws
 
--- src/walk.rt:50:1
+-- src/walk.rt:51:1
 stmt-returns-4 : (t : ℕ) → stmt-lts.Need-returns-4 (
   failed-reads.Asked,
   failed-reads.Learnt,
@@ -3653,7 +3653,7 @@ stmt-returns-4 : (t : ℕ) → stmt-lts.Need-returns-4 (
 ) (stmt-at t) stmt.Post
 stmt-returns-4 t c = search stmt-laws
 
--- src/walk.rt:101:9
+-- src/walk.rt:203:9
 while-loop-wanted-expr-requires : (t : ℕ) → while-loop-lts.Need-wanted-expr-requires (
   wanted-expr-reads.Asked,
   wanted-expr-reads.Learnt,
@@ -3668,7 +3668,7 @@ while-loop-wanted-expr-requires : (t : ℕ) → while-loop-lts.Need-wanted-expr-
 ) (while-loop-at t) while-loop.Post
 while-loop-wanted-expr-requires t c κs = search needs
 
--- src/walk.rt:103:8
+-- src/walk.rt:205:8
 while-loop-is-form-requires : (t : ℕ) → while-loop-lts.Need-is-form-requires (
   wanted-expr-reads.Asked,
   wanted-expr-reads.Learnt,
@@ -3683,7 +3683,7 @@ while-loop-is-form-requires : (t : ℕ) → while-loop-lts.Need-is-form-requires
 ) (while-loop-at t) while-loop.Post
 while-loop-is-form-requires t c κs = search needs
 
--- src/walk.rt:104:9
+-- src/walk.rt:206:9
 while-loop-same-length : (t : ℕ) → while-loop-lts.Need-same-length (
   wanted-expr-reads.Asked,
   wanted-expr-reads.Learnt,
@@ -3698,7 +3698,7 @@ while-loop-same-length : (t : ℕ) → while-loop-lts.Need-same-length (
 ) (while-loop-at t) while-loop.Post
 while-loop-same-length t c = search needs
 
--- src/walk.rt:104:9
+-- src/walk.rt:206:9
 while-loop-returns : (t : ℕ) → while-loop-lts.Need-returns (
   wanted-expr-reads.Asked,
   wanted-expr-reads.Learnt,
@@ -3713,7 +3713,7 @@ while-loop-returns : (t : ℕ) → while-loop-lts.Need-returns (
 ) (while-loop-at t) while-loop.Post
 while-loop-returns t c = search while-laws
 
--- src/walk.rt:106:9
+-- src/walk.rt:208:9
 while-loop-stmt-requires : (t : ℕ) → while-loop-lts.Need-stmt-requires (
   wanted-expr-reads.Asked,
   wanted-expr-reads.Learnt,
@@ -3728,7 +3728,7 @@ while-loop-stmt-requires : (t : ℕ) → while-loop-lts.Need-stmt-requires (
 ) (while-loop-at t) while-loop.Post
 while-loop-stmt-requires t c κs = search needs
 
--- src/walk.rt:107:9
+-- src/walk.rt:219:9
 while-loop-closing-requires : (t : ℕ) → while-loop-lts.Need-closing-requires (
   wanted-expr-reads.Asked,
   wanted-expr-reads.Learnt,
@@ -3743,7 +3743,7 @@ while-loop-closing-requires : (t : ℕ) → while-loop-lts.Need-closing-requires
 ) (while-loop-at t) while-loop.Post
 while-loop-closing-requires t c κs = search needs
 
--- src/walk.rt:108:5
+-- src/walk.rt:220:5
 while-loop-while-node-requires : (t : ℕ) → while-loop-lts.Need-while-node-requires (
   wanted-expr-reads.Asked,
   wanted-expr-reads.Learnt,
@@ -3758,7 +3758,7 @@ while-loop-while-node-requires : (t : ℕ) → while-loop-lts.Need-while-node-re
 ) (while-loop-at t) while-loop.Post
 while-loop-while-node-requires t c κs = search needs
 
--- src/walk.rt:98:1
+-- src/walk.rt:190:1
 while-loop-same-length-2 : (t : ℕ) → while-loop-lts.Need-same-length-2 (
   wanted-expr-reads.Asked,
   wanted-expr-reads.Learnt,
@@ -3773,7 +3773,7 @@ while-loop-same-length-2 : (t : ℕ) → while-loop-lts.Need-same-length-2 (
 ) (while-loop-at t) while-loop.Post
 while-loop-same-length-2 t c = search needs
 
--- src/walk.rt:98:1
+-- src/walk.rt:190:1
 while-loop-returns-2 : (t : ℕ) → while-loop-lts.Need-returns-2 (
   wanted-expr-reads.Asked,
   wanted-expr-reads.Learnt,
