@@ -18,7 +18,7 @@ use Rattle.semantics.specs.Environment.{Environment, NameSort}
 use Rattle.semantics.specs.Names.{typeOf, constantOf, constOf, asType, asValue}
 use Rattle.semantics.specs.Rules.{plain}
 use Rattle.semantics.specs.Stages.{wrong, unnamed, unfit, fits, ruled, named, staged}
-use Rattle.tables.specs.declared.Fault.the-variants as fault
+use Rattle.faults.specs.declared.Fault.the-variants as fault
 use Rattle.tables.specs.declared.Meaning.{Meaning}
 use Rattle.tables.specs.Scene.{Told, unknown, known, a-type, a-var, a-proc, a-value}
 use Rattle.shapes.specs.Heads.{atomOf, reservedAtom, atomType, atomConstant}

@@ -28,7 +28,7 @@ use Rattle.semantics.specs.Stages.{staged}
 use Rattle.semantics.specs.Syntax.{Constant, minus}
 use Rattle.semantics.specs.Trees.{word, form, Trees, end, _then_, Run, first, later, wordAt, stackAt}
 use Rattle.tables.specs.declared.Scope.{Scope}
-use Rattle.tables.specs.declared.Fault.the-variants.{Clear, Kind, Name, Form}
+use Rattle.faults.specs.declared.Fault.the-variants.{Clear, Kind, Name, Form}
 use Rattle.tables.specs.declared.Meaning.{Meaning}
 use Rattle.tables.specs.declared.Meaning.the-variants as meaning
 use Rattle.tables.specs.Scene.{meaningHere}

@@ -15,7 +15,7 @@ use Rattle.semantics.specs.Syntax.{Constant, minus}
 use Rattle.semantics.specs.Trees.{Tree, form, Trees, end, _then_, Run, first, later, stackAt}
 use Rattle.tables.specs.declared.Scope.{Scope}
 use Rattle.tables.specs.Scene.{Scene}
-use Rattle.parts.specs.Got.{isForm, faultOf}
+use Rattle.faults.specs.Got.{isForm, faultOf}
 use Rattle.parts.specs.Parts.{Before}
 use Rattle.shapes.specs.Parts.{rest, closed, numberIn, typeNameIn, constantIn}
 use Rattle.shapes.specs.declared.Atom.{Atom}

@@ -2,6 +2,7 @@
 use arith::Num;
 use arith::fit;
 use arith::neg;
+use faults::Fault;
 use lexis::words::Word;
 use parts::End;
 use parts::Part;
@@ -11,7 +12,6 @@ use shapes::Atom;
 use shapes::ExprHead;
 use shapes::atom_of;
 use shapes::expr_head;
-use tables::Fault;
 use tables::Meaning;
 use tables::Scope;
 use tables::meaning_of;

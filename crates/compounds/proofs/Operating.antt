@@ -10,13 +10,13 @@ use Rattle.kinds.specs.Functions.{ruling1}
 use Rattle.kinds.specs.declared.Side.{Side}
 use Rattle.kinds.specs.declared.Ruling.{Ruling}
 use Rattle.kinds.specs.declared.Ruling.the-variants.{Misfit, Fits}
-use Rattle.tables.specs.declared.Fault.{Fault}
-use Rattle.tables.specs.declared.Fault.the-variants.{Kind}
+use Rattle.faults.specs.declared.Fault.{Fault}
+use Rattle.faults.specs.declared.Fault.the-variants.{Kind}
 use Rattle.tables.specs.declared.Info.{Info}
 use Rattle.tables.specs.Descriptions.{infoOf}
 use Rattle.tables.specs.Sides.{sideIn}
-use Rattle.parts.specs.declared.Got.{Got}
-use Rattle.parts.specs.Got.{lowest, isClear, failedGot}
+use Rattle.faults.specs.declared.Got.{Got}
+use Rattle.faults.specs.Got.{lowest, isClear, failedGot}
 use Rattle.exprnodes.specs.Nodes.{Makes, nodeMade}
 use Rattle.exprnodes.proofs.Making.{if-clear, if-fault}
 use Rattle.compounds.specs.Operators.{ruledNode, operated, paired, lazily, shorted, ruledNode1, appliedClear, applied}

@@ -10,13 +10,13 @@ use lib.ListN.{getD}
 use Rattle.semantics.specs.Base as Base
 use Rattle.semantics.specs.Layout.{lay}
 use Rattle.semantics.proofs.LayoutRegions.{Same, lay-g}
-use Rattle.tables.specs.declared.Fault.{Fault}
-use Rattle.tables.specs.declared.Fault.the-variants.{Clear, Kind, Name, Form}
+use Rattle.faults.specs.declared.Fault.{Fault}
+use Rattle.faults.specs.declared.Fault.the-variants.{Clear, Kind, Name, Form}
 use Rattle.tables.specs.declared.Info.{Info}
 use Rattle.tables.specs.Descriptions.{infoOf, fieldPlace}
 use Rattle.tables.specs.Sides.{hostIn}
-use Rattle.parts.specs.declared.Got.{Got}
-use Rattle.parts.specs.Got.{lowest, isClear, failedGot}
+use Rattle.faults.specs.declared.Got.{Got}
+use Rattle.faults.specs.Got.{lowest, isClear, failedGot}
 use Rattle.exprnodes.specs.Nodes.{Makes, failedMade, nodeMade, ifClear}
 use Rattle.exprnodes.proofs.Making.{if-clear, if-fault}
 use Rattle.compounds.specs.Targets.{loaded, elementKind, element, indexed, fieldMade, selectedMade, Selects}

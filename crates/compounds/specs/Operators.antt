@@ -8,12 +8,12 @@ use Rattle.kinds.specs.Kinds.{ruling2}
 use Rattle.kinds.specs.Functions.{ruling1}
 use Rattle.kinds.specs.declared.Ruling.{Ruling}
 use Rattle.kinds.specs.declared.Ruling.the-variants.{Misfit, Fits}
-use Rattle.tables.specs.declared.Fault.the-variants.{Kind}
+use Rattle.faults.specs.declared.Fault.the-variants.{Kind}
 use Rattle.tables.specs.declared.Info.{Info}
 use Rattle.tables.specs.Descriptions.{infoOf}
 use Rattle.tables.specs.Sides.{sideIn}
-use Rattle.parts.specs.declared.Got.{Got}
-use Rattle.parts.specs.Got.{lowest}
+use Rattle.faults.specs.declared.Got.{Got}
+use Rattle.faults.specs.Got.{lowest}
 use Rattle.exprnodes.specs.Nodes.{Made, failedMade, nodeMade, ifClear}
 
 unfoldable pub ruledNode : Ruling → ℕ → ℕ → ℕ → ℕ → List ℕ → Made

@@ -8,12 +8,12 @@ use lib.ListN.{getD}
 use Rattle.semantics.specs.Base as Base
 use Rattle.semantics.specs.Layout.{lay}
 use Rattle.semantics.proofs.LayoutRegions.{Same}
-use Rattle.tables.specs.declared.Fault.the-variants.{Kind, Name}
+use Rattle.faults.specs.declared.Fault.the-variants.{Kind, Name}
 use Rattle.tables.specs.declared.Info.{Info}
 use Rattle.tables.specs.Descriptions.{infoOf, fieldPlace}
 use Rattle.tables.specs.Sides.{hostIn}
-use Rattle.parts.specs.declared.Got.{Got}
-use Rattle.parts.specs.Got.{lowest}
+use Rattle.faults.specs.declared.Got.{Got}
+use Rattle.faults.specs.Got.{lowest}
 use Rattle.exprnodes.specs.Nodes.{Made, failedMade, nodeMade, Makes, ifClear}
 
 -- the cells at a computed place

@@ -1,13 +1,13 @@
 // The nodes of operators and functions, from the answers for their sides.
 use exprnodes::nodes::node;
+use faults::Fault;
+use faults::Got;
+use faults::failed;
+use faults::is_clear;
+use faults::lowest;
 use kinds::Ruling;
 use kinds::one_sided;
 use kinds::two_sided;
-use parts::Got;
-use parts::failed;
-use parts::is_clear;
-use parts::lowest;
-use tables::Fault;
 use tables::Info;
 use tables::describe;
 use tables::side_of;

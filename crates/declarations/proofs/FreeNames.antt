@@ -24,12 +24,12 @@ use Rattle.semantics.specs.Words as Words
 use Rattle.semantics.specs.Words.{worded, wordedAll}
 use Rattle.semantics.proofs.Reading.{none-word}
 use Rattle.tables.specs.declared.Scope.{Scope}
-use Rattle.tables.specs.declared.Fault.{Fault}
-use Rattle.tables.specs.declared.Fault.the-variants.{Clear, Kind, Name, Form}
+use Rattle.faults.specs.declared.Fault.{Fault}
+use Rattle.faults.specs.declared.Fault.the-variants.{Clear, Kind, Name, Form}
 use Rattle.tables.specs.declared.Meaning.{Meaning}
 use Rattle.tables.specs.declared.Meaning.the-variants as meaning
 use Rattle.tables.specs.Scene.{Scene, meaningHere}
-use Rattle.parts.specs.Got.{isForm, lowest, faultOf}
+use Rattle.faults.specs.Got.{isForm, lowest, faultOf}
 use Rattle.parts.specs.Parts.{Before, LeafAt, FormAt, ShutAt, Stands, Shuts}
 use Rattle.parts.specs.declared.Part.{Part}
 use Rattle.parts.specs.declared.Part.the-variants as part

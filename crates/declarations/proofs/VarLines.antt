@@ -31,16 +31,16 @@ use Rattle.semantics.proofs.LinesKeep.{Keeps, line-keeps}
 use Rattle.worklist.specs.Laid.{Laid}
 use Rattle.symbols.specs.Keys.{keyed}
 use Rattle.tables.proofs.Cells.{keeps-cells}
-use Rattle.tables.specs.declared.Fault.{Fault}
-use Rattle.tables.specs.declared.Fault.the-variants.{Clear, Kind, Form}
-use Rattle.tables.specs.declared.Fault.the-variants as fault
+use Rattle.faults.specs.declared.Fault.{Fault}
+use Rattle.faults.specs.declared.Fault.the-variants.{Clear, Kind, Form}
+use Rattle.faults.specs.declared.Fault.the-variants as fault
 use Rattle.tables.specs.declared.Info.{Info}
 use Rattle.tables.specs.declared.Meaning.{Meaning}
 use Rattle.tables.specs.Descriptions.{infoOf}
 use Rattle.tables.specs.Scene.{Scene, Means, a-type, a-var, a-proc, a-value, meaningBy, Told, unknown as unmeant, known, meaningHere}
 use Rattle.tables.proofs.Kept.{scene-kept}
 use Rattle.tables.proofs.Telling.{meant, size-told}
-use Rattle.parts.specs.Got.{isClear, lowest, faultOf}
+use Rattle.faults.specs.Got.{isClear, lowest, faultOf}
 use Rattle.shapes.specs.Parts.{partOf, rest, closed, nameIn, typeNameIn}
 use Rattle.shapes.proofs.Walks.{bind-cong, bind-assoc, two-then}
 use Rattle.atoms.specs.declared.Typed.{Typed}

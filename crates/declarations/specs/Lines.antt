@@ -17,8 +17,8 @@ use Rattle.semantics.specs.Syntax.{LineForm}
 use Rattle.semantics.specs.Trees.{Trees, Run, list}
 use Rattle.semantics.specs.Words.{wordedAll}
 use Rattle.semantics.proofs.LayoutRegions.{Same}
-use Rattle.tables.specs.declared.Fault.{Fault}
-use Rattle.parts.specs.Got.{faultOf}
+use Rattle.faults.specs.declared.Fault.{Fault}
+use Rattle.faults.specs.Got.{faultOf}
 use Rattle.declarations.specs.State.{Holds}
 use Rattle.declarations.specs.declared.State.{State}
 use Rattle.declarations.specs.declared.Lined.{Lined}

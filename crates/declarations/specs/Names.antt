@@ -14,12 +14,12 @@ use Rattle.semantics.specs.Stages.{staged}
 use Rattle.semantics.specs.Syntax.{TypeName, Constant}
 use Rattle.semantics.specs.Trees.{Trees, Run, first, later, wordAt, stackAt}
 use Rattle.tables.specs.declared.Scope.{Scope}
-use Rattle.tables.specs.declared.Fault.{Fault}
-use Rattle.tables.specs.declared.Fault.the-variants.{Name}
+use Rattle.faults.specs.declared.Fault.{Fault}
+use Rattle.faults.specs.declared.Fault.the-variants.{Name}
 use Rattle.tables.specs.declared.Meaning.{Meaning}
 use Rattle.tables.specs.declared.Meaning.the-variants as meaning
 use Rattle.tables.specs.Scene.{Scene}
-use Rattle.parts.specs.Got.{isForm, lowest}
+use Rattle.faults.specs.Got.{isForm, lowest}
 use Rattle.parts.specs.Parts.{LeafAt}
 use Rattle.shapes.specs.Parts.{rest, closed, nameIn, typeNameIn, constantIn}
 use Rattle.shapes.specs.declared.Atom.{Atom}

@@ -12,7 +12,7 @@ use Rattle.semantics.specs.Layout.{lay}
 use Rattle.semantics.specs.Syntax.{LineForm, varLine}
 use Rattle.semantics.specs.Trees.{Trees, Run, first, wordAt, stackAt}
 use Rattle.tables.specs.Descriptions.{infoOf}
-use Rattle.tables.specs.declared.Fault.the-variants.{Clear}
+use Rattle.faults.specs.declared.Fault.the-variants.{Clear}
 use Rattle.shapes.specs.Parts.{rest, closed, typeNameIn}
 use Rattle.declarations.specs.Lines.{linedBy, GivesLine}
 use Rattle.declarations.specs.State.{withNames, withVar}

@@ -1,19 +1,19 @@
 // What is held of the lines so far, the parts that declaring lines share, and the lines that declare variables.
 use atoms::Typed;
 use atoms::type_name;
+use faults::Fault;
+use faults::is_clear;
+use faults::is_form;
+use faults::lowest;
 use lexis::words::Word;
 use parts::End;
 use parts::Part;
 use parts::end_at;
-use parts::is_clear;
-use parts::is_form;
-use parts::lowest;
 use parts::part_at;
 use shapes::Atom;
 use shapes::atom_of;
 use symbols::declare;
 use symbols::keys::name_number;
-use tables::Fault;
 use tables::Meaning;
 use tables::Scope;
 use tables::describe;

@@ -29,12 +29,12 @@ use Rattle.semantics.proofs.LayoutRegions.{Same, Room, Has, lay-g, lay-l}
 use Rattle.symbols.specs.Keys.{keyed}
 use Rattle.symbols.proofs.Chained.{called-keyed}
 use Rattle.tables.proofs.Cells.{keeps-cells}
-use Rattle.tables.specs.declared.Fault.{Fault}
-use Rattle.tables.specs.declared.Fault.the-variants.{Clear, Form}
-use Rattle.tables.specs.declared.Fault.the-variants as fault
+use Rattle.faults.specs.declared.Fault.{Fault}
+use Rattle.faults.specs.declared.Fault.the-variants.{Clear, Form}
+use Rattle.faults.specs.declared.Fault.the-variants as fault
 use Rattle.tables.specs.Descriptions.{infoOf, shapeNumber, Tells, EndsBelow}
 use Rattle.tables.specs.Scene.{Scene}
-use Rattle.parts.specs.Got.{isForm, isClear, faultOf}
+use Rattle.faults.specs.Got.{isForm, isClear, faultOf}
 use Rattle.shapes.specs.Parts.{closed}
 use Rattle.atoms.proofs.Telling.{fits-inj}
 use Rattle.declarations.specs.State.{scoped, Holds}

@@ -24,8 +24,8 @@ use Rattle.parts.specs.Parts.{ShutAt, Shuts}
 use Rattle.parts.specs.declared.End.{End}
 use Rattle.parts.specs.declared.End.the-variants as ending
 use Rattle.tables.specs.declared.Scope.{Scope}
-use Rattle.tables.specs.declared.Fault.{Fault}
-use Rattle.tables.specs.declared.Fault.the-variants as fault
+use Rattle.faults.specs.declared.Fault.{Fault}
+use Rattle.faults.specs.declared.Fault.the-variants as fault
 use Rattle.tables.specs.declared.Meaning.{Meaning}
 use Rattle.tables.specs.Scene.{Scene, Told, unknown, known, a-type, a-var, a-proc, a-value, meaningHere}
 use Rattle.tables.proofs.Telling.{meant}

@@ -27,12 +27,12 @@ use Rattle.symbols.specs.Keys.{keyed}
 use Rattle.symbols.specs.Chain.{entries, Called}
 use Rattle.symbols.proofs.Chained.{one-name, one-entry, called-keyed}
 use Rattle.tables.specs.declared.Scope.{Scope}
-use Rattle.tables.specs.declared.Fault.{Fault}
-use Rattle.tables.specs.declared.Fault.the-variants as fault
+use Rattle.faults.specs.declared.Fault.{Fault}
+use Rattle.faults.specs.declared.Fault.the-variants as fault
 use Rattle.tables.specs.declared.Info.{Info}
 use Rattle.tables.specs.Scene.{Means, a-value, meaningBy, meaningAt}
 use Rattle.tables.specs.Descriptions.{ordinalInfo}
-use Rattle.parts.specs.Got.{isForm}
+use Rattle.faults.specs.Got.{isForm}
 use Rattle.enumlines.specs.Enums.{namesIn, counted}
 use Rattle.declarations.specs.State.{scoped}
 use Rattle.declarations.specs.Lines.{linedBy}

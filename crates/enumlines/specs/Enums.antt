@@ -15,8 +15,8 @@ use Rattle.semantics.specs.Syntax.{TypeForm}
 use Rattle.semantics.specs.Trees.{Trees, list, end, _then_, Run, first, later, wordAt, stackAt}
 use Rattle.semantics.specs.Words.{worded, wordedAll}
 use Rattle.tables.specs.declared.Scope.{Scope}
-use Rattle.tables.specs.declared.Fault.{Fault}
-use Rattle.tables.specs.declared.Fault.the-variants as fault
+use Rattle.faults.specs.declared.Fault.{Fault}
+use Rattle.faults.specs.declared.Fault.the-variants as fault
 use Rattle.tables.specs.declared.Meaning.{Meaning}
 use Rattle.tables.specs.declared.Meaning.the-variants as meaning
 use Rattle.tables.specs.Scene.{Scene}

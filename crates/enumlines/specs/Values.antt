@@ -13,11 +13,11 @@ use Rattle.semantics.specs.Trees.{first, stackAt}
 use Rattle.semantics.proofs.LayoutRegions.{Same, Room}
 use Rattle.symbols.specs.Keys.{keyed}
 use Rattle.symbols.specs.Chain.{Called}
-use Rattle.tables.specs.declared.Fault.{Fault}
-use Rattle.tables.specs.declared.Fault.the-variants as fault
+use Rattle.faults.specs.declared.Fault.{Fault}
+use Rattle.faults.specs.declared.Fault.the-variants as fault
 use Rattle.tables.specs.declared.Info.{Info}
 use Rattle.tables.specs.Descriptions.{ordinalInfo}
-use Rattle.parts.specs.Got.{isForm}
+use Rattle.faults.specs.Got.{isForm}
 use Rattle.enumlines.specs.Enums.{namesIn, counted}
 use Rattle.declarations.specs.Lines.{linedBy}
 use Rattle.typelines.specs.TypeLines.{infoNumbers, typeState}

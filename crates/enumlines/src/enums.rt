@@ -1,17 +1,17 @@
 // The names of an enumeration.
 use declarations::Naming;
 use declarations::name_at;
+use faults::Fault;
 use parts::End;
 use parts::end_at;
 use repeats::blocks::differ_too;
 use symbols::same_word;
-use tables::Fault;
 use tables::Meaning;
 use tables::Scope;
 use tables::meaning_of;
 ghost use mathlib.Core.Path.{_≡_};
 ghost use Rattle.enumlines.specs.Enums.{Listed, isUnknown, GivesNew, GivesFresh, counted, countedBy, EndsNames, NamesTold};
-ghost use Rattle.tables.specs.declared.Fault.the-variants.{Clear, Name};
+ghost use Rattle.faults.specs.declared.Fault.the-variants.{Clear, Name};
 ghost use Rattle.repeats.specs.Leads.{leadsAt};
 ghost use Rattle.repeats.specs.Blocks.{apart};
 ghost use mathlib.Core.Bool.{cond, _&&_};

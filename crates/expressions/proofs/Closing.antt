@@ -11,11 +11,12 @@ use Rattle.semantics.specs.Stages.{Staged, wrong, unnamed, unfit, fits, ruled, 
 use Rattle.semantics.specs.Trees.{Tree, Trees, end, _then_, Run, first, later, stackAt}
 use Rattle.semantics.proofs.LayoutRegions.{Same, lay-g}
 use Rattle.shapes.specs.Parts.{rest, closed}
-use Rattle.tables.specs.declared.Fault.{Fault}
-use Rattle.tables.specs.declared.Fault.the-variants.{Clear, Kind, Name, Form}
-use Rattle.parts.specs.declared.Got.{Got}
-use Rattle.parts.specs.Got.{lowest, isForm, faultOf, failedGot, pastBracket, Told}
-use Rattle.parts.specs.Parts.{Before, ShutAt, Closes, shut, more}
+use Rattle.faults.specs.declared.Fault.{Fault}
+use Rattle.faults.specs.declared.Fault.the-variants.{Clear, Kind, Name, Form}
+use Rattle.faults.specs.declared.Got.{Got}
+use Rattle.faults.specs.Got.{lowest, isForm, faultOf, failedGot, pastBracket, Told}
+use Rattle.parts.specs.Parts.{Before, ShutAt}
+use Rattle.exprnodes.specs.Bracket.{Closes, shut, more}
 use Rattle.exprnodes.specs.Nodes.{Made, Makes, failedMade, nodeMade, ifClear}
 use Rattle.expressions.specs.Walks.{Moves, Leaves}
 use Rattle.expressions.proofs.Joining.{told-wrong}

@@ -18,11 +18,11 @@ use Rattle.shapes.specs.Parts.{rest, exprIn, targetIn, targetBy, partOf}
 use Rattle.shapes.proofs.Heads.{expr-head-is, expr-word, target-word}
 use Rattle.shapes.proofs.Expressions.{expr-form, expr-end, expr-zero, expr-empty, expr-headless, target-form, target-end, target-zero, target-empty, target-headless}
 use Rattle.tables.specs.declared.Scope.{Scope}
-use Rattle.tables.specs.declared.Fault.the-variants.{Form}
-use Rattle.parts.specs.declared.Got.{Got}
+use Rattle.faults.specs.declared.Fault.the-variants.{Form}
+use Rattle.faults.specs.declared.Got.{Got}
 use Rattle.parts.specs.declared.Part.{Part}
 use Rattle.parts.specs.declared.Part.the-variants as part
-use Rattle.parts.specs.Got.{isForm, failedGot}
+use Rattle.faults.specs.Got.{isForm, failedGot}
 use Rattle.parts.specs.Parts.{Before, LeafAt, FormAt, ShutAt, Stands}
 use Rattle.expressions.specs.Walks.{Moves, Leaves, ExprTold, TargetTold, GivesExpr, GivesTarget, formIn, GivesForm, GivesPlace, GivesInner, GivesInnerPlace, GivesWord, GivesVar}
 use Rattle.expressions.proofs.Closing.{same-refl}

@@ -6,10 +6,10 @@ use mathlib.Core.Option.{Option, none, some}
 use Prim.Native.Nat.{ℕ}
 use Rattle.semantics.specs.Layout.{Out, out}
 use Rattle.semantics.specs.Stages.{Staged, wrong, unnamed, unfit, fits, join, onFits, orUnfit, keptIf, unknown}
-use Rattle.tables.specs.declared.Fault.{Fault}
-use Rattle.tables.specs.declared.Fault.the-variants.{Clear, Kind, Name, Form}
-use Rattle.parts.specs.declared.Got.{Got}
-use Rattle.parts.specs.Got.{lowest, isForm, faultOf, failedGot, Told}
+use Rattle.faults.specs.declared.Fault.{Fault}
+use Rattle.faults.specs.declared.Fault.the-variants.{Clear, Kind, Name, Form}
+use Rattle.faults.specs.declared.Got.{Got}
+use Rattle.faults.specs.Got.{lowest, isForm, faultOf, failedGot, Told}
 use Rattle.exprnodes.specs.Nodes.{Made, Makes, failedMade, ifClear}
 
 -- ---- a fault is no fit

@@ -27,8 +27,8 @@ use Rattle.semantics.proofs.OnePassExprs.{member-staged, members-staged, member
 use Rattle.worklist.specs.Laid.{Laid}
 use Rattle.shapes.specs.Parts.{rest, exprIn, exprsIn, partOf, typeNameIn}
 use Rattle.tables.specs.declared.Scope.{Scope}
-use Rattle.tables.specs.declared.Fault.{Fault}
-use Rattle.tables.specs.declared.Fault.the-variants.{Clear, Kind, Name, Form}
+use Rattle.faults.specs.declared.Fault.{Fault}
+use Rattle.faults.specs.declared.Fault.the-variants.{Clear, Kind, Name, Form}
 use Rattle.tables.specs.Descriptions.{infoOf}
 use Rattle.tables.specs.Scene.{Scene}
 use Rattle.tables.specs.Sides.{hostIn}
@@ -38,10 +38,10 @@ use Rattle.atoms.specs.declared.Typed.{Typed}
 use Rattle.atoms.specs.Contracts.{TypeTold, GivesType}
 use Rattle.shapes.specs.declared.ExprHead.the-variants as EH
 use Rattle.shapes.proofs.Expressions.{members-parts}
-use Rattle.parts.specs.declared.Got.{Got}
+use Rattle.faults.specs.declared.Got.{Got}
 use Rattle.parts.specs.declared.End.{End}
 use Rattle.parts.specs.declared.End.the-variants as ending
-use Rattle.parts.specs.Got.{lowest, isForm, faultOf, failedGot, Told}
+use Rattle.faults.specs.Got.{lowest, isForm, faultOf, failedGot, Told}
 use Rattle.parts.specs.Parts.{Before, Shuts}
 use Rattle.exprnodes.specs.Nodes.{Made, Makes, failedMade, nodeMade, ifClear}
 use Rattle.expressions.specs.Walks.{Moves, ExprTold, GivesExpr, formIn, GivesForm}

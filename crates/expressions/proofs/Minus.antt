@@ -20,12 +20,13 @@ use Rattle.shapes.specs.declared.ExprHead.the-variants as EH
 use Rattle.shapes.specs.Parts.{rest, closed, exprIn, numberIn}
 use Rattle.shapes.proofs.Expressions.{minus-one, minus-two, one-part, two-parts}
 use Rattle.tables.specs.declared.Scope.{Scope}
-use Rattle.tables.specs.declared.Fault.the-variants.{Form}
-use Rattle.parts.specs.declared.Got.{Got}
+use Rattle.faults.specs.declared.Fault.the-variants.{Form}
+use Rattle.faults.specs.declared.Got.{Got}
 use Rattle.parts.specs.declared.End.{End}
 use Rattle.parts.specs.declared.End.the-variants as ending
-use Rattle.parts.specs.Got.{isForm, failedGot}
-use Rattle.parts.specs.Parts.{Closes, Shuts}
+use Rattle.faults.specs.Got.{isForm, failedGot}
+use Rattle.parts.specs.Parts.{Shuts}
+use Rattle.exprnodes.specs.Bracket.{Closes}
 use Rattle.exprleaves.specs.declared.words.Alone.{Alone}
 use Rattle.exprleaves.specs.declared.words.Alone.the-variants as alone
 use Rattle.exprnodes.specs.Nodes.{Makes, literalMade}

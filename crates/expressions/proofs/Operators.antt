@@ -37,16 +37,17 @@ use Rattle.shapes.specs.Heads.{exprHeadMeant}
 use Rattle.shapes.specs.Parts.{rest, closed, exprIn}
 use Rattle.shapes.proofs.Expressions.{two-parts, one-part}
 use Rattle.tables.specs.declared.Scope.{Scope}
-use Rattle.tables.specs.declared.Fault.the-variants.{Clear, Kind, Name, Form}
+use Rattle.faults.specs.declared.Fault.the-variants.{Clear, Kind, Name, Form}
 use Rattle.tables.specs.declared.Info.{Info}
 use Rattle.tables.specs.Descriptions.{infoOf}
 use Rattle.tables.specs.Scene.{Scene}
 use Rattle.tables.specs.Sides.{sideIn}
 use Rattle.tables.proofs.Kept.{scene-kept}
 use Rattle.tables.proofs.Telling.{kinded, side-in, low-told, high-told}
-use Rattle.parts.specs.declared.Got.{Got}
-use Rattle.parts.specs.Got.{lowest, isForm, faultOf, failedGot, Told}
-use Rattle.parts.specs.Parts.{Before, Closes}
+use Rattle.faults.specs.declared.Got.{Got}
+use Rattle.faults.specs.Got.{lowest, isForm, faultOf, failedGot, Told}
+use Rattle.parts.specs.Parts.{Before}
+use Rattle.exprnodes.specs.Bracket.{Closes}
 use Rattle.exprnodes.specs.Nodes.{Made, Makes, failedMade, nodeMade, ifClear}
 use Rattle.compounds.specs.Operators.{ruledNode, operated, paired, lazily, shorted, ruledNode1, appliedClear, applied}
 use Rattle.expressions.specs.Sides.{GivesSecond}

@@ -31,17 +31,18 @@ use Rattle.shapes.specs.declared.ExprHead.the-variants as EH
 use Rattle.shapes.specs.Parts.{rest, closed, exprIn, targetIn, nameIn, targetBy}
 use Rattle.shapes.proofs.Expressions.{at-read, dot-read}
 use Rattle.tables.specs.declared.Scope.{Scope}
-use Rattle.tables.specs.declared.Fault.{Fault}
-use Rattle.tables.specs.declared.Fault.the-variants.{Clear, Kind, Name, Form}
+use Rattle.faults.specs.declared.Fault.{Fault}
+use Rattle.faults.specs.declared.Fault.the-variants.{Clear, Kind, Name, Form}
 use Rattle.tables.specs.declared.Info.{Info}
 use Rattle.tables.specs.Descriptions.{infoOf, integerInfo, fieldPlace}
 use Rattle.tables.specs.Scene.{Scene}
 use Rattle.tables.specs.Sides.{hostIn}
 use Rattle.tables.proofs.Kept.{scene-kept}
 use Rattle.tables.proofs.Telling.{shape-array, shape-record, low-told, high-told, size-told, index-told, element-told, fields-short, field-told, FieldFound, no-field, a-field, host-in}
-use Rattle.parts.specs.declared.Got.{Got}
-use Rattle.parts.specs.Got.{lowest, isForm, faultOf, failedGot, Told}
-use Rattle.parts.specs.Parts.{Before, Closes}
+use Rattle.faults.specs.declared.Got.{Got}
+use Rattle.faults.specs.Got.{lowest, isForm, faultOf, failedGot, Told}
+use Rattle.parts.specs.Parts.{Before}
+use Rattle.exprnodes.specs.Bracket.{Closes}
 use Rattle.exprnodes.specs.Nodes.{Made, Makes, failedMade, nodeMade, ifClear}
 use Rattle.compounds.specs.Targets.{loaded, elementKind, element, indexed, fieldMade, selectedMade, Selects}
 use Rattle.exprleaves.specs.declared.fields.Sole.{Sole}

@@ -42,8 +42,8 @@ use Rattle.shapes.specs.declared.Atom.the-variants as AT
 use Rattle.shapes.specs.declared.ExprHead.the-variants.{Bound, Minus}
 use Rattle.shapes.proofs.Expressions.{bound-parts, minus-number}
 use Rattle.tables.specs.declared.Scope.{Scope}
-use Rattle.tables.specs.declared.Fault.{Fault}
-use Rattle.tables.specs.declared.Fault.the-variants.{Kind, Name, Form}
+use Rattle.faults.specs.declared.Fault.{Fault}
+use Rattle.faults.specs.declared.Fault.the-variants.{Kind, Name, Form}
 use Rattle.tables.specs.declared.Meaning.{Meaning}
 use Rattle.tables.specs.declared.Meaning.the-variants as meaning
 use Rattle.tables.specs.Descriptions.{infoOf}
@@ -53,9 +53,9 @@ use Rattle.tables.specs.Sides.{hostIn}
 use Rattle.tables.proofs.Telling.{meant, size-told, host-in, low-told, high-told, shape-ordinal}
 use Rattle.atoms.specs.declared.Typed.{Typed}
 use Rattle.atoms.specs.Contracts.{TypeTold, GivesType}
-use Rattle.parts.specs.declared.Got.{Got}
-use Rattle.parts.specs.Got.{isForm, failedGot, Told}
-use Rattle.parts.specs.Parts.{Closes}
+use Rattle.faults.specs.declared.Got.{Got}
+use Rattle.faults.specs.Got.{isForm, failedGot, Told}
+use Rattle.exprnodes.specs.Bracket.{Closes}
 use Rattle.exprleaves.specs.declared.words.Alone.the-variants as alone
 use Rattle.exprnodes.specs.Nodes.{Made, Makes, failedMade, nodeMade, ifClear, literalMade}
 use Rattle.expressions.specs.Walks.{ExprTold, TypeIs, TargetTold, GivesForm, GivesWord, GivesVar, formIn}

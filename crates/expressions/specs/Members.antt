@@ -12,8 +12,8 @@ use Rattle.semantics.proofs.LayoutRegions.{Same}
 use Rattle.shapes.specs.Parts.{exprsIn}
 use Rattle.tables.specs.declared.Scope.{Scope}
 use Rattle.tables.specs.Scene.{Scene}
-use Rattle.parts.specs.declared.Got.{Got}
-use Rattle.parts.specs.Got.{isForm, faultOf}
+use Rattle.faults.specs.declared.Got.{Got}
+use Rattle.faults.specs.Got.{isForm, faultOf}
 
 -- how many parts there are
 unfoldable pub many : Trees Run → ℕ

@@ -2,7 +2,7 @@
 use mathlib.Core.List.{List}
 use Prim.Native.Nat.{ℕ}
 use Rattle.shapes.specs.declared.ExprHead.the-variants.{Minus}
-use Rattle.parts.specs.declared.Got.{Got}
+use Rattle.faults.specs.declared.Got.{Got}
 use Rattle.exprleaves.specs.declared.words.Alone.the-variants.{No}
 use Rattle.expressions.specs.Walks.{GivesForm}
 use Rattle.exprleaves.specs.Words.{StandsAlone}

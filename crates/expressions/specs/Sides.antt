@@ -1,8 +1,8 @@
 -- The second of two sides of an operator, and the node of both.
 use mathlib.Core.List.{List}
 use Prim.Native.Nat.{ℕ}
-use Rattle.parts.specs.declared.Got.{Got}
-use Rattle.parts.specs.Parts.{Closes}
+use Rattle.faults.specs.declared.Got.{Got}
+use Rattle.exprnodes.specs.Bracket.{Closes}
 use Rattle.exprnodes.specs.Nodes.{Makes}
 use Rattle.compounds.specs.Operators.{paired}
 use Rattle.expressions.specs.Walks.{GivesExpr}

@@ -24,8 +24,8 @@ use Rattle.shapes.specs.Heads.{exprHeadMeant, atomExpr, atomTarget, atomOf}
 use Rattle.shapes.specs.Parts.{exprIn, targetIn, targetBy}
 use Rattle.tables.specs.declared.Scope.{Scope}
 use Rattle.tables.specs.Scene.{Scene}
-use Rattle.parts.specs.declared.Got.{Got}
-use Rattle.parts.specs.Got.{isForm, Told}
+use Rattle.faults.specs.declared.Got.{Got}
+use Rattle.faults.specs.Got.{isForm, Told}
 use Rattle.parts.specs.Parts.{Before}
 
 -- ---- how a walk moves, and what it leaves of the working list

@@ -7,13 +7,13 @@ use borrow.Author.Tests.{eq-eqb, ne-eqb}
 use lib.ListN.{set}
 use Rattle.semantics.specs.Layout.{lay, link}
 use Rattle.worklist.specs.Laid.{Laid}
-use Rattle.tables.specs.declared.Fault.{Fault}
-use Rattle.tables.specs.declared.Fault.the-variants.{Kind}
+use Rattle.faults.specs.declared.Fault.{Fault}
+use Rattle.faults.specs.declared.Fault.the-variants.{Kind}
 use Rattle.tables.specs.declared.Info.{Info}
 use Rattle.tables.specs.Descriptions.{infoOf}
 use Rattle.tables.specs.Sides.{hostIn}
-use Rattle.parts.specs.declared.Got.{Got}
-use Rattle.parts.specs.Got.{lowest, isClear, failedGot}
+use Rattle.faults.specs.declared.Got.{Got}
+use Rattle.faults.specs.Got.{lowest, isClear, failedGot}
 use Rattle.exprnodes.specs.Nodes.{Makes, nodeMade}
 use Rattle.exprleaves.specs.Links.{linked, setNode, setMade}
 use Rattle.exprnodes.proofs.Making.{if-clear, if-fault}

@@ -27,19 +27,19 @@ use Rattle.shapes.specs.declared.Atom.the-variants as AT
 use Rattle.shapes.proofs.Heads.{number-word}
 use Rattle.shapes.proofs.Expressions.{number-form}
 use Rattle.semantics.specs.Base.{_>>=_}
-use Rattle.tables.specs.declared.Fault.{Fault}
-use Rattle.tables.specs.declared.Fault.the-variants.{Clear, Kind, Name, Form}
+use Rattle.faults.specs.declared.Fault.{Fault}
+use Rattle.faults.specs.declared.Fault.the-variants.{Clear, Kind, Name, Form}
 use Rattle.tables.specs.declared.Info.{Info}
 use Rattle.tables.specs.declared.Meaning.{Meaning}
 use Rattle.tables.specs.declared.Meaning.the-variants as meaning
 use Rattle.tables.specs.Descriptions.{infoOf}
 use Rattle.tables.specs.Sides.{hostIn}
-use Rattle.parts.specs.declared.Got.{Got}
+use Rattle.faults.specs.declared.Got.{Got}
 use Rattle.parts.specs.declared.End.{End}
 use Rattle.parts.specs.declared.End.the-variants as ending
 use Rattle.parts.specs.declared.Part.{Part}
 use Rattle.parts.specs.declared.Part.the-variants as part
-use Rattle.parts.specs.Got.{failedGot}
+use Rattle.faults.specs.Got.{failedGot}
 use Rattle.parts.specs.Parts.{Before, LeafAt, FormAt, ShutAt, Stands, Shuts}
 use Rattle.exprleaves.specs.declared.words.Alone.{Alone}
 use Rattle.exprleaves.specs.declared.words.Alone.the-variants as alone

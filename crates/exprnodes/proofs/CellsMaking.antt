@@ -6,7 +6,7 @@ use Prim.Native.Nat.{ℕ, _+_, _*_, _<_, _≤_}
 use borrow.Author.Tests.{eq-eqb, ne-eqb, lt-ltb, le-ltb}
 use Rattle.semantics.specs.Layout.{lay}
 use Rattle.tables.specs.declared.Info.{Info}
-use Rattle.parts.specs.declared.Got.{Got}
+use Rattle.faults.specs.declared.Got.{Got}
 use Rattle.exprnodes.specs.Nodes.{nodeMade, Makes}
 use Rattle.exprnodes.specs.Cells.{spanOf, cellsMade, endBits}
 

@@ -1,3 +1,4 @@
 pub mod Making
 pub mod CellsMaking
 pub mod MembersMaking
+pub mod Closing

@@ -15,10 +15,10 @@ use Rattle.arith.specs.Integers.{inside, least, most}
 use Rattle.sets.specs.Sets.{patternOf}
 use Rattle.semantics.specs.Layout.{lay, bits}
 use Rattle.worklist.specs.Laid.{Laid}
-use Rattle.tables.specs.declared.Fault.{Fault}
-use Rattle.tables.specs.declared.Fault.the-variants.{Clear, Kind, Name, Form}
-use Rattle.parts.specs.declared.Got.{Got}
-use Rattle.parts.specs.Got.{isClear, failedGot}
+use Rattle.faults.specs.declared.Fault.{Fault}
+use Rattle.faults.specs.declared.Fault.the-variants.{Clear, Kind, Name, Form}
+use Rattle.faults.specs.declared.Got.{Got}
+use Rattle.faults.specs.Got.{isClear, failedGot}
 use Rattle.exprnodes.specs.Nodes.{Made, nodeMade, Makes, IsBits, ifClear, literalMade}
 
 -- a signed local as it is read back from its bits

@@ -1,3 +1,4 @@
 pub mod Nodes
 pub mod Cells
 pub mod Members
+pub mod Bracket

@@ -6,10 +6,10 @@ use Prim.Native.Nat.{ℕ}
 use lib.IntN.{ℤ}
 use Rattle.arith.specs.Integers.{inside, least, most}
 use Rattle.semantics.specs.Layout.{Out, lay, bits}
-use Rattle.tables.specs.declared.Fault.{Fault}
-use Rattle.tables.specs.declared.Fault.the-variants.{Clear, Kind, Name, Form}
-use Rattle.parts.specs.declared.Got.{Got}
-use Rattle.parts.specs.Got.{failedGot, nodeGot}
+use Rattle.faults.specs.declared.Fault.{Fault}
+use Rattle.faults.specs.declared.Fault.the-variants.{Clear, Kind, Name, Form}
+use Rattle.faults.specs.declared.Got.{Got}
+use Rattle.faults.specs.Got.{failedGot, nodeGot}
 
 -- an answer, and the working list that comes with it
 pub record Made : Type 0 where

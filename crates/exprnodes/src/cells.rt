@@ -1,6 +1,6 @@
 // The cells of a variable, and an end of a type: nodes and numbers that need no table.
 use crate::nodes::node;
-use parts::Got;
+use faults::Got;
 use tables::Info;
 ghost use mathlib.Core.Path.{_≡_};
 ghost use Rattle.exprnodes.specs.Nodes.{Makes};

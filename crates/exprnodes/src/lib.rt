@@ -1,4 +1,5 @@
-// What the leaves of the walk over expressions are made of: a node's code, constants, cells, and a member's fault.
+// What the leaves of the walk over expressions are made of: a node's code, constants, cells, a member's fault, and a form's closing bracket.
+pub mod bracket;
 pub mod cells;
 pub mod members;
 pub mod nodes;

@@ -1,7 +1,7 @@
 // A member's own fault.
-use tables::Fault;
+use faults::Fault;
 ghost use mathlib.Core.Path.{_≡_};
-ghost use Rattle.tables.specs.declared.Fault.the-variants.{Clear};
+ghost use Rattle.faults.specs.declared.Fault.the-variants.{Clear};
 ghost use Rattle.exprnodes.specs.Members.{memberFault};
 
 // A member's own fault.

@@ -1,9 +1,9 @@
 // A node of the code from its numbers, and constants.
 use arith::in_range;
-use parts::Got;
-use parts::failed;
+use faults::Fault;
+use faults::Got;
+use faults::failed;
 use sets::pattern;
-use tables::Fault;
 use worklist::lay;
 ghost use Rattle.semantics.specs.Layout.{lay as laid};
 ghost use Rattle.exprnodes.specs.Nodes.{Makes, IsBits, nodeMade, literalMade};

@@ -20,12 +20,12 @@ use Rattle.semantics.specs.Trees.{Trees, Run, list}
 use Rattle.semantics.specs.Verdict.{strictly}
 use Rattle.semantics.specs.Words.{Word, wordedAll}
 use Rattle.semantics.proofs.Inversion.{none-some, some-inj}
-use Rattle.parts.specs.Got.{lowest, faultOf}
+use Rattle.faults.specs.Got.{lowest, faultOf}
 use Rattle.shapes.specs.Parts.{rest, nameIn, bodyIn, partOf}
 use Rattle.shapes.proofs.Statements.{body-parts}
 use Rattle.shapes.proofs.Walks.{bind-assoc, bind-cong, next-part}
 use Rattle.statements.specs.Walks.{bare}
-use Rattle.tables.specs.declared.Fault.the-variants.{Clear, Kind, Name as Unnamed, Form}
+use Rattle.faults.specs.declared.Fault.the-variants.{Clear, Kind, Name as Unnamed, Form}
 use Rattle.expressions.proofs.Joining.{wrong-fits, unnamed-fits, unfit-fits, fits-inj}
 use Rattle.judge.specs.Whole.{headIn, wholeStaged}
 

@@ -17,8 +17,8 @@ use Rattle.semantics.specs.Code.{BodyCode}
 use Rattle.semantics.specs.Environment.{Declared, Environment, NameSort, declareLine}
 use Rattle.semantics.specs.Names.{newNames, distinct, noneKnown, isKnown, listedIn}
 use Rattle.symbols.specs.Keys.{keyed}
-use Rattle.tables.specs.declared.Fault.{Fault}
-use Rattle.tables.specs.declared.Fault.the-variants.{Clear, Name as Unnamed}
+use Rattle.faults.specs.declared.Fault.{Fault}
+use Rattle.faults.specs.declared.Fault.the-variants.{Clear, Name as Unnamed}
 use Rattle.tables.specs.declared.Meaning.{Meaning}
 use Rattle.tables.specs.Scene.{Told, unknown, known, a-type, a-var, a-proc, a-value, meaningHere}
 use Rattle.declarations.specs.Names.{newFault}
@@ -36,8 +36,8 @@ use Rattle.semantics.proofs.LayoutBodies.{Bodies, body-next}
 use Rattle.semantics.proofs.LayoutFits.{bodies-fit}
 use Rattle.semantics.proofs.LayoutRegions.{Room, Lays, lay-l}
 use Rattle.semantics.proofs.LinesMeasured.{Measured}
-use Rattle.parts.specs.declared.Got.{Got}
-use Rattle.parts.specs.Got.{lowest, faultOf}
+use Rattle.faults.specs.declared.Got.{Got}
+use Rattle.faults.specs.Got.{lowest, faultOf}
 use Rattle.parts.specs.Parts.{LeafAt}
 use Rattle.shapes.specs.Parts.{rest, nameIn, bodyIn}
 use Rattle.statements.specs.Walks.{GivesBody, BodyTold, bare}

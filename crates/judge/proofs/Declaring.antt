@@ -24,7 +24,7 @@ use Rattle.semantics.proofs.Inversion.{none-some, some-inj, bind-some, given-so
 use Rattle.semantics.proofs.LayoutBodies.{Bodies}
 use Rattle.semantics.proofs.LinesMeasured.{Measured}
 use Rattle.semantics.proofs.LayoutRegions.{Same}
-use Rattle.parts.specs.Got.{faultOf}
+use Rattle.faults.specs.Got.{faultOf}
 use Rattle.shapes.specs.declared.LineHead.{LineHead}
 use Rattle.shapes.specs.declared.LineHead.the-variants as LH
 use Rattle.shapes.specs.Heads.{lineHeadMeant}

@@ -18,13 +18,13 @@ use Rattle.semantics.specs.Verdict.{Read, bad, strictly, judgeLine}
 use Rattle.semantics.proofs.OnePassLines.{judgedBy}
 use Rattle.symbols.specs.Keys.{keyed}
 use Rattle.tables.specs.Scene.{meaningHere}
-use Rattle.tables.specs.declared.Fault.{Fault}
-use Rattle.tables.specs.declared.Fault.the-variants.{Clear, Form}
+use Rattle.faults.specs.declared.Fault.{Fault}
+use Rattle.faults.specs.declared.Fault.the-variants.{Clear, Form}
 use Rattle.tables.specs.declared.Meaning.{Meaning}
-use Rattle.parts.specs.declared.Got.{Got}
+use Rattle.faults.specs.declared.Got.{Got}
 use Rattle.parts.specs.declared.Part.{Part}
 use Rattle.parts.specs.declared.Part.the-variants as part
-use Rattle.parts.specs.Got.{lowest, isClear}
+use Rattle.faults.specs.Got.{lowest, isClear}
 use Rattle.semantics.specs.Layout.{lay}
 use Rattle.worklist.specs.Laid.{Laid}
 use Rattle.parts.specs.Parts.{Stands}

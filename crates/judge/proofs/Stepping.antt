@@ -29,8 +29,8 @@ use Rattle.semantics.proofs.LinesMeasured.{measured-line}
 use Rattle.semantics.proofs.StatementNumbers.{line-counts}
 use Rattle.semantics.proofs.TextRoom.{Room, room-line, entry-room, line-symbols, bodies-append}
 use Rattle.semantics.proofs.Weights.{line-weighs, worded-nodes}
-use Rattle.tables.specs.declared.Fault.the-variants.{Clear, Kind, Name, Form}
-use Rattle.parts.specs.Got.{faultOf}
+use Rattle.faults.specs.declared.Fault.the-variants.{Clear, Kind, Name, Form}
+use Rattle.faults.specs.Got.{faultOf}
 use Rattle.expressions.proofs.Targets.{fits-inv}
 use Rattle.judgements.specs.declared.Known.{Known}
 use Rattle.judgements.specs.declared.Judgement.{Judgement}

@@ -3,8 +3,8 @@ use mathlib.Core.Bool.{true, false}
 use mathlib.Core.List.{List, [], _∷_}
 use Prim.Native.Nat.{ℕ, _+_, _*_, _%_}
 use lib.Dec.{ltb}
-use Rattle.tables.specs.declared.Fault.{Fault}
-use Rattle.parts.specs.declared.Got.{Got}
+use Rattle.faults.specs.declared.Fault.{Fault}
+use Rattle.faults.specs.declared.Got.{Got}
 use Rattle.declarations.specs.State.{withNames, bodyState}
 use Rattle.declarations.specs.declared.State.{State}
 use Rattle.judgements.specs.declared.Known.{Known}

@@ -21,10 +21,10 @@ use Rattle.semantics.proofs.LinesMeasured.{Measured}
 use Rattle.semantics.specs.Layout.{lay}
 use Rattle.symbols.specs.Keys.{keyed}
 use Rattle.tables.specs.Scene.{meaningHere}
-use Rattle.tables.specs.declared.Fault.{Fault}
-use Rattle.tables.specs.declared.Fault.the-variants.{Clear}
-use Rattle.parts.specs.declared.Got.{Got}
-use Rattle.parts.specs.Got.{lowest, faultOf}
+use Rattle.faults.specs.declared.Fault.{Fault}
+use Rattle.faults.specs.declared.Fault.the-variants.{Clear}
+use Rattle.faults.specs.declared.Got.{Got}
+use Rattle.faults.specs.Got.{lowest, faultOf}
 use Rattle.statements.specs.Walks.{GivesBody}
 use Rattle.declarations.specs.declared.State.{State}
 use Rattle.declarations.specs.Names.{newFault}

@@ -3,7 +3,7 @@ use crate::Entered;
 use crate::Judgement;
 use crate::Known;
 use declarations::Lined;
-use tables::Fault;
+use faults::Fault;
 ghost use mathlib.Core.Path.{_≡_};
 ghost use Rattle.judgements.specs.Answers.{refusedJudgement, rowOf, nodesFit, goodJudgement, ninthJudgement, judgement, declaredEntry};
 

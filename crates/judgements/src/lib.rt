@@ -2,7 +2,7 @@
 pub mod judging;
 
 use declarations::State;
-use tables::Fault;
+use faults::Fault;
 
 // What is known of the lines so far: what the tables hold; how many statements, and how many brackets and words there were; whether
 // `main` has come, and the place of its body.

@@ -28,9 +28,9 @@ use Rattle.semantics.proofs.Inversion.{some-inj, bind-some, and-true, and-both}
 use Rattle.reader.specs.Passes.{nodesAll}
 use Rattle.shapes.specs.Parts.{armsIn}
 use Rattle.tables.specs.declared.Scope.{Scope}
-use Rattle.tables.specs.declared.Fault.{Fault}
-use Rattle.tables.specs.declared.Fault.the-variants.{Clear, Kind}
-use Rattle.parts.specs.Got.{isClear, lowest}
+use Rattle.faults.specs.declared.Fault.{Fault}
+use Rattle.faults.specs.declared.Fault.the-variants.{Clear, Kind}
+use Rattle.faults.specs.Got.{isClear, lowest}
 use Rattle.atoms.proofs.Telling.{unnamed-fits, unfit-fits}
 use Rattle.labels.specs.Marks.{marksOf}
 use Rattle.labels.specs.Repeating.{labelsDiffer, Repeating}

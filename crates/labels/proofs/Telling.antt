@@ -39,7 +39,7 @@ use Rattle.tables.specs.declared.Meaning.{Meaning}
 use Rattle.tables.specs.declared.Meaning.the-variants as meaning
 use Rattle.tables.specs.Scene.{Means, a-type, a-var, a-proc, a-value, Told, unknown, known, meaningHere}
 use Rattle.tables.proofs.Telling.{meant}
-use Rattle.parts.specs.Got.{isForm, faultOf}
+use Rattle.faults.specs.Got.{isForm, faultOf}
 use Rattle.atoms.specs.declared.Valued.{Valued}
 use Rattle.atoms.specs.Contracts.{GivesMinus, minusForm}
 use Rattle.labels.specs.declared.Mark.{Mark}

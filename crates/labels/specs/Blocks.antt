@@ -16,12 +16,12 @@ use Rattle.semantics.specs.Syntax.{Constant}
 use Rattle.semantics.specs.Trees.{stackAt}
 use Rattle.reader.specs.Passes.{nodesAll}
 use Rattle.tables.specs.declared.Scope.{Scope}
-use Rattle.tables.specs.declared.Fault.{Fault}
-use Rattle.tables.specs.declared.Fault.the-variants.{Clear, Kind}
+use Rattle.faults.specs.declared.Fault.{Fault}
+use Rattle.faults.specs.declared.Fault.the-variants.{Clear, Kind}
 use Rattle.tables.specs.declared.Meaning.{Meaning}
 use Rattle.tables.specs.declared.Meaning.the-variants as meaning
 use Rattle.tables.specs.Scene.{Scene, meaningHere}
-use Rattle.parts.specs.Got.{lowest}
+use Rattle.faults.specs.Got.{lowest}
 use Rattle.labels.specs.Hops.{leftAt, Nearer}
 use Rattle.labels.specs.declared.Mark.{Mark}
 use Rattle.labels.specs.declared.Mark.the-variants as mark

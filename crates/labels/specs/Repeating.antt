@@ -13,10 +13,10 @@ use Rattle.semantics.specs.Syntax.{Arms}
 use Rattle.semantics.specs.Trees.{first, stackAt}
 use Rattle.shapes.specs.Parts.{armsIn}
 use Rattle.tables.specs.declared.Scope.{Scope}
-use Rattle.tables.specs.declared.Fault.{Fault}
-use Rattle.tables.specs.declared.Fault.the-variants.{Clear, Kind}
+use Rattle.faults.specs.declared.Fault.{Fault}
+use Rattle.faults.specs.declared.Fault.the-variants.{Clear, Kind}
 use Rattle.tables.specs.Scene.{Scene}
-use Rattle.parts.specs.Got.{lowest}
+use Rattle.faults.specs.Got.{lowest}
 
 -- whether the labels differ, where all names are known
 unfoldable pub labelsDiffer : Environment → Option Arms → Bool

@@ -1,16 +1,16 @@
 // Whether the labels of a `case` differ: their values are compared block by block, since the working list may be too short for the labels of a faulty line.
 use atoms::minus_form;
+use faults::Fault;
+use faults::is_clear;
+use faults::is_form;
 use lexis::words::Word;
 use parts::End;
 use parts::Part;
 use parts::end_at;
-use parts::is_clear;
-use parts::is_form;
 use parts::part_at;
 use shapes::Atom;
 use shapes::atom_of;
 use skips::past_form;
-use tables::Fault;
 use tables::Meaning;
 use tables::Scope;
 use tables::meaning_of;
@@ -24,7 +24,7 @@ ghost use Rattle.spelling.specs.Bytes.{small};
 ghost use Rattle.semantics.specs.Calculate.{equalZ, truth};
 ghost use Rattle.semantics.specs.Trees.{first, wordAt, stackAt};
 ghost use Rattle.shapes.specs.Heads.{atomOf, atomConstant};
-ghost use Rattle.tables.specs.declared.Fault.the-variants.{Clear, Kind};
+ghost use Rattle.faults.specs.declared.Fault.the-variants.{Clear, Kind};
 ghost use Rattle.atoms.specs.Contracts.{minusForm};
 ghost use Rattle.labels.specs.Hops.{Marked, Passes, EntersForm, EntersArm, Hops, Nexts};
 ghost use Rattle.labels.specs.Blocks.{ordinalIn, valueAt, among, apart, NextValues, Fills, ComesAgain, Recurs, Doubled};

@@ -22,11 +22,11 @@ use Rattle.semantics.proofs.LayoutRegions.{Same, lay-l}
 use Rattle.semantics.proofs.LinesKeep.{Keeps}
 use Rattle.symbols.specs.Keys.{keyed}
 use Rattle.tables.specs.Scene.{meaningHere}
-use Rattle.tables.specs.declared.Fault.{Fault}
-use Rattle.tables.specs.declared.Fault.the-variants.{Clear, Name as Unnamed}
+use Rattle.faults.specs.declared.Fault.{Fault}
+use Rattle.faults.specs.declared.Fault.the-variants.{Clear, Name as Unnamed}
 use Rattle.tables.specs.declared.Meaning.{Meaning}
 use Rattle.tables.proofs.Telling.{meant}
-use Rattle.parts.specs.Got.{lowest, faultOf}
+use Rattle.faults.specs.Got.{lowest, faultOf}
 use Rattle.shapes.specs.Parts.{bodyIn}
 use Rattle.statements.specs.Walks.{bare}
 use Rattle.worklist.specs.Laid.{Laid}

@@ -26,11 +26,11 @@ use Rattle.framing.proofs.Ties.{formed, unformed}
 use Rattle.reader.proofs.Ties.{worded-some, worded-none, line-known, line-nodes as tie-nodes}
 use Rattle.symbols.specs.Keys.{keyed}
 use Rattle.tables.specs.Scene.{meaningHere}
-use Rattle.tables.specs.declared.Fault.{Fault}
-use Rattle.tables.specs.declared.Fault.the-variants.{Clear, Form}
+use Rattle.faults.specs.declared.Fault.{Fault}
+use Rattle.faults.specs.declared.Fault.the-variants.{Clear, Form}
 use Rattle.parts.specs.declared.Part.{Part}
 use Rattle.parts.specs.declared.Part.the-variants as part
-use Rattle.parts.specs.Got.{lowest}
+use Rattle.faults.specs.Got.{lowest}
 use Rattle.parts.specs.Parts.{Stands}
 use Rattle.worklist.specs.Laid.{Laid}
 use Rattle.shapes.specs.declared.LineHead.{LineHead}

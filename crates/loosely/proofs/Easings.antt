@@ -16,9 +16,9 @@ use Rattle.semantics.specs.Stages.{ruled, named, staged, bodyStaged}
 use Rattle.semantics.specs.Syntax as Syntax
 use Rattle.semantics.specs.Trees.{first, stackAt}
 use Rattle.shapes.specs.Parts.{bodyIn}
-use Rattle.tables.specs.declared.Fault.{Fault}
-use Rattle.parts.specs.declared.Got.{Got}
-use Rattle.parts.specs.Got.{faultOf}
+use Rattle.faults.specs.declared.Fault.{Fault}
+use Rattle.faults.specs.declared.Got.{Got}
+use Rattle.faults.specs.Got.{faultOf}
 use Rattle.statements.specs.Walks.{bare, GivesBody}
 use Rattle.kept.specs.Walks.{KeepsBody}
 use Rattle.judgements.specs.declared.Known.{Known}

@@ -31,7 +31,7 @@ use Rattle.semantics.proofs.TextRoom.{entry-room, line-symbols, line-types}
 use Rattle.semantics.proofs.TextsAgree.{stage-on, line-good}
 use Rattle.semantics.proofs.TypeSizes.{SmallTypes, small-declared}
 use Rattle.semantics.proofs.Weights.{line-weighs, weightL, worded-nodes}
-use Rattle.parts.specs.Got.{faultOf}
+use Rattle.faults.specs.Got.{faultOf}
 use Rattle.expressions.proofs.Joining.{wrong-fits, unnamed-fits, unfit-fits, fits-inj}
 use Rattle.statements.specs.Walks.{bare}
 use Rattle.declarations.specs.Lines.{entryStaged}

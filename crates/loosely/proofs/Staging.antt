@@ -11,9 +11,9 @@ use Rattle.semantics.specs.Rules.{keepsRules, keptBody}
 use Rattle.semantics.specs.Script.{Body, Entry, newProc, newMain}
 use Rattle.semantics.specs.Stages.{fits, ruled, named, staged}
 use Rattle.semantics.specs.Syntax as Syntax
-use Rattle.parts.specs.Got.{lowest, faultOf}
+use Rattle.faults.specs.Got.{lowest, faultOf}
 use Rattle.statements.specs.Walks.{bare}
-use Rattle.tables.specs.declared.Fault.the-variants.{Name as Unnamed, Form}
+use Rattle.faults.specs.declared.Fault.the-variants.{Name as Unnamed, Form}
 use Rattle.declarations.specs.Lines.{entryStaged}
 use Rattle.expressions.proofs.Joining.{wrong-fits, unnamed-fits, unfit-fits, fits-inj}
 use Rattle.judge.proofs.Bodies.{mainOf, procOf}

@@ -14,10 +14,10 @@ use Rattle.semantics.specs.Syntax as Syntax
 use Rattle.semantics.specs.Trees.{first, stackAt, nodesIn}
 use Rattle.semantics.proofs.LayoutRegions.{Same}
 use Rattle.shapes.specs.Parts.{bodyIn}
-use Rattle.tables.specs.declared.Fault.{Fault}
-use Rattle.tables.specs.declared.Fault.the-variants.{Clear, Kind, Name, Form}
+use Rattle.faults.specs.declared.Fault.{Fault}
+use Rattle.faults.specs.declared.Fault.the-variants.{Clear, Kind, Name, Form}
 use Rattle.tables.specs.Scene.{Scene}
-use Rattle.parts.specs.Got.{faultOf}
+use Rattle.faults.specs.Got.{faultOf}
 use Rattle.statements.specs.Walks.{bare}
 use Rattle.judgements.specs.declared.Known.{Known}
 use Rattle.loosely.specs.declared.easing.Eased.{Eased}

@@ -20,8 +20,8 @@ use Rattle.semantics.proofs.LinesKeep.{Keeps}
 use Rattle.shapes.specs.declared.LineHead.{LineHead}
 use Rattle.shapes.specs.Heads.{lineHeadMeant}
 use Rattle.shapes.specs.Parts.{bodyIn}
-use Rattle.parts.specs.Got.{faultOf}
-use Rattle.tables.specs.declared.Fault.{Fault}
+use Rattle.faults.specs.Got.{faultOf}
+use Rattle.faults.specs.declared.Fault.{Fault}
 use Rattle.statements.specs.Walks.{bare}
 use Rattle.worklist.specs.Laid.{Laid}
 use Rattle.declarations.specs.Lines.{entryStaged}

@@ -1,8 +1,8 @@
 // A body with its kinds left out.
+use faults::Fault;
 use judgements::Known;
 use kept::body::body_kept;
 use statements::body::body;
-use tables::Fault;
 ghost use mathlib.Core.Path.{_≡_};
 ghost use Rattle.loosely.specs.Easing.{easedBy, GivesEased};
 

@@ -28,7 +28,7 @@ use Rattle.semantics.specs.Syntax.{Constant, Stmt}
 use Rattle.semantics.specs.Trees.{Tree, word, form, Trees, end, _then_, Run, first, stackAt}
 use Rattle.semantics.specs.Words.{worded}
 use Rattle.semantics.proofs.Inversion.{none-some, some-inj, bind-some}
-use Rattle.parts.specs.Got.{isClear, faultOf}
+use Rattle.faults.specs.Got.{isClear, faultOf}
 use Rattle.parts.specs.Parts.{Before, Shuts}
 use Rattle.parts.specs.declared.End.{End}
 use Rattle.parts.specs.declared.End.the-variants as ending

@@ -1,10 +1,10 @@
 // The arm of a `case` that a value takes, as the marking machine finds it: labels are met in text order up to the match, and one of another kind sticks.
 use atoms::constant;
 use counts::count_statements;
+use faults::is_clear;
 use parts::End;
 use parts::Part;
 use parts::end_at;
-use parts::is_clear;
 use parts::part_at;
 use shapes::ArmHead;
 use shapes::arm_head;

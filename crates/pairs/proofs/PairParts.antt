@@ -25,13 +25,13 @@ use Rattle.semantics.specs.Types.{sizeOf}
 use Rattle.semantics.specs.Words.{Word, worded, wordedAll, wordBy}
 use Rattle.semantics.proofs.Inversion.{none-some, some-inj, bind-some, and-true}
 use Rattle.tables.specs.declared.Scope.{Scope}
-use Rattle.tables.specs.declared.Fault.{Fault}
-use Rattle.tables.specs.declared.Fault.the-variants as fault
+use Rattle.faults.specs.declared.Fault.{Fault}
+use Rattle.faults.specs.declared.Fault.the-variants as fault
 use Rattle.tables.specs.declared.Info.{Info}
 use Rattle.tables.specs.Descriptions.{infoOf}
 use Rattle.tables.specs.Scene.{Scene}
 use Rattle.tables.proofs.Telling.{size-told}
-use Rattle.parts.specs.Got.{isForm, isClear}
+use Rattle.faults.specs.Got.{isForm, isClear}
 use Rattle.parts.specs.Parts.{LeafAt, FormAt, ShutAt, Stands, Shuts}
 use Rattle.parts.specs.declared.Part.{Part}
 use Rattle.parts.specs.declared.Part.the-variants as part

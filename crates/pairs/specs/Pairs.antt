@@ -14,10 +14,10 @@ use Rattle.semantics.specs.Names.{typeOf, distinct}
 use Rattle.semantics.specs.Syntax.{TypeName}
 use Rattle.semantics.specs.Trees.{Tree, word, form, Trees, end, _then_, Run, first, later, wordAt, stackAt}
 use Rattle.tables.specs.declared.Scope.{Scope}
-use Rattle.tables.specs.declared.Fault.{Fault}
-use Rattle.tables.specs.declared.Fault.the-variants as fault
+use Rattle.faults.specs.declared.Fault.{Fault}
+use Rattle.faults.specs.declared.Fault.the-variants as fault
 use Rattle.tables.specs.Scene.{Scene}
-use Rattle.parts.specs.Got.{isForm, isClear}
+use Rattle.faults.specs.Got.{isForm, isClear}
 use Rattle.parts.specs.Parts.{Before}
 use Rattle.shapes.specs.Parts.{rest, nameIn}
 use Rattle.declarations.specs.Names.{lastType}

@@ -9,14 +9,11 @@ use Rattle.reader.specs.declared.sight.Sight.{Sight}
 use Rattle.reader.specs.declared.sight.Sight.the-variants as sight
 use Rattle.reader.specs.declared.sight.Seen.{Seen}
 use Rattle.reader.specs.Sights.{Looks, Reads}
-use Rattle.tables.specs.declared.Fault.the-variants.{Form}
-use Rattle.parts.specs.declared.Got.{Got}
 use Rattle.parts.specs.declared.Part.{Part}
 use Rattle.parts.specs.declared.Part.the-variants as part
 use Rattle.parts.specs.declared.End.{End}
 use Rattle.parts.specs.declared.End.the-variants as ending
-use Rattle.parts.specs.Got.{failedGot, pastBracket}
-use Rattle.parts.specs.Parts.{LeafAt, FormAt, ShutAt, LeafStands, Stands, Shuts, Closes, shut, more}
+use Rattle.parts.specs.Parts.{LeafAt, FormAt, ShutAt, LeafStands, Stands, Shuts}
 
 pub leaf-is : (s : List ℕ) (p : ℕ) (r : Seen) (w : Word) → Reads s p r → w ≡ r .word → LeafStands s p (part.Leaf w p (r .next))
 leaf-is s p r w h e = record { says = (refl, h .rest, e ∙ h .said) }
@@ -68,12 +65,3 @@ module _ (s : List ℕ) (at : ℕ) (x : Sight) (h : Looks s (stackAt s at) x) wh
 pub ruleset part-laws = (part-form, part-shut, part-leaf)
 
 pub ruleset end-laws = (end-shut, end-form, end-leaf)
-
-module _ (s : List ℕ) (g : Got) (e : End) (h : Shuts s (g .next) e) where
-  pub closing-shut : (q : ℕ) (r : Got) → e ≡ ending.Past q → r ≡ pastBracket g q → Closes s g r
-  closing-shut q r f k = rw k (shut q (rw f at (h .says)))
-
-  pub closing-more : (r : Got) → e ≡ ending.More → r ≡ failedGot Form 0 (g .next) (g .top) → Closes s g r
-  closing-more r f k = rw k (more (rw f at (h .says)))
-
-pub ruleset closing-laws = (closing-shut, closing-more)

@@ -1,17 +1,13 @@
 -- Parts of a form by offset: what stands there, in terms of the trees from there on, and how a walk moves over them.
 use mathlib.Core.List.{List}
 use mathlib.Core.Path.{_≡_}
-use Prim.Native.Nat.{ℕ, _≤_}
+use Prim.Native.Nat.{ℕ}
 use Rattle.lexis.specs.Words.{wordOf}
 use Rattle.semantics.specs.Trees.{Tree, word, form, Trees, end, _then_, Run, first, later, wordAt, restAt, stackAt}
-use Rattle.semantics.proofs.LayoutRegions.{Same}
-use Rattle.tables.specs.declared.Fault.the-variants.{Form}
-use Rattle.parts.specs.declared.Got.{Got}
 use Rattle.parts.specs.declared.Part as part
 use Rattle.parts.specs.declared.Part.{Part}
 use Rattle.parts.specs.declared.End as ending
 use Rattle.parts.specs.declared.End.{End}
-use Rattle.parts.specs.Got.{isForm, failedGot, pastBracket}
 
 -- from `at` on stands t, and then what stands from q on
 pub record Before (s : List ℕ) (at : ℕ) (t : Tree Run) (q : ℕ) : Type 0 where
@@ -57,8 +53,3 @@ ShutsBy s at ending.the-variants.More = first (stackAt s at) ≡ end → ⊥
 
 pub record Shuts (s : List ℕ) (at : ℕ) (r : End) : Type 0 where
   pub says : ShutsBy s at r
-
--- an answer that is past the closing bracket, where it stands next
-pub data Closes (s : List ℕ) (g : Got) : Got → Type 0 where
-  shut : (q : ℕ) → ShutAt s (g .next) q → Closes s g (pastBracket g q)
-  more : (first (stackAt s (g .next)) ≡ end → ⊥) → Closes s g (failedGot Form 0 (g .next) (g .top))

@@ -1,23 +1,10 @@
-// What a walk over a part of a line gives, and the parts of a form.
+// The parts of a form, read from the text.
 use lexis::words::Word;
 use reader::sight::Sight;
 use reader::sight::look;
 use reader::sight::word_at;
-use tables::Fault;
 ghost use mathlib.Core.Path.{_≡_};
-ghost use Rattle.tables.specs.declared.Fault.the-variants.{Kind, Name};
-ghost use Rattle.parts.specs.Got.{lowest as lowestOf, isForm, isClear, failedGot, pastBracket};
-ghost use Rattle.parts.specs.Parts.{LeafStands, Stands, Shuts, Closes};
-
-// The answer for a part: its fault; with no fault its kind (a target's type, also where that is known behind a fault of row 8) and the
-// place of its code; where the next part stands, and the free place.
-pub struct Got {
-    pub fault: Fault,
-    pub kind: u32,
-    pub place: u32,
-    pub next: usize,
-    pub top: u32,
-}
+ghost use Rattle.parts.specs.Parts.{LeafStands, Stands, Shuts};
 
 // Document 01's reader: the lent text together with the offset it has reached.
 pub struct Reader<'a> {
@@ -89,103 +76,5 @@ pub fn end_at(text: &[u8], at: usize) -> End
         Sight::Form(_) => End::More,
         Sight::Leaf(_) => End::More,
         Sight::Shut(p) => End::Past(p),
-    }
-}
-
-// Whether it is a fault of row 6, which ends the walk.
-pub fn is_form(f: Fault) -> bool
-    ensures { λ r. ⌜ r ≡ isForm f ⌝ }
-{
-    match f {
-        Fault::Clear => false,
-        Fault::Kind => false,
-        Fault::Name => false,
-        Fault::Form => true,
-    }
-}
-
-// Whether there is no fault.
-pub fn is_clear(f: Fault) -> bool
-    ensures { λ r. ⌜ r ≡ isClear f ⌝ }
-{
-    match f {
-        Fault::Clear => true,
-        Fault::Kind => false,
-        Fault::Name => false,
-        Fault::Form => false,
-    }
-}
-
-// The fault of the lower row, where the first is of row 8.
-fn below_kind(f: Fault) -> Fault
-    ensures { λ r. ⌜ r ≡ lowestOf Kind f ⌝ }
-{
-    match f {
-        Fault::Clear => Fault::Kind,
-        Fault::Kind => Fault::Kind,
-        Fault::Name => Fault::Name,
-        Fault::Form => Fault::Form,
-    }
-}
-
-// And where it is of row 7.
-fn below_name(f: Fault) -> Fault
-    ensures { λ r. ⌜ r ≡ lowestOf Name f ⌝ }
-{
-    match f {
-        Fault::Clear => Fault::Name,
-        Fault::Kind => Fault::Name,
-        Fault::Name => Fault::Name,
-        Fault::Form => Fault::Form,
-    }
-}
-
-// The fault of the lower row.
-pub fn lowest(f: Fault, g: Fault) -> Fault
-    ensures { λ r. ⌜ r ≡ lowestOf f g ⌝ }
-{
-    match f {
-        Fault::Clear => g,
-        Fault::Kind => below_kind(g),
-        Fault::Name => below_name(g),
-        Fault::Form => Fault::Form,
-    }
-}
-
-// An answer that is a fault; the kind matters of targets alone.
-pub fn failed(fault: Fault, kind: u32, next: usize, top: u32) -> Got
-    ensures { λ r. ⌜ r ≡ failedGot fault kind next top ⌝ }
-{
-    Got {
-        fault: fault,
-        kind: kind,
-        place: 0,
-        next: next,
-        top: top,
-    }
-}
-
-// The same answer, past the closing bracket.
-fn past_bracket(g: Got, next: usize) -> Got
-    ensures { λ r. ⌜ r ≡ pastBracket g next ⌝ }
-{
-    let f = g.fault;
-    Got {
-        fault: f,
-        kind: g.kind,
-        place: g.place,
-        next: next,
-        top: g.top,
-    }
-}
-
-// The answer for a form's last part, past the closing bracket: a fault of row 6 where another part comes first.
-pub fn closing(text: &[u8], g: Got) -> Got
-    ensures { λ r. ⌜ Closes (now (text .entry)) g r ⌝ }
-{
-    let e = end_at(text, g.next);
-    match e {
-        End::Past(q) => past_bracket(g, q),
-        End::More => failed(Fault::Form, 0, g.next, g.top),
     }
 }

@@ -21,9 +21,9 @@ use Rattle.reader.specs.Passes.{nodesAll}
 use Rattle.reader.specs.declared.sight.Sight.{Sight}
 use Rattle.reader.specs.declared.sight.Sight.the-variants as sight
 use Rattle.reader.specs.Sights.{Looks, Ends}
-use Rattle.tables.specs.declared.Fault.{Fault}
-use Rattle.tables.specs.declared.Fault.the-variants.{Form}
-use Rattle.parts.specs.Got.{faultOf}
+use Rattle.faults.specs.declared.Fault.{Fault}
+use Rattle.faults.specs.declared.Fault.the-variants.{Form}
+use Rattle.faults.specs.Got.{faultOf}
 use Rattle.atoms.specs.declared.Valued.{Valued}
 use Rattle.atoms.specs.Contracts.{GivesMinus, minusForm}
 use Rattle.skips.proofs.Counts.{all-first, all-push, nodes-short}

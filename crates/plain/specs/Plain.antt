@@ -5,8 +5,8 @@ use lib.IntN.{negℤ}
 use Rattle.arith.specs.Integers.{inside, least, most}
 use Rattle.semantics.specs.Syntax.{Constant, number, minus, truth, named}
 use Rattle.semantics.specs.Trees.{Tree, word, form, Trees, end, _then_, Run}
-use Rattle.tables.specs.declared.Fault.{Fault}
-use Rattle.tables.specs.declared.Fault.the-variants.{Clear, Kind, Name, Form}
+use Rattle.faults.specs.declared.Fault.{Fault}
+use Rattle.faults.specs.declared.Fault.the-variants.{Clear, Kind, Name, Form}
 use Rattle.atoms.specs.Contracts.{minusForm}
 
 abbrev pub isKind : Fault → Bool

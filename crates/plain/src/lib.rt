@@ -1,9 +1,9 @@
 // Row 8 of document 01, constants past the integers: only `(- number)` may be one, so a part is scanned for that form, bracket by bracket.
 use atoms::minus_form;
+use faults::Fault;
 use reader::sight::Sight;
 use reader::sight::look;
 use reader::sight::word_end;
-use tables::Fault;
 ghost use mathlib.Core.Path.{_≡_};
 ghost use mathlib.Core.Bool.{not, _&&_};
 ghost use Prim.Native.Nat.{_+_, _≤_};

@@ -25,13 +25,13 @@ use Rattle.semantics.proofs.LayoutRegions.{Same, Room, Has, lay-g, lay-l}
 use Rattle.worklist.specs.Laid.{Laid}
 use Rattle.symbols.specs.Keys.{keyed}
 use Rattle.tables.specs.declared.Scope.{Scope}
-use Rattle.tables.specs.declared.Fault.the-variants as fault
+use Rattle.faults.specs.declared.Fault.the-variants as fault
 use Rattle.tables.specs.declared.Info.{Info}
 use Rattle.tables.specs.Descriptions.{infoOf, fieldsAt}
 use Rattle.tables.specs.Scene.{Scene}
 use Rattle.tables.proofs.Kept.{scene-kept}
 use Rattle.tables.proofs.Telling.{size-told}
-use Rattle.parts.specs.Got.{isForm}
+use Rattle.faults.specs.Got.{isForm}
 use Rattle.declarations.specs.Lines.{linedBy}
 use Rattle.typelines.specs.TypeLines.{typeState, LaysType}
 use Rattle.pairs.specs.Pairs.{pairsIn, resolve, addSize, GivesPair}

@@ -32,13 +32,13 @@ use Rattle.symbols.specs.Keys.{keyed}
 use Rattle.tables.proofs.Cells.{keeps-cells}
 use Rattle.tables.proofs.Kept.{scene-kept}
 use Rattle.tables.proofs.Telling.{meant}
-use Rattle.tables.specs.declared.Fault.{Fault}
-use Rattle.tables.specs.declared.Fault.the-variants.{Clear, Form}
-use Rattle.tables.specs.declared.Fault.the-variants as fault
+use Rattle.faults.specs.declared.Fault.{Fault}
+use Rattle.faults.specs.declared.Fault.the-variants.{Clear, Form}
+use Rattle.faults.specs.declared.Fault.the-variants as fault
 use Rattle.tables.specs.declared.Meaning.{Meaning}
 use Rattle.tables.specs.Descriptions.{infoOf, readInfo, shapeNumber, fieldsAt, Tells, EndsBelow}
 use Rattle.tables.specs.Scene.{Scene, Told, meaningHere}
-use Rattle.parts.specs.Got.{isClear, faultOf}
+use Rattle.faults.specs.Got.{isClear, faultOf}
 use Rattle.shapes.specs.Parts.{closed}
 use Rattle.shapes.proofs.Walks.{bind-cong, bind-assoc}
 use Rattle.atoms.proofs.Telling.{fits-inj, unnamed-fits}

@@ -17,7 +17,7 @@ use Rattle.semantics.specs.Words.{wordedAll}
 use Rattle.semantics.proofs.LayoutRegions.{Same, Room}
 use Rattle.symbols.specs.Keys.{keyed}
 use Rattle.tables.specs.declared.Scope.{Scope}
-use Rattle.tables.specs.declared.Fault.the-variants as fault
+use Rattle.faults.specs.declared.Fault.the-variants as fault
 use Rattle.tables.specs.declared.Info.{Info}
 use Rattle.tables.specs.Descriptions.{fieldsAt}
 use Rattle.tables.specs.Scene.{Scene}

@@ -34,12 +34,12 @@ use Rattle.semantics.specs.Syntax.{Constant, TypeForm, typeLine}
 use Rattle.semantics.specs.Trees.{Tree, Trees, end, Run, first, stackAt}
 use Rattle.semantics.proofs.Inversion.{and-true}
 use Rattle.tables.specs.declared.Scope.{Scope}
-use Rattle.tables.specs.declared.Fault.{Fault}
-use Rattle.tables.specs.declared.Fault.the-variants.{Clear, Kind, Form}
+use Rattle.faults.specs.declared.Fault.{Fault}
+use Rattle.faults.specs.declared.Fault.the-variants.{Clear, Kind, Form}
 use Rattle.tables.specs.Descriptions.{shapeNumber, ordinalInfo}
 use Rattle.tables.specs.Scene.{Scene}
 use Rattle.tables.specs.declared.Info.{Info}
-use Rattle.parts.specs.Got.{isForm, lowest, faultOf}
+use Rattle.faults.specs.Got.{isForm, lowest, faultOf}
 use Rattle.parts.specs.Parts.{Before, ShutAt, Shuts}
 use Rattle.parts.specs.declared.End.{End}
 use Rattle.parts.specs.declared.End.the-variants as ending

@@ -23,13 +23,13 @@ use Rattle.semantics.specs.Syntax as Syntax
 use Rattle.semantics.specs.Syntax.{TypeName, TypeForm, typeLine}
 use Rattle.semantics.specs.Trees.{Trees, Run, first, stackAt}
 use Rattle.semantics.specs.Types.{infoAt, ordinal?}
-use Rattle.tables.specs.declared.Fault.{Fault}
-use Rattle.tables.specs.declared.Fault.the-variants.{Clear, Kind, Form}
-use Rattle.tables.specs.declared.Fault.the-variants as fault
+use Rattle.faults.specs.declared.Fault.{Fault}
+use Rattle.faults.specs.declared.Fault.the-variants.{Clear, Kind, Form}
+use Rattle.faults.specs.declared.Fault.the-variants as fault
 use Rattle.tables.specs.declared.Info.{Info}
 use Rattle.tables.specs.Descriptions.{infoOf, shapeNumber}
 use Rattle.tables.proofs.Telling.{shape-ordinal, low-told, high-told}
-use Rattle.parts.specs.Got.{isForm, lowest, faultOf}
+use Rattle.faults.specs.Got.{isForm, lowest, faultOf}
 use Rattle.shapes.specs.Parts.{rest, closed, typeNameIn}
 use Rattle.shapes.proofs.Walks.{bind-cong, bind-assoc}
 use Rattle.atoms.specs.declared.Typed.{Typed}

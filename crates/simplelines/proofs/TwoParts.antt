@@ -12,9 +12,9 @@ use Rattle.semantics.specs.Script.{Decl, Entry, newType}
 use Rattle.semantics.specs.Stages as Stages
 use Rattle.semantics.specs.Stages.{Staged, wrong, unnamed, unfit, fits, ruled, staged, join, onFits, unknown}
 use Rattle.semantics.specs.Syntax.{LineForm}
-use Rattle.tables.specs.declared.Fault.{Fault}
-use Rattle.tables.specs.declared.Fault.the-variants.{Clear, Kind}
-use Rattle.parts.specs.Got.{lowest, faultOf}
+use Rattle.faults.specs.declared.Fault.{Fault}
+use Rattle.faults.specs.declared.Fault.the-variants.{Clear, Kind}
+use Rattle.faults.specs.Got.{lowest, faultOf}
 use Rattle.atoms.proofs.Telling.{fits-inj, unfit-fits, wrong-fits, unnamed-fits}
 use Rattle.declarations.specs.Lines.{entryStaged, newly}
 use Rattle.declarations.proofs.VarLines.{new-one}

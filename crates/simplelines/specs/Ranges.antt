@@ -10,10 +10,10 @@ use Rattle.arith.specs.declared.Num.{Num}
 use Rattle.arith.specs.declared.Num.the-variants.{Value, Failed}
 use Rattle.sets.specs.Sets.{patternOf}
 use Rattle.semantics.specs.Layout.{bits}
-use Rattle.tables.specs.declared.Fault.{Fault}
-use Rattle.tables.specs.declared.Fault.the-variants.{Clear, Kind}
+use Rattle.faults.specs.declared.Fault.{Fault}
+use Rattle.faults.specs.declared.Fault.the-variants.{Clear, Kind}
 use Rattle.tables.specs.Descriptions.{ordinalInfo}
-use Rattle.parts.specs.Got.{lowest}
+use Rattle.faults.specs.Got.{lowest}
 use Rattle.typelines.specs.declared.Shaped.{Shaped}
 
 -- an integer of the language in 32 bits

@@ -6,11 +6,11 @@ use lib.Dec.{eqb, ltb, leb}
 use Rattle.semantics.specs.Base.{_>>=_}
 use Rattle.semantics.specs.Syntax.{TypeForm, setOf, arrayOf, range}
 use Rattle.semantics.specs.Trees.{Trees, Run}
-use Rattle.tables.specs.declared.Fault.{Fault}
-use Rattle.tables.specs.declared.Fault.the-variants.{Clear, Kind, Form}
+use Rattle.faults.specs.declared.Fault.{Fault}
+use Rattle.faults.specs.declared.Fault.the-variants.{Clear, Kind, Form}
 use Rattle.tables.specs.declared.Info.{Info}
 use Rattle.tables.specs.Descriptions.{noInfo}
-use Rattle.parts.specs.Got.{lowest}
+use Rattle.faults.specs.Got.{lowest}
 use Rattle.shapes.specs.Parts.{rest, closed, typeNameIn, constantIn}
 use Rattle.typelines.specs.declared.Shaped.{Shaped}
 

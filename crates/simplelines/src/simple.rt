@@ -2,9 +2,9 @@
 use atoms::type_name;
 use declarations::State;
 use declarations::last_type;
-use parts::is_form;
-use parts::lowest;
-use tables::Fault;
+use faults::Fault;
+use faults::is_form;
+use faults::lowest;
 use tables::Info;
 use tables::describe;
 use tables::no_info;

@@ -17,10 +17,10 @@ use Rattle.semantics.proofs.OnePassStmts.{raise-staged, begin-staged, while-sta
 use Rattle.semantics.specs.Names.{stmtOf}
 use Rattle.semantics.specs.Rules.{keptStmt}
 use Rattle.semantics.specs.Elaborate.{elabStmt}
-use Rattle.tables.specs.declared.Fault.{Fault}
-use Rattle.tables.specs.declared.Fault.the-variants.{Clear}
-use Rattle.parts.specs.declared.Got.{Got}
-use Rattle.parts.specs.Got.{lowest, isForm, faultOf}
+use Rattle.faults.specs.declared.Fault.{Fault}
+use Rattle.faults.specs.declared.Fault.the-variants.{Clear}
+use Rattle.faults.specs.declared.Got.{Got}
+use Rattle.faults.specs.Got.{lowest, isForm, faultOf}
 use Rattle.stmtnodes.specs.Nodes.{skipGot}
 use Rattle.statements.specs.Walks.{bare, WantTold, ActTold, ActsTold}
 use Rattle.statements.proofs.Faults.{lowest-clear, join-fault, Both, join-fits, on-fault, Only, on-fits, Node, form-none, form-is}

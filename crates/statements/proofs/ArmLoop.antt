@@ -34,19 +34,20 @@ use Rattle.shapes.specs.Heads.{armHeadOf, armHeadMeant}
 use Rattle.shapes.specs.Parts.{partOf, rest, closed, stmtIn, armIn, armsIn, elseArmIn, armHeadIn}
 use Rattle.shapes.proofs.Heads.{arm-head-is}
 use Rattle.tables.specs.declared.Scope.{Scope}
-use Rattle.tables.specs.declared.Fault.{Fault}
-use Rattle.tables.specs.declared.Fault.the-variants.{Clear, Kind, Name, Form}
+use Rattle.faults.specs.declared.Fault.{Fault}
+use Rattle.faults.specs.declared.Fault.the-variants.{Clear, Kind, Name, Form}
 use Rattle.tables.specs.declared.Info.{Info}
 use Rattle.tables.specs.declared.Loops.{Loops}
 use Rattle.tables.specs.Descriptions.{infoOf}
 use Rattle.tables.specs.Scene.{Scene}
 use Rattle.tables.proofs.Kept.{scene-kept}
 use Rattle.worklist.specs.Laid.{Laid}
-use Rattle.parts.specs.declared.Got.{Got}
+use Rattle.faults.specs.declared.Got.{Got}
 use Rattle.parts.specs.declared.Part.{Part}
 use Rattle.parts.specs.declared.Part.the-variants as part
-use Rattle.parts.specs.Got.{lowest, isForm, isClear, faultOf, failedGot}
-use Rattle.parts.specs.Parts.{Before, LeafAt, FormAt, ShutAt, Stands, Closes, shut, more}
+use Rattle.faults.specs.Got.{lowest, isForm, isClear, faultOf, failedGot}
+use Rattle.parts.specs.Parts.{Before, LeafAt, FormAt, ShutAt, Stands}
+use Rattle.exprnodes.specs.Bracket.{Closes, shut, more}
 use Rattle.exprnodes.specs.Nodes.{Made, Makes}
 use Rattle.expressions.specs.Walks.{Moves, Leaves}
 use Rattle.expressions.proofs.Joining.{wrong-fits, fits-inj}

@@ -24,17 +24,18 @@ use Rattle.semantics.proofs.OnePassStmts.{body-staged}
 use Rattle.shapes.specs.Heads.{isException}
 use Rattle.shapes.specs.Parts.{stmtIn, stmtsIn, bodyIn, handlerIn, handlerLast, handling}
 use Rattle.tables.specs.declared.Scope.{Scope}
-use Rattle.tables.specs.declared.Fault.{Fault}
-use Rattle.tables.specs.declared.Fault.the-variants.{Clear, Form}
+use Rattle.faults.specs.declared.Fault.{Fault}
+use Rattle.faults.specs.declared.Fault.the-variants.{Clear, Form}
 use Rattle.tables.specs.declared.Loops.{Loops}
 use Rattle.tables.specs.Loops.{noLoops}
 use Rattle.tables.specs.Scene.{Scene}
 use Rattle.tables.proofs.Kept.{scene-kept}
 use Rattle.tables.proofs.Looping.{in-force-none}
 use Rattle.worklist.specs.Laid.{Laid}
-use Rattle.parts.specs.declared.Got.{Got}
-use Rattle.parts.specs.Got.{lowest, isForm, faultOf, failedGot, pastBracket}
-use Rattle.parts.specs.Parts.{ShutAt, Closes, shut, more}
+use Rattle.faults.specs.declared.Got.{Got}
+use Rattle.faults.specs.Got.{lowest, isForm, faultOf, failedGot, pastBracket}
+use Rattle.parts.specs.Parts.{ShutAt}
+use Rattle.exprnodes.specs.Bracket.{Closes, shut, more}
 use Rattle.exprnodes.specs.Nodes.{Makes}
 use Rattle.expressions.proofs.Joining.{wrong-fits, fits-inj}
 use Rattle.stmtnodes.specs.Nodes.{plainMade, handledMade, linked, skipGot, joinedGot}

@@ -22,16 +22,16 @@ use Rattle.semantics.proofs.OnePassStmts.{case-staged}
 use Rattle.shapes.specs.declared.Verb.the-variants as VB
 use Rattle.shapes.specs.Parts.{rest, exprIn, armsIn}
 use Rattle.tables.specs.declared.Scope.{Scope}
-use Rattle.tables.specs.declared.Fault.{Fault}
-use Rattle.tables.specs.declared.Fault.the-variants.{Clear, Kind, Name, Form}
+use Rattle.faults.specs.declared.Fault.{Fault}
+use Rattle.faults.specs.declared.Fault.the-variants.{Clear, Kind, Name, Form}
 use Rattle.tables.specs.declared.Loops.{Loops}
 use Rattle.tables.specs.Descriptions.{infoOf}
 use Rattle.tables.specs.Scene.{Scene}
 use Rattle.tables.proofs.Kept.{scene-kept}
 use Rattle.tables.proofs.Telling.{shape-ordinal}
 use Rattle.worklist.specs.Laid.{Laid}
-use Rattle.parts.specs.declared.Got.{Got}
-use Rattle.parts.specs.Got.{lowest, isForm, isClear, faultOf}
+use Rattle.faults.specs.declared.Got.{Got}
+use Rattle.faults.specs.Got.{lowest, isForm, isClear, faultOf}
 use Rattle.exprnodes.specs.Nodes.{Makes}
 use Rattle.expressions.specs.Walks.{Moves, Leaves, ExprTold, GivesExpr}
 use Rattle.expressions.proofs.Joining.{wrong-fits, unnamed-fits, unfit-fits, fits-inj}

@@ -13,8 +13,8 @@ use Rattle.semantics.specs.Rules.{differ, labelsOf, keptArms}
 use Rattle.semantics.specs.Script as Script
 use Rattle.semantics.specs.Stages.{Staged, wrong, unnamed, unfit, fits, staged, named, ruled, join, onFits, orUnfit, selected, armsStaged, casesStaged}
 use Rattle.semantics.specs.Syntax as Syntax
-use Rattle.tables.specs.declared.Fault.the-variants.{Clear, Kind, Name, Form}
-use Rattle.parts.specs.Got.{lowest, faultOf}
+use Rattle.faults.specs.declared.Fault.the-variants.{Clear, Kind, Name, Form}
+use Rattle.faults.specs.Got.{lowest, faultOf}
 use Rattle.expressions.proofs.Joining.{wrong-fits, unnamed-fits, unfit-fits}
 use Rattle.labels.specs.Repeating.{labelsDiffer}
 use Rattle.statements.proofs.Faults.{lowest-clear}

@@ -22,15 +22,15 @@ use Rattle.semantics.proofs.LayoutRegions.{Same, lay-g}
 use Rattle.semantics.proofs.OnePassStmts.{stmts-staged, begin-staged}
 use Rattle.shapes.specs.Parts.{partOf, rest, stmtIn, stmtsIn}
 use Rattle.tables.specs.declared.Scope.{Scope}
-use Rattle.tables.specs.declared.Fault.{Fault}
-use Rattle.tables.specs.declared.Fault.the-variants.{Clear, Form}
+use Rattle.faults.specs.declared.Fault.{Fault}
+use Rattle.faults.specs.declared.Fault.the-variants.{Clear, Form}
 use Rattle.tables.specs.declared.Loops.{Loops}
 use Rattle.tables.proofs.Kept.{scene-kept}
 use Rattle.worklist.specs.Laid.{Laid}
-use Rattle.parts.specs.declared.Got.{Got}
+use Rattle.faults.specs.declared.Got.{Got}
 use Rattle.parts.specs.declared.End.{End}
 use Rattle.parts.specs.declared.End.the-variants as ending
-use Rattle.parts.specs.Got.{lowest, isForm, faultOf}
+use Rattle.faults.specs.Got.{lowest, isForm, faultOf}
 use Rattle.parts.specs.Parts.{Shuts, ShutAt}
 use Rattle.expressions.proofs.Joining.{wrong-fits, fits-inj}
 use Rattle.stmtnodes.specs.Nodes.{linked, skipGot}

@@ -18,11 +18,12 @@ use Rattle.semantics.specs.Trees.{Trees, end, _then_, Tree, Run, first, later, 
 use Rattle.semantics.proofs.LayoutRegions.{Same, lay-g}
 use Rattle.semantics.proofs.Inversion.{none-some}
 use Rattle.semantics.proofs.OnePassExprs.{wanted-staged}
-use Rattle.tables.specs.declared.Fault.{Fault}
-use Rattle.tables.specs.declared.Fault.the-variants.{Clear, Kind, Name, Form}
-use Rattle.parts.specs.declared.Got.{Got}
-use Rattle.parts.specs.Got.{lowest, isForm, isClear, faultOf, failedGot, pastBracket, Told}
-use Rattle.parts.specs.Parts.{Before, ShutAt, Closes, shut, more}
+use Rattle.faults.specs.declared.Fault.{Fault}
+use Rattle.faults.specs.declared.Fault.the-variants.{Clear, Kind, Name, Form}
+use Rattle.faults.specs.declared.Got.{Got}
+use Rattle.faults.specs.Got.{lowest, isForm, isClear, faultOf, failedGot, pastBracket, Told}
+use Rattle.parts.specs.Parts.{Before, ShutAt}
+use Rattle.exprnodes.specs.Bracket.{Closes, shut, more}
 use Rattle.shapes.specs.Parts.{rest, closed}
 use Rattle.exprnodes.specs.Nodes.{Made, Makes, nodeMade, ifClear}
 use Rattle.expressions.specs.Walks.{Moves, Leaves, ExprTold}

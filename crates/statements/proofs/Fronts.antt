@@ -24,13 +24,13 @@ use Rattle.semantics.proofs.LayoutRegions.{Same, lay-g}
 use Rattle.semantics.proofs.Staging.{staged-two}
 use Rattle.shapes.specs.Parts.{partOf, rest, stmtIn, bodyIn, handlerIn, withFirst}
 use Rattle.tables.specs.declared.Scope.{Scope}
-use Rattle.tables.specs.declared.Fault.{Fault}
-use Rattle.tables.specs.declared.Fault.the-variants.{Clear, Form}
+use Rattle.faults.specs.declared.Fault.{Fault}
+use Rattle.faults.specs.declared.Fault.the-variants.{Clear, Form}
 use Rattle.tables.specs.Loops.{noLoops}
 use Rattle.tables.proofs.Kept.{scene-kept}
 use Rattle.worklist.specs.Laid.{Laid}
-use Rattle.parts.specs.declared.Got.{Got}
-use Rattle.parts.specs.Got.{lowest, isForm, faultOf}
+use Rattle.faults.specs.declared.Got.{Got}
+use Rattle.faults.specs.Got.{lowest, isForm, faultOf}
 use Rattle.stmtnodes.specs.Nodes.{linked, skipGot, joinedGot}
 use Rattle.statements.specs.Walks.{bare, ActTold, Around, GivesStmt}
 use Rattle.statements.specs.Chains.{many}

@@ -31,15 +31,15 @@ use Rattle.semantics.proofs.LayoutRegions.{Same, lay-g}
 use Rattle.semantics.proofs.Staging.{staged-two}
 use Rattle.shapes.specs.Parts.{partOf, rest, closed, constantIn, stmtIn, armIn}
 use Rattle.tables.specs.declared.Scope.{Scope}
-use Rattle.tables.specs.declared.Fault.{Fault}
-use Rattle.tables.specs.declared.Fault.the-variants.{Clear, Kind, Name, Form}
+use Rattle.faults.specs.declared.Fault.{Fault}
+use Rattle.faults.specs.declared.Fault.the-variants.{Clear, Kind, Name, Form}
 use Rattle.tables.specs.Scene.{Scene}
 use Rattle.tables.proofs.Kept.{scene-kept}
 use Rattle.worklist.specs.Laid.{Laid}
-use Rattle.parts.specs.declared.Got.{Got}
+use Rattle.faults.specs.declared.Got.{Got}
 use Rattle.parts.specs.declared.End.{End}
 use Rattle.parts.specs.declared.End.the-variants as ending
-use Rattle.parts.specs.Got.{lowest, isForm, faultOf, failedGot}
+use Rattle.faults.specs.Got.{lowest, isForm, faultOf, failedGot}
 use Rattle.parts.specs.Parts.{Before, Shuts, ShutAt}
 use Rattle.atoms.specs.declared.Valued.{Valued}
 use Rattle.atoms.specs.Contracts.{ValueTold, GivesConstant}

@@ -26,8 +26,8 @@ use Rattle.shapes.specs.Parts.{rest, closed, exprIn, nameIn, stmtIn, stmtsIn}
 use Rattle.shapes.proofs.Heads.{name-word}
 use Rattle.shapes.proofs.Expressions.{name-form}
 use Rattle.tables.specs.declared.Scope.{Scope}
-use Rattle.tables.specs.declared.Fault.{Fault}
-use Rattle.tables.specs.declared.Fault.the-variants.{Clear, Form, Name as Unnamed}
+use Rattle.faults.specs.declared.Fault.{Fault}
+use Rattle.faults.specs.declared.Fault.the-variants.{Clear, Form, Name as Unnamed}
 use Rattle.tables.specs.declared.Info.{Info}
 use Rattle.tables.specs.declared.Loops.{Loops}
 use Rattle.tables.specs.declared.Meaning.{Meaning}
@@ -39,13 +39,14 @@ use Rattle.tables.proofs.Kept.{scene-kept}
 use Rattle.tables.proofs.Looping.{in-force-more}
 use Rattle.tables.proofs.Telling.{meant, host-in, shape-ordinal, low-told, high-told}
 use Rattle.worklist.specs.Laid.{Laid}
-use Rattle.parts.specs.declared.Got.{Got}
+use Rattle.faults.specs.declared.Got.{Got}
 use Rattle.parts.specs.declared.Part.{Part}
 use Rattle.parts.specs.declared.Part.the-variants as part
 use Rattle.parts.specs.declared.End.{End}
 use Rattle.parts.specs.declared.End.the-variants as ending
-use Rattle.parts.specs.Got.{lowest, isForm, faultOf, failedGot}
-use Rattle.parts.specs.Parts.{Before, LeafAt, FormAt, ShutAt, Stands, Shuts, Closes}
+use Rattle.faults.specs.Got.{lowest, isForm, faultOf, failedGot}
+use Rattle.parts.specs.Parts.{Before, LeafAt, FormAt, ShutAt, Stands, Shuts}
+use Rattle.exprnodes.specs.Bracket.{Closes}
 use Rattle.exprnodes.specs.Nodes.{Makes}
 use Rattle.expressions.specs.Walks.{Moves, Leaves, GivesExpr}
 use Rattle.stmtnodes.specs.declared.nodes.Control.{Control}

@@ -22,8 +22,8 @@ use Rattle.semantics.proofs.Inversion.{none-some, some-inj, bind-some}
 use Rattle.semantics.proofs.Staging.{pair, staged-unknown, staged-three}
 use Rattle.semantics.proofs.OnePassStmts.{assign-staged, for-staged}
 use Rattle.tables.specs.declared.Scope.{Scope}
-use Rattle.tables.specs.declared.Fault.{Fault}
-use Rattle.tables.specs.declared.Fault.the-variants.{Clear, Kind, Name as Unnamed, Form}
+use Rattle.faults.specs.declared.Fault.{Fault}
+use Rattle.faults.specs.declared.Fault.the-variants.{Clear, Kind, Name as Unnamed, Form}
 use Rattle.tables.specs.declared.Info.{Info}
 use Rattle.tables.specs.declared.Meaning.{Meaning}
 use Rattle.tables.specs.Descriptions.{infoOf}
@@ -31,8 +31,8 @@ use Rattle.tables.specs.Scene as Scenes
 use Rattle.tables.specs.Scene.{Scene, a-type, a-var, a-proc, a-value}
 use Rattle.tables.specs.Sides.{hostIn}
 use Rattle.tables.proofs.Telling.{shape-ordinal, low-told, high-told, host-in}
-use Rattle.parts.specs.declared.Got.{Got}
-use Rattle.parts.specs.Got.{lowest, isForm, faultOf, Told}
+use Rattle.faults.specs.declared.Got.{Got}
+use Rattle.faults.specs.Got.{lowest, isForm, faultOf, Told}
 use Rattle.exprnodes.specs.Nodes.{Made, Makes, failedMade, nodeMade, ifClear}
 use Rattle.expressions.specs.Walks.{ExprTold}
 use Rattle.expressions.proofs.Joining.{wrong-fits, unnamed-fits, unfit-fits, fits-inj, told-join, told-as, told-fits, told-unfit}

@@ -34,8 +34,8 @@ use Rattle.shapes.specs.Parts.{rest, closed, exprIn, targetIn, nameIn, targetBy
 use Rattle.shapes.proofs.Heads.{target-word}
 use Rattle.shapes.proofs.Expressions.{target-form, target-end, target-empty, target-headless}
 use Rattle.tables.specs.declared.Scope.{Scope}
-use Rattle.tables.specs.declared.Fault.{Fault}
-use Rattle.tables.specs.declared.Fault.the-variants.{Clear, Kind, Name as Unnamed, Form}
+use Rattle.faults.specs.declared.Fault.{Fault}
+use Rattle.faults.specs.declared.Fault.the-variants.{Clear, Kind, Name as Unnamed, Form}
 use Rattle.tables.specs.declared.Loops.{Loops}
 use Rattle.tables.specs.declared.Meaning.{Meaning}
 use Rattle.tables.specs.declared.Meaning.the-variants as meaning
@@ -46,11 +46,12 @@ use Rattle.tables.specs.Scene as Scenes
 use Rattle.tables.specs.Scene.{Scene, a-type, a-var, a-proc, a-value, meaningHere}
 use Rattle.tables.proofs.Kept.{scene-kept}
 use Rattle.tables.proofs.Telling.{meant}
-use Rattle.parts.specs.declared.Got.{Got}
+use Rattle.faults.specs.declared.Got.{Got}
 use Rattle.parts.specs.declared.Part.{Part}
 use Rattle.parts.specs.declared.Part.the-variants as part
-use Rattle.parts.specs.Got.{lowest, isForm, faultOf, failedGot, Told}
-use Rattle.parts.specs.Parts.{Before, LeafAt, FormAt, ShutAt, Stands, Closes}
+use Rattle.faults.specs.Got.{lowest, isForm, faultOf, failedGot, Told}
+use Rattle.parts.specs.Parts.{Before, LeafAt, FormAt, ShutAt, Stands}
+use Rattle.exprnodes.specs.Bracket.{Closes}
 use Rattle.exprnodes.specs.Nodes.{Makes, failedMade, nodeMade, ifClear}
 use Rattle.expressions.specs.Walks.{Moves, Leaves, ExprTold, GivesExpr, GivesTarget}
 use Rattle.expressions.proofs.Joining.{wrong-fits, unnamed-fits, unfit-fits}

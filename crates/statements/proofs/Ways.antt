@@ -24,8 +24,8 @@ use Rattle.shapes.proofs.Heads.{name-word}
 use Rattle.shapes.proofs.Expressions.{name-form}
 use Rattle.shapes.proofs.Statements.{stmt-end, stmt-zero, stmt-word, stmt-empty, stmt-headless}
 use Rattle.tables.specs.declared.Scope.{Scope}
-use Rattle.tables.specs.declared.Fault.{Fault}
-use Rattle.tables.specs.declared.Fault.the-variants.{Form}
+use Rattle.faults.specs.declared.Fault.{Fault}
+use Rattle.faults.specs.declared.Fault.the-variants.{Form}
 use Rattle.tables.specs.declared.Loops.{Loops}
 use Rattle.tables.specs.declared.Meaning.{Meaning}
 use Rattle.tables.specs.declared.Meaning.the-variants as meaning
@@ -34,13 +34,14 @@ use Rattle.statements.proofs.Chains.{none-of}
 use Rattle.tables.specs.Scene.{meaningHere}
 use Rattle.tables.proofs.Kept.{scene-kept}
 use Rattle.tables.proofs.Telling.{meant}
-use Rattle.parts.specs.declared.Got.{Got}
+use Rattle.faults.specs.declared.Got.{Got}
 use Rattle.parts.specs.declared.Part.{Part}
 use Rattle.parts.specs.declared.Part.the-variants as part
 use Rattle.parts.specs.declared.End.{End}
 use Rattle.parts.specs.declared.End.the-variants as ending
-use Rattle.parts.specs.Got.{lowest, isForm, faultOf, failedGot}
-use Rattle.parts.specs.Parts.{Before, LeafAt, FormAt, ShutAt, Stands, Shuts, Closes}
+use Rattle.faults.specs.Got.{lowest, isForm, faultOf, failedGot}
+use Rattle.parts.specs.Parts.{Before, LeafAt, FormAt, ShutAt, Stands, Shuts}
+use Rattle.exprnodes.specs.Bracket.{Closes}
 use Rattle.exprnodes.specs.Nodes.{Makes, failedMade, nodeMade}
 use Rattle.expressions.specs.Walks.{Moves, Leaves, ExprTold, GivesExpr}
 use Rattle.stmtnodes.specs.declared.nodes.Control.{Control}

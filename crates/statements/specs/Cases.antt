@@ -18,15 +18,16 @@ use Rattle.semantics.specs.Words.{worded}
 use Rattle.semantics.proofs.LayoutRegions.{Same}
 use Rattle.shapes.specs.Parts.{rest, closed, stmtIn, armIn, armsIn, armHeadIn}
 use Rattle.tables.specs.declared.Scope.{Scope}
-use Rattle.tables.specs.declared.Fault.{Fault}
-use Rattle.tables.specs.declared.Fault.the-variants.{Clear, Kind, Name, Form}
+use Rattle.faults.specs.declared.Fault.{Fault}
+use Rattle.faults.specs.declared.Fault.the-variants.{Clear, Kind, Name, Form}
 use Rattle.tables.specs.declared.Info.{Info}
 use Rattle.tables.specs.declared.Loops.{Loops}
 use Rattle.tables.specs.Descriptions.{infoOf}
 use Rattle.tables.specs.Scene.{Scene}
-use Rattle.parts.specs.declared.Got.{Got}
-use Rattle.parts.specs.Got.{lowest, isForm, isClear, faultOf, failedGot}
-use Rattle.parts.specs.Parts.{ShutAt, Closes}
+use Rattle.faults.specs.declared.Got.{Got}
+use Rattle.faults.specs.Got.{lowest, isForm, isClear, faultOf, failedGot}
+use Rattle.parts.specs.Parts.{ShutAt}
+use Rattle.exprnodes.specs.Bracket.{Closes}
 use Rattle.worklist.specs.Laid.{Laid}
 use Rattle.atoms.specs.declared.Valued.{Valued}
 use Rattle.labels.specs.Repeating.{Repeating}

@@ -13,10 +13,10 @@ use Rattle.semantics.specs.Trees.{Trees, end, _then_, Run, first, later, stackA
 use Rattle.semantics.proofs.LayoutRegions.{Same}
 use Rattle.shapes.specs.Parts.{stmtsIn}
 use Rattle.tables.specs.declared.Scope.{Scope}
-use Rattle.tables.specs.declared.Fault.{Fault}
+use Rattle.faults.specs.declared.Fault.{Fault}
 use Rattle.tables.specs.declared.Loops.{Loops}
-use Rattle.parts.specs.declared.Got.{Got}
-use Rattle.parts.specs.Got.{lowest, isForm, faultOf}
+use Rattle.faults.specs.declared.Got.{Got}
+use Rattle.faults.specs.Got.{lowest, isForm, faultOf}
 use Rattle.statements.specs.Walks.{bare, Around}
 
 -- how many parts there are

@@ -14,11 +14,11 @@ use Rattle.semantics.specs.Trees.{first, later, stackAt, nodesIn}
 use Rattle.semantics.proofs.LayoutRegions.{Same}
 use Rattle.shapes.specs.Parts.{bodyIn}
 use Rattle.tables.specs.declared.Scope.{Scope}
-use Rattle.tables.specs.declared.Fault.{Fault}
+use Rattle.faults.specs.declared.Fault.{Fault}
 use Rattle.tables.specs.Loops.{noLoops}
-use Rattle.parts.specs.declared.Got.{Got}
-use Rattle.parts.specs.Got.{lowest, isForm, faultOf}
-use Rattle.parts.specs.Parts.{Closes}
+use Rattle.faults.specs.declared.Got.{Got}
+use Rattle.faults.specs.Got.{lowest, isForm, faultOf}
+use Rattle.exprnodes.specs.Bracket.{Closes}
 use Rattle.worklist.specs.Laid.{Laid}
 use Rattle.exprnodes.specs.Nodes.{Makes}
 use Rattle.stmtnodes.specs.Nodes.{handledMade}

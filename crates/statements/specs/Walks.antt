@@ -25,12 +25,12 @@ use Rattle.shapes.specs.declared.Verb.the-variants.{Assign, Raise, Call}
 use Rattle.shapes.specs.Heads.{verbMeant}
 use Rattle.shapes.specs.Parts.{rest, closed, exprIn, targetIn, stmtIn, stmtsIn, elseIn, bodyIn}
 use Rattle.tables.specs.declared.Scope.{Scope}
-use Rattle.tables.specs.declared.Fault.the-variants.{Clear, Name as Unnamed}
+use Rattle.faults.specs.declared.Fault.the-variants.{Clear, Name as Unnamed}
 use Rattle.tables.specs.declared.Loops.{Loops}
 use Rattle.tables.specs.Loops.{InForce}
 use Rattle.tables.specs.Scene.{Scene}
-use Rattle.parts.specs.declared.Got.{Got}
-use Rattle.parts.specs.Got.{isForm, faultOf, Told}
+use Rattle.faults.specs.declared.Got.{Got}
+use Rattle.faults.specs.Got.{isForm, faultOf, Told}
 use Rattle.expressions.specs.Walks.{Moves, Leaves}
 use Rattle.stmtnodes.specs.declared.nodes.Control.{Control}
 use Rattle.stmtnodes.specs.Nodes.{controlIs}

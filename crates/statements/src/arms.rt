@@ -1,14 +1,14 @@
 // The arms of a `case`: what comes next, their links, and the node of a case.
+use faults::Fault;
+use faults::Got;
+use faults::is_clear;
+use faults::lowest;
 use labels::repeat_fault;
-use parts::Got;
 use parts::Part;
-use parts::is_clear;
-use parts::lowest;
 use parts::part_at;
 use shapes::ArmHead;
 use shapes::arm_head;
 use stmtbase::node_if;
-use tables::Fault;
 use tables::Info;
 use tables::Scope;
 use tables::describe;
@@ -17,7 +17,7 @@ use worklist::put;
 ghost use mathlib.Core.Path.{_≡_};
 ghost use mathlib.Core.Bool.{cond};
 ghost use lib.Dec.{eqb};
-ghost use Rattle.tables.specs.declared.Fault.the-variants.{Clear, Kind};
+ghost use Rattle.faults.specs.declared.Fault.the-variants.{Clear, Kind};
 ghost use Prim.Native.Nat.{_+_};
 ghost use Rattle.exprnodes.specs.Nodes.{Makes};
 ghost use Rattle.statements.specs.Cases.{ArmComes, ArmInside, armMade, selectedKind, FirstArm, caseMade, CaseEnds};

@@ -1,9 +1,9 @@
 // The walk over a body.
 use crate::walk::acts;
 use crate::walk::stmt;
-use parts::Got;
-use parts::closing;
-use parts::is_form;
+use exprnodes::bracket::closing;
+use faults::Got;
+use faults::is_form;
 use stmtnodes::last::Next;
 use stmtnodes::last::handled_node;
 use stmtnodes::last::next_at;

@@ -1,13 +1,14 @@
 // The statements that have no statements in them, from past the head word on.
 use expressions::walk::expr;
 use expressions::walk::target;
+use exprnodes::bracket::closing;
+use faults::Fault;
+use faults::Got;
+use faults::failed;
+use faults::is_form;
 use parts::End;
-use parts::Got;
 use parts::Part;
-use parts::closing;
 use parts::end_at;
-use parts::failed;
-use parts::is_form;
 use parts::part_at;
 use stmtbase::steer;
 use stmtnodes::nodes::assign_node;
@@ -15,7 +16,6 @@ use stmtnodes::nodes::call_node;
 use stmtnodes::nodes::is_named;
 use stmtnodes::nodes::raise_node;
 use stmtnodes::nodes::wanted;
-use tables::Fault;
 use tables::Loops;
 use tables::Scope;
 use tables::meaning_of;

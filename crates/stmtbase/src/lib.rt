@@ -1,10 +1,10 @@
 // What the leaves of the walk over statements are made of: an answer with another fault, and a node where no fault has come.
 use exprnodes::nodes::node;
-use parts::Got;
-use parts::failed;
-use parts::is_clear;
-use parts::lowest;
-use tables::Fault;
+use faults::Fault;
+use faults::Got;
+use faults::failed;
+use faults::is_clear;
+use faults::lowest;
 use tables::Loops;
 use tables::Meaning;
 use tables::loops_over;

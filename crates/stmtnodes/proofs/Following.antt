@@ -11,12 +11,12 @@ use Rattle.semantics.specs.Layout.{lay}
 use Rattle.semantics.specs.Trees.{Tree, word, form, Trees, end, _then_, Run, first, later, wordAt, stackAt}
 use Rattle.shapes.specs.Heads.{isException}
 use Rattle.shapes.specs.Parts.{handlerIn}
-use Rattle.tables.specs.declared.Fault.{Fault}
+use Rattle.faults.specs.declared.Fault.{Fault}
 use Rattle.worklist.specs.Laid.{Laid}
-use Rattle.parts.specs.declared.Got.{Got}
+use Rattle.faults.specs.declared.Got.{Got}
 use Rattle.parts.specs.declared.Part.{Part}
 use Rattle.parts.specs.declared.Part.the-variants as part
-use Rattle.parts.specs.Got.{lowest}
+use Rattle.faults.specs.Got.{lowest}
 use Rattle.parts.specs.Parts.{LeafAt, FormAt, ShutAt, Stands}
 use Rattle.exprnodes.specs.Nodes.{Makes}
 use Rattle.stmtnodes.specs.declared.last.Next.{Next}

@@ -7,8 +7,8 @@ use borrow.Author.Tests.{eq-eqb, ne-eqb, lt-ltb, le-ltb}
 use lib.Dec.{eqb, ltb}
 use lib.ListN.{set}
 use Rattle.semantics.specs.Layout.{Out, lay, link}
-use Rattle.tables.specs.declared.Fault.{Fault}
-use Rattle.tables.specs.declared.Fault.the-variants.{Clear, Kind, Name, Form}
+use Rattle.faults.specs.declared.Fault.{Fault}
+use Rattle.faults.specs.declared.Fault.the-variants.{Clear, Kind, Name, Form}
 use Rattle.tables.specs.declared.Info.{Info}
 use Rattle.tables.specs.declared.Loops.{Loops}
 use Rattle.tables.specs.declared.Meaning.{Meaning}
@@ -16,8 +16,8 @@ use Rattle.tables.specs.declared.Meaning.the-variants as meaning
 use Rattle.tables.specs.Descriptions.{infoOf}
 use Rattle.tables.specs.Loops.{loopsOver}
 use Rattle.tables.specs.Sides.{hostIn}
-use Rattle.parts.specs.declared.Got.{Got}
-use Rattle.parts.specs.Got.{lowest, isClear, failedGot}
+use Rattle.faults.specs.declared.Got.{Got}
+use Rattle.faults.specs.Got.{lowest, isClear, failedGot}
 use Rattle.worklist.specs.Laid.{Laid}
 use Rattle.exprnodes.specs.Nodes.{Makes, nodeMade}
 use Rattle.exprnodes.proofs.Making.{if-clear, if-fault}

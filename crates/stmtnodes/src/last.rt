@@ -1,7 +1,7 @@
 // A body's parts: what comes next, and the node of a body.
-use parts::Got;
+use faults::Got;
+use faults::lowest;
 use parts::Part;
-use parts::lowest;
 use parts::part_at;
 use shapes::is_exception;
 use stmtbase::node_if;

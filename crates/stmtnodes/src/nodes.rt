@@ -1,15 +1,15 @@
 // The nodes of statements, from the answers for their parts.
 use exprnodes::nodes::node;
+use faults::Fault;
+use faults::Got;
+use faults::failed;
+use faults::is_clear;
+use faults::lowest;
 use lexis::words::Word;
-use parts::Got;
-use parts::failed;
-use parts::is_clear;
-use parts::lowest;
 use shapes::Atom;
 use shapes::atom_of;
 use stmtbase::node_if;
 use stmtbase::with_fault;
-use tables::Fault;
 use tables::Info;
 use tables::Loops;
 use tables::Meaning;

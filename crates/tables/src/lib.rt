@@ -14,14 +14,6 @@ ghost use Rattle.tables.specs.Loops.{noLoops, listedLoops, loopsOver, wi
 ghost use Rattle.tables.specs.Scene.{meaningBy, meaningHere};
 ghost use Rattle.tables.specs.Sides.{hostIn, classIn, sideIn};
 
-// A fault that a part of a line has: of row 8, 7 or 6, or none.
-pub enum Fault {
-    Clear,
-    Kind,
-    Name,
-    Form,
-}
-
 // What is known of a type: its shape (0 ordinal, 1 set, 2 array, 3 record), its host, its bounds in 32 bits, how many cells it has, its
 // index and element types, how many fields it has, and the place of its description, after which those stand.
 pub struct Info {

@@ -23,7 +23,7 @@ use Rattle.shapes.specs.declared.Maker.{Maker}
 use Rattle.shapes.specs.declared.Maker.the-variants as MK
 use Rattle.shapes.proofs.Heads.{maker-is}
 use Rattle.shapes.proofs.Walks.{bind-cong, bind-assoc, bind-swap, one-then, two-then, headed-form, empty-form, headless-form}
-use Rattle.tables.specs.declared.Fault.the-variants.{Form}
+use Rattle.faults.specs.declared.Fault.the-variants.{Form}
 use Rattle.semantics.specs.Stages.{wrong, staged}
 use Rattle.declarations.specs.Names.{GivesName}
 use Rattle.declarations.specs.Lines.{lineOf, entryStaged, linedBy, GivesLine}

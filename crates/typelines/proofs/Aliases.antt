@@ -26,13 +26,13 @@ use Rattle.semantics.proofs.LinesKeep.{AllFair, type, name, Keeps}
 use Rattle.worklist.specs.Laid.{Laid}
 use Rattle.symbols.specs.Keys.{keyed}
 use Rattle.tables.proofs.Cells.{keeps-cells}
-use Rattle.tables.specs.declared.Fault.{Fault}
-use Rattle.tables.specs.declared.Fault.the-variants.{Clear}
+use Rattle.faults.specs.declared.Fault.{Fault}
+use Rattle.faults.specs.declared.Fault.the-variants.{Clear}
 use Rattle.tables.specs.declared.Info.{Info}
 use Rattle.tables.specs.Scene.{Scene, Told, meaningHere}
 use Rattle.tables.proofs.Kept.{scene-kept}
 use Rattle.tables.proofs.Telling.{meant}
-use Rattle.parts.specs.Got.{isClear, faultOf}
+use Rattle.faults.specs.Got.{isClear, faultOf}
 use Rattle.shapes.specs.Parts.{rest, closed, typeNameIn}
 use Rattle.shapes.proofs.Walks.{bind-cong, bind-assoc}
 use Rattle.atoms.specs.declared.Typed.{Typed}

@@ -27,9 +27,9 @@ use Rattle.semantics.proofs.LayoutRegions.{Same, Room, Has, lay-g, lay-l}
 use Rattle.worklist.specs.Laid.{Laid}
 use Rattle.symbols.specs.Keys.{keyed}
 use Rattle.tables.proofs.Cells.{keeps-cells}
-use Rattle.tables.specs.declared.Fault.{Fault}
-use Rattle.tables.specs.declared.Fault.the-variants.{Clear, Form}
-use Rattle.tables.specs.declared.Fault.the-variants as fault
+use Rattle.faults.specs.declared.Fault.{Fault}
+use Rattle.faults.specs.declared.Fault.the-variants.{Clear, Form}
+use Rattle.faults.specs.declared.Fault.the-variants as fault
 use Rattle.tables.specs.declared.Info.{Info}
 use Rattle.tables.specs.declared.Meaning.{Meaning}
 use Rattle.tables.specs.Descriptions.{infoOf, readInfo, fieldsAt, Tells, EndsBelow}
@@ -38,7 +38,7 @@ use Rattle.symbols.specs.Chain.{entries}
 use Rattle.symbols.proofs.Chained.{Names}
 use Rattle.tables.specs.Scene.{Scene, Told, Meant, meaningHere}
 use Rattle.tables.proofs.Telling.{meant}
-use Rattle.parts.specs.Got.{isForm, isClear, lowest, faultOf}
+use Rattle.faults.specs.Got.{isForm, isClear, lowest, faultOf}
 use Rattle.parts.specs.Parts.{ShutAt, Shuts}
 use Rattle.parts.specs.declared.End.{End}
 use Rattle.parts.specs.declared.End.the-variants as ending

@@ -19,10 +19,10 @@ use Rattle.semantics.specs.Syntax.{LineForm, TypeForm, typeLine, alias}
 use Rattle.semantics.specs.Trees.{Trees, end, Run, first, later, wordAt, stackAt}
 use Rattle.semantics.specs.Types.{TypeInfo, cellsBy}
 use Rattle.tables.specs.Descriptions.{shapeNumber}
-use Rattle.tables.specs.declared.Fault.{Fault}
-use Rattle.tables.specs.declared.Fault.the-variants.{Clear, Form}
+use Rattle.faults.specs.declared.Fault.{Fault}
+use Rattle.faults.specs.declared.Fault.the-variants.{Clear, Form}
 use Rattle.tables.specs.declared.Info.{Info}
-use Rattle.parts.specs.Got.{isForm, faultOf}
+use Rattle.faults.specs.Got.{isForm, faultOf}
 use Rattle.shapes.specs.Parts.{partOf, rest, closed, typeNameIn}
 use Rattle.declarations.specs.Lines.{newly, entryStaged, linedBy, GivesLine}
 use Rattle.declarations.specs.State.{Holds, withNames, withTypeLine}

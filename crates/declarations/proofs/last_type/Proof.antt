@@ -7,7 +7,7 @@ use Rattle.declarations.proofs.last_type.Lts as lts
 use Rattle.atoms.proofs.type_name.Reads as type-name-reads
 use Rattle.declarations.proofs.type_answer.Reads as type-answer-reads
 use Rattle.parts.proofs.end_at.Reads as end-at-reads
-use Rattle.parts.proofs.is_form.Reads as is-form-reads
+use Rattle.faults.proofs.is_form.Reads as is-form-reads
 
 -- src/lib.rt:127:9
 type-name-requires : tie.Need-type-name-requires

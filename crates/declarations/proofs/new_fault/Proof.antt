@@ -4,7 +4,7 @@ use Rattle.declarations.proofs.new_fault.Statement.{statement}
 use Rattle.declarations.proofs.new_fault.Tie as tie
 use Rattle.declarations.proofs.new_fault.Reads as reads
 use Rattle.declarations.proofs.new_fault.Lts as lts
-use Rattle.parts.proofs.lowest.Reads as lowest-reads
+use Rattle.faults.proofs.lowest.Reads as lowest-reads
 
 -- src/lib.rt:92:29
 enum-told : tie.Need-enum-told

@@ -8,7 +8,7 @@ use Rattle.declarations.proofs.add_var.Reads as add-var-reads
 use Rattle.declarations.proofs.answered.Reads as answered-reads
 use Rattle.declarations.proofs.last_type.Reads as last-type-reads
 use Rattle.declarations.proofs.named_fault.Reads as named-fault-reads
-use Rattle.parts.proofs.is_clear.Reads as is-clear-reads
+use Rattle.faults.proofs.is_clear.Reads as is-clear-reads
 use Rattle.symbols.proofs.keys.name_number.Reads as name-number-reads
 
 -- src/lib.rt:277:9

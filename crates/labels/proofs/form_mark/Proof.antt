@@ -6,7 +6,7 @@ use Rattle.labels.proofs.form_mark.Tie as tie
 use Rattle.labels.proofs.form_mark.Reads as reads
 use Rattle.labels.proofs.form_mark.Lts as lts
 use Rattle.atoms.proofs.minus_form.Reads as minus-form-reads
-use Rattle.parts.proofs.is_form.Reads as is-form-reads
+use Rattle.faults.proofs.is_form.Reads as is-form-reads
 
 -- src/lib.rt:117:9
 minus-form-requires : tie.Need-minus-form-requires

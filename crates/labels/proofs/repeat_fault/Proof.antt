@@ -6,7 +6,7 @@ use Rattle.labels.proofs.repeat_fault.Reads as reads
 use Rattle.labels.proofs.repeat_fault.Lts as lts
 use Rattle.labels.proofs.arm_hop.Reads as arm-hop-reads
 use Rattle.labels.proofs.label_fault.Reads as label-fault-reads
-use Rattle.parts.proofs.is_clear.Reads as is-clear-reads
+use Rattle.faults.proofs.is_clear.Reads as is-clear-reads
 
 -- src/lib.rt:391:8
 is-clear-requires : tie.Need-is-clear-requires

@@ -5,7 +5,7 @@ use Rattle.markarms.proofs.label_at.Tie as tie
 use Rattle.markarms.proofs.label_at.Reads as reads
 use Rattle.markarms.proofs.label_at.Lts as lts
 use Rattle.atoms.proofs.constant.Reads as constant-reads
-use Rattle.parts.proofs.is_clear.Reads as is-clear-reads
+use Rattle.faults.proofs.is_clear.Reads as is-clear-reads
 
 -- src/lib.rt:61:9
 constant-requires : tie.Need-constant-requires

@@ -12,8 +12,8 @@ use Rattle.enumlines.proofs.enums.one_more.Reads as one-more-reads
 use Rattle.pairs.proofs.add_type_size.Reads as add-type-size-reads
 use Rattle.pairs.proofs.pair_at.Reads as pair-at-reads
 use Rattle.pairs.proofs.pairs_end.Reads as pairs-end-reads
-use Rattle.parts.proofs.is_clear.Reads as is-clear-reads
-use Rattle.parts.proofs.is_form.Reads as is-form-reads
+use Rattle.faults.proofs.is_clear.Reads as is-clear-reads
+use Rattle.faults.proofs.is_form.Reads as is-form-reads
 
 abbrev Inv-loop : tie.InvT-loop
 Inv-loop text work types scope at p₀ n₀ size₀ ok₀ p n size ok = Walking text work types scope at p n size ok

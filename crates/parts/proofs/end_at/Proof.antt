@@ -6,31 +6,31 @@ use Rattle.parts.proofs.end_at.Reads as reads
 use Rattle.parts.proofs.end_at.Lts as lts
 use Rattle.reader.proofs.sight.look.Reads as look-reads
 
--- src/lib.rt:87:9
+-- src/lib.rt:74:9
 look-requires : tie.Need-look-requires
 look-requires c κs = search needs
 
--- src/lib.rt:89:27
+-- src/lib.rt:76:27
 enum-told : tie.Need-enum-told
 enum-told c = search needs
 
--- src/lib.rt:90:27
+-- src/lib.rt:77:27
 enum-told-2 : tie.Need-enum-told-2
 enum-told-2 c = search needs
 
--- src/lib.rt:91:21
+-- src/lib.rt:78:21
 enum-known-s : tie.Need-enum-known-s
 enum-known-s c = search needs
 
--- src/lib.rt:84:1
+-- src/lib.rt:71:1
 returns : tie.Need-returns
 returns c = search end-laws
 
--- src/lib.rt:84:1
+-- src/lib.rt:71:1
 returns-2 : tie.Need-returns-2
 returns-2 c = search end-laws
 
--- src/lib.rt:84:1
+-- src/lib.rt:71:1
 returns-3 : tie.Need-returns-3
 returns-3 c = search end-laws
 

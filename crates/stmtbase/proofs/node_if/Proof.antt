@@ -5,8 +5,8 @@ use Rattle.stmtbase.proofs.node_if.Tie as tie
 use Rattle.stmtbase.proofs.node_if.Reads as reads
 use Rattle.stmtbase.proofs.node_if.Lts as lts
 use Rattle.exprnodes.proofs.nodes.node.Reads as node-reads
-use Rattle.parts.proofs.failed.Reads as failed-reads
-use Rattle.parts.proofs.is_clear.Reads as is-clear-reads
+use Rattle.faults.proofs.failed.Reads as failed-reads
+use Rattle.faults.proofs.is_clear.Reads as is-clear-reads
 
 -- src/lib.rt:29:8
 is-clear-requires : tie.Need-is-clear-requires

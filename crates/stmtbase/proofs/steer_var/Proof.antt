@@ -4,7 +4,7 @@ use Rattle.stmtbase.proofs.steer_var.Statement.{statement}
 use Rattle.stmtbase.proofs.steer_var.Tie as tie
 use Rattle.stmtbase.proofs.steer_var.Reads as reads
 use Rattle.stmtbase.proofs.steer_var.Lts as lts
-use Rattle.parts.proofs.lowest.Reads as lowest-reads
+use Rattle.faults.proofs.lowest.Reads as lowest-reads
 use Rattle.stmtbase.proofs.with_fault.Reads as with-fault-reads
 use Rattle.tables.proofs.loops_over.Reads as loops-over-reads
 

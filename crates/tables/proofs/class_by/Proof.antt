@@ -4,23 +4,23 @@ use Rattle.tables.proofs.class_by.Tie as tie
 use Rattle.tables.proofs.class_by.Reads as reads
 use Rattle.tables.proofs.class_by.Lts as lts
 
--- src/lib.rt:182:9
+-- src/lib.rt:174:9
 returns : tie.Need-returns
 returns c = search class-laws
 
--- src/lib.rt:185:9
+-- src/lib.rt:177:9
 returns-2 : tie.Need-returns-2
 returns-2 c = search class-laws
 
--- src/lib.rt:188:9
+-- src/lib.rt:180:9
 returns-3 : tie.Need-returns-3
 returns-3 c = search class-laws
 
--- src/lib.rt:191:9
+-- src/lib.rt:183:9
 returns-4 : tie.Need-returns-4
 returns-4 c = search class-laws
 
--- src/lib.rt:178:1
+-- src/lib.rt:170:1
 returns-5 : tie.Need-returns-5
 returns-5 c = search class-laws
 

@@ -10,39 +10,39 @@ use Rattle.tables.proofs.no_info.Reads as no-info-reads
 use Rattle.tables.proofs.read_info.Reads as read-info-reads
 use Rattle.worklist.proofs.at.Reads as at-reads
 
--- src/lib.rt:126:9
+-- src/lib.rt:118:9
 integer-info-requires : tie.Need-integer-info-requires
 integer-info-requires c κs = search needs
 
--- src/lib.rt:126:9
+-- src/lib.rt:118:9
 returns : tie.Need-returns
 returns c = search describe-laws
 
--- src/lib.rt:129:9
+-- src/lib.rt:121:9
 boolean-info-requires : tie.Need-boolean-info-requires
 boolean-info-requires c κs = search needs
 
--- src/lib.rt:129:9
+-- src/lib.rt:121:9
 returns-2 : tie.Need-returns-2
 returns-2 c = search describe-laws
 
--- src/lib.rt:131:9
+-- src/lib.rt:123:9
 at-requires : tie.Need-at-requires
 at-requires c κs = search needs
 
--- src/lib.rt:133:9
+-- src/lib.rt:125:9
 no-info-requires : tie.Need-no-info-requires
 no-info-requires c κs = search needs
 
--- src/lib.rt:133:9
+-- src/lib.rt:125:9
 returns-3 : tie.Need-returns-3
 returns-3 c = search describe-laws
 
--- src/lib.rt:135:5
+-- src/lib.rt:127:5
 read-info-requires : tie.Need-read-info-requires
 read-info-requires c κs = search needs
 
--- src/lib.rt:122:1
+-- src/lib.rt:114:1
 returns-4 : tie.Need-returns-4
 returns-4 c = search describe-laws
 

@@ -6,15 +6,15 @@ use Rattle.tables.proofs.host_of.Reads as reads
 use Rattle.tables.proofs.host_of.Lts as lts
 use Rattle.tables.proofs.describe.Reads as describe-reads
 
--- src/lib.rt:170:9
+-- src/lib.rt:162:9
 describe-requires : tie.Need-describe-requires
 describe-requires c κs = search needs
 
--- src/lib.rt:172:9
+-- src/lib.rt:164:9
 returns : tie.Need-returns
 returns c = search host-laws
 
--- src/lib.rt:167:1
+-- src/lib.rt:159:1
 returns-2 : tie.Need-returns-2
 returns-2 c = search host-laws
 

@@ -4,11 +4,11 @@ use Rattle.tables.proofs.listed_loops.Tie as tie
 use Rattle.tables.proofs.listed_loops.Reads as reads
 use Rattle.tables.proofs.listed_loops.Lts as lts
 
--- src/lib.rt:263:9
+-- src/lib.rt:255:9
 returns : tie.Need-returns
 returns c = search listed-laws
 
--- src/lib.rt:259:1
+-- src/lib.rt:251:1
 returns-2 : tie.Need-returns-2
 returns-2 c = search listed-laws
 

@@ -14,39 +14,39 @@ Inv-loop i over n₀ n = Comparing over i n₀ n
 abbrev μ-loop : tie.MeasureT-loop
 μ-loop i over n₀ n = n
 
--- src/lib.rt:273:9
+-- src/lib.rt:265:9
 listed-loops-requires : tie.Need-listed-loops-requires Inv-loop μ-loop
 listed-loops-requires c κs = search needs
 
--- src/lib.rt:274:5
+-- src/lib.rt:266:5
 loop-holds : tie.Need-loop-holds Inv-loop μ-loop
 loop-holds c = search compare-start
 
--- src/lib.rt:275:9
+-- src/lib.rt:267:9
 sub-n : tie.Need-sub-n Inv-loop μ-loop
 sub-n c = search needs
 
--- src/lib.rt:276:12
+-- src/lib.rt:268:12
 mul-if1 : tie.Need-mul-if1 Inv-loop μ-loop
 mul-if1 c = search needs
 
--- src/lib.rt:276:12
+-- src/lib.rt:268:12
 array-read-if1 : tie.Need-array-read-if1 Inv-loop μ-loop
 array-read-if1 c = search (compare-few, needs)
 
--- src/lib.rt:277:13
+-- src/lib.rt:269:13
 returns : tie.Need-returns Inv-loop μ-loop
 returns c = search compare-laws
 
--- src/lib.rt:274:5
+-- src/lib.rt:266:5
 loop-less : tie.Need-loop-less Inv-loop μ-loop
 loop-less c = omega arith
 
--- src/lib.rt:274:5
+-- src/lib.rt:266:5
 loop-again : tie.Need-loop-again Inv-loop μ-loop
 loop-again c = search compare-laws
 
--- src/lib.rt:269:1
+-- src/lib.rt:261:1
 returns-2 : tie.Need-returns-2 Inv-loop μ-loop
 returns-2 c = search compare-laws
 

@@ -4,19 +4,19 @@ use Rattle.tables.proofs.meaning_by.Tie as tie
 use Rattle.tables.proofs.meaning_by.Reads as reads
 use Rattle.tables.proofs.meaning_by.Lts as lts
 
--- src/lib.rt:143:9
+-- src/lib.rt:135:9
 returns : tie.Need-returns
 returns c = search by-laws
 
--- src/lib.rt:146:9
+-- src/lib.rt:138:9
 returns-2 : tie.Need-returns-2
 returns-2 c = search by-laws
 
--- src/lib.rt:149:9
+-- src/lib.rt:141:9
 returns-3 : tie.Need-returns-3
 returns-3 c = search by-laws
 
--- src/lib.rt:139:1
+-- src/lib.rt:131:1
 returns-4 : tie.Need-returns-4
 returns-4 c = search by-laws
 

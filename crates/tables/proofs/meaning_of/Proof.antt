@@ -8,39 +8,39 @@ use Rattle.symbols.proofs.lookup.Reads as lookup-reads
 use Rattle.tables.proofs.meaning_by.Reads as meaning-by-reads
 use Rattle.worklist.proofs.at.Reads as at-reads
 
--- src/lib.rt:160:9
+-- src/lib.rt:152:9
 lookup-requires : tie.Need-lookup-requires
 lookup-requires c κs = search needs
 
--- src/lib.rt:162:9
+-- src/lib.rt:154:9
 returns : tie.Need-returns
 returns c = search meaning-laws
 
--- src/lib.rt:164:13
+-- src/lib.rt:156:13
 cast-p : tie.Need-cast-p
 cast-p c = search needs
 
--- src/lib.rt:165:25
+-- src/lib.rt:157:25
 add-at : tie.Need-add-at
 add-at c = search needs
 
--- src/lib.rt:165:16
+-- src/lib.rt:157:16
 at-requires : tie.Need-at-requires
 at-requires c κs = search needs
 
--- src/lib.rt:165:42
+-- src/lib.rt:157:42
 add-at-2 : tie.Need-add-at-2
 add-at-2 c = search needs
 
--- src/lib.rt:165:33
+-- src/lib.rt:157:33
 at-requires-2 : tie.Need-at-requires-2
 at-requires-2 c κs = search needs
 
--- src/lib.rt:165:5
+-- src/lib.rt:157:5
 meaning-by-requires : tie.Need-meaning-by-requires
 meaning-by-requires c κs = search needs
 
--- src/lib.rt:157:1
+-- src/lib.rt:149:1
 returns-2 : tie.Need-returns-2
 returns-2 c = search meaning-laws
 

@@ -4,7 +4,7 @@ use Rattle.tables.proofs.no_info.Tie as tie
 use Rattle.tables.proofs.no_info.Reads as reads
 use Rattle.tables.proofs.no_info.Lts as lts
 
--- src/lib.rt:104:1
+-- src/lib.rt:96:1
 returns : tie.Need-returns
 returns c = search info-laws
 

@@ -4,7 +4,7 @@ use Rattle.tables.proofs.no_loops.Tie as tie
 use Rattle.tables.proofs.no_loops.Reads as reads
 use Rattle.tables.proofs.no_loops.Lts as lts
 
--- src/lib.rt:249:1
+-- src/lib.rt:241:1
 returns : tie.Need-returns
 returns c = search none-is
 

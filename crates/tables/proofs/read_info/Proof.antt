@@ -6,67 +6,67 @@ use Rattle.tables.proofs.read_info.Reads as reads
 use Rattle.tables.proofs.read_info.Lts as lts
 use Rattle.worklist.proofs.at.Reads as at-reads
 
--- src/lib.rt:58:16
+-- src/lib.rt:50:16
 at-requires : tie.Need-at-requires
 at-requires c κs = search needs
 
--- src/lib.rt:59:24
+-- src/lib.rt:51:24
 add-at : tie.Need-add-at
 add-at c = search needs
 
--- src/lib.rt:59:15
+-- src/lib.rt:51:15
 at-requires-2 : tie.Need-at-requires-2
 at-requires-2 c κs = search needs
 
--- src/lib.rt:60:23
+-- src/lib.rt:52:23
 add-at-2 : tie.Need-add-at-2
 add-at-2 c = search needs
 
--- src/lib.rt:60:14
+-- src/lib.rt:52:14
 at-requires-3 : tie.Need-at-requires-3
 at-requires-3 c κs = search needs
 
--- src/lib.rt:61:24
+-- src/lib.rt:53:24
 add-at-3 : tie.Need-add-at-3
 add-at-3 c = search needs
 
--- src/lib.rt:61:15
+-- src/lib.rt:53:15
 at-requires-4 : tie.Need-at-requires-4
 at-requires-4 c κs = search needs
 
--- src/lib.rt:62:24
+-- src/lib.rt:54:24
 add-at-4 : tie.Need-add-at-4
 add-at-4 c = search needs
 
--- src/lib.rt:62:15
+-- src/lib.rt:54:15
 at-requires-5 : tie.Need-at-requires-5
 at-requires-5 c κs = search needs
 
--- src/lib.rt:63:25
+-- src/lib.rt:55:25
 add-at-5 : tie.Need-add-at-5
 add-at-5 c = search needs
 
--- src/lib.rt:63:16
+-- src/lib.rt:55:16
 at-requires-6 : tie.Need-at-requires-6
 at-requires-6 c κs = search needs
 
--- src/lib.rt:64:27
+-- src/lib.rt:56:27
 add-at-6 : tie.Need-add-at-6
 add-at-6 c = search needs
 
--- src/lib.rt:64:18
+-- src/lib.rt:56:18
 at-requires-7 : tie.Need-at-requires-7
 at-requires-7 c κs = search needs
 
--- src/lib.rt:65:26
+-- src/lib.rt:57:26
 add-at-7 : tie.Need-add-at-7
 add-at-7 c = search needs
 
--- src/lib.rt:65:17
+-- src/lib.rt:57:17
 at-requires-8 : tie.Need-at-requires-8
 at-requires-8 c κs = search needs
 
--- src/lib.rt:53:1
+-- src/lib.rt:45:1
 returns : tie.Need-returns
 returns c = search read-is
 

@@ -8,19 +8,19 @@ use Rattle.tables.proofs.class_by.Reads as class-by-reads
 use Rattle.tables.proofs.describe.Reads as describe-reads
 use Rattle.tables.proofs.host_of.Reads as host-of-reads
 
--- src/lib.rt:200:9
+-- src/lib.rt:192:9
 describe-requires : tie.Need-describe-requires
 describe-requires c κs = search needs
 
--- src/lib.rt:201:9
+-- src/lib.rt:193:9
 class-by-requires : tie.Need-class-by-requires
 class-by-requires c κs = search needs
 
--- src/lib.rt:202:9
+-- src/lib.rt:194:9
 host-of-requires : tie.Need-host-of-requires
 host-of-requires c κs = search needs
 
--- src/lib.rt:197:1
+-- src/lib.rt:189:1
 returns : tie.Need-returns
 returns c = search side-is
 

@@ -5,27 +5,27 @@ use Rattle.tables.proofs.with_loop.Tie as tie
 use Rattle.tables.proofs.with_loop.Reads as reads
 use Rattle.tables.proofs.with_loop.Lts as lts
 
--- src/lib.rt:290:14
+-- src/lib.rt:282:14
 cast-over : tie.Need-cast-over
 cast-over c = search needs
 
--- src/lib.rt:290:9
+-- src/lib.rt:282:9
 mul-over : tie.Need-mul-over
 mul-over c = search needs
 
--- src/lib.rt:290:9
+-- src/lib.rt:282:9
 array-write-over : tie.Need-array-write-over
 array-write-over c = search needs
 
--- src/lib.rt:292:20
+-- src/lib.rt:284:20
 add-t10 : tie.Need-add-t10
 add-t10 c = search needs
 
--- src/lib.rt:291:9
+-- src/lib.rt:283:9
 returns : tie.Need-returns
 returns c = search with-laws
 
--- src/lib.rt:284:1
+-- src/lib.rt:276:1
 returns-2 : tie.Need-returns-2
 returns-2 c = search with-laws
 

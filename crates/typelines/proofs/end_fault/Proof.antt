@@ -5,7 +5,7 @@ use Rattle.typelines.proofs.end_fault.Tie as tie
 use Rattle.typelines.proofs.end_fault.Reads as reads
 use Rattle.typelines.proofs.end_fault.Lts as lts
 use Rattle.parts.proofs.end_at.Reads as end-at-reads
-use Rattle.parts.proofs.is_form.Reads as is-form-reads
+use Rattle.faults.proofs.is_form.Reads as is-form-reads
 
 -- src/lib.rt:114:8
 is-form-requires : tie.Need-is-form-requires

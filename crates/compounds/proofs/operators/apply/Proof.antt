@@ -5,8 +5,8 @@ use Rattle.compounds.proofs.operators.apply.Tie as tie
 use Rattle.compounds.proofs.operators.apply.Reads as reads
 use Rattle.compounds.proofs.operators.apply.Lts as lts
 use Rattle.compounds.proofs.operators.operate_one.Reads as operate-one-reads
-use Rattle.parts.proofs.failed.Reads as failed-reads
-use Rattle.parts.proofs.is_clear.Reads as is-clear-reads
+use Rattle.faults.proofs.failed.Reads as failed-reads
+use Rattle.faults.proofs.is_clear.Reads as is-clear-reads
 
 -- src/operators.rt:156:8
 is-clear-requires : tie.Need-is-clear-requires

@@ -6,7 +6,7 @@ use Rattle.compounds.proofs.operators.operate.Reads as reads
 use Rattle.compounds.proofs.operators.operate.Lts as lts
 use Rattle.exprnodes.proofs.nodes.node.Reads as node-reads
 use Rattle.kinds.proofs.two_sided.Reads as two-sided-reads
-use Rattle.parts.proofs.failed.Reads as failed-reads
+use Rattle.faults.proofs.failed.Reads as failed-reads
 use Rattle.tables.proofs.side_of.Reads as side-of-reads
 
 -- src/operators.rt:68:27

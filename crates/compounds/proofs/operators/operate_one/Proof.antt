@@ -6,7 +6,7 @@ use Rattle.compounds.proofs.operators.operate_one.Reads as reads
 use Rattle.compounds.proofs.operators.operate_one.Lts as lts
 use Rattle.compounds.proofs.operators.node_one.Reads as node-one-reads
 use Rattle.kinds.proofs.one_sided.Reads as one-sided-reads
-use Rattle.parts.proofs.failed.Reads as failed-reads
+use Rattle.faults.proofs.failed.Reads as failed-reads
 use Rattle.tables.proofs.describe.Reads as describe-reads
 use Rattle.tables.proofs.side_of.Reads as side-of-reads
 

@@ -5,9 +5,9 @@ use Rattle.compounds.proofs.operators.pair.Tie as tie
 use Rattle.compounds.proofs.operators.pair.Reads as reads
 use Rattle.compounds.proofs.operators.pair.Lts as lts
 use Rattle.compounds.proofs.operators.operate.Reads as operate-reads
-use Rattle.parts.proofs.failed.Reads as failed-reads
-use Rattle.parts.proofs.is_clear.Reads as is-clear-reads
-use Rattle.parts.proofs.lowest.Reads as lowest-reads
+use Rattle.faults.proofs.failed.Reads as failed-reads
+use Rattle.faults.proofs.is_clear.Reads as is-clear-reads
+use Rattle.faults.proofs.lowest.Reads as lowest-reads
 
 -- src/operators.rt:84:9
 lowest-requires : tie.Need-lowest-requires

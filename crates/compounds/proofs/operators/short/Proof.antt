@@ -6,7 +6,7 @@ use Rattle.compounds.proofs.operators.short.Reads as reads
 use Rattle.compounds.proofs.operators.short.Lts as lts
 use Rattle.exprnodes.proofs.nodes.node.Reads as node-reads
 use Rattle.compounds.proofs.operators.short_node.Reads as short-node-reads
-use Rattle.parts.proofs.failed.Reads as failed-reads
+use Rattle.faults.proofs.failed.Reads as failed-reads
 
 -- src/operators.rt:96:9
 failed-requires : tie.Need-failed-requires

@@ -6,7 +6,7 @@ use Rattle.compounds.proofs.targets.element_of.Reads as reads
 use Rattle.compounds.proofs.targets.element_of.Lts as lts
 use Rattle.compounds.proofs.targets.element_kind.Reads as element-kind-reads
 use Rattle.exprnodes.proofs.nodes.node.Reads as node-reads
-use Rattle.parts.proofs.failed.Reads as failed-reads
+use Rattle.faults.proofs.failed.Reads as failed-reads
 use Rattle.tables.proofs.describe.Reads as describe-reads
 use Rattle.tables.proofs.host_of.Reads as host-of-reads
 

@@ -5,9 +5,9 @@ use Rattle.compounds.proofs.targets.field_at.Tie as tie
 use Rattle.compounds.proofs.targets.field_at.Reads as reads
 use Rattle.compounds.proofs.targets.field_at.Lts as lts
 use Rattle.exprnodes.proofs.nodes.node.Reads as node-reads
-use Rattle.parts.proofs.failed.Reads as failed-reads
-use Rattle.parts.proofs.is_clear.Reads as is-clear-reads
-use Rattle.parts.proofs.lowest.Reads as lowest-reads
+use Rattle.faults.proofs.failed.Reads as failed-reads
+use Rattle.faults.proofs.is_clear.Reads as is-clear-reads
+use Rattle.faults.proofs.lowest.Reads as lowest-reads
 use Rattle.worklist.proofs.at.Reads as at-reads
 
 -- src/targets.rt:222:23

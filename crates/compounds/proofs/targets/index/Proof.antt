@@ -6,9 +6,9 @@ use Rattle.compounds.proofs.targets.index.Reads as reads
 use Rattle.compounds.proofs.targets.index.Lts as lts
 use Rattle.compounds.proofs.targets.element_kind.Reads as element-kind-reads
 use Rattle.compounds.proofs.targets.element_of.Reads as element-of-reads
-use Rattle.parts.proofs.failed.Reads as failed-reads
-use Rattle.parts.proofs.is_clear.Reads as is-clear-reads
-use Rattle.parts.proofs.lowest.Reads as lowest-reads
+use Rattle.faults.proofs.failed.Reads as failed-reads
+use Rattle.faults.proofs.is_clear.Reads as is-clear-reads
+use Rattle.faults.proofs.lowest.Reads as lowest-reads
 use Rattle.tables.proofs.describe.Reads as describe-reads
 
 -- src/targets.rt:206:9

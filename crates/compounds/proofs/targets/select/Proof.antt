@@ -5,8 +5,8 @@ use Rattle.compounds.proofs.targets.select.Tie as tie
 use Rattle.compounds.proofs.targets.select.Reads as reads
 use Rattle.compounds.proofs.targets.select.Lts as lts
 use Rattle.compounds.proofs.targets.field_at.Reads as field-at-reads
-use Rattle.parts.proofs.failed.Reads as failed-reads
-use Rattle.parts.proofs.lowest.Reads as lowest-reads
+use Rattle.faults.proofs.failed.Reads as failed-reads
+use Rattle.faults.proofs.lowest.Reads as lowest-reads
 use Rattle.tables.proofs.describe.Reads as describe-reads
 use Rattle.tables.proofs.find_field.Reads as find-field-reads
 

@@ -4,7 +4,7 @@ use Rattle.enumlines.proofs.values.enum_fault.Statement.{statement}
 use Rattle.enumlines.proofs.values.enum_fault.Tie as tie
 use Rattle.enumlines.proofs.values.enum_fault.Reads as reads
 use Rattle.enumlines.proofs.values.enum_fault.Lts as lts
-use Rattle.parts.proofs.is_form.Reads as is-form-reads
+use Rattle.faults.proofs.is_form.Reads as is-form-reads
 
 -- src/values.rt:152:8
 is-form-requires : tie.Need-is-form-requires

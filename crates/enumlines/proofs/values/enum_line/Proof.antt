@@ -11,7 +11,7 @@ use Rattle.typelines.proofs.end_fault.Reads as end-fault-reads
 use Rattle.typelines.proofs.lines_fit.Reads as lines-fit-reads
 use Rattle.enumlines.proofs.values.add_enum.Reads as add-enum-reads
 use Rattle.enumlines.proofs.values.enum_fault.Reads as enum-fault-reads
-use Rattle.parts.proofs.is_clear.Reads as is-clear-reads
+use Rattle.faults.proofs.is_clear.Reads as is-clear-reads
 
 -- src/values.rt:187:9
 enum-names-requires : tie.Need-enum-names-requires

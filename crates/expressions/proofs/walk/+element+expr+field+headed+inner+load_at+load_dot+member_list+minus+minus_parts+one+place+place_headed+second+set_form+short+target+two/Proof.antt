@@ -86,11 +86,11 @@ use Rattle.exprleaves.proofs.links.slot_after.Reads as slot-after-reads
 use Rattle.exprleaves.proofs.words.negative.Reads as negative-reads
 use Rattle.exprleaves.proofs.words.number_alone.Reads as number-alone-reads
 use Rattle.exprnodes.proofs.members.member_fault.Reads as member-fault-reads
-use Rattle.parts.proofs.closing.Reads as closing-reads
+use Rattle.exprnodes.proofs.bracket.closing.Reads as closing-reads
 use Rattle.parts.proofs.end_at.Reads as end-at-reads
-use Rattle.parts.proofs.failed.Reads as failed-reads
-use Rattle.parts.proofs.is_form.Reads as is-form-reads
-use Rattle.parts.proofs.lowest.Reads as lowest-reads
+use Rattle.faults.proofs.failed.Reads as failed-reads
+use Rattle.faults.proofs.is_form.Reads as is-form-reads
+use Rattle.faults.proofs.lowest.Reads as lowest-reads
 use Rattle.parts.proofs.part_at.Reads as part-at-reads
 use Rattle.shapes.proofs.expr_head.Reads as expr-head-reads
 use Rattle.worklist.proofs.slot.Reads as slot-reads

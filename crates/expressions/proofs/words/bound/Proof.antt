@@ -6,7 +6,7 @@ use Rattle.expressions.proofs.words.bound.Reads as reads
 use Rattle.expressions.proofs.words.bound.Lts as lts
 use Rattle.atoms.proofs.type_name.Reads as type-name-reads
 use Rattle.exprleaves.proofs.words.bound_of.Reads as bound-of-reads
-use Rattle.parts.proofs.closing.Reads as closing-reads
+use Rattle.exprnodes.proofs.bracket.closing.Reads as closing-reads
 
 -- src/words.rt:194:9
 type-name-requires : tie.Need-type-name-requires

@@ -5,7 +5,7 @@ use Rattle.expressions.proofs.words.variable.Tie as tie
 use Rattle.expressions.proofs.words.variable.Reads as reads
 use Rattle.expressions.proofs.words.variable.Lts as lts
 use Rattle.exprleaves.proofs.words.place.Reads as place-reads
-use Rattle.parts.proofs.failed.Reads as failed-reads
+use Rattle.faults.proofs.failed.Reads as failed-reads
 use Rattle.shapes.proofs.atom_of.Reads as atom-of-reads
 use Rattle.tables.proofs.meaning_of.Reads as meaning-of-reads
 

@@ -9,7 +9,7 @@ use Rattle.exprnodes.proofs.nodes.literal.Reads as literal-reads
 use Rattle.exprnodes.proofs.nodes.node.Reads as node-reads
 use Rattle.exprleaves.proofs.words.flag.Reads as flag-reads
 use Rattle.exprleaves.proofs.words.named.Reads as named-reads
-use Rattle.parts.proofs.failed.Reads as failed-reads
+use Rattle.faults.proofs.failed.Reads as failed-reads
 use Rattle.shapes.proofs.atom_of.Reads as atom-of-reads
 use Rattle.tables.proofs.meaning_of.Reads as meaning-of-reads
 

@@ -5,7 +5,7 @@ use Rattle.exprleaves.proofs.links.set_node.Tie as tie
 use Rattle.exprleaves.proofs.links.set_node.Reads as reads
 use Rattle.exprleaves.proofs.links.set_node.Lts as lts
 use Rattle.exprnodes.proofs.nodes.node.Reads as node-reads
-use Rattle.parts.proofs.failed.Reads as failed-reads
+use Rattle.faults.proofs.failed.Reads as failed-reads
 
 -- src/links.rt:52:45
 slice-aggregate-node : tie.Need-slice-aggregate-node

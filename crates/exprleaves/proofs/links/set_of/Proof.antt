@@ -5,9 +5,9 @@ use Rattle.exprleaves.proofs.links.set_of.Tie as tie
 use Rattle.exprleaves.proofs.links.set_of.Reads as reads
 use Rattle.exprleaves.proofs.links.set_of.Lts as lts
 use Rattle.exprleaves.proofs.links.set_node.Reads as set-node-reads
-use Rattle.parts.proofs.failed.Reads as failed-reads
-use Rattle.parts.proofs.is_clear.Reads as is-clear-reads
-use Rattle.parts.proofs.lowest.Reads as lowest-reads
+use Rattle.faults.proofs.failed.Reads as failed-reads
+use Rattle.faults.proofs.is_clear.Reads as is-clear-reads
+use Rattle.faults.proofs.lowest.Reads as lowest-reads
 use Rattle.tables.proofs.describe.Reads as describe-reads
 
 -- src/links.rt:62:9

@@ -5,7 +5,7 @@ use Rattle.exprleaves.proofs.words.bound_of.Tie as tie
 use Rattle.exprleaves.proofs.words.bound_of.Reads as reads
 use Rattle.exprleaves.proofs.words.bound_of.Lts as lts
 use Rattle.exprleaves.proofs.words.end_of.Reads as end-of-reads
-use Rattle.parts.proofs.failed.Reads as failed-reads
+use Rattle.faults.proofs.failed.Reads as failed-reads
 
 -- src/words.rt:149:32
 enum-told : tie.Need-enum-told

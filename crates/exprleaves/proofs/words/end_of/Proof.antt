@@ -6,7 +6,7 @@ use Rattle.exprleaves.proofs.words.end_of.Reads as reads
 use Rattle.exprleaves.proofs.words.end_of.Lts as lts
 use Rattle.exprnodes.proofs.nodes.node.Reads as node-reads
 use Rattle.exprnodes.proofs.cells.end_bits.Reads as end-bits-reads
-use Rattle.parts.proofs.failed.Reads as failed-reads
+use Rattle.faults.proofs.failed.Reads as failed-reads
 use Rattle.tables.proofs.describe.Reads as describe-reads
 use Rattle.tables.proofs.host_of.Reads as host-of-reads
 

@@ -6,7 +6,7 @@ use Rattle.exprleaves.proofs.words.named.Reads as reads
 use Rattle.exprleaves.proofs.words.named.Lts as lts
 use Rattle.exprnodes.proofs.nodes.node.Reads as node-reads
 use Rattle.exprleaves.proofs.words.whole.Reads as whole-reads
-use Rattle.parts.proofs.failed.Reads as failed-reads
+use Rattle.faults.proofs.failed.Reads as failed-reads
 
 -- src/words.rt:62:36
 enum-told : tie.Need-enum-told

@@ -7,7 +7,7 @@ use Rattle.exprleaves.proofs.words.negative.Reads as reads
 use Rattle.exprleaves.proofs.words.negative.Lts as lts
 use Rattle.arith.proofs.neg.Reads as neg-reads
 use Rattle.exprnodes.proofs.nodes.literal.Reads as literal-reads
-use Rattle.parts.proofs.failed.Reads as failed-reads
+use Rattle.faults.proofs.failed.Reads as failed-reads
 
 -- src/words.rt:208:9
 neg-requires : tie.Need-neg-requires

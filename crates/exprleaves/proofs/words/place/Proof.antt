@@ -5,7 +5,7 @@ use Rattle.exprleaves.proofs.words.place.Tie as tie
 use Rattle.exprleaves.proofs.words.place.Reads as reads
 use Rattle.exprleaves.proofs.words.place.Lts as lts
 use Rattle.exprnodes.proofs.nodes.node.Reads as node-reads
-use Rattle.parts.proofs.failed.Reads as failed-reads
+use Rattle.faults.proofs.failed.Reads as failed-reads
 
 -- src/words.rt:102:36
 enum-told : tie.Need-enum-told

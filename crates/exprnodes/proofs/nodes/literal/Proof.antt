@@ -7,7 +7,7 @@ use Rattle.exprnodes.proofs.nodes.literal.Lts as lts
 use Rattle.arith.proofs.in_range.Reads as in-range-reads
 use Rattle.exprnodes.proofs.nodes.bits_of.Reads as bits-of-reads
 use Rattle.exprnodes.proofs.nodes.node.Reads as node-reads
-use Rattle.parts.proofs.failed.Reads as failed-reads
+use Rattle.faults.proofs.failed.Reads as failed-reads
 
 -- src/nodes.rt:57:8
 in-range-requires : tie.Need-in-range-requires

@@ -5,7 +5,7 @@ use Rattle.judge.proofs.entering.proc_end.Tie as tie
 use Rattle.judge.proofs.entering.proc_end.Reads as reads
 use Rattle.judge.proofs.entering.proc_end.Lts as lts
 use Rattle.judge.proofs.entering.proc_entry.Reads as proc-entry-reads
-use Rattle.parts.proofs.is_clear.Reads as is-clear-reads
+use Rattle.faults.proofs.is_clear.Reads as is-clear-reads
 use Rattle.symbols.proofs.declare.Reads as declare-reads
 
 -- src/entering.rt:96:8

@@ -6,7 +6,7 @@ use Rattle.judge.proofs.entering.proc_named.Reads as reads
 use Rattle.judge.proofs.entering.proc_named.Lts as lts
 use Rattle.declarations.proofs.named_fault.Reads as named-fault-reads
 use Rattle.judge.proofs.entering.proc_end.Reads as proc-end-reads
-use Rattle.parts.proofs.lowest.Reads as lowest-reads
+use Rattle.faults.proofs.lowest.Reads as lowest-reads
 use Rattle.statements.proofs.body.body.Reads as body-reads
 use Rattle.symbols.proofs.keys.name_number.Reads as name-number-reads
 

@@ -8,7 +8,7 @@ use Rattle.declarations.proofs.named_fault.Reads as named-fault-reads
 use Rattle.loosely.proofs.bodied.proc_end.Reads as proc-end-reads
 use Rattle.loosely.proofs.easing.loose_body.Reads as loose-body-reads
 use Rattle.noting.proofs.note_body.Reads as note-body-reads
-use Rattle.parts.proofs.lowest.Reads as lowest-reads
+use Rattle.faults.proofs.lowest.Reads as lowest-reads
 use Rattle.symbols.proofs.keys.name_number.Reads as name-number-reads
 
 -- src/bodied.rt:115:9

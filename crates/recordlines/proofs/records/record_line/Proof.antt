@@ -7,7 +7,7 @@ use Rattle.recordlines.proofs.records.record_line.Lts as lts
 use Rattle.declarations.proofs.answered.Reads as answered-reads
 use Rattle.declarations.proofs.named_fault.Reads as named-fault-reads
 use Rattle.pairs.proofs.pairs_from.Reads as pairs-from-reads
-use Rattle.parts.proofs.is_clear.Reads as is-clear-reads
+use Rattle.faults.proofs.is_clear.Reads as is-clear-reads
 use Rattle.recordlines.proofs.records.add_record.Reads as add-record-reads
 use Rattle.recordlines.proofs.records.record_fits.Reads as record-fits-reads
 use Rattle.typelines.proofs.end_fault.Reads as end-fault-reads

@@ -8,7 +8,7 @@ use Rattle.simplelines.proofs.ranges.last_constant.Lts as lts
 use Rattle.atoms.proofs.constant.Reads as constant-reads
 use Rattle.simplelines.proofs.ranges.value_answer.Reads as value-answer-reads
 use Rattle.parts.proofs.end_at.Reads as end-at-reads
-use Rattle.parts.proofs.is_form.Reads as is-form-reads
+use Rattle.faults.proofs.is_form.Reads as is-form-reads
 
 -- src/ranges.rt:40:9
 constant-requires : tie.Need-constant-requires

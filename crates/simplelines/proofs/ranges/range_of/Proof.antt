@@ -9,7 +9,7 @@ use Rattle.atoms.proofs.constant.Reads as constant-reads
 use Rattle.simplelines.proofs.ranges.last_constant.Reads as last-constant-reads
 use Rattle.simplelines.proofs.ranges.range_shape.Reads as range-shape-reads
 use Rattle.simplelines.proofs.simple.no_shape.Reads as no-shape-reads
-use Rattle.parts.proofs.is_form.Reads as is-form-reads
+use Rattle.faults.proofs.is_form.Reads as is-form-reads
 
 -- src/ranges.rt:115:9
 constant-requires : tie.Need-constant-requires

@@ -5,7 +5,7 @@ use Rattle.simplelines.proofs.ranges.range_shape.Statement.{statement}
 use Rattle.simplelines.proofs.ranges.range_shape.Tie as tie
 use Rattle.simplelines.proofs.ranges.range_shape.Reads as reads
 use Rattle.simplelines.proofs.ranges.range_shape.Lts as lts
-use Rattle.parts.proofs.lowest.Reads as lowest-reads
+use Rattle.faults.proofs.lowest.Reads as lowest-reads
 use Rattle.simplelines.proofs.ranges.bits_of.Reads as bits-of-reads
 use Rattle.simplelines.proofs.ranges.range_fault.Reads as range-fault-reads
 use Rattle.tables.proofs.ordinal_info.Reads as ordinal-info-reads

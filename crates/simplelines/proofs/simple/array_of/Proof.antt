@@ -8,7 +8,7 @@ use Rattle.atoms.proofs.type_name.Reads as type-name-reads
 use Rattle.declarations.proofs.last_type.Reads as last-type-reads
 use Rattle.simplelines.proofs.simple.array_shape.Reads as array-shape-reads
 use Rattle.simplelines.proofs.simple.no_shape.Reads as no-shape-reads
-use Rattle.parts.proofs.is_form.Reads as is-form-reads
+use Rattle.faults.proofs.is_form.Reads as is-form-reads
 use Rattle.tables.proofs.describe.Reads as describe-reads
 
 -- src/simple.rt:137:9

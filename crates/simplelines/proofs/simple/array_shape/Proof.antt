@@ -8,7 +8,7 @@ use Rattle.simplelines.proofs.simple.array_fits.Reads as array-fits-rea
 use Rattle.simplelines.proofs.simple.cells_in.Reads as cells-in-reads
 use Rattle.simplelines.proofs.simple.ordinal_fault.Reads as ordinal-fault-reads
 use Rattle.simplelines.proofs.simple.span_of.Reads as span-of-reads
-use Rattle.parts.proofs.lowest.Reads as lowest-reads
+use Rattle.faults.proofs.lowest.Reads as lowest-reads
 
 -- src/simple.rt:121:24
 lowest-requires : tie.Need-lowest-requires

@@ -7,7 +7,7 @@ use Rattle.simplelines.proofs.simple.set_of.Lts as lts
 use Rattle.declarations.proofs.last_type.Reads as last-type-reads
 use Rattle.simplelines.proofs.simple.base_fits.Reads as base-fits-reads
 use Rattle.simplelines.proofs.simple.ordinal_fault.Reads as ordinal-fault-reads
-use Rattle.parts.proofs.lowest.Reads as lowest-reads
+use Rattle.faults.proofs.lowest.Reads as lowest-reads
 use Rattle.tables.proofs.describe.Reads as describe-reads
 
 -- src/simple.rt:38:9

@@ -4,7 +4,7 @@ use Rattle.statements.proofs.arm_labels.counted.Statement.{statement}
 use Rattle.statements.proofs.arm_labels.counted.Tie as tie
 use Rattle.statements.proofs.arm_labels.counted.Reads as reads
 use Rattle.statements.proofs.arm_labels.counted.Lts as lts
-use Rattle.parts.proofs.failed.Reads as failed-reads
+use Rattle.faults.proofs.failed.Reads as failed-reads
 
 -- src/arm_labels.rt:39:9
 failed-requires : tie.Need-failed-requires

@@ -5,7 +5,7 @@ use Rattle.statements.proofs.arm_labels.labelled.Tie as tie
 use Rattle.statements.proofs.arm_labels.labelled.Reads as reads
 use Rattle.statements.proofs.arm_labels.labelled.Lts as lts
 use Rattle.exprnodes.proofs.members.member_fault.Reads as member-fault-reads
-use Rattle.parts.proofs.lowest.Reads as lowest-reads
+use Rattle.faults.proofs.lowest.Reads as lowest-reads
 
 -- src/arm_labels.rt:26:26
 member-fault-requires : tie.Need-member-fault-requires

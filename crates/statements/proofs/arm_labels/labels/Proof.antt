@@ -11,7 +11,7 @@ use Rattle.statements.proofs.arm_labels.labels.Reads as reads
 use Rattle.statements.proofs.arm_labels.labels.Lts as lts
 use Rattle.atoms.proofs.constant.Reads as constant-reads
 use Rattle.parts.proofs.end_at.Reads as end-at-reads
-use Rattle.parts.proofs.is_form.Reads as is-form-reads
+use Rattle.faults.proofs.is_form.Reads as is-form-reads
 use Rattle.statements.proofs.arm_labels.counted.Reads as counted-reads
 use Rattle.statements.proofs.arm_labels.labelled.Reads as labelled-reads
 use Rattle.statements.proofs.arm_labels.link_label.Reads as link-label-reads

@@ -4,7 +4,7 @@ use Rattle.statements.proofs.arms.case_node.Statement.{statement}
 use Rattle.statements.proofs.arms.case_node.Tie as tie
 use Rattle.statements.proofs.arms.case_node.Reads as reads
 use Rattle.statements.proofs.arms.case_node.Lts as lts
-use Rattle.parts.proofs.lowest.Reads as lowest-reads
+use Rattle.faults.proofs.lowest.Reads as lowest-reads
 use Rattle.statements.proofs.arms.ordinal_fault.Reads as ordinal-fault-reads
 use Rattle.stmtbase.proofs.node_if.Reads as node-if-reads
 

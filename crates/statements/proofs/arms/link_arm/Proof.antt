@@ -4,7 +4,7 @@ use Rattle.statements.proofs.arms.link_arm.Statement.{statement}
 use Rattle.statements.proofs.arms.link_arm.Tie as tie
 use Rattle.statements.proofs.arms.link_arm.Reads as reads
 use Rattle.statements.proofs.arms.link_arm.Lts as lts
-use Rattle.parts.proofs.lowest.Reads as lowest-reads
+use Rattle.faults.proofs.lowest.Reads as lowest-reads
 use Rattle.worklist.proofs.lay.Reads as lay-reads
 use Rattle.worklist.proofs.put.Reads as put-reads
 

@@ -4,7 +4,7 @@ use Rattle.statements.proofs.arms.selector_kind.Statement.{statement}
 use Rattle.statements.proofs.arms.selector_kind.Tie as tie
 use Rattle.statements.proofs.arms.selector_kind.Reads as reads
 use Rattle.statements.proofs.arms.selector_kind.Lts as lts
-use Rattle.parts.proofs.is_clear.Reads as is-clear-reads
+use Rattle.faults.proofs.is_clear.Reads as is-clear-reads
 
 -- src/arms.rt:93:8
 is-clear-requires : tie.Need-is-clear-requires

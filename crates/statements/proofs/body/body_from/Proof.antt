@@ -9,7 +9,7 @@ use Rattle.statements.proofs.body.body_from.Statement.{statement}
 use Rattle.statements.proofs.body.body_from.Tie as tie
 use Rattle.statements.proofs.body.body_from.Reads as reads
 use Rattle.statements.proofs.body.body_from.Lts as lts
-use Rattle.parts.proofs.is_form.Reads as is-form-reads
+use Rattle.faults.proofs.is_form.Reads as is-form-reads
 use Rattle.statements.proofs.body.handled.Reads as handled-reads
 use Rattle.statements.proofs.walk.stmt.Reads as stmt-reads
 use Rattle.stmtnodes.proofs.last.next_at.Reads as next-at-reads

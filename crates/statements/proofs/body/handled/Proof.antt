@@ -4,7 +4,7 @@ use Rattle.statements.proofs.body.handled.Statement.{statement}
 use Rattle.statements.proofs.body.handled.Tie as tie
 use Rattle.statements.proofs.body.handled.Reads as reads
 use Rattle.statements.proofs.body.handled.Lts as lts
-use Rattle.parts.proofs.closing.Reads as closing-reads
+use Rattle.exprnodes.proofs.bracket.closing.Reads as closing-reads
 use Rattle.stmtnodes.proofs.last.handled_node.Reads as handled-node-reads
 use Rattle.stmtnodes.proofs.nodes.wide.Reads as wide-reads
 use Rattle.statements.proofs.walk.acts.Reads as acts-reads

@@ -5,8 +5,8 @@ use Rattle.statements.proofs.simple.assign.Tie as tie
 use Rattle.statements.proofs.simple.assign.Reads as reads
 use Rattle.statements.proofs.simple.assign.Lts as lts
 use Rattle.expressions.proofs.walk.expr.Reads as expr-reads
-use Rattle.parts.proofs.closing.Reads as closing-reads
-use Rattle.parts.proofs.is_form.Reads as is-form-reads
+use Rattle.exprnodes.proofs.bracket.closing.Reads as closing-reads
+use Rattle.faults.proofs.is_form.Reads as is-form-reads
 use Rattle.stmtnodes.proofs.nodes.assign_node.Reads as assign-node-reads
 use Rattle.statements.proofs.simple.store_at.Reads as store-at-reads
 

@@ -4,7 +4,7 @@ use Rattle.statements.proofs.simple.call.Statement.{statement}
 use Rattle.statements.proofs.simple.call.Tie as tie
 use Rattle.statements.proofs.simple.call.Reads as reads
 use Rattle.statements.proofs.simple.call.Lts as lts
-use Rattle.parts.proofs.failed.Reads as failed-reads
+use Rattle.faults.proofs.failed.Reads as failed-reads
 use Rattle.parts.proofs.part_at.Reads as part-at-reads
 use Rattle.stmtnodes.proofs.nodes.is_named.Reads as is-named-reads
 use Rattle.statements.proofs.simple.call_end.Reads as call-end-reads

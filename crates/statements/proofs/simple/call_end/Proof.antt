@@ -5,7 +5,7 @@ use Rattle.statements.proofs.simple.call_end.Tie as tie
 use Rattle.statements.proofs.simple.call_end.Reads as reads
 use Rattle.statements.proofs.simple.call_end.Lts as lts
 use Rattle.parts.proofs.end_at.Reads as end-at-reads
-use Rattle.parts.proofs.failed.Reads as failed-reads
+use Rattle.faults.proofs.failed.Reads as failed-reads
 use Rattle.stmtnodes.proofs.nodes.call_node.Reads as call-node-reads
 use Rattle.tables.proofs.meaning_of.Reads as meaning-of-reads
 

@@ -5,7 +5,7 @@ use Rattle.statements.proofs.simple.raise.Tie as tie
 use Rattle.statements.proofs.simple.raise.Reads as reads
 use Rattle.statements.proofs.simple.raise.Lts as lts
 use Rattle.expressions.proofs.walk.expr.Reads as expr-reads
-use Rattle.parts.proofs.closing.Reads as closing-reads
+use Rattle.exprnodes.proofs.bracket.closing.Reads as closing-reads
 use Rattle.stmtnodes.proofs.nodes.raise_node.Reads as raise-node-reads
 use Rattle.stmtnodes.proofs.nodes.wanted.Reads as wanted-reads
 

@@ -5,7 +5,7 @@ use Rattle.statements.proofs.simple.store_at.Tie as tie
 use Rattle.statements.proofs.simple.store_at.Reads as reads
 use Rattle.statements.proofs.simple.store_at.Lts as lts
 use Rattle.expressions.proofs.walk.target.Reads as target-reads
-use Rattle.parts.proofs.failed.Reads as failed-reads
+use Rattle.faults.proofs.failed.Reads as failed-reads
 use Rattle.parts.proofs.part_at.Reads as part-at-reads
 use Rattle.stmtbase.proofs.steer.Reads as steer-reads
 use Rattle.tables.proofs.meaning_of.Reads as meaning-of-reads

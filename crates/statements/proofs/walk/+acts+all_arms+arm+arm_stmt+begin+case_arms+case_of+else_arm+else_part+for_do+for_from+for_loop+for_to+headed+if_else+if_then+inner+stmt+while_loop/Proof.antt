@@ -70,10 +70,10 @@ use Rattle.statements.proofs.walk.while_loop.Reads as while-loop
 use Rattle.statements.proofs.walk.while_loop.Kinds as while-loop-kinds
 use Rattle.statements.proofs.walk.+acts+all_arms+arm+arm_stmt+begin+case_arms+case_of+else_arm+else_part+for_do+for_from+for_loop+for_to+headed+if_else+if_then+inner+stmt+while_loop.Lts-while_loop as while-loop-lts
 use Rattle.expressions.proofs.walk.expr.Reads as expr-reads
-use Rattle.parts.proofs.closing.Reads as closing-reads
+use Rattle.exprnodes.proofs.bracket.closing.Reads as closing-reads
 use Rattle.parts.proofs.end_at.Reads as end-at-reads
-use Rattle.parts.proofs.failed.Reads as failed-reads
-use Rattle.parts.proofs.is_form.Reads as is-form-reads
+use Rattle.faults.proofs.failed.Reads as failed-reads
+use Rattle.faults.proofs.is_form.Reads as is-form-reads
 use Rattle.parts.proofs.part_at.Reads as part-at-reads
 use Rattle.shapes.proofs.verb_of.Reads as verb-of-reads
 use Rattle.statements.proofs.arm_labels.labels.Reads as labels-reads

@@ -4,9 +4,9 @@ use Rattle.stmtnodes.proofs.nodes.assign_node.Statement.{statement}
 use Rattle.stmtnodes.proofs.nodes.assign_node.Tie as tie
 use Rattle.stmtnodes.proofs.nodes.assign_node.Reads as reads
 use Rattle.stmtnodes.proofs.nodes.assign_node.Lts as lts
-use Rattle.parts.proofs.failed.Reads as failed-reads
-use Rattle.parts.proofs.is_clear.Reads as is-clear-reads
-use Rattle.parts.proofs.lowest.Reads as lowest-reads
+use Rattle.faults.proofs.failed.Reads as failed-reads
+use Rattle.faults.proofs.is_clear.Reads as is-clear-reads
+use Rattle.faults.proofs.lowest.Reads as lowest-reads
 use Rattle.stmtnodes.proofs.nodes.store_node.Reads as store-node-reads
 use Rattle.tables.proofs.describe.Reads as describe-reads
 use Rattle.tables.proofs.host_of.Reads as host-of-reads

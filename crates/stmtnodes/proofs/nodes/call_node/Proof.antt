@@ -4,7 +4,7 @@ use Rattle.stmtnodes.proofs.nodes.call_node.Statement.{statement}
 use Rattle.stmtnodes.proofs.nodes.call_node.Tie as tie
 use Rattle.stmtnodes.proofs.nodes.call_node.Reads as reads
 use Rattle.stmtnodes.proofs.nodes.call_node.Lts as lts
-use Rattle.parts.proofs.failed.Reads as failed-reads
+use Rattle.faults.proofs.failed.Reads as failed-reads
 use Rattle.stmtnodes.proofs.nodes.call_body.Reads as call-body-reads
 
 -- src/nodes.rt:125:36

@@ -4,7 +4,7 @@ use Rattle.stmtnodes.proofs.nodes.joined.Statement.{statement}
 use Rattle.stmtnodes.proofs.nodes.joined.Tie as tie
 use Rattle.stmtnodes.proofs.nodes.joined.Reads as reads
 use Rattle.stmtnodes.proofs.nodes.joined.Lts as lts
-use Rattle.parts.proofs.lowest.Reads as lowest-reads
+use Rattle.faults.proofs.lowest.Reads as lowest-reads
 
 -- src/nodes.rt:251:16
 lowest-requires : tie.Need-lowest-requires

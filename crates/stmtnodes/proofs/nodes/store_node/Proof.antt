@@ -5,7 +5,7 @@ use Rattle.stmtnodes.proofs.nodes.store_node.Tie as tie
 use Rattle.stmtnodes.proofs.nodes.store_node.Reads as reads
 use Rattle.stmtnodes.proofs.nodes.store_node.Lts as lts
 use Rattle.exprnodes.proofs.nodes.node.Reads as node-reads
-use Rattle.parts.proofs.failed.Reads as failed-reads
+use Rattle.faults.proofs.failed.Reads as failed-reads
 
 -- src/nodes.rt:138:9
 failed-requires : tie.Need-failed-requires

@@ -4,7 +4,7 @@ use Rattle.stmtnodes.proofs.nodes.wanted.Statement.{statement}
 use Rattle.stmtnodes.proofs.nodes.wanted.Tie as tie
 use Rattle.stmtnodes.proofs.nodes.wanted.Reads as reads
 use Rattle.stmtnodes.proofs.nodes.wanted.Lts as lts
-use Rattle.parts.proofs.lowest.Reads as lowest-reads
+use Rattle.faults.proofs.lowest.Reads as lowest-reads
 use Rattle.stmtbase.proofs.with_fault.Reads as with-fault-reads
 
 -- src/nodes.rt:63:9
