@@ -78,7 +78,7 @@ drive_reply drive_cells(const uint8_t *text, size_t text_len, uint32_t *work, si
 
 /* The same as drive_cells; and where there is no refusal, names[i] becomes the offset in the text of the name of cell i's variable, for
    each cell that `names` has room for. The name goes up to the next space, bracket or line feed; case is ignored in names.
-   Of the other elements of `names` nothing is said. */
+   All other elements of `names` stay as they were: those past the cells, and on a refusal all of them. */
 drive_reply drive_owners(const uint8_t *text, size_t text_len, uint32_t *work, size_t work_len, size_t *names, size_t names_len);
 
 /* Checks a text, tests the store, and runs the script on it for at most `budget` steps. Any refusal of 1 to 11 leaves the store

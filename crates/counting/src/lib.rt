@@ -11,7 +11,7 @@ ghost use mathlib.Core.Path.{_≡_};
 ghost use lib.ListN.{length};
 ghost use Rattle.semantics.specs.Whole.{verdictOf, workAfter};
 ghost use Rattle.answers.specs.Verdicts.{cellsTold};
-ghost use Rattle.counting.specs.Cells.{countedBy, Names, Owners};
+ghost use Rattle.counting.specs.Cells.{countedBy, Names, NamesBy, Owners};
 
 // How many cells by the answer for a text.
 pub fn count_of(c: Checked) -> Counted
@@ -25,9 +25,9 @@ pub fn count_of(c: Checked) -> Counted
     Counted::Refused(c.refusal, c.line)
 }
 
-// The names of the cells' variables, as far as there is room.
-pub fn name_cells(work: &[u32], types: &[u32], st: State, names: &mut [usize])
-    ensures { λ r. ⌜ Names (now (work .entry)) (now (types .entry)) st (now (names .exit)) ⌝ }
+// The names of the cells' variables, as far as there is room; what is past the cells stays.
+fn name_cells(work: &[u32], types: &[u32], st: State, names: &mut [usize])
+    ensures { λ r. ⌜ Names (now (work .entry)) (now (types .entry)) st (now (names .entry)) (now (names .exit)) ⌝ }
 {
     let mut i = 0;
     while i < names.len() {
@@ -37,6 +37,18 @@ pub fn name_cells(work: &[u32], types: &[u32], st: State, names: &mut [usize])
         names[i] = owner(work, types, st, i);
         i += 1;
     }
+}
+
+// The same by the answer for a text: what a refused one declared names nothing.
+pub fn name_checked(work: &[u32], types: &[u32], c: Checked, names: &mut [usize])
+    ensures { λ r. ⌜ NamesBy (now (work .entry)) (now (types .entry)) c (now (names .entry)) (now (names .exit)) ⌝ }
+{
+    if c.refusal != 0 {
+        return;
+    }
+    let known = c.known;
+    let state = known.state;
+    name_cells(work, types, state, names);
 }
 
 // How many cells a text has.
@@ -50,16 +62,15 @@ pub fn cells(text: &[u8], work: &mut [u32]) -> Counted
     count_of(c)
 }
 
-// How many cells a text has; names[i] becomes the offset of the name of cell i's variable, for each cell that there is room for.
+// How many cells a text has; names[i] becomes the offset of the name of cell i's variable, for each cell that there is room for. The rest of
+// `names`, and all of it on a refusal, stays as lent.
 pub fn owners(text: &[u8], work: &mut [u32], names: &mut [usize]) -> Counted
-    ensures { λ r. ⌜ (r ≡ cellsTold (verdictOf (now (text .entry)) (length (now (work .entry))))) × (now (work .exit) ≡ workAfter (now (work .entry))) × Owners (now (text .entry)) (verdictOf (now (text .entry)) (length (now (work .entry)))) (now (names .exit)) ⌝ }
+    ensures { λ r. ⌜ (r ≡ cellsTold (verdictOf (now (text .entry)) (length (now (work .entry))))) × (now (work .exit) ≡ workAfter (now (work .entry))) × Owners (now (text .entry)) (verdictOf (now (text .entry)) (length (now (work .entry)))) (now (names .entry)) (now (names .exit)) ⌝ }
 {
     let mut types = [0; NOTES];
     let n = working(work.len());
     let c = check(text, &mut work[..n], &mut types);
-    let known = c.known;
-    let state = known.state;
-    name_cells(&work[..n], &types, state, names);
+    name_checked(&work[..n], &types, c, names);
     clear(work);
     count_of(c)
 }

@@ -36,10 +36,11 @@ pub extern "C" fn drive_cells(text: &[u8], work: &mut [u32]) -> Reply
     counted(c)
 }
 
-// The same; names[i] becomes the offset of the name of cell i's variable, for each cell that there is room for.
+// The same; names[i] becomes the offset of the name of cell i's variable, for each cell that there is room for. The rest of `names`, and all of
+// it on a refusal, stays as lent.
 #[no_mangle]
 pub extern "C" fn drive_owners(text: &[u8], work: &mut [u32], names: &mut [usize]) -> Reply
-    ensures { λ r. ⌜ (r ≡ countReply (cellsTold (verdictOf (now (text .entry)) (length (now (work .entry)))))) × (now (work .exit) ≡ workAfter (now (work .entry))) × Owners (now (text .entry)) (verdictOf (now (text .entry)) (length (now (work .entry)))) (now (names .exit)) ⌝ }
+    ensures { λ r. ⌜ (r ≡ countReply (cellsTold (verdictOf (now (text .entry)) (length (now (work .entry)))))) × (now (work .exit) ≡ workAfter (now (work .entry))) × Owners (now (text .entry)) (verdictOf (now (text .entry)) (length (now (work .entry)))) (now (names .entry)) (now (names .exit)) ⌝ }
 {
     let c = owners(text, work, names);
     counted(c)
@@ -63,7 +64,7 @@ pub extern "C" fn drive_run(
 // As `drive_owners`, of a text that the marking machine takes.
 #[no_mangle]
 pub extern "C" fn drive_mark_owners(text: &[u8], work: &mut [u32], names: &mut [usize]) -> Reply
-    ensures { λ r. ⌜ (r ≡ countReply (cellsTold (judge loosely (now (text .entry)) (length (now (work .entry)))))) × (now (work .exit) ≡ workAfter (now (work .entry))) × Owners (now (text .entry)) (judge loosely (now (text .entry)) (length (now (work .entry)))) (now (names .exit)) ⌝ }
+    ensures { λ r. ⌜ (r ≡ countReply (cellsTold (judge loosely (now (text .entry)) (length (now (work .entry)))))) × (now (work .exit) ≡ workAfter (now (work .entry))) × Owners (now (text .entry)) (judge loosely (now (text .entry)) (length (now (work .entry)))) (now (names .entry)) (now (names .exit)) ⌝ }
 {
     let c = mark_owners(text, work, names);
     counted(c)

@@ -14,7 +14,7 @@ use Rattle.answers.specs.Verdicts.{cellsTold}
 use Rattle.bodies.specs.Table.{upTo}
 use Rattle.texts.specs.declared.Checked.{Checked}
 use Rattle.loosely.specs.Texts.{AdmittedBy, Admits}
-use Rattle.counting.specs.Cells.{countedBy, Names, Owners, OwnedBy}
+use Rattle.counting.specs.Cells.{countedBy, NamesBy, Owners, OwnedBy}
 use Rattle.texts.proofs.Texts.{part-long}
 use Rattle.marking.proofs.MarkWays.{judged-here}
 
@@ -27,14 +27,22 @@ module _ (s l : List ℕ) (n : ℕ) (i : n ≡ min 16384 (length l)) (c : Checke
   pub cells-told : (r : Counted) → r ≡ countedBy c → r ≡ cellsTold (judge loosely s (length l))
   cells-told r e = e ∙ counted-is s l′ ts′ tb′ (judge loosely s (length l)) c (judged-here s l n i c l′ ts′ tb′ C)
 
-  pub owners-told : (names : List ℕ) → length l′ ≡ length (take n l) → Names (take n (l′ ++ drop n l)) ts′ (c .known .state) names → Owners s (judge loosely s (length l)) names
-  owners-told names e N = record { says = go (judge loosely s (length l)) refl (judged-here s l n i c l′ ts′ tb′ C) }
+  pub owners-told : (old names : List ℕ) → length l′ ≡ length (take n l) → NamesBy (take n (l′ ++ drop n l)) ts′ c old names → Owners s (judge loosely s (length l)) old names
+  owners-told old names e N = record { says = go (judge loosely s (length l)) refl (judged-here s l n i c l′ ts′ tb′ C) }
     where
       front : take n (l′ ++ drop n l) ≡ l′
       front = take-at l′ (drop n l) n (e ∙ sym (part-long l n i))
 
-      go : (v : Verdict Read) → judge loosely s (length l) ≡ v → AdmittedBy s l′ ts′ tb′ v c → OwnedBy s v names
-      go (refused m k) h D = tt
-      go (accepted q) h D = λ j a b.
-          let O = subst (λ (x : List ℕ). Names x ts′ (c .known .state) names) front N .each j a (omega (arith, D .1 .holds .cells-are)) in
-          O .says s (q .known) (upTo (length (q .known .bodies))) (D .1 .holds) (judged-covered loosely s (length l) q h) b
+      here : NamesBy l′ ts′ c old names
+      here = subst (λ (x : List ℕ). NamesBy x ts′ c old names) front N
+
+      go : (v : Verdict Read) → judge loosely s (length l) ≡ v → AdmittedBy s l′ ts′ tb′ v c → OwnedBy s v old names
+      go (refused m k) h D = here .kept λ z. omega (arith, D .0, D .2)
+      go (accepted q) h D =
+          let M = here .named (D .0) in
+          let K = D .1 .holds in (
+            M .long,
+            subst (λ (x : ℕ). drop x names ≡ drop x old) (K .cells-are) (M .rest),
+            λ j a b.
+                M .each j a (omega (arith, K .cells-are)) .says s (q .known) (upTo (length (q .known .bodies))) K (judged-covered loosely s (length l) q h) b,
+          )

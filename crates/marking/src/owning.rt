@@ -1,7 +1,7 @@
 // The cells of a text that the marking machine takes, and the name of each one's variable.
 use answers::Counted;
 use counting::count_of;
-use counting::name_cells;
+use counting::name_checked;
 use declarations::NOTES;
 use loosely::checking::check_loosely;
 use texts::working;
@@ -13,17 +13,16 @@ ghost use Rattle.semantics.specs.Whole.{workAfter};
 ghost use Rattle.answers.specs.Verdicts.{cellsTold};
 ghost use Rattle.counting.specs.Cells.{Owners};
 
-// How many cells a text has; names[i] becomes the offset of the name of cell i's variable, for each cell that there is room for.
+// How many cells a text has; names[i] becomes the offset of the name of cell i's variable, for each cell that there is room for. The rest of
+// `names`, and all of it on a refusal, stays as lent.
 pub fn mark_owners(text: &[u8], work: &mut [u32], names: &mut [usize]) -> Counted
-    ensures { λ r. ⌜ (r ≡ cellsTold (judge loosely (now (text .entry)) (length (now (work .entry))))) × (now (work .exit) ≡ workAfter (now (work .entry))) × Owners (now (text .entry)) (judge loosely (now (text .entry)) (length (now (work .entry)))) (now (names .exit)) ⌝ }
+    ensures { λ r. ⌜ (r ≡ cellsTold (judge loosely (now (text .entry)) (length (now (work .entry))))) × (now (work .exit) ≡ workAfter (now (work .entry))) × Owners (now (text .entry)) (judge loosely (now (text .entry)) (length (now (work .entry)))) (now (names .entry)) (now (names .exit)) ⌝ }
 {
     let mut types = [0; NOTES];
     let mut bodies = [0; 165];
     let n = working(work.len());
     let c = check_loosely(text, &mut work[..n], &mut types, &mut bodies);
-    let known = c.known;
-    let state = known.state;
-    name_cells(&work[..n], &types, state, names);
+    name_checked(&work[..n], &types, c, names);
     clear(work);
     count_of(c)
 }

@@ -11,56 +11,56 @@ use Rattle.counting.proofs.name_cells.Lts as lts
 use Rattle.stores.proofs.owner.Reads as owner-reads
 
 abbrev Inv-loop : tie.InvT-loop
-Inv-loop work types st names₀ i₀ names i = (length names ≡ length names₀) × Named work types st i names
+Inv-loop work types st names₀ i₀ names i = (length names ≡ length names₀) × Named work types st i names₀ names
 
 abbrev μ-loop : tie.MeasureT-loop
 μ-loop work types st names₀ i₀ names i = length names - i
 
--- src/counting.rt:36:5
+-- src/lib.rt:33:5
 loop-holds : tie.Need-loop-holds Inv-loop μ-loop
 loop-holds c = (refl, search named-start)
 
--- src/counting.rt:37:17
+-- src/lib.rt:34:17
 cast-if1 : tie.Need-cast-if1 Inv-loop μ-loop
 cast-if1 c = search needs
 
--- src/counting.rt:38:13
+-- src/lib.rt:35:13
 same-length : tie.Need-same-length Inv-loop μ-loop
 same-length c = search needs
 
--- src/counting.rt:38:13
+-- src/lib.rt:35:13
 returns : tie.Need-returns Inv-loop μ-loop
 returns c = search names-laws
 
--- src/counting.rt:40:20
+-- src/lib.rt:37:20
 owner-requires : tie.Need-owner-requires Inv-loop μ-loop
 owner-requires c κs = search needs
 
--- src/counting.rt:40:9
+-- src/lib.rt:37:9
 mul-names : tie.Need-mul-names Inv-loop μ-loop
 mul-names c = search needs
 
--- src/counting.rt:40:9
+-- src/lib.rt:37:9
 slice-write-names : tie.Need-slice-write-names Inv-loop μ-loop
 slice-write-names c = search needs
 
--- src/counting.rt:41:9
+-- src/lib.rt:38:9
 add-i : tie.Need-add-i Inv-loop μ-loop
 add-i c = search needs
 
--- src/counting.rt:36:5
+-- src/lib.rt:33:5
 loop-less : tie.Need-loop-less Inv-loop μ-loop
 loop-less c = search names-less
 
--- src/counting.rt:36:5
+-- src/lib.rt:33:5
 loop-again : tie.Need-loop-again Inv-loop μ-loop
 loop-again c = (search needs, search named-next)
 
--- src/counting.rt:32:1
+-- src/lib.rt:29:1
 same-length-2 : tie.Need-same-length-2 Inv-loop μ-loop
 same-length-2 c = search needs
 
--- src/counting.rt:32:1
+-- src/lib.rt:29:1
 returns-2 : tie.Need-returns-2 Inv-loop μ-loop
 returns-2 c = search names-laws
 

@@ -7,68 +7,68 @@ use Rattle.marking.proofs.owning.mark_owners.Tie as tie
 use Rattle.marking.proofs.owning.mark_owners.Reads as reads
 use Rattle.marking.proofs.owning.mark_owners.Lts as lts
 use Rattle.counting.proofs.count_of.Reads as count-of-reads
-use Rattle.counting.proofs.name_cells.Reads as name-cells-reads
+use Rattle.counting.proofs.name_checked.Reads as name-checked-reads
 use Rattle.loosely.proofs.checking.check_loosely.Reads as check-loosely-reads
 use Rattle.texts.proofs.working.Reads as working-reads
 use Rattle.worklist.proofs.clear.Reads as clear-reads
 
--- src/owning.rt:20:9
+-- src/owning.rt:23:9
 working-requires : tie.Need-working-requires
 working-requires c κs = search needs
 
--- src/owning.rt:21:33
+-- src/owning.rt:24:33
 slice-relend-prefix-check-loosely : tie.Need-slice-relend-prefix-check-loosely
 slice-relend-prefix-check-loosely c = search needs
 
--- src/owning.rt:21:33
+-- src/owning.rt:24:33
 slice-aggregate-check-loosely : tie.Need-slice-aggregate-check-loosely
 slice-aggregate-check-loosely c = search (part-laws, needs)
 
--- src/owning.rt:21:49
+-- src/owning.rt:24:49
 slice-aggregate-check-loosely-2 : tie.Need-slice-aggregate-check-loosely-2
 slice-aggregate-check-loosely-2 c = search needs
 
--- src/owning.rt:21:61
+-- src/owning.rt:24:61
 slice-aggregate-check-loosely-3 : tie.Need-slice-aggregate-check-loosely-3
 slice-aggregate-check-loosely-3 c = search needs
 
--- src/owning.rt:21:9
+-- src/owning.rt:24:9
 check-loosely-requires : tie.Need-check-loosely-requires
 check-loosely-requires c κs = search needs
 
--- src/owning.rt:24:16
-slice-reshare-prefix-name-cells : tie.Need-slice-reshare-prefix-name-cells
-slice-reshare-prefix-name-cells c = search needs
+-- src/owning.rt:25:18
+slice-reshare-prefix-name-checked : tie.Need-slice-reshare-prefix-name-checked
+slice-reshare-prefix-name-checked c = search needs
 
--- src/owning.rt:24:16
-slice-aggregate-name-cells : tie.Need-slice-aggregate-name-cells
-slice-aggregate-name-cells c = search (part-laws, needs)
+-- src/owning.rt:25:18
+slice-aggregate-name-checked : tie.Need-slice-aggregate-name-checked
+slice-aggregate-name-checked c = search (part-laws, needs)
 
--- src/owning.rt:24:28
-slice-aggregate-name-cells-2 : tie.Need-slice-aggregate-name-cells-2
-slice-aggregate-name-cells-2 c = search needs
-
--- src/owning.rt:24:5
-name-cells-requires : tie.Need-name-cells-requires
-name-cells-requires c κs = search needs
+-- src/owning.rt:25:30
+slice-aggregate-name-checked-2 : tie.Need-slice-aggregate-name-checked-2
+slice-aggregate-name-checked-2 c = search needs
 
 -- src/owning.rt:25:5
+name-checked-requires : tie.Need-name-checked-requires
+name-checked-requires c κs = search needs
+
+-- src/owning.rt:26:5
 clear-requires : tie.Need-clear-requires
 clear-requires c κs = search needs
 
--- src/owning.rt:26:5
+-- src/owning.rt:27:5
 count-of-requires : tie.Need-count-of-requires
 count-of-requires c κs = search needs
 
--- src/owning.rt:15:1
+-- src/owning.rt:18:1
 same-length : tie.Need-same-length
 same-length c = search needs
 
--- src/owning.rt:15:1
+-- src/owning.rt:18:1
 same-length-2 : tie.Need-same-length-2
 same-length-2 c = search needs
 
--- src/owning.rt:15:1
+-- src/owning.rt:18:1
 returns : tie.Need-returns
 returns c = (search cells-told, search list-clears, search owners-told)
 
@@ -82,10 +82,10 @@ mark-owners-spec =
     slice-aggregate-check-loosely-2
     slice-aggregate-check-loosely-3
     check-loosely-requires
-    slice-reshare-prefix-name-cells
-    slice-aggregate-name-cells
-    slice-aggregate-name-cells-2
-    name-cells-requires
+    slice-reshare-prefix-name-checked
+    slice-aggregate-name-checked
+    slice-aggregate-name-checked-2
+    name-checked-requires
     clear-requires
     count-of-requires
     same-length
