@@ -46,6 +46,12 @@ StandsBy s at (part.the-variants.Shut q) = ShutAt s at q
 pub record Stands (s : List ℕ) (at : ℕ) (r : Part) : Type 0 where
   pub says : StandsBy s at r
 
+-- the offset past a part: what a reader has reached that has read it
+abbrev pub pastPart : Part → ℕ
+pastPart (part.the-variants.Leaf w p q) = q
+pastPart (part.the-variants.Form p) = p
+pastPart (part.the-variants.Shut q) = q
+
 -- whether the form ends there
 abbrev pub ShutsBy : List ℕ → ℕ → End → Type 0
 ShutsBy s at (ending.the-variants.Past q) = ShutAt s at q

@@ -4,7 +4,7 @@ use reader::sight::Sight;
 use reader::sight::look;
 use reader::sight::word_at;
 ghost use mathlib.Core.Path.{_≡_};
-ghost use Rattle.parts.specs.Parts.{LeafStands, Stands, Shuts};
+ghost use Rattle.parts.specs.Parts.{LeafStands, Stands, Shuts, pastPart};
 
 // Document 01's reader: the lent text together with the offset it has reached.
 pub struct Reader<'a> {
@@ -17,6 +17,12 @@ pub enum Part {
     Leaf(Word, usize, usize),
     Form(usize),
     Shut(usize),
+}
+
+// What a reader has read: a part, and the reader at the offset that it has reached, past that part.
+pub struct Read<'a> {
+    pub part: Part,
+    pub reader: Reader<'a>,
 }
 
 // The end of a form: the offset past its closing bracket, or another part comes first.
@@ -53,22 +59,38 @@ pub fn reader_at<'a>(text: &'a [u8], at: usize) -> Reader<'a>
     Reader { text, at }
 }
 
-// The part at the offset that a reader has reached.
-pub fn next_part<'a>(r: Reader<'a>) -> Part
-    ensures { λ p. ⌜ Stands (now (r .entry .text)) (r .entry .at) p ⌝ }
+// The offset past a part: inside a form, behind a word or a closing bracket.
+fn past(p: Part) -> usize
+    ensures { λ r. ⌜ r ≡ pastPart p ⌝ }
 {
-    stands_at(r.text, r.at)
+    match p {
+        Part::Leaf(_, _, q) => q,
+        Part::Form(q) => q,
+        Part::Shut(q) => q,
+    }
+}
+
+// The part at the offset that a reader has reached, and the reader past it.
+pub fn next_part<'a>(r: Reader<'a>) -> Read<'a>
+    ensures { λ x. ⌜ Stands (now (r .entry .text)) (r .entry .at) (x .part) × (x .reader .text ≡ r .entry .text) × (x .reader .at ≡ pastPart (x .part)) ⌝ }
+{
+    let part = stands_at(r.text, r.at);
+    let at = past(part);
+    Read {
+        part,
+        reader: Reader { text: r.text, at },
+    }
 }
 
 // The part at an offset, as the checker asks for it.
 pub fn part_at(text: &[u8], at: usize) -> Part
     ensures { λ r. ⌜ Stands (now (text .entry)) at r ⌝ }
 {
-    next_part(reader_at(text, at))
+    next_part(reader_at(text, at)).part
 }
 
-// Whether the form ends at an offset.
-pub fn end_at(text: &[u8], at: usize) -> End
+// Whether the form ends at an offset of a text.
+fn shuts_at(text: &[u8], at: usize) -> End
     ensures { λ r. ⌜ Shuts (now (text .entry)) at r ⌝ }
 {
     let s = look(text, at);
@@ -77,4 +99,18 @@ pub fn end_at(text: &[u8], at: usize) -> End
         Sight::Leaf(_) => End::More,
         Sight::Shut(p) => End::Past(p),
     }
+}
+
+// Whether the form ends at the offset that a reader has reached; no word is read for it.
+pub fn next_end<'a>(r: Reader<'a>) -> End
+    ensures { λ e. ⌜ Shuts (now (r .entry .text)) (r .entry .at) e ⌝ }
+{
+    shuts_at(r.text, r.at)
+}
+
+// Whether the form ends at an offset, as the checker asks for it.
+pub fn end_at(text: &[u8], at: usize) -> End
+    ensures { λ r. ⌜ Shuts (now (text .entry)) at r ⌝ }
+{
+    next_end(reader_at(text, at))
 }

@@ -7,35 +7,35 @@ use Rattle.parts.proofs.stands_at.Lts as lts
 use Rattle.parts.proofs.leaf.Reads as leaf-reads
 use Rattle.reader.proofs.sight.look.Reads as look-reads
 
--- src/lib.rt:41:9
+-- src/lib.rt:47:9
 look-requires : tie.Need-look-requires
 look-requires c κs = search needs
 
--- src/lib.rt:43:21
+-- src/lib.rt:49:21
 enum-known-s : tie.Need-enum-known-s
 enum-known-s c = search needs
 
--- src/lib.rt:44:21
+-- src/lib.rt:50:21
 enum-known-s-2 : tie.Need-enum-known-s-2
 enum-known-s-2 c = search needs
 
--- src/lib.rt:44:27
+-- src/lib.rt:50:27
 leaf-requires : tie.Need-leaf-requires
 leaf-requires c κs = search needs
 
--- src/lib.rt:45:21
+-- src/lib.rt:51:21
 enum-known-s-3 : tie.Need-enum-known-s-3
 enum-known-s-3 c = search needs
 
--- src/lib.rt:38:1
+-- src/lib.rt:44:1
 returns : tie.Need-returns
 returns c = search part-laws
 
--- src/lib.rt:38:1
+-- src/lib.rt:44:1
 returns-2 : tie.Need-returns-2
 returns-2 c = search part-laws
 
--- src/lib.rt:38:1
+-- src/lib.rt:44:1
 returns-3 : tie.Need-returns-3
 returns-3 c = search part-laws
 
