@@ -4,8 +4,14 @@ ghost use mathlib.Core.Path.{_≡_};
 ghost use lib.ListN.{getD};
 ghost use Rattle.bodies.specs.Table.{clip, Clips};
 
-// How many types a body may see: 64 declared ones and the two built-in.
-pub const MOST_TYPES: usize = 66;
+// How many numbers a body's line in the table has.
+pub const LINE_LENGTH: usize = 5;
+
+// How many bodies a script has at most: those of 32 procedures, and main's.
+const MOST_BODIES: usize = 33;
+
+// How many numbers the table has.
+pub const TABLE_LENGTH: usize = LINE_LENGTH * MOST_BODIES;
 
 // The place of type i as a body sees it that knows n types: 0 of a later one.
 fn clipped(types: &[u32], n: u32, i: usize) -> u32

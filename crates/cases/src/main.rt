@@ -9,6 +9,8 @@ mod headings;
 mod lines;
 
 use drive::Counted;
+use drive::MOST_CELLS;
+use drive::WORK_LENGTH;
 use drive::mark_owners;
 use drive::owners;
 use headings::budget_at;
@@ -29,6 +31,12 @@ use printing::reports::scripted;
 use writing::rows::refused;
 ghost use Prim.Native.Nat.{_≤_, _<_};
 ghost use lib.ListN.{length};
+
+// How many cells a script has at most.
+const CELLS: usize = MOST_CELLS as usize;
+
+// How many bytes a report may have.
+const OUT_LENGTH: usize = 131072;
 
 // How much of a list with room for n is lent where a script has so many cells and so many numbers stand in the heading.
 fn lent(cells: usize, numbers: usize, given: usize, n: usize) -> usize
@@ -172,9 +180,9 @@ fn list_length(head: u8, n: usize) -> usize
 
 // Whether the checker and the runner answer a script as expected, by the heading's line.
 fn passes(heading: &[u8], script: &[u8], wanted: &[u8], work: &mut [u32], out: &mut [u8]) -> bool {
-    let mut names = [0usize; 2048];
-    let mut values = [0i64; 2048];
-    let mut marks = [0u8; 2048];
+    let mut names = [0usize; CELLS];
+    let mut values = [0i64; CELLS];
+    let mut marks = [0u8; CELLS];
     let p = word_after(heading, 0);
     let q = word_after(heading, p);
     let numbers = lend(heading, q, &mut values, &mut marks);
@@ -200,9 +208,9 @@ fn mark_passes(
     work: &mut [u32],
     out: &mut [u8],
 ) -> bool {
-    let mut names = [0usize; 2048];
-    let mut values = [0i64; 2048];
-    let mut marks = [0u8; 2048];
+    let mut names = [0usize; CELLS];
+    let mut values = [0i64; CELLS];
+    let mut marks = [0u8; CELLS];
     let p = word_after(heading, 0);
     let q = word_after(heading, p);
     let numbers = lend(heading, q, &mut values, &mut marks);
@@ -347,7 +355,7 @@ fn serve(text: &mut [u8], work: &mut [u32], out: &mut [u8]) {
 
 fn main() {
     let mut text = [0u8; 262144];
-    let mut work = [0u32; 16384];
-    let mut out = [0u8; 131072];
+    let mut work = [0u32; WORK_LENGTH];
+    let mut out = [0u8; OUT_LENGTH];
     serve(&mut text, &mut work, &mut out);
 }

@@ -16,8 +16,10 @@ use symbols::declare;
 use symbols::keys::name_number;
 use tables::Meaning;
 use tables::Scope;
+use tables::TYPE_NUMBERS;
 use tables::describe;
 use tables::meaning_of;
+use worklist::TEXT_LENGTH;
 ghost use mathlib.Core.Path.{_≡_};
 ghost use Prim.Native.Nat.{_+_, _*_, _%_};
 ghost use Rattle.tables.specs.Scene.{meaningHere};
@@ -35,6 +37,36 @@ ghost use Rattle.declarations.specs.Vars.{varFits, varEntry, varState, A
 // How many notes the checker keeps beside the working list: by type number the places of the types' descriptions (the walks' `types`), below
 // 128; the others are free.
 pub const NOTES: usize = 512;
+
+// The ceilings of row 9 by document 01's words: "64 declared types", one for each `type` line.
+pub const MOST_TYPE_LINES: u32 = 64;
+
+// "128 variables".
+const MOST_VARS: u32 = 128;
+
+// "32 procedures".
+pub const MOST_PROCS: u32 = 32;
+
+// "2,048 cells in all variables and in any type".
+pub const MOST_CELLS: u32 = 2048;
+
+// "256 values in an index type".
+pub const MOST_INDICES: u32 = 256;
+
+// "256 enum names".
+pub const MOST_ENUM_NAMES: u32 = 256;
+
+// "16 fields".
+pub const MOST_FIELDS: u32 = 16;
+
+// Cells are counted modulo this, so that no sum is too large.
+pub const CELL_NUMBERS: u32 = 4096;
+
+// Names are counted modulo this.
+const NAME_NUMBERS: u32 = 65536;
+
+// And bodies modulo this.
+pub const BODY_NUMBERS: u32 = 16384;
 
 // What is held of the lines so far: the names, the free place of the working list, how many types (the two built-in ones too), `type` lines,
 // variables, cells and bodies.
@@ -151,20 +183,20 @@ pub fn answered(fault: Fault, within: bool, state: State) -> Lined
 fn var_fits(vars: u32, cells: u32, size: u32) -> bool
     ensures { λ r. ⌜ r ≡ varFits vars cells size ⌝ }
 {
-    if vars >= 128 {
+    if vars >= MOST_VARS {
         return false;
     }
-    if size > 2048 {
+    if size > MOST_CELLS {
         return false;
     }
-    cells <= 2048 - size
+    cells <= MOST_CELLS - size
 }
 
 // An offset in 32 bits.
 pub fn narrow(p: usize) -> u32
     ensures { λ r. ⌜ r ≡ p % 32768 ⌝ }
 {
-    (p % 32768) as u32
+    (p % TEXT_LENGTH) as u32
 }
 
 // What is held after so many names more, the newest at a place, with the free place then.
@@ -172,7 +204,7 @@ pub fn with_names(st: State, names: u32, newest: u32, top: u32) -> State
     ensures { λ r. ⌜ r ≡ withNames st names newest top ⌝ }
 {
     let scope = Scope {
-        count: st.scope.count % 65536 + names % 65536,
+        count: st.scope.count % NAME_NUMBERS + names % NAME_NUMBERS,
         newest,
     };
     State { scope, top, ..st }
@@ -185,8 +217,8 @@ pub fn with_type_line(st: State, made: u32) -> State
     let scope = st.scope;
     State {
         scope,
-        types: st.types % 128 + made % 2,
-        lines: st.lines % 128 + 1,
+        types: st.types % TYPE_NUMBERS + made % 2,
+        lines: st.lines % TYPE_NUMBERS + 1,
         ..st
     }
 }
@@ -198,8 +230,8 @@ fn with_var(st: State, size: u32) -> State
     let scope = st.scope;
     State {
         scope,
-        vars: st.vars % 128 + 1,
-        cells: st.cells % 4096 + size % 4096,
+        vars: st.vars % MOST_VARS + 1,
+        cells: st.cells % CELL_NUMBERS + size % CELL_NUMBERS,
         ..st
     }
 }
@@ -212,7 +244,7 @@ pub fn with_body(st: State, top: u32) -> State
     State {
         scope,
         top,
-        procs: st.procs % 16384 + 1,
+        procs: st.procs % BODY_NUMBERS + 1,
         ..st
     }
 }
@@ -248,8 +280,8 @@ fn var_state(st: State, size: u32, top: u32) -> State
 fn lay_var(work: &mut [u32], st: State, name: u32, kind: u32) -> u32
     ensures { λ r. ⌜ Laid (laid (varEntry st name kind) (st .top) (now (work .entry))) r (now (work .exit)) ⌝ }
 {
-    let sort = 1 + 4 * (st.vars % 128);
-    let more = kind % 128 + 128 * (st.cells % 4096);
+    let sort = 1 + 4 * (st.vars % MOST_VARS);
+    let more = kind % TYPE_NUMBERS + TYPE_NUMBERS * (st.cells % CELL_NUMBERS);
     declare(work, st.top, name, sort, more, st.scope.newest)
 }
 

@@ -1,5 +1,6 @@
 // Whether the labels of a `case` differ, be they of one kind or of several: kind and value make one number, and these are compared block by block.
 use arith::in_range;
+use labels::BLOCK;
 use labels::Hop;
 use labels::Mark;
 use labels::Next;
@@ -163,7 +164,7 @@ pub fn labels_differ(text: &[u8], work: &[u32], scope: Scope, at: usize) -> bool
     match h {
         Hop::Label(_, _) => true,
         Hop::Over(q) => {
-            let mut block = [0i64; 256];
+            let mut block = [0i64; BLOCK];
             differ_from(text, work, scope, &mut block, q)
         }
         Hop::End => true,

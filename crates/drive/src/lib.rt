@@ -8,4 +8,7 @@ pub use counting::owners;
 pub use marking::mark;
 pub use marking::owning::mark_owners;
 pub use running::run;
+pub use texts::MOST_CELLS;
+pub use texts::TEXT_LENGTH;
+pub use texts::WORK_LENGTH;
 pub use texts::verdict_of;

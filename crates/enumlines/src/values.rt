@@ -3,6 +3,7 @@ use crate::enums::enum_names;
 use crate::enums::is_fresh;
 use crate::enums::one_more;
 use declarations::Lined;
+use declarations::MOST_ENUM_NAMES;
 use declarations::Naming;
 use declarations::State;
 use declarations::answered;
@@ -13,6 +14,7 @@ use faults::is_form;
 use symbols::declare;
 use symbols::keys::name_number;
 use tables::Info;
+use tables::TYPE_NUMBERS;
 use tables::ordinal_info;
 use typelines::Placed;
 use typelines::end_fault;
@@ -39,12 +41,15 @@ fn one_less(n: u32) -> u32
     0
 }
 
+// More than the places of a working list: a place is taken modulo it, so that a sum is not too large.
+const PLACES: u32 = 32768;
+
 // The link of value i of n, whose entry is at `place`: the next value's entry, or the newest entry before the line.
 fn link_of(i: u32, n: u32, place: u32, newest: u32) -> u32
     ensures { λ r. ⌜ r ≡ linkOf i n place newest ⌝ }
 {
     if i < one_less(n) {
-        return place % 32768 + 4;
+        return place % PLACES + 4;
     }
     newest
 }
@@ -53,7 +58,7 @@ fn link_of(i: u32, n: u32, place: u32, newest: u32) -> u32
 fn lay_value(work: &mut [u32], kind: u32, newest: u32, n: u32, name: u32, i: u32, place: u32) -> u32
     ensures { λ r. ⌜ Laid (laid (valueEntry kind newest n name i place) place (now (work .entry))) r (now (work .exit)) ⌝ }
 {
-    let sort = 3 + 4 * (kind % 128);
+    let sort = 3 + 4 * (kind % TYPE_NUMBERS);
     let link = link_of(i, n, place, newest);
     declare(work, place, name, sort, i, link)
 }
@@ -94,8 +99,8 @@ fn lay_values(
 fn lay_enum_name(work: &mut [u32], st: State, name: u32) -> u32
     ensures { λ r. ⌜ Laid (laid (enumEntry st name) (st .top) (now (work .entry))) r (now (work .exit)) ⌝ }
 {
-    let sort = 4 * (st.types % 128);
-    let link = st.top % 32768 + 12;
+    let sort = 4 * (st.types % TYPE_NUMBERS);
+    let link = st.top % PLACES + 12;
     declare(work, st.top, name, sort, 0, link)
 }
 
@@ -183,7 +188,7 @@ pub fn enum_line(
     let e = enum_fault(g, c.names, own);
     let f = end_fault(text, e, c.next);
     if is_clear(f) {
-        if lines_fit(st.lines, c.names <= 256) {
+        if lines_fit(st.lines, c.names <= MOST_ENUM_NAMES) {
             return add_enum(text, work, types, st, p, at, c.names);
         }
         return answered(Fault::Clear, false, st);

@@ -6,14 +6,17 @@ ghost use mathlib.Core.Path.{_≡_};
 ghost use Rattle.exprnodes.specs.Nodes.{Makes};
 ghost use Rattle.exprnodes.specs.Cells.{spanOf, cellsMade, endBits};
 
+// Cells below this, and as many of them, are told by one number of 32 bits.
+const SPANNED: u32 = 65536;
+
 // The first cell and the number of cells in one number.
 fn span(base: u32, size: u32) -> u32
     ensures { λ r. ⌜ r ≡ spanOf base size ⌝ }
 {
-    if base >= 65536 {
+    if base >= SPANNED {
         return 0;
     }
-    if size >= 65536 {
+    if size >= SPANNED {
         return 0;
     }
     base + ops::expr::CELLS_TIMES * size

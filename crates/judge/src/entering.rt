@@ -1,4 +1,6 @@
 // A line's parts after its head word.
+use declarations::BODY_NUMBERS;
+use declarations::MOST_PROCS;
 use declarations::Naming;
 use declarations::name_at;
 use declarations::named_fault;
@@ -72,7 +74,7 @@ fn proc_entry(kn: Known, fault: Fault, g: Got, u: u32) -> Entered
     let state = with_body(named, u);
     Entered {
         fault: fault,
-        within: st.procs < 32,
+        within: st.procs < MOST_PROCS,
         state: state,
         stmts: g.kind,
         ended: false,
@@ -90,7 +92,7 @@ fn proc_end(work: &mut [u32], kn: Known, fault: Fault, g: Got, name: u32) -> Ent
             work,
             g.top,
             name,
-            2 + 4 * (st.procs % 16384),
+            2 + 4 * (st.procs % BODY_NUMBERS),
             g.place,
             st.scope.newest,
         );

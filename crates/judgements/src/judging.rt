@@ -29,28 +29,37 @@ fn row_of(f: Fault) -> u32
     }
 }
 
+// The ceiling of row 9: "4,096 brackets and words (a pair is one)".
+const MOST_NODES: usize = 4096;
+
+// A line's brackets and words are counted modulo this.
+const NODES_END: usize = MOST_NODES + 1;
+
+// And all lines' modulo this.
+const NODE_NUMBERS: u32 = NODES_END as u32;
+
 // Whether n brackets and words more are within their ceiling.
 fn nodes_fit(nodes: u32, n: usize) -> bool
     ensures { λ r. ⌜ r ≡ nodesFit nodes n ⌝ }
 {
-    if n > 4096 {
+    if n > MOST_NODES {
         return false;
     }
-    nodes as usize + n <= 4096
+    nodes as usize + n <= MOST_NODES
 }
 
 // What is known after a line of n brackets and words, where they fit.
 fn good(kn: Known, g: Entered, n: usize) -> Judgement
     ensures { λ r. ⌜ r ≡ goodJudgement kn g n ⌝ }
 {
-    let more = (n % 4097) as u32;
+    let more = (n % NODES_END) as u32;
     let state = g.state;
     Judgement {
         refusal: 0,
         known: Known {
             state: state,
             stmts: g.stmts,
-            nodes: kn.nodes % 4097 + more,
+            nodes: kn.nodes % NODE_NUMBERS + more,
             ended: g.ended,
             main: g.main,
         },

@@ -1,6 +1,7 @@
 // The rules of a body.
 use crate::walk::stmt;
 use crate::walk::stmts;
+use shapes::DEPTH;
 use skips::skip;
 use stmtnodes::last::Next;
 use stmtnodes::last::next_at;
@@ -21,10 +22,10 @@ pub fn body_kept(text: &[u8], work: &[u32], scope: Scope, at: usize) -> bool
                 return true;
             }
             Next::Handler(q) => {
-                return stmts(text, work, scope, w, 33, q);
+                return stmts(text, work, scope, w, DEPTH, q);
             }
             Next::Stmt => {
-                if stmt(text, work, scope, w, 33, p) {
+                if stmt(text, work, scope, w, DEPTH, p) {
                     p = skip(text, p);
                 } else {
                     return false;

@@ -30,6 +30,9 @@ ghost use Rattle.labels.specs.Hops.{Marked, Passes, EntersForm, EntersAr
 ghost use Rattle.labels.specs.Blocks.{ordinalIn, valueAt, among, apart, NextValues, Fills, ComesAgain, Recurs, Doubled};
 ghost use Rattle.labels.specs.Repeating.{Repeating};
 
+// How many labels' values are kept at a time.
+pub const BLOCK: usize = 256;
+
 // A label: its integer, its truth value, or the offset of its name.
 pub enum Mark {
     Number(i64),
@@ -361,7 +364,7 @@ pub fn repeat_fault(text: &[u8], work: &[u32], scope: Scope, f: Fault, at: usize
                 return Fault::Clear;
             }
             Hop::Over(q) => {
-                let mut block = [0i64; 256];
+                let mut block = [0i64; BLOCK];
                 return label_fault(text, work, scope, &mut block, q);
             }
             Hop::End => {

@@ -1,6 +1,8 @@
 // The lines with a body, `proc` and `main`.
 use crate::easing::Eased;
 use crate::easing::loose_body;
+use declarations::BODY_NUMBERS;
+use declarations::MOST_PROCS;
 use declarations::Naming;
 use declarations::name_at;
 use declarations::named_fault;
@@ -75,7 +77,7 @@ fn proc_entry(kn: Known, fault: Fault, n: u32, u: u32) -> Entered
     let state = with_body(named, u);
     Entered {
         fault: fault,
-        within: st.procs < 32,
+        within: st.procs < MOST_PROCS,
         state: state,
         stmts: n,
         ended: false,
@@ -92,7 +94,7 @@ fn proc_end(work: &mut [u32], kn: Known, fault: Fault, n: u32, name: u32) -> Ent
         work,
         st.top,
         name,
-        2 + 4 * (st.procs % 16384),
+        2 + 4 * (st.procs % BODY_NUMBERS),
         st.procs,
         st.scope.newest,
     );

@@ -7,6 +7,8 @@ use texts::Checked;
 use texts::at_end;
 use texts::nothing_known;
 use texts::refusal;
+use worklist::TEXT_LENGTH;
+use worklist::WORK_LENGTH;
 ghost use Prim.Native.Nat.{_≤_};
 ghost use lib.ListN.{length};
 ghost use Rattle.loosely.specs.Texts.{AdmitsLines, Admits};
@@ -42,7 +44,7 @@ fn check_lines(
 }
 
 // Rows 1 to 9 of a text; `types` is for the places of the types' descriptions, at least 512 numbers, all 0; `bodies` for the bodies' table, at
-// least 165 numbers.
+// least `bodies::TABLE_LENGTH`.
 pub fn check_loosely(
     text: &[u8],
     work: &mut [u32],
@@ -51,10 +53,10 @@ pub fn check_loosely(
 ) -> Checked
     ensures { λ r. ⌜ Admits (now (text .entry)) (now (work .entry)) (now (types .entry)) (now (bodies .entry)) r (now (work .exit)) (now (types .exit)) (now (bodies .exit)) ⌝ }
 {
-    if work.len() < 16384 {
+    if work.len() < WORK_LENGTH {
         return refusal(1, 0);
     }
-    if text.len() > 32768 {
+    if text.len() > TEXT_LENGTH {
         return refusal(2, 0);
     }
     let n = refused_line(text);

@@ -9,6 +9,7 @@ use carried::values::value;
 use carried::values::wanted;
 use markexprs::walk::mark_expr;
 use markexprs::walk::mark_target;
+use shapes::DEPTH;
 use skips::skip;
 use steps::ends::raise_number;
 use tables::Scope;
@@ -28,12 +29,12 @@ pub fn assign(
 ) -> u64
     ensures { λ r. ⌜ Assigns (now (text .entry)) (now (work .entry)) (now (types .entry)) scope n at (now (store .entry)) left (now (store .exit)) r ⌝ }
 {
-    let x = mark_expr(text, work, types, scope, store, 33, skip(text, at));
+    let x = mark_expr(text, work, types, scope, store, DEPTH, skip(text, at));
     let v = x.word;
     if v > GREATEST {
         return halting(store, left, v, n);
     }
-    let g = mark_target(text, work, types, scope, store, 33, at);
+    let g = mark_target(text, work, types, scope, store, DEPTH, at);
     let a = g.word;
     if a > GREATEST {
         return halting(store, left, a, n);
@@ -54,7 +55,7 @@ pub fn raise(
 ) -> u64
     ensures { λ r. ⌜ Raising (now (text .entry)) (now (work .entry)) (now (types .entry)) scope n at (now (store .entry)) left (now (store .exit)) r ⌝ }
 {
-    let z = wanted(0, mark_expr(text, work, types, scope, store, 33, at));
+    let z = wanted(0, mark_expr(text, work, types, scope, store, DEPTH, at));
     if z > GREATEST {
         return halting(store, left, z, n);
     }
@@ -72,7 +73,7 @@ pub fn condition(
 ) -> i64
     ensures { λ r. ⌜ Conditions (now (text .entry)) (now (work .entry)) (now (types .entry)) (now (store .entry)) scope at r ⌝ }
 {
-    wanted(1, mark_expr(text, work, types, scope, store, 33, at))
+    wanted(1, mark_expr(text, work, types, scope, store, DEPTH, at))
 }
 
 // The selector of a case at an offset, which must be an ordinal.
@@ -86,7 +87,7 @@ pub fn selector(
 ) -> Carried
     ensures { λ r. ⌜ Selects (now (text .entry)) (now (work .entry)) (now (types .entry)) (now (store .entry)) scope at r ⌝ }
 {
-    let x = mark_expr(text, work, types, scope, store, 33, at);
+    let x = mark_expr(text, work, types, scope, store, DEPTH, at);
     let w = x.word;
     if w > GREATEST {
         return value(0, w);

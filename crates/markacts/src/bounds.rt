@@ -8,6 +8,7 @@ use carried::values::STUCK;
 use leaves::cells::address;
 use markexprs::walk::mark_expr;
 use markexprs::walk::mark_target;
+use shapes::DEPTH;
 use skips::skip;
 use tables::Scope;
 use tables::describe;
@@ -52,12 +53,12 @@ pub fn bounds(
 {
     let g = mark_target(text, work, types, scope, store, 1, at);
     let p = skip(text, at);
-    let x = mark_expr(text, work, types, scope, store, 33, p);
+    let x = mark_expr(text, work, types, scope, store, DEPTH, p);
     let v = x.word;
     if v > GREATEST {
         return Span::Halted(v);
     }
-    let y = mark_expr(text, work, types, scope, store, 33, skip(text, p));
+    let y = mark_expr(text, work, types, scope, store, DEPTH, skip(text, p));
     let w = y.word;
     if w > GREATEST {
         return Span::Halted(w);

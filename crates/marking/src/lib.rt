@@ -2,6 +2,7 @@
 pub mod owning;
 
 use answers::MarkReport;
+use bodies::TABLE_LENGTH;
 use declarations::NOTES;
 use judgements::Known;
 use loosely::checking::check_loosely;
@@ -81,7 +82,7 @@ pub fn mark(
     ensures { λ r. ⌜ MarkReports (markOf (now (text .entry)) (length (now (work .entry))) (now (values .entry)) (now (marks .entry)) budget) r (now (values .exit)) (now (marks .exit)) × (now (work .exit) ≡ workAfter (now (work .entry))) ⌝ }
 {
     let mut types = [0; NOTES];
-    let mut bodies = [0; 165];
+    let mut bodies = [0; TABLE_LENGTH];
     let n = working(work.len());
     let c = check_loosely(text, &mut work[..n], &mut types, &mut bodies);
     let r = mark_checked(text, &work[..n], &types, &bodies, c, values, marks, budget);

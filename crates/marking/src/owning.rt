@@ -1,5 +1,6 @@
 // The cells of a text that the marking machine takes, and the name of each one's variable.
 use answers::Counted;
+use bodies::TABLE_LENGTH;
 use counting::count_of;
 use counting::name_checked;
 use declarations::NOTES;
@@ -19,7 +20,7 @@ pub fn mark_owners(text: &[u8], work: &mut [u32], names: &mut [usize]) -> Counte
     ensures { λ r. ⌜ (r ≡ cellsTold (judge loosely (now (text .entry)) (length (now (work .entry))))) × (now (work .exit) ≡ workAfter (now (work .entry))) × Owners (now (text .entry)) (judge loosely (now (text .entry)) (length (now (work .entry)))) (now (names .entry)) (now (names .exit)) ⌝ }
 {
     let mut types = [0; NOTES];
-    let mut bodies = [0; 165];
+    let mut bodies = [0; TABLE_LENGTH];
     let n = working(work.len());
     let c = check_loosely(text, &mut work[..n], &mut types, &mut bodies);
     name_checked(&work[..n], &types, c, names);

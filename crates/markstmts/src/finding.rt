@@ -1,4 +1,5 @@
 // What a walk over statements looks up: a body's line in the table, the procedure that a call names, a body's handler, the rounds of a `for`.
+use bodies::LINE_LENGTH;
 use counts::count_statements;
 use exprleaves::fields::Sole;
 use exprleaves::fields::sole_name;
@@ -42,7 +43,7 @@ pub enum Plan {
 pub fn line_of(bodies: &[u32], q: u32) -> Line
     ensures { λ r. ⌜ r ≡ lineOf (now (bodies .entry)) q ⌝ }
 {
-    let p = 5 * (q as usize);
+    let p = LINE_LENGTH * (q as usize);
     let scope = Scope {
         count: at(bodies, p + 1),
         newest: at(bodies, p + 2),

@@ -6,7 +6,6 @@ use crate::finding::callee;
 use crate::finding::handler_of;
 use crate::finding::line_of;
 use crate::finding::plan_for;
-use bodies::MOST_TYPES;
 use bodies::clip_types;
 use calc::words::GREATEST;
 use calc::words::Store;
@@ -27,6 +26,7 @@ use parts::End;
 use parts::Part;
 use parts::end_at;
 use parts::part_at;
+use shapes::DEPTH;
 use shapes::Verb;
 use shapes::verb_of;
 use skips::skip;
@@ -39,6 +39,7 @@ use steps::turns::at_last;
 use steps::turns::next_of;
 use stmtnodes::last::Next;
 use stmtnodes::last::next_at;
+use tables::MOST_TYPES;
 use tables::Scope;
 ghost use Rattle.shapes.specs.declared.Verb.the-variants.{If, While, For, Case, Call};
 ghost use Rattle.markstmts.specs.Marks.{MarksStmt, MarksInner, MarksVerb, MarksElse, MarksWhile, MarksRounds, MarksStmts, MarksFront, MarksWithin, MarksBody};
@@ -638,7 +639,7 @@ fn front(
                     bodies,
                     scope,
                     calls,
-                    33,
+                    DEPTH,
                     store,
                     t,
                     m,
@@ -700,7 +701,7 @@ fn body_from(
             bodies,
             scope,
             calls,
-            33,
+            DEPTH,
             store,
             left_in(o),
             m,

@@ -1,5 +1,6 @@
 // Pairs `(N T)` of a name and a type's name, as the fields of a record are written: one pair, and all from an offset on.
 use atoms::Typed;
+use declarations::MOST_CELLS;
 use declarations::Naming;
 use declarations::last_type;
 use declarations::name_at;
@@ -86,17 +87,20 @@ pub fn pair_at(text: &[u8], work: &[u32], scope: Scope, at: usize) -> Pair
     }
 }
 
+// A number of cells that is past the ceiling.
+const TOO_MANY: u32 = MOST_CELLS + 1;
+
 // A sum of cells; any number past 2,048 where it is past that.
 pub fn add_size(a: u32, b: u32) -> u32
     ensures { λ r. ⌜ r ≡ addSize a b ⌝ }
 {
-    if a <= 2048 {
-        if b <= 2048 {
+    if a <= MOST_CELLS {
+        if b <= MOST_CELLS {
             return a + b;
         }
-        return 2049;
+        return TOO_MANY;
     }
-    2049
+    TOO_MANY
 }
 
 // The same with the cells of a type.

@@ -1,5 +1,7 @@
 // `type` lines that make a record.
 use declarations::Lined;
+use declarations::MOST_CELLS;
+use declarations::MOST_FIELDS;
 use declarations::State;
 use declarations::answered;
 use declarations::named_fault;
@@ -124,8 +126,8 @@ fn add_record(
 fn record_fits(n: u32, size: u32) -> bool
     ensures { λ r. ⌜ r ≡ recordFits n size ⌝ }
 {
-    if n <= 16 {
-        return size <= 2048;
+    if n <= MOST_FIELDS {
+        return size <= MOST_CELLS;
     }
     false
 }

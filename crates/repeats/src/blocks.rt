@@ -10,6 +10,12 @@ ghost use lib.ListN.{length};
 ghost use Rattle.repeats.specs.Leads.{leadsAt};
 ghost use Rattle.repeats.specs.Blocks.{apart, hasTo, hasBothTo, Listed, Meets, Fills, ComesAgain};
 
+// How many keys stand in a whole block.
+const BLOCK: usize = 256;
+
+// Half of each key of a block.
+type Block = [u32; BLOCK];
+
 // How many keys stand in a block, and the offset after the last of their names; or a name has come again.
 pub enum Filled {
     Up(usize, usize),
@@ -37,12 +43,12 @@ fn both(a: bool, b: bool) -> bool
 }
 
 // Whether a number stands in a block. The loop has no way out, so that the compiler compares several at once.
-fn has(keys: &[u32; 256], a: u32) -> bool
+fn has(keys: &Block, a: u32) -> bool
     ensures { λ r. ⌜ r ≡ hasTo 256 a (now (keys .entry)) ⌝ }
 {
     let mut any = false;
     let mut i = 0;
-    while i < 256 {
+    while i < BLOCK {
         any = either(any, keys[i] == a);
         i += 1;
     }
@@ -50,12 +56,12 @@ fn has(keys: &[u32; 256], a: u32) -> bool
 }
 
 // Whether two numbers stand at the same place of two blocks.
-fn has_both(lows: &[u32; 256], highs: &[u32; 256], a: u32, b: u32) -> bool
+fn has_both(lows: &Block, highs: &Block, a: u32, b: u32) -> bool
     ensures { λ r. ⌜ r ≡ hasBothTo 256 a b (now (lows .entry)) (now (highs .entry)) ⌝ }
 {
     let mut any = false;
     let mut i = 0;
-    while i < 256 {
+    while i < BLOCK {
         any = either(any, both(lows[i] == a, highs[i] == b));
         i += 1;
     }
@@ -63,7 +69,7 @@ fn has_both(lows: &[u32; 256], highs: &[u32; 256], a: u32, b: u32) -> bool
 }
 
 // Whether a key stands in a block: few names have the low number of another.
-fn agrees(lows: &[u32; 256], highs: &[u32; 256], x: Lead) -> bool
+fn agrees(lows: &Block, highs: &Block, x: Lead) -> bool
     ensures { λ r. ⌜ r ≡ hasBothTo 256 (x .low) (x .high) (now (lows .entry)) (now (highs .entry)) ⌝ }
 {
     if has(lows, x.low) {
@@ -97,7 +103,7 @@ fn listed(text: &[u8], x: usize, from: usize, n: usize) -> bool
 }
 
 // Whether a name is one of the first n from an offset on, whose keys stand in the block.
-fn meets(text: &[u8], lows: &[u32; 256], highs: &[u32; 256], from: usize, n: usize, x: Lead) -> bool
+fn meets(text: &[u8], lows: &Block, highs: &Block, from: usize, n: usize, x: Lead) -> bool
     ensures { λ r. ⌜ Meets (now (text .entry)) (now (lows .entry)) (now (highs .entry)) from n x r ⌝ }
 {
     if agrees(lows, highs, x) {
@@ -107,13 +113,13 @@ fn meets(text: &[u8], lows: &[u32; 256], highs: &[u32; 256], from: usize, n: usi
 }
 
 // The keys of the names from an offset on, as many as a block holds, if they differ.
-fn fill_block(text: &[u8], lows: &mut [u32; 256], highs: &mut [u32; 256], at: usize) -> Filled
+fn fill_block(text: &[u8], lows: &mut Block, highs: &mut Block, at: usize) -> Filled
     requires { ⌜ (length (now lows) ≡ 256) × (length (now highs) ≡ 256) ⌝ }
     ensures { λ r. ⌜ Fills (now (text .entry)) at r (now (lows .exit)) (now (highs .exit)) ⌝ }
 {
     let mut n = 0;
     let mut p = at;
-    while n < 256 {
+    while n < BLOCK {
         let y = next_name(text, p);
         match y {
             Next::Name(x, q) => {
@@ -134,14 +140,7 @@ fn fill_block(text: &[u8], lows: &mut [u32; 256], highs: &mut [u32; 256], at: us
 }
 
 // Whether a name from an offset on is one of the n from another on, whose keys stand in the block.
-fn comes_again(
-    text: &[u8],
-    lows: &[u32; 256],
-    highs: &[u32; 256],
-    from: usize,
-    n: usize,
-    at: usize,
-) -> bool
+fn comes_again(text: &[u8], lows: &Block, highs: &Block, from: usize, n: usize, at: usize) -> bool
     ensures { λ r. ⌜ ComesAgain (now (text .entry)) (now (lows .entry)) (now (highs .entry)) from n at r ⌝ }
 {
     let mut p = at;
@@ -162,7 +161,7 @@ fn comes_again(
 }
 
 // Whether the names from an offset on differ, block by block.
-fn differ_from(text: &[u8], lows: &mut [u32; 256], highs: &mut [u32; 256], at: usize) -> bool
+fn differ_from(text: &[u8], lows: &mut Block, highs: &mut Block, at: usize) -> bool
     requires { ⌜ (length (now lows) ≡ 256) × (length (now highs) ≡ 256) ⌝ }
     ensures { λ r. ⌜ r ≡ apart (leadsAt (now (text .entry)) at) ⌝ }
 {
@@ -190,8 +189,8 @@ fn differ_from(text: &[u8], lows: &mut [u32; 256], highs: &mut [u32; 256], at: u
 pub fn names_differ(text: &[u8], at: usize) -> bool
     ensures { λ r. ⌜ r ≡ apart (leadsAt (now (text .entry)) at) ⌝ }
 {
-    let mut lows = [0u32; 256];
-    let mut highs = [0u32; 256];
+    let mut lows = [0u32; BLOCK];
+    let mut highs = [0u32; BLOCK];
     differ_from(text, &mut lows, &mut highs, at)
 }
 

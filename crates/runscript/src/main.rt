@@ -1,5 +1,8 @@
 // Runs the script on standard input, every cell undefined at the start, budget 10,000, and prints the outcome and the cells.
 use drive::Counted;
+use drive::MOST_CELLS;
+use drive::TEXT_LENGTH;
+use drive::WORK_LENGTH;
 use drive::owners;
 use input::Input;
 use input::read_text;
@@ -8,6 +11,12 @@ use printing::reports::scripted;
 use writing::rows::refused;
 ghost use Prim.Native.Nat.{_≤_};
 ghost use lib.ListN.{length};
+
+// How many cells a script has at most.
+const CELLS: usize = MOST_CELLS as usize;
+
+// How many bytes a report may have.
+const OUT_LENGTH: usize = 131072;
 
 // The smaller of two numbers.
 fn least(a: usize, b: usize) -> usize
@@ -66,9 +75,9 @@ fn tell(out: &[u8], n: usize) {
 
 // Answers for a script.
 fn serve(text: &[u8], work: &mut [u32], out: &mut [u8]) {
-    let mut names = [0usize; 2048];
-    let mut values = [0i64; 2048];
-    let mut marks = [0u8; 2048];
+    let mut names = [0usize; CELLS];
+    let mut values = [0i64; CELLS];
+    let mut marks = [0u8; CELLS];
     let n = answer(text, work, &mut names, &mut values, &mut marks, out);
     tell(out, n);
 }
@@ -83,8 +92,8 @@ fn read_and_serve(text: &mut [u8], work: &mut [u32], out: &mut [u8]) {
 }
 
 fn main() {
-    let mut text = [0u8; 32769];
-    let mut work = [0u32; 16384];
-    let mut out = [0u8; 131072];
+    let mut text = [0u8; TEXT_LENGTH + 1];
+    let mut work = [0u32; WORK_LENGTH];
+    let mut out = [0u8; OUT_LENGTH];
     read_and_serve(&mut text, &mut work, &mut out);
 }

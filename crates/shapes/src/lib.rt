@@ -3,6 +3,9 @@ use lexis::words::Word;
 ghost use mathlib.Core.Path.{_≡_};
 ghost use Rattle.shapes.specs.Heads.{reservedExpr, operatorExpr, reservedVerb, operatorVerb, reservedArm, reservedMaker, reservedLine, reservedAtom, exprHeadOf, verbOf, armHeadOf, makerOf, lineHeadOf, atomOf, isException};
 
+// How deep the walks over a line's forms go: "Bracket depth is at most 32", and what stands in the innermost brackets.
+pub const DEPTH: usize = 33;
+
 // What a word is at the head of an expression.
 pub enum ExprHead {
     At,

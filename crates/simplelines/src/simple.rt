@@ -1,5 +1,8 @@
 // The forms of types with one name and one description: sets, arrays and ranges.
 use atoms::type_name;
+use declarations::CELL_NUMBERS;
+use declarations::MOST_CELLS;
+use declarations::MOST_INDICES;
 use declarations::State;
 use declarations::last_type;
 use faults::Fault;
@@ -25,12 +28,15 @@ fn ordinal_fault(shape: u32) -> Fault
     Fault::Kind
 }
 
+// The greatest ordinal in a set's base.
+const LAST_MEMBER: u32 = 31;
+
 // Whether a set's base lies in 0 to 31, by its bounds in 32 bits.
 fn base_fits(low: u32, high: u32) -> bool
     ensures { λ r. ⌜ r ≡ baseFits low high ⌝ }
 {
     if low < 2147483648 {
-        return high <= 31;
+        return high <= LAST_MEMBER;
     }
     false
 }
@@ -77,8 +83,8 @@ fn span_of(low: u32, high: u32) -> u32
 fn cells_in(span: u32, size: u32) -> u32
     ensures { λ r. ⌜ r ≡ (span % 256 + 1) * (size % 4096) ⌝ }
 {
-    let n = span % 256 + 1;
-    let c = size % 4096;
+    let n = span % MOST_INDICES + 1;
+    let c = size % CELL_NUMBERS;
     n * c
 }
 
@@ -86,8 +92,8 @@ fn cells_in(span: u32, size: u32) -> u32
 fn array_fits(span: u32, size: u32) -> bool
     ensures { λ r. ⌜ r ≡ arrayFits span size ⌝ }
 {
-    if span < 256 {
-        return cells_in(span, size) <= 2048;
+    if span < MOST_INDICES {
+        return cells_in(span, size) <= MOST_CELLS;
     }
     false
 }

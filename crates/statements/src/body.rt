@@ -4,6 +4,7 @@ use crate::walk::stmt;
 use exprnodes::bracket::closing;
 use faults::Got;
 use faults::is_form;
+use shapes::DEPTH;
 use stmtnodes::last::Next;
 use stmtnodes::last::handled_node;
 use stmtnodes::last::next_at;
@@ -63,7 +64,7 @@ fn body_from(
             }
             Next::Stmt => {
                 let w = no_loops();
-                let a = stmt(text, work, types, scope, w, 33, g.kind, g.next, g.top);
+                let a = stmt(text, work, types, scope, w, DEPTH, g.kind, g.next, g.top);
                 let f = a.fault;
                 if is_form(f) {
                     return a;
@@ -92,7 +93,7 @@ fn handled(
     let t = slot(work, g.top);
     let p = wide(g.top);
     let w = no_loops();
-    let a = acts(text, work, types, scope, w, 33, g.kind, p, q, t);
+    let a = acts(text, work, types, scope, w, DEPTH, g.kind, p, q, t);
     let b = closing(text, a);
     handled_node(work, k, start, g, b)
 }

@@ -10,6 +10,7 @@ use parts::End;
 use parts::Part;
 use parts::end_at;
 use parts::part_at;
+use shapes::DEPTH;
 use stmtbase::steer;
 use stmtnodes::nodes::assign_node;
 use stmtnodes::nodes::call_node;
@@ -37,10 +38,10 @@ fn store_at(
     match part {
         Part::Leaf(_, p, _) => {
             let m = meaning_of(text, work, scope, p);
-            let g = target(text, work, types, scope, 33, at, top);
+            let g = target(text, work, types, scope, DEPTH, at, top);
             steer(loops, m, g)
         }
-        Part::Form(_) => target(text, work, types, scope, 33, at, top),
+        Part::Form(_) => target(text, work, types, scope, DEPTH, at, top),
         Part::Shut(q) => failed(Fault::Form, 0, q, top),
     }
 }
@@ -63,7 +64,7 @@ pub fn assign(
     if is_form(f) {
         return g;
     }
-    let a = expr(text, work, types, scope, 33, g.next, g.top);
+    let a = expr(text, work, types, scope, DEPTH, g.next, g.top);
     let e = closing(text, a);
     assign_node(work, types, number, g, e)
 }
@@ -80,7 +81,7 @@ pub fn wanted_expr(
 ) -> Got
     ensures { λ r. ⌜ GivesWanted (now (text .entry)) (now (work .entry)) (now (types .entry)) scope k at top r (now (work .exit)) ⌝ }
 {
-    let a = expr(text, work, types, scope, 33, at, top);
+    let a = expr(text, work, types, scope, DEPTH, at, top);
     wanted(k, a)
 }
 
@@ -96,7 +97,7 @@ pub fn raise(
 ) -> Got
     ensures { λ r. ⌜ GivesRaise (now (text .entry)) (now (work .entry)) (now (types .entry)) scope number at top r (now (work .exit)) ⌝ }
 {
-    let a = expr(text, work, types, scope, 33, at, top);
+    let a = expr(text, work, types, scope, DEPTH, at, top);
     let c = closing(text, a);
     let w = wanted(0, c);
     raise_node(work, number, w)

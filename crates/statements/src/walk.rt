@@ -21,6 +21,7 @@ use parts::End;
 use parts::Part;
 use parts::end_at;
 use parts::part_at;
+use shapes::DEPTH;
 use shapes::Verb;
 use shapes::verb_of;
 use stmtnodes::nodes::Control;
@@ -426,7 +427,7 @@ fn case_of(
 ) -> Got
     ensures { λ r. ⌜ GivesVerb (now (text .entry)) (now (work .entry)) (now (types .entry)) scope loops Case depth number at top r (now (work .exit)) ⌝ }
 {
-    let x = expr(text, work, types, scope, 33, at, top);
+    let x = expr(text, work, types, scope, DEPTH, at, top);
     let f = x.fault;
     if is_form(f) {
         return x;

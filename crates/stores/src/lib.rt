@@ -1,8 +1,12 @@
 // The lent store against the cells that a script declares: rows 10 and 11, and each cell's variable.
 use arith::in_range;
+use declarations::CELL_NUMBERS;
 use declarations::State;
 use sets::lies_in;
+use symbols::keys::OFFSETS;
 use tables::Info;
+use tables::MOST_TYPES;
+use tables::TYPE_NUMBERS;
 use tables::describe;
 use worklist::at;
 ghost use mathlib.Core.Path.{_≡_};
@@ -89,7 +93,7 @@ fn begins_by(sort: u32, more: u32, cell: usize) -> bool
     ensures { λ r. ⌜ r ≡ beginsBy sort more cell ⌝ }
 {
     if sort % 4 == 1 {
-        let base = (more / 128) as usize;
+        let base = (more / TYPE_NUMBERS) as usize;
         return base <= cell;
     }
     false
@@ -119,6 +123,9 @@ fn holder_of(work: &[u32], count: u32, newest: u32, cell: usize) -> u32
     0
 }
 
+// A cell's place in its variable is taken modulo this.
+const PLACES_IN: usize = CELL_NUMBERS as usize;
+
 // How far a cell stands past a variable's first, below 4,096.
 fn past_base(cell: usize, base: u32) -> u32
     ensures { λ r. ⌜ r ≡ (cell - base) % 4096 ⌝ }
@@ -127,8 +134,11 @@ fn past_base(cell: usize, base: u32) -> u32
     if cell < b {
         return 0;
     }
-    ((cell - b) % 4096) as u32
+    ((cell - b) % PLACES_IN) as u32
 }
+
+// How deep types stand in each other at most.
+const NESTED: u32 = MOST_TYPES as u32;
 
 // The ordinal or set type of a cell of the store.
 fn cell_type(work: &[u32], types: &[u32], st: State, cell: usize) -> u32
@@ -136,8 +146,8 @@ fn cell_type(work: &[u32], types: &[u32], st: State, cell: usize) -> u32
 {
     let p = holder_of(work, st.scope.count, st.scope.newest, cell) as usize;
     let more = at(work, p + 2);
-    let place = past_base(cell, more / 128);
-    leaf_type(work, types, more % 128, place, 66)
+    let place = past_base(cell, more / TYPE_NUMBERS);
+    leaf_type(work, types, more % TYPE_NUMBERS, place, NESTED)
 }
 
 // A bound of a type from its 32 bits.
@@ -215,5 +225,5 @@ pub fn owner(work: &[u32], types: &[u32], st: State, cell: usize) -> usize
     ensures { λ r. ⌜ Owner (now (work .entry)) (now (types .entry)) st cell r ⌝ }
 {
     let p = holder_of(work, st.scope.count, st.scope.newest, cell) as usize;
-    (at(work, p) % 32768) as usize
+    (at(work, p) % OFFSETS) as usize
 }

@@ -1,11 +1,18 @@
 // The key of a name: names are compared only where their keys agree.
 use crate::letters::byte_at;
 use crate::letters::letter_of;
+use worklist::TEXT_LENGTH;
 ghost use mathlib.Core.Path.{_≡_};
 ghost use mathlib.Core.List.{map};
 ghost use Rattle.spelling.specs.Bytes.{small};
 ghost use Rattle.semantics.specs.Trees.{wordAt};
 ghost use Rattle.symbols.specs.Keys.{keyOf, keyed};
+
+// How many offsets a name may have: those of the longest text.
+pub const OFFSETS: u32 = TEXT_LENGTH as u32;
+
+// How many keys there are: an offset and a key fill the 32 bits of an entry's first number.
+const KEYS: u32 = 131072;
 
 // The key of the word at an offset, case ignored.
 pub fn key_of(text: &[u8], offset: usize) -> u32
@@ -18,7 +25,7 @@ pub fn key_of(text: &[u8], offset: usize) -> u32
         if x == 0 {
             return k;
         }
-        k = (k * 39 + x as u32) % 131072;
+        k = (k * 39 + x as u32) % KEYS;
         p += 1;
     }
 }
@@ -28,5 +35,5 @@ pub fn name_number(text: &[u8], p: usize) -> u32
     ensures { λ r. ⌜ r ≡ keyed (now (text .entry)) p ⌝ }
 {
     let key = key_of(text, p);
-    (p % 32768) as u32 + 32768 * key
+    (p % TEXT_LENGTH) as u32 + OFFSETS * key
 }

@@ -2,6 +2,7 @@
 pub mod keys;
 pub mod letters;
 
+use crate::keys::OFFSETS;
 use crate::keys::key_of;
 use crate::letters::Meeting;
 use crate::letters::meet;
@@ -75,7 +76,7 @@ fn seek(work: &[u32], count: u32, newest: u32, key: u32) -> Spot
     let mut p = newest;
     while n > 0 {
         let e = link_at(work, p);
-        if e.first / 32768 == key {
+        if e.first / OFFSETS == key {
             return Spot { left: n, place: p };
         }
         p = e.next;
@@ -97,7 +98,7 @@ pub fn lookup(text: &[u8], work: &[u32], count: u32, newest: u32, offset: usize)
             return 0;
         }
         let e = link_at(work, s.place);
-        let name = (e.first % 32768) as usize;
+        let name = (e.first % OFFSETS) as usize;
         if same_word(text, name, offset) {
             return s.place;
         }

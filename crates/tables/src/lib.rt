@@ -126,6 +126,12 @@ pub fn describe(work: &[u32], types: &[u32], k: u32) -> Info
     read_info(work, place)
 }
 
+// How many types there are at most: 64 declared ones and the two built-in.
+pub const MOST_TYPES: usize = 66;
+
+// Types have numbers below this; a variable's third number is its type and so many times its first cell.
+pub const TYPE_NUMBERS: u32 = 128;
+
 // What an entry's second and third numbers mean.
 fn meaning_by(sort: u32, more: u32) -> Meaning
     ensures { λ r. ⌜ r ≡ meaningBy sort more ⌝ }
@@ -134,7 +140,7 @@ fn meaning_by(sort: u32, more: u32) -> Meaning
         return Meaning::Type(sort / 4);
     }
     if sort % 4 == 1 {
-        return Meaning::Var(sort / 4, more % 128, more / 128);
+        return Meaning::Var(sort / 4, more % TYPE_NUMBERS, more / TYPE_NUMBERS);
     }
     if sort % 4 == 2 {
         return Meaning::Proc(more);
@@ -228,6 +234,9 @@ pub fn find_field(text: &[u8], work: &[u32], place: u32, fields: u32, offset: us
 // How many loops there can be around a statement: one for each bracket level, and the statement's own.
 pub const MOST_LOOPS: usize = 33;
 
+// The same as a count of loops.
+const LOOPS_END: u32 = MOST_LOOPS as u32;
+
 // The control variables of the loops around, by number, the outermost first: so many of the list.
 pub struct Loops {
     pub count: u32,
@@ -248,7 +257,7 @@ pub fn no_loops() -> Loops
 fn listed_loops(n: u32) -> usize
     ensures { λ r. ⌜ r ≡ listedLoops n ⌝ }
 {
-    if n < 33 {
+    if n < LOOPS_END {
         return n as usize;
     }
     MOST_LOOPS
@@ -274,7 +283,7 @@ pub fn with_loop(m: Loops, i: u32) -> Loops
     ensures { λ r. ⌜ r ≡ withLoop m i ⌝ }
 {
     let n = m.count;
-    if n < 33 {
+    if n < LOOPS_END {
         let mut over = m.over;
         over[n as usize] = i;
         return Loops { count: n + 1, over };

@@ -1,11 +1,14 @@
 // A whole text: rows 1 to 9 in their order, and the verdict.
 use answers::Verdict;
+pub use declarations::MOST_CELLS;
 use declarations::NOTES;
 use declarations::start_state;
 use framing::lines::next_line;
 use framing::lines::refused_line;
 use judge::whole::line;
 use judgements::Known;
+pub use worklist::TEXT_LENGTH;
+pub use worklist::WORK_LENGTH;
 use worklist::clear;
 ghost use mathlib.Core.Path.{_≡_};
 ghost use Prim.Native.Nat.{_≤_, min};
@@ -92,10 +95,10 @@ fn check_lines(text: &[u8], work: &mut [u32], types: &mut [u32], kn: Known) -> C
 pub fn check(text: &[u8], work: &mut [u32], types: &mut [u32]) -> Checked
     ensures { λ r. ⌜ Checks (now (text .entry)) (now (work .entry)) (now (types .entry)) r (now (work .exit)) (now (types .exit)) ⌝ }
 {
-    if work.len() < 16384 {
+    if work.len() < WORK_LENGTH {
         return refusal(1, 0);
     }
-    if text.len() > 32768 {
+    if text.len() > TEXT_LENGTH {
         return refusal(2, 0);
     }
     let n = refused_line(text);
@@ -119,10 +122,10 @@ fn told(c: Checked) -> Verdict
 pub fn working(n: usize) -> usize
     ensures { λ r. ⌜ r ≡ min 16384 n ⌝ }
 {
-    if n < 16384 {
+    if n < WORK_LENGTH {
         return n;
     }
-    16384
+    WORK_LENGTH
 }
 
 // The verdict on a text, and the working list left as document 01 says.

@@ -1,5 +1,6 @@
 // Lines that declare types: the name's entry, the description and its place, and the counts then.
 use declarations::Lined;
+use declarations::MOST_TYPE_LINES;
 use declarations::State;
 use declarations::answered;
 use declarations::last_type;
@@ -14,6 +15,7 @@ use parts::end_at;
 use symbols::declare;
 use symbols::keys::name_number;
 use tables::Info;
+use tables::TYPE_NUMBERS;
 use worklist::lay;
 use worklist::put;
 ghost use mathlib.Core.Path.{_≡_};
@@ -34,7 +36,7 @@ pub struct Shaped {
 pub fn lines_fit(lines: u32, within: bool) -> bool
     ensures { λ r. ⌜ r ≡ linesFit lines within ⌝ }
 {
-    if lines < 64 {
+    if lines < MOST_TYPE_LINES {
         return within;
     }
     false
@@ -52,7 +54,7 @@ pub fn type_state(st: State, names: u32, newest: u32, made: u32, top: u32) -> St
 pub fn lay_name(work: &mut [u32], st: State, name: u32, number: u32) -> u32
     ensures { λ r. ⌜ Laid (laid (typeEntry st name number) (st .top) (now (work .entry))) r (now (work .exit)) ⌝ }
 {
-    let sort = 4 * (number % 128);
+    let sort = 4 * (number % TYPE_NUMBERS);
     declare(work, st.top, name, sort, 0, st.scope.newest)
 }
 

@@ -5,6 +5,8 @@ use framing::lines::next_line;
 use input::Input;
 use input::read_text;
 use libc::STDOUT_FILENO;
+use texts::TEXT_LENGTH;
+use texts::WORK_LENGTH;
 use texts::verdict_of;
 ghost use Prim.Native.Nat.{_≤_};
 ghost use lib.ListN.{length};
@@ -98,7 +100,7 @@ fn serve(text: &mut [u8], work: &mut [u32]) {
 }
 
 fn main() {
-    let mut text = [0u8; 32769];
-    let mut work = [0u32; 16384];
+    let mut text = [0u8; TEXT_LENGTH + 1];
+    let mut work = [0u32; WORK_LENGTH];
     serve(&mut text, &mut work);
 }

@@ -7,6 +7,15 @@ ghost use Rattle.semantics.specs.Layout.{lay as laid};
 ghost use Rattle.semantics.specs.Whole.{workAfter};
 ghost use Rattle.worklist.specs.Laid.{Laid, zeroed};
 
+// How many numbers of a working list are used; refusal 1 is for one that is "shorter than 16,384".
+pub const WORK_LENGTH: usize = 16384;
+
+// The same as a place: one past the last.
+const WORK_END: u32 = WORK_LENGTH as u32;
+
+// How many bytes a text has at most; refusal 2 is for a "text over 32,768 bytes".
+pub const TEXT_LENGTH: usize = 32768;
+
 // The number at a place, 0 past the end.
 pub fn at(work: &[u32], p: usize) -> u32
     ensures { λ r. ⌜ r ≡ getD (now (work .entry)) p 0 ⌝ }
@@ -31,11 +40,11 @@ pub fn lay(work: &mut [u32], top: u32, ns: &[u32]) -> u32
     ensures { λ r. ⌜ Laid (laid (now (ns .entry)) top (now (work .entry))) r (now (work .exit)) ⌝ }
 {
     let n = ns.len();
-    if n > 16384 {
+    if n > WORK_LENGTH {
         return top;
     }
     let width = n as u32;
-    if top > 16384 - width {
+    if top > WORK_END - width {
         return top;
     }
     let p = top as usize;
@@ -73,9 +82,9 @@ pub fn clear(work: &mut [u32])
     ensures { λ _. ⌜ now (work .exit) ≡ workAfter (now (work .entry)) ⌝ }
 {
     let n = work.len();
-    if n < 16384 {
+    if n < WORK_LENGTH {
         zero(work, n);
     } else {
-        zero(work, 16384);
+        zero(work, WORK_LENGTH);
     }
 }
