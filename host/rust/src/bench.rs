@@ -276,16 +276,31 @@ mod tests {
     fn names_as_far_as_there_is_room() {
         let mut bench = Bench::new();
         let offsets = [SLOTS.windows(7).position(|w| w == b"At_Slot").unwrap(), SLOTS.windows(3).position(|w| w == b"sum").unwrap()];
-        for room in 0..=2 {
+        for room in 0..=3 {
             for call in [drive_owners, drive_mark_owners] {
                 let mut names = [usize::MAX; 3];
                 // SAFETY: `room` is at most the length of `names`.
                 let reply =
                     unsafe { call(SLOTS.as_ptr(), SLOTS.len(), bench.work.as_mut_ptr(), bench.work.len(), names.as_mut_ptr(), room) };
                 assert_eq!((reply.refusal, reply.cells), (0, 2));
-                assert_eq!(names[..room], offsets[..room]);
-                assert!(names[room..].iter().all(|&n| n == usize::MAX));
+                let named = room.min(2);
+                assert_eq!(names[..named], offsets[..named]);
+                assert!(names[named..].iter().all(|&n| n == usize::MAX));
             }
+        }
+    }
+
+    #[test]
+    fn refused_text_leaves_the_names() {
+        let mut bench = Bench::new();
+        let text = b"(var a integer)\n(main (:= a b))\n";
+        for call in [drive_owners, drive_mark_owners] {
+            let mut names = [usize::MAX; 2];
+            // SAFETY: each list is lent with its own length.
+            let reply =
+                unsafe { call(text.as_ptr(), text.len(), bench.work.as_mut_ptr(), bench.work.len(), names.as_mut_ptr(), names.len()) };
+            assert_eq!((reply.refusal, reply.line), (7, 2));
+            assert_eq!(names, [usize::MAX; 2]);
         }
     }
 
