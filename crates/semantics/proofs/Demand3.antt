@@ -1,10 +1,9 @@
--- Demand 3 for whole texts, in document 01's words: "a text, working list or store is accepted when no numbered refusal applies to it".
--- The hypotheses are that `verdictOf` and `storeFault` find no fault; each theorem on runs is for every budget.
+-- Demands 2 and 3 for whole texts: the statements are in specs/Demands.antt, the hypotheses that `verdictOf` and `storeFault` find no fault.
 -- Then what the code that reads and runs a text needs: facts about the code of an accepted text, its layout, and one pass over a body.
-use mathlib.Core.Path.{_≡_, refl}
+use mathlib.Core.Path.{_≡_, refl, ap, _∙_, sym, subst, fun-ext}
 use mathlib.Core.Bool.{false, true}
 use mathlib.Core.List.{List, [], _∷_, map}
-use mathlib.Core.Option.{Option, none, some}
+use mathlib.Core.Option.{none, some}
 use Prim.Native.Nat.{ℕ, _+_, _*_, _-_, _<_, _≤_}
 use native.Mathlib.Omega.{arith}
 use lib.IntN.{ℤ}
@@ -23,10 +22,12 @@ use Rattle.semantics.specs.Layout.{Laid, layBodies}
 use Rattle.semantics.specs.LayoutSize.{sizeBody, sizeBodies, sizeSymbols}
 use Rattle.semantics.specs.Readback.{readBody, bodyAtPlaces}
 use Rattle.semantics.specs.Stages.{bodyStaged}
-use Rattle.semantics.specs.Machine.{Outcome, normal, spent, state, sticks}
+use Rattle.semantics.specs.Machine.{normal, spent, state}
 use Rattle.semantics.specs.Store.{storeFault}
 use Rattle.semantics.specs.Verdict.{Judged, Read, accepted, judgeLine, strictly}
-use Rattle.semantics.specs.Whole.{Report, fresh, lent, markOf, onStore, ran, report, runAll, runOf, verdictOf}
+use Rattle.semantics.specs.Whole.{Report, fresh, lent, onStore, ran, report, runAll, runOf, verdictOf}
+use Rattle.semantics.specs.Demands as Demands
+use Rattle.semantics.specs.Demands.{faultIn}
 use Rattle.semantics.specs.ListMachine.{called}
 use Rattle.semantics.proofs.TextsAgree as Texts
 use Rattle.semantics.proofs.TextsAgree.{Paired, empty, more, judged-agree}
@@ -34,7 +35,7 @@ use Rattle.semantics.proofs.StoreInRange.{Fine}
 use Rattle.semantics.proofs.ValuesInRange.{Sound, Test}
 use Rattle.semantics.proofs.LinesKeep.{AllFormed, body as formed, tests, text-keeps}
 use Rattle.semantics.proofs.BodiesInRange.{store-passes, store-sound, sound-store, text-safely}
-use Rattle.semantics.proofs.Reports.{ended, moved-on, at-most, all-spent, next-taken, same-report}
+use Rattle.semantics.proofs.Reports.{ended, moved-on, at-most, all-spent, next-taken, same-report, spent-report, goes-on}
 use Rattle.semantics.proofs.Programs.{no-procs}
 use Rattle.semantics.proofs.StatementsNoted.{Notes, all-n, answer-n}
 use Rattle.semantics.proofs.Bodies as Numbered
@@ -59,19 +60,11 @@ use Rattle.semantics.proofs.OnePassLines.{judgedBy}
 no-body : BodyCode
 no-body = record { acts = stop; handles = false; handler = stop }
 
--- what rows 10 and 11 find in a store for a script
-abbrev pub faultIn : Read → List ℤ → List ℕ → Option ℕ
-faultIn r vs ms = storeFault (r .known .env .types) (r .known .cells) vs ms
-
 -- an accepted text with a working list of that length, whose tables and code are r; an accepted store
 module _ (text : List ℕ) (work : ℕ) (r : Read) (accept : verdictOf text work ≡ accepted r)
     (vs : List ℤ) (ms : List ℕ) (sane : faultIn r vs ms ≡ none) where
-  -- what the chair's machine and the marking machine report at a budget: outcome, steps and both lists
-  abbrev pub run : ℕ → Report
-  run budget = runOf text work vs ms budget
-
-  abbrev pub marking : ℕ → Report
-  marking budget = markOf text work vs ms budget
+  abbrev run : ℕ → Report
+  run budget = Demands.run text work vs ms budget
 
   -- ---- both machines. The run is that of the text's code on the lent store
 
@@ -82,38 +75,44 @@ module _ (text : List ℕ) (work : ℕ) (r : Read) (accept : verdictOf text work
   ends-fine : (budget : ℕ) → Fine (tests (r .known .env .types) (r .known .cells)) (ended (r .codes) (fresh vs ms) budget)
   ends-fine budget = text-safely text work r accept .at (state (fresh vs ms) budget) (store-sound (r .known .env .types) (r .known .cells) vs ms sane)
 
-  -- agreement: the marking machine answers what the run answers, "an outcome .. beside the steps taken", and leaves the same store,
-  -- "both lists as the run leaves them"
-  pub agreement : (budget : ℕ) → marking budget ≡ run budget
+  pub agreement : Demands.Agreement text work vs ms
   agreement budget = Texts.agreement text work r accept vs ms budget
 
-  -- the marking machine never sticks
-  pub never-stuck : (budget n : ℕ) → marking budget .ending ≡ ran sticks n → ⊥
+  pub never-stuck : Demands.NeverStuck text work vs ms
   never-stuck budget n h = moved-on (r .codes) (fresh vs ms) (length vs) budget n (ends-fine budget .moved) (rw (agreement budget, run-is budget) at h)
 
-  -- "A cell is in range when row 11 finds no fault in it": neither row 10 nor row 11 finds one in the final store, "a spent run too".
-  -- "As every budget is meant, all this holds after each step": the store after n steps is the one that the run at budget n leaves
-  pub in-range : (budget : ℕ) → faultIn r (run budget .values) (run budget .marks) ≡ none
+  pub in-range : Demands.InRange text work vs ms r
   unfolding report
   in-range budget = rw (run-is budget) (sound-store (r .known .env .types) (r .known .cells) (length vs) _ (store-passes (r .known .env .types) (r .known .cells) vs ms sane .values) (ends-fine budget .sound))
 
   -- ---- steps
 
-  -- at most the budget's steps are taken
-  pub steps-within : (budget n : ℕ) (o : Outcome) → run budget .ending ≡ ran o n → n ≤ budget
+  pub steps-within : Demands.StepsWithin text work vs ms
   steps-within budget n o h = at-most (r .codes) (fresh vs ms) (length vs) budget n o (rw (run-is budget) at h)
 
-  -- "spent only after budget steps ..
-  pub spent-after : (budget n : ℕ) → run budget .ending ≡ ran spent n → n ≡ budget
+  pub spent-after : Demands.SpentAfter text work vs ms
   spent-after budget n h = all-spent (r .codes) (fresh vs ms) (length vs) budget n (rw (run-is budget) at h)
 
-  -- .. with one more due": with a budget of one more, that step is taken
-  pub one-more-due : (budget n m : ℕ) (o : Outcome) → run budget .ending ≡ ran spent n → run (budget + 1) .ending ≡ ran o m → m ≡ budget + 1
+  pub one-more-due : Demands.OneMoreDue text work vs ms
   one-more-due budget n m o h k = next-taken (r .codes) (fresh vs ms) (length vs) budget n m o (rw (run-is budget) at h) (rw (run-is (budget + 1)) at k)
 
-  -- a run that ended otherwise ends so with any larger budget: with the same outcome, steps and store
-  pub larger-budget : (budget k n : ℕ) (o : Outcome) → run budget .ending ≡ ran o n → (o ≡ spent → ⊥) → run (budget + k) ≡ run budget
+  pub larger-budget : Demands.LargerBudget text work vs ms
   larger-budget budget k n o h e = rw (run-is budget, run-is (budget + k)) (same-report (r .codes) (fresh vs ms) (length vs) budget k n o (rw (run-is budget) at h) e)
+
+  -- the run passes through the store that a smaller budget leaves; so does the marking machine, which agrees
+  pub run-goes-on : Demands.AfterEachStep text work vs ms (Demands.run text work vs ms)
+  run-goes-on budget n h =
+      let h′ : report (length vs) budget (ended (r .codes) (fresh vs ms) budget) .ending ≡ ran spent n = rw (run-is budget) at h in
+      let g = goes-on (r .codes) (fresh vs ms) (length vs) budget n h′ in
+      record {
+        store = (ended (r .codes) (fresh vs ms) budget) .state .store;
+        rest = g .rest;
+        leaves = run-is budget ∙ spent-report (r .codes) (fresh vs ms) (length vs) budget n h′;
+        goes = λ k. run-is (budget + k) ∙ ap (report (length vs) (budget + k)) (g .goes k);
+      }
+
+  pub marking-goes-on : Demands.AfterEachStep text work vs ms (Demands.marking text work vs ms)
+  marking-goes-on = subst (Demands.AfterEachStep text work vs ms) (sym (fun-ext agreement)) run-goes-on
 
 -- ---- the code of an accepted text, for those who lay it down and run it. The predicates are in CodeSafe, CodeCalls, CodeSized and CodeReady;
 -- bodies are counted from 0, main's is the last

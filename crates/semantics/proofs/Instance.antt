@@ -1,18 +1,17 @@
--- Demand 3's hypotheses can be met: two scripts that are accepted, each with a store that is accepted, and the theorems for them.
+-- The demands' hypotheses can be met: two scripts that are accepted, each with a store that is accepted, and the theorems for them.
 use mathlib.Core.Path.{_≡_, refl}
 use mathlib.Core.List.{List, []}
-use mathlib.Core.Option.{none}
-use Prim.Native.Nat.{ℕ, _+_, _≤_}
+use Prim.Native.Nat.{ℕ}
 use lib.IntN.{ℤ, pos}
 use lib.ListN.{length, replicate}
 use Rattle.spelling.specs.Bytes.{bytes}
 use Rattle.semantics.specs.Environment.{nothingDeclared}
-use Rattle.semantics.specs.Machine.{Outcome, normal, spent, sticks, undefined}
+use Rattle.semantics.specs.Demands.{Accepted, OfAccepted}
+use Rattle.semantics.specs.Machine.{normal, undefined}
 use Rattle.semantics.specs.Open.{everything}
 use Rattle.semantics.specs.Verdict.{Read, Verdict, accepted, has, refused}
-use Rattle.semantics.specs.Whole.{Report, markOf, ran, runOf, verdictOf}
-use Rattle.semantics.proofs.Demand3 as Demand3
-use Rattle.semantics.proofs.Demand3.{faultIn}
+use Rattle.semantics.specs.Whole.{Report, ran, runOf, verdictOf}
+use Rattle.semantics.proofs.DemandsHold.{demands-hold}
 
 -- what an accepted text gave, and of any other text nothing
 unfoldable pub readOf : Verdict Read → Read
@@ -33,34 +32,16 @@ module _ (text : List ℕ) where
   abbrev pub run : ℕ → Report
   run budget = runOf text 16384 values marks budget
 
-  abbrev pub marking : ℕ → Report
-  marking budget = markOf text 16384 values marks budget
-
   -- the hypotheses: both are accepted
-  pub record Met : Type 0 where
-    pub accept : verdictOf text 16384 ≡ accepted read
-    pub sane : faultIn read values marks ≡ none
+  abbrev pub Met : Type 0
+  Met = Accepted text 16384 values marks read
 
   -- the theorems
-  pub record Holds : Type 0 where
-    pub agreement : (budget : ℕ) → marking budget ≡ run budget
-    pub never-stuck : (budget n : ℕ) → marking budget .ending ≡ ran sticks n → ⊥
-    pub in-range : (budget : ℕ) → faultIn read (run budget .values) (run budget .marks) ≡ none
-    pub steps-within : (budget n : ℕ) (o : Outcome) → run budget .ending ≡ ran o n → n ≤ budget
-    pub spent-after : (budget n : ℕ) → run budget .ending ≡ ran spent n → n ≡ budget
-    pub one-more-due : (budget n m : ℕ) (o : Outcome) → run budget .ending ≡ ran spent n → run (budget + 1) .ending ≡ ran o m → m ≡ budget + 1
-    pub larger-budget : (budget k n : ℕ) (o : Outcome) → run budget .ending ≡ ran o n → (o ≡ spent → ⊥) → run (budget + k) ≡ run budget
+  abbrev pub Holds : Type 0
+  Holds = OfAccepted text 16384 values marks read
 
   holds : Met → Holds
-  holds m = record {
-    agreement = Demand3.agreement text 16384 read (m .accept) values marks (m .sane);
-    never-stuck = Demand3.never-stuck text 16384 read (m .accept) values marks (m .sane);
-    in-range = Demand3.in-range text 16384 read (m .accept) values marks (m .sane);
-    steps-within = Demand3.steps-within text 16384 read (m .accept) values marks (m .sane);
-    spent-after = Demand3.spent-after text 16384 read (m .accept) values marks (m .sane);
-    one-more-due = Demand3.one-more-due text 16384 read (m .accept) values marks (m .sane);
-    larger-budget = Demand3.larger-budget text 16384 read (m .accept) values marks (m .sane);
-  }
+  holds m = demands-hold text 16384 values marks .accepted-runs read m
 
 -- ---- the fitting sheet's sample
 
@@ -69,7 +50,7 @@ sample = bytes "(type slot (range 1 4))\n(var at_slot slot)\n(var sum integer)\n
 
 pub sample-met : Met sample
 unfolding sample read values marks readOf everything
-sample-met = record { accept = refl; sane = refl }
+sample-met = record { text-fits = refl; store-fits = refl }
 
 pub sample-holds : Holds sample
 sample-holds = holds sample sample-met
@@ -86,7 +67,7 @@ mixed = bytes "(type color (enum red green blue))\n(type hues (setof color))\n(t
 
 pub mixed-met : Met mixed
 unfolding mixed read values marks readOf everything
-mixed-met = record { accept = refl; sane = refl }
+mixed-met = record { text-fits = refl; store-fits = refl }
 
 pub mixed-holds : Holds mixed
 mixed-holds = holds mixed mixed-met

@@ -24,6 +24,7 @@ pub mod MoreBudget
 pub mod SpentOnly
 pub mod Programs
 pub mod StepDue
+pub mod PassesThrough
 pub mod ValuesInRange
 pub mod StoreInRange
 pub mod TypeTables
@@ -46,6 +47,7 @@ pub mod LinesMeasured
 pub mod ElaboratedSafe
 pub mod ElaboratedReady
 pub mod Demand3
+pub mod DemandsHold
 pub mod Instance
 pub mod FittingSheet
 pub mod Sticking

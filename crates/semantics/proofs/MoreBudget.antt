@@ -105,10 +105,10 @@ module _ (k : ℕ) where
   rounds-f n c body h (suc f) (suc g) le =
       check-f n c λ b. branch-f b (step-f (then-f h (rounds-f n c body h f g (le-of-suc-le-suc le)))) (answer-f normal)
 
-  set-f : (a : ℕ) (z : ℤ) {body : State → Answer} → Stable k body → Stable k (λ s. body (setControl a z s))
+  pub set-f : (a : ℕ) (z : ℤ) {body : State → Answer} → Stable k body → Stable k (λ s. body (setControl a z s))
   set-f a z h = record { at = λ s e. h .at (setControl a z s) e }
 
-  turns-f : (j a : ℕ) {body : State → Answer} → Stable k body → (z : ℤ) → Stable k (forRounds j a body z)
+  pub turns-f : (j a : ℕ) {body : State → Answer} → Stable k body → (z : ℤ) → Stable k (forRounds j a body z)
   unfolding forRounds
   turns-f zero a h z = answer-f normal
   turns-f (suc j) a h z = step-f (then-f (set-f a z h) (turns-f j a h (sucℤ z)))

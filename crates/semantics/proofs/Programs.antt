@@ -53,7 +53,7 @@ module _ (k : ℕ) where
   }
   handled-f false hf hg = hf
 
-  body-f : (b : BodyCode) (ps : Procs) → ((i : ℕ) → Stable k (procedureAt ps i)) → Stable k (runBody b ps)
+  pub body-f : (b : BodyCode) (ps : Procs) → ((i : ℕ) → Stable k (procedureAt ps i)) → Stable k (runBody b ps)
   unfolding runBody
   body-f b ps h = handled-f (b .handles) (runs-f k ps h (b .acts)) (runs-f k ps h (b .handler))
 
@@ -76,7 +76,7 @@ handled-d : (q : Bool) {f g : State → Answer} → D f → D g → D (λ st. ha
 handled-d true {f} hf hg b = record { at = λ st l. let u = (hf b) .at st l in caught-d hg ((f st) .state) (u .less) (u .ended) }
 handled-d false hf hg b = hf b
 
-body-d : (b : BodyCode) (ps : Procs) → ((i : ℕ) → D (procedureAt ps i)) → D (runBody b ps)
+pub body-d : (b : BodyCode) (ps : Procs) → ((i : ℕ) → D (procedureAt ps i)) → D (runBody b ps)
 unfolding runBody
 body-d b ps h = handled-d (b .handles) (runs-d ps h (b .acts)) (runs-d ps h (b .handler))
 

@@ -4,13 +4,14 @@ use mathlib.Core.List.{List, []}
 use Prim.Native.Nat.{ℕ, zero, suc, _+_, _-_, _≤_}
 use native.Mathlib.Omega.{arith}
 use Rattle.semantics.specs.Code.{BodyCode}
-use Rattle.semantics.specs.Machine.{Answer, Outcome, Store, normal, raised, spent, state, sticks}
+use Rattle.semantics.specs.Machine.{Answer, Outcome, Store, answer, normal, raised, spent, state, sticks}
 use Rattle.semantics.specs.Whole.{ran, report, runAll}
 use Rattle.semantics.proofs.SpentOnly as Spent
 use Rattle.semantics.proofs.MoreBudget.{Ends}
 use Rattle.semantics.proofs.SpentOnly.{Ended}
 use Rattle.semantics.proofs.Programs.{program-f, program-d}
 use Rattle.semantics.proofs.StepDue.{program-l}
+use Rattle.semantics.proofs.PassesThrough.{Goes, program-p}
 use Rattle.semantics.proofs.StoreInRange.{Moved, normally, outOfSteps, byException}
 
 ran-outcome : {o p : Outcome} {n m : ℕ} → ran o n ≡ ran p m → o ≡ p
@@ -80,3 +81,15 @@ module _ (cs : List BodyCode) (m : Store) where
     same-report budget k n o h e =
         let o′ : Ends ((ended budget) .outcome) = rw (ran-outcome h) (not-spent o e) in
         rw (program-f k cs .at (state m budget) o′, more-less budget ((ended budget) .state .left) k)
+
+    -- a run that is spent: its report by the store alone, and how it goes on
+    pub spent-report : (budget n : ℕ) → report cells budget (ended budget) .ending ≡ ran spent n
+        → report cells budget (ended budget) ≡ report cells budget (answer spent (state ((ended budget) .state .store) 0))
+    unfolding report
+    spent-report budget n h =
+        let z : (ended budget) .state .left ≡ 0 = nothing-left (used budget .ended) (ran-outcome h) in
+        rw (ran-outcome h, z)
+
+    pub goes-on : (budget n : ℕ) → report cells budget (ended budget) .ending ≡ ran spent n → Goes [] (λ k. ended (budget + k)) ((ended budget) .state .store)
+    unfolding report
+    goes-on budget n h = program-p cs (state m budget) .at (ran-outcome h)

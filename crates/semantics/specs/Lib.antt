@@ -24,6 +24,8 @@ pub mod Chair
 pub mod Marking
 pub mod Store
 pub mod Whole
+pub mod Rest
+pub mod Demands
 pub mod ListMachine
 pub mod Print
 pub mod Open

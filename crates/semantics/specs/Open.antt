@@ -31,6 +31,7 @@ use Rattle.semantics.specs.Chair as Chair
 use Rattle.semantics.specs.Marking as Marking
 use Rattle.semantics.specs.Store as Store
 use Rattle.semantics.specs.Whole as Whole
+use Rattle.semantics.specs.Rest as Rest
 use Rattle.semantics.specs.ListMachine as ListMachine
 use Rattle.semantics.specs.Print as Print
 
@@ -84,6 +85,6 @@ unfolding
     Marking.markExpr Marking.markTarget Marking.markMembers Marking.markCondition Marking.markLabels Marking.markBounds Marking.markStmt
     Marking.markStmts Marking.markArms Store.cellsOk Store.faultOf Store.storeFault Whole.runBody Whole.markBody Whole.runAll Whole.markAll
     Whole.report Whole.lent Whole.onStore Whole.unless Whole.verdictOf Whole.runOf Whole.markOf Whole.workAfter Whole.refusalWords
-    Whole.refusalWord ListMachine.byPlace ListMachine.called ListMachine.callable Print.decimal Print.decimalOf Print.signedOf Print.row
-    Print.outcome Print.cellValue Print.cells Print.show Print.scripted Print.runscript Print.markscript
+    Whole.refusalWord Rest.procsOf Rest.resume ListMachine.byPlace ListMachine.called ListMachine.callable Print.decimal Print.decimalOf
+    Print.signedOf Print.row Print.outcome Print.cellValue Print.cells Print.show Print.scripted Print.runscript Print.markscript
 everything = tt
