@@ -3,8 +3,8 @@ use mathlib.Core.Path.{_≡_, refl, sym, _∙_}
 use mathlib.Core.Bool.{Bool, true, false}
 use mathlib.Core.List.{List, [], _∷_}
 use Prim.Native.Nat.{ℕ, _<_, _≤_}
-use borrow.Author.Tests.{eq-eqb, ne-eqb, lt-ltb, le-ltb}
-use Rattle.semantics.specs.Layout.{lay, both}
+use borrow.Author.Tests.{lt-ltb, le-ltb}
+use Rattle.semantics.specs.Layout.{lay}
 use Rattle.kinds.specs.Kinds.{ruling2}
 use Rattle.kinds.specs.Functions.{ruling1}
 use Rattle.kinds.specs.declared.Side.{Side}
@@ -19,7 +19,7 @@ use Rattle.faults.specs.declared.Got.{Got}
 use Rattle.faults.specs.Got.{lowest, isClear, failedGot}
 use Rattle.exprnodes.specs.Nodes.{Makes, nodeMade}
 use Rattle.exprnodes.proofs.Making.{if-clear, if-fault}
-use Rattle.compounds.specs.Operators.{ruledNode, operated, paired, lazily, shorted, ruledNode1, appliedClear, applied}
+use Rattle.compounds.specs.Operators.{ruledNode, operated, paired, ruledNode1, appliedClear, applied}
 
 -- ---- two-sided operators
 
@@ -45,43 +45,6 @@ module _ (l ts : List ℕ) (op : ℕ) (a b : Got) where
 pub ruleset operate-laws = (operate-misfit, operate-fits)
 
 pub ruleset pair-laws = (pair-clear, pair-fault)
-
--- ---- `and_then`, `or_else`
-
-module _ (q : Bool) where
-  pub short-both : q ≡ true → _≡_ {A = ℕ} 7 (both q)
-  unfolding both
-  short-both h = rw h
-
-  pub short-one : q ≡ false → _≡_ {A = ℕ} 8 (both q)
-  unfolding both
-  short-one h = rw h
-
-module _ (l : List ℕ) (q : Bool) (a b : Got) where
-  pub short-left : (r : Got) → ((a .kind ≡ 1) → ⊥) → r ≡ failedGot Kind 0 (b .next) (b .top) → Makes (lazily l q a b) r l
-  unfolding lazily
-  short-left r h g = rw (ne-eqb (a .kind) 1 h) (record { given = g; left = refl })
-
-  pub short-right : (r : Got) → a .kind ≡ 1 → ((b .kind ≡ 1) → ⊥) → r ≡ failedGot Kind 0 (b .next) (b .top) → Makes (lazily l q a b) r l
-  unfolding lazily
-  short-right r h i g = rw (eq-eqb (a .kind) 1 h, ne-eqb (b .kind) 1 i) (record { given = g; left = refl })
-
-  pub short-fits : (n : ℕ) (r : Got) (l′ : List ℕ) → a .kind ≡ 1 → b .kind ≡ 1 → n ≡ both q → Makes (nodeMade 1 (b .next) (lay (n ∷ a .place ∷ b .place ∷ []) (b .top) l)) r l′ → Makes (lazily l q a b) r l′
-  unfolding lazily
-  short-fits n r l′ h i e m = rw (eq-eqb (a .kind) 1 h, eq-eqb (b .kind) 1 i, ← e) m
-
-  module _ (f : Fault) (t : Bool) (e : f ≡ lowest (a .fault) (b .fault)) (h : t ≡ isClear f) where
-    pub shorted-clear : t ≡ true → (r : Got) (l′ : List ℕ) → Makes (lazily l q a b) r l′ → Makes (shorted l q a b) r l′
-    unfolding shorted
-    shorted-clear g r l′ m = rw (← e) (if-clear f 0 (b .next) (b .top) l (lazily l q a b) t h g r l′ m)
-
-    pub shorted-fault : t ≡ false → (r : Got) → r ≡ failedGot f 0 (b .next) (b .top) → Makes (shorted l q a b) r l
-    unfolding shorted
-    shorted-fault g r m = rw (← e) (if-fault f 0 (b .next) (b .top) l (lazily l q a b) t h g r m)
-
-pub ruleset short-laws = (short-left, short-right, short-fits)
-
-pub ruleset shorted-laws = (shorted-clear, shorted-fault)
 
 -- ---- one-sided operators and functions
 

@@ -1,9 +1,9 @@
 -- The nodes of operators and functions, as the code makes them from the answers for their sides.
-use mathlib.Core.Bool.{Bool, cond, _&&_}
+use mathlib.Core.Bool.{cond}
 use mathlib.Core.List.{List, [], _∷_}
 use Prim.Native.Nat.{ℕ}
-use lib.Dec.{eqb, ltb}
-use Rattle.semantics.specs.Layout.{lay, both}
+use lib.Dec.{ltb}
+use Rattle.semantics.specs.Layout.{lay}
 use Rattle.kinds.specs.Kinds.{ruling2}
 use Rattle.kinds.specs.Functions.{ruling1}
 use Rattle.kinds.specs.declared.Ruling.{Ruling}
@@ -25,13 +25,6 @@ operated l ts op a b = ruledNode (ruling2 op (sideIn l ts (a .kind)) (sideIn l t
 
 unfoldable pub paired : List ℕ → List ℕ → ℕ → Got → Got → Made
 paired l ts op a b = ifClear (lowest (a .fault) (b .fault)) 0 (b .next) (b .top) l (operated l ts op a b)
-
--- `and_then`, `or_else`
-unfoldable pub lazily : List ℕ → Bool → Got → Got → Made
-lazily l q a b = cond (eqb (a .kind) 1 && eqb (b .kind) 1) (nodeMade 1 (b .next) (lay (both q ∷ a .place ∷ b .place ∷ []) (b .top) l)) (failedMade Kind 0 (b .next) (b .top) l)
-
-unfoldable pub shorted : List ℕ → Bool → Got → Got → Made
-shorted l q a b = ifClear (lowest (a .fault) (b .fault)) 0 (b .next) (b .top) l (lazily l q a b)
 
 -- one side; `pred` and `succ`, nodes 38 and 39, have their bounds
 unfoldable pub ruledNode1 : Ruling → Info → ℕ → ℕ → ℕ → List ℕ → Made

@@ -11,11 +11,9 @@ use kinds::two_sided;
 use tables::Info;
 use tables::describe;
 use tables::side_of;
-ghost use mathlib.Core.Path.{_≡_};
-ghost use Rattle.semantics.specs.Layout.{both};
 ghost use Rattle.kinds.specs.declared.Ruling.the-variants.{Fits};
 ghost use Rattle.exprnodes.specs.Nodes.{Makes};
-ghost use Rattle.compounds.specs.Operators.{operated, paired, lazily, shorted, ruledNode1, appliedClear, applied};
+ghost use Rattle.compounds.specs.Operators.{operated, paired, ruledNode1, appliedClear, applied};
 
 // A two-sided operator whose sides have no fault.
 fn operate(work: &mut [u32], types: &[u32], op: usize, a: Got, b: Got) -> Got
@@ -35,7 +33,7 @@ fn operate(work: &mut [u32], types: &[u32], op: usize, a: Got, b: Got) -> Got
     }
 }
 
-// A two-sided operator.
+// A two-sided operator; `and_then` and `or_else` are rows of the table like any other.
 pub fn pair(work: &mut [u32], types: &[u32], op: usize, a: Got, b: Got) -> Got
     ensures { λ r. ⌜ Makes (paired (now (work .entry)) (now (types .entry)) op a b) r (now (work .exit)) ⌝ }
 {
@@ -44,43 +42,6 @@ pub fn pair(work: &mut [u32], types: &[u32], op: usize, a: Got, b: Got) -> Got
     let f = lowest(c, d);
     if is_clear(f) {
         return operate(work, types, op, a, b);
-    }
-    failed(f, 0, b.next, b.top)
-}
-
-// `and_then` or `or_else` whose sides have no fault.
-fn short(work: &mut [u32], every: bool, a: Got, b: Got) -> Got
-    ensures { λ r. ⌜ Makes (lazily (now (work .entry)) every a b) r (now (work .exit)) ⌝ }
-{
-    if a.kind != 1 {
-        return failed(Fault::Kind, 0, b.next, b.top);
-    }
-    if b.kind != 1 {
-        return failed(Fault::Kind, 0, b.next, b.top);
-    }
-    let ns = [short_node(every), a.place, b.place];
-    node(work, 1, b.next, b.top, &ns)
-}
-
-// The number of that node.
-fn short_node(every: bool) -> u32
-    ensures { λ r. ⌜ r ≡ both every ⌝ }
-{
-    if every {
-        return ops::expr::AND_THEN;
-    }
-    ops::expr::OR_ELSE
-}
-
-// `and_then` or `or_else`.
-pub fn short_pair(work: &mut [u32], every: bool, a: Got, b: Got) -> Got
-    ensures { λ r. ⌜ Makes (shorted (now (work .entry)) every a b) r (now (work .exit)) ⌝ }
-{
-    let c = a.fault;
-    let d = b.fault;
-    let f = lowest(c, d);
-    if is_clear(f) {
-        return short(work, every, a, b);
     }
     failed(f, 0, b.next, b.top)
 }

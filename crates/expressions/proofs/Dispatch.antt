@@ -24,9 +24,11 @@ use Rattle.parts.specs.declared.Part.{Part}
 use Rattle.parts.specs.declared.Part.the-variants as part
 use Rattle.faults.specs.Got.{isForm, failedGot}
 use Rattle.parts.specs.Parts.{Before, LeafAt, FormAt, ShutAt, Stands}
+use Rattle.kinds.specs.Kinds.{lazy, rowNumber}
+use Rattle.expressions.specs.Sides.{GivesTwo}
 use Rattle.expressions.specs.Walks.{Moves, Leaves, ExprTold, TargetTold, GivesExpr, GivesTarget, formIn, GivesForm, GivesPlace, GivesInner, GivesInnerPlace, GivesWord, GivesVar}
 use Rattle.expressions.proofs.Closing.{same-refl}
-use Rattle.expressions.proofs.Operators.{expr-failed}
+use Rattle.expressions.proofs.Operators.{expr-failed, two-gives, short-gives, two-none}
 use Rattle.expressions.proofs.Targets.{target-failed}
 
 -- nothing was read
@@ -156,8 +158,18 @@ module _ (s l ts : List ℕ) (scope : Scope) (k : ExprHead) (d at top : ℕ) (r 
   pub by-form : (h : ExprHead) → k ≡ h → GivesForm s l ts scope h d at top r l′ → GivesForm s l ts scope k d at top r l′
   by-form h e F = rw e F
 
+  module _ (op : ℕ) (G : GivesTwo s l ts scope op d at top r l′) where
+    pub by-two : k ≡ EH.Two op → op < 15 → GivesForm s l ts scope k d at top r l′
+    by-two e h = rw e (two-gives s l ts scope op d at top r l′ G h)
+
+    pub by-short : (q : Bool) → k ≡ EH.Short q → op ≡ rowNumber (lazy q) → GivesForm s l ts scope k d at top r l′
+    by-short q e h = rw e (short-gives s l ts scope op d at top r l′ G q h)
+
   pub by-place : (h : ExprHead) → k ≡ h → GivesPlace s l ts scope h d at top r l′ → GivesPlace s l ts scope k d at top r l′
   by-place h e F = rw e F
+
+pub by-no-row : (s l ts : List ℕ) (scope : Scope) (k : ExprHead) (op d at top q : ℕ) (r : Got) → k ≡ EH.Two op → 15 ≤ op → r ≡ failedGot Form 0 q top → GivesForm s l ts scope k d at top r l
+by-no-row s l ts scope k op d at top q r h g e = rw h (two-none s l ts scope op d at top q r g e)
 
 pub by-nothing : (s l ts : List ℕ) (scope : Scope) (k : ExprHead) (d at top q : ℕ) (r : Got) → k ≡ EH.Nothing → r ≡ failedGot Form 0 q top → GivesForm s l ts scope k d at top r l
 unfolding formIn _>>=_
@@ -196,6 +208,6 @@ module _ (s l ts : List ℕ) (scope : Scope) (k : ExprHead) (d at top q : ℕ) (
   unfolding targetBy
   place-nothing h = no-place (rw h refl)
 
-pub ruleset by-laws = (by-form, by-nothing)
+pub ruleset by-laws = (by-form, by-two, by-short, by-no-row, by-nothing)
 
 pub ruleset by-place-laws = (by-place, place-members, place-minus, place-bound, place-short, place-two, place-one, place-nothing)

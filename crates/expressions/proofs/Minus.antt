@@ -36,7 +36,7 @@ use Rattle.expressions.specs.Walks.{GivesExpr, formIn, GivesForm}
 use Rattle.expressions.specs.MinusForm.{GivesMinus}
 use Rattle.exprleaves.specs.Words.{StandsAlone}
 use Rattle.expressions.proofs.Closing.{form-true, left-wrong, rest-is}
-use Rattle.expressions.proofs.Operators.{expr-missing, expr-failed, two-second, one-side}
+use Rattle.expressions.proofs.Operators.{expr-missing, expr-failed, two-second, two-gives, one-side}
 use Rattle.expressions.proofs.WordsTelling.{negative-gives}
 
 -- one part
@@ -106,7 +106,7 @@ module _ (s l ts : List ℕ) (scope : Scope) (d at top : ℕ) where
       pub minus-sides : (r : Got) (l′ : List ℕ) → x ≡ ending.More → GivesSecond s l₁ ts scope 1 d a r l′ → GivesMinus s l ts scope d at top r l′
       minus-sides r l′ h G = record {
         gives = λ N.
-            as-minus (EH.Two 1) r l′ (as-two d us (λ k. (rw h at (E .says)) (sym (rest-is (A .moves .goes (sym e ∙ z) .1)) ∙ k))) (two-second s l ts scope d at top a l₁ A t e 1 (lit< tt) z r l′ G);
+            as-minus (EH.Two 1) r l′ (as-two d us (λ k. (rw h at (E .says)) (sym (rest-is (A .moves .goes (sym e ∙ z) .1)) ∙ k))) (two-gives s l ts scope 1 d at top r l′ (two-second s l ts scope d at top a l₁ A t e 1 z r l′ G) (lit< tt));
       }
 
   module _ (x : Alone) (N : StandsAlone s at x) (r : Got) (l′ : List ℕ) where

@@ -1,14 +1,13 @@
 -- Operators and functions: the form's stages from those of its sides, and its node as it is laid.
 use mathlib.Core.Path.{_≡_, refl, sym, ap, _∙_}
-use mathlib.Core.Bool.{Bool, true, false, cond, _&&_, true≢false}
+use mathlib.Core.Bool.{Bool, true, false, cond, true≢false}
 use mathlib.Core.List.{List, [], _∷_, map}
 use mathlib.Core.Option.{Option, none, some}
 use Prim.Native.Nat.{ℕ, zero, suc, _+_, _<_, _≤_}
 use native.Mathlib.Omega.{arith}
-use borrow.Author.Tests.{eq-eqb, ne-eqb, lt-ltb, le-ltb, eqb-true}
 use lib.Dec.{eqb, ltb}
 use lib.ListN.{getD, List·getD-eq-default}
-use Rattle.semantics.specs.Base.{_>>=_, given}
+use Rattle.semantics.specs.Base.{_>>=_, given, pick}
 use Rattle.semantics.specs.Code.{Code, calculate, shortCut, calculate1}
 use Rattle.semantics.specs.Elaborate.{Elaborated, elaborated}
 use Rattle.semantics.specs.Environment.{Environment}
@@ -26,7 +25,7 @@ use Rattle.semantics.specs.Elaborate.{elabExpr}
 use Rattle.semantics.proofs.LayoutRegions.{Same}
 use Rattle.semantics.proofs.Inversion.{none-some, some-inj}
 use Rattle.semantics.proofs.OnePassExprs.{binary-staged, short-staged, unary-staged}
-use Rattle.kinds.specs.Kinds.{opNumber, operators, told}
+use Rattle.kinds.specs.Kinds.{TwoSided, strict, lazy, rowNumber, opNumber, operators, told, toldOf}
 use Rattle.kinds.specs.Functions.{functions, funNumber, told1, nodeOf}
 use Rattle.kinds.proofs.TwoSided.{two-sided-rule}
 use Rattle.kinds.proofs.OneSided.{one-sided-rule}
@@ -48,12 +47,12 @@ use Rattle.faults.specs.declared.Got.{Got}
 use Rattle.faults.specs.Got.{lowest, isForm, faultOf, failedGot, Told}
 use Rattle.parts.specs.Parts.{Before}
 use Rattle.exprnodes.specs.Bracket.{Closes}
-use Rattle.exprnodes.specs.Nodes.{Made, Makes, failedMade, nodeMade, ifClear}
-use Rattle.compounds.specs.Operators.{ruledNode, operated, paired, lazily, shorted, ruledNode1, appliedClear, applied}
-use Rattle.expressions.specs.Sides.{GivesSecond}
+use Rattle.exprnodes.specs.Nodes.{Makes}
+use Rattle.compounds.specs.Operators.{ruledNode, operated, paired, ruledNode1, appliedClear, applied}
+use Rattle.expressions.specs.Sides.{GivesSecond, ofSides, twoIn, GivesTwo}
 use Rattle.expressions.specs.Walks.{Moves, Leaves, ExprTold, GivesExpr, formIn, GivesForm}
 use Rattle.expressions.proofs.Joining.{told-wrong, told-join, told-one, told-or}
-use Rattle.expressions.proofs.Closing.{staged-none, wrong-none, form-true, wrong-true, right-lowest, clear-form, closed-told, closes-top, closed-two, closed-one, Stays, stays-failed, stays-node, stays-clear, stays-cond, same-trans, rest-is, left-wrong, leaves-one, leaves-two}
+use Rattle.expressions.proofs.Closing.{staged-none, wrong-none, form-true, wrong-true, right-lowest, clear-form, closed-told, closes-top, closed-two, closed-one, Stays, stays-failed, stays-node, stays-clear, same-trans, rest-is, left-wrong, leaves-one, leaves-two}
 
 -- ---- row 6 of an expression
 
@@ -147,13 +146,6 @@ past-one k d us h = rw (List·getD-eq-default (map (λ (f : Fun). some (hFun f))
 
 -- ---- the nodes
 
-eqb-turned : (a b : ℕ) → eqb a b ≡ eqb b a
-eqb-turned a b = go (eqb a b) refl
-  where
-    go : (t : Bool) → eqb a b ≡ t → t ≡ eqb b a
-    go true e = sym (eq-eqb b a (sym (eqb-true a b e)))
-    go false e = sym (ne-eqb b a (λ h. true≢false (sym (eq-eqb a b (sym h)) ∙ e)))
-
 given-rule : (t : Bool) (u r : Rule1) → given t u ≡ some r → u ≡ r
 unfolding given
 given-rule true u r h = some-inj h
@@ -175,35 +167,39 @@ numbers-are p lo hi Γ card k r a b h = rw (← given-rule (set? Γ k) _ r h) re
 numbers-are p lo hi Γ setmin k r a b h = rw (← given-rule (set? Γ k) _ r h) refl
 numbers-are p lo hi Γ setmax k r a b h = rw (← given-rule (set? Γ k) _ r h) refl
 
+-- what kinds come to at two sides, and the code of both
+abbrev elabOf : Types → TwoSided → Elaborated → Elaborated → Option Elaborated
+elabOf Γ (strict o) x y = operatorRule Γ o (x .kind) (y .kind) >>= λ r. some (elaborated (r .kind) (calculate (r .operation) (x .code) (y .code)))
+elabOf Γ (lazy q) x y = given (bothBooleans (x .kind) (y .kind)) (elaborated 1 (shortCut q (x .code) (y .code)))
+
+two-staged : (σ : Environment) (o : TwoSided) (a b : Option Syntax.Expr)
+    → exprStaged σ (a >>= λ x. b >>= λ y. some (ofSides o x y)) ≡ join (exprStaged σ a) (exprStaged σ b) λ x y. orUnfit (elabOf (σ .types) o x y)
+two-staged σ (strict o) a b = binary-staged σ o a b
+two-staged σ (lazy q) a b = short-staged σ q a b
+
 -- two sides without a fault: a, laid on l₀ from t₀ on, and b after it
 module _ {s ts : List ℕ} {scope : Scope} {σ : Environment} {bs : List ℕ} {l₂ : List ℕ} {t₂ : ℕ} (S : Scene s l₂ ts scope t₂ σ bs) {t₀ : ℕ} {l₀ : List ℕ} where
   module _ {l₁ : List ℕ} (a b : Got) (x y : Elaborated) (ka : a .kind ≡ x .kind) (la : out (a .place) (a .top) l₁ ≡ layCode (x .code) t₀ l₀) (kb : b .kind ≡ y .kind) (lb : out (b .place) (b .top) l₂ ≡ layCode (y .code) (a .top) l₁) where
-    operated-told : (o : Op)
-        → Told (orUnfit (operatorRule (σ .types) o (x .kind) (y .kind) >>= λ r. some (elaborated (r .kind) (calculate (r .operation) (x .code) (y .code))))) (λ e. e .kind) (λ e. layCode (e .code)) t₀ l₀
-        (operated l₂ ts (opNumber o) a b .got) (operated l₂ ts (opNumber o) a b .list)
-    unfolding operated told ruledNode layCode lay _>>=_
+    operated-told : (o : TwoSided)
+        → Told (orUnfit (elabOf (σ .types) o x y)) (λ e. e .kind) (λ e. layCode (e .code)) t₀ l₀ (operated l₂ ts (rowNumber o) a b .got) (operated l₂ ts (rowNumber o) a b .list)
+    unfolding operated told ruledNode layCode lay _>>=_ given pick
     operated-told o =
-        rw (side-in S (a .kind), side-in S (b .kind), ka, kb, two-sided-rule (σ .types) (kinded S) (x .kind) (y .kind) o) (go (operatorRule (σ .types) o (x .kind) (y .kind)))
+        rw (side-in S (a .kind), side-in S (b .kind), ka, kb, two-sided-rule (σ .types) (kinded S) (x .kind) (y .kind) o) (go o)
       where
-        go : (m : Option Rule) → Told (orUnfit (m >>= λ r. some (elaborated (r .kind) (calculate (r .operation) (x .code) (y .code))))) (λ e. e .kind) (λ e. layCode (e .code)) t₀ l₀
+        by-rule : (m : Option Rule) → Told (orUnfit (m >>= λ r. some (elaborated (r .kind) (calculate (r .operation) (x .code) (y .code))))) (λ e. e .kind) (λ e. layCode (e .code)) t₀ l₀
             (ruledNode (told m) (a .place) (b .place) (b .next) (b .top) l₂ .got) (ruledNode (told m) (a .place) (b .place) (b .next) (b .top) l₂ .list)
-        go none = told-or none (λ _. refl) (λ c e. absurd (none-some e))
-        go (some r) = told-or (some (elaborated (r .kind) (calculate (r .operation) (x .code) (y .code)))) (λ e. absurd (none-some (sym e))) (λ c e. rw (← some-inj e) (refl, refl, rw (← la, ← lb) refl))
+        by-rule none = told-or none (λ _. refl) (λ c e. absurd (none-some e))
+        by-rule (some r) = told-or (some (elaborated (r .kind) (calculate (r .operation) (x .code) (y .code)))) (λ e. absurd (none-some (sym e))) (λ c e. rw (← some-inj e) (refl, refl, rw (← la, ← lb) refl))
 
-    lazily-told : (q : Bool)
-        → Told (orUnfit (given (bothBooleans (x .kind) (y .kind)) (elaborated 1 (shortCut q (x .code) (y .code))))) (λ e. e .kind) (λ e. layCode (e .code)) t₀ l₀ (lazily l₂ q a b .got) (lazily l₂ q a b .list)
-    unfolding lazily layCode lay given
-    lazily-told q = rw (ka, kb, eqb-turned (x .kind) 1, eqb-turned (y .kind) 1) (go (eqb 1 (x .kind)) (eqb 1 (y .kind)))
-      where
-        bad : Told {A = Elaborated} (orUnfit none) (λ e. e .kind) (λ e. layCode (e .code)) t₀ l₀ (failedGot Kind 0 (b .next) (b .top)) l₂
-        bad = told-or none (λ _. refl) (λ c e. absurd (none-some e))
+        by-test : (q t : Bool) → Told (orUnfit (given t (elaborated 1 (shortCut q (x .code) (y .code))))) (λ e. e .kind) (λ e. layCode (e .code)) t₀ l₀
+            (ruledNode (pick t (Fits (both q) 1) Misfit) (a .place) (b .place) (b .next) (b .top) l₂ .got) (ruledNode (pick t (Fits (both q) 1) Misfit) (a .place) (b .place) (b .next) (b .top) l₂ .list)
+        by-test q true = told-or (some (elaborated 1 (shortCut q (x .code) (y .code)))) (λ e. absurd (none-some (sym e))) (λ c e. rw (← some-inj e) (refl, refl, rw (← la, ← lb) refl))
+        by-test q false = told-or none (λ _. refl) (λ c e. absurd (none-some e))
 
-        go : (u v : Bool) → Told (orUnfit (given (u && v) (elaborated 1 (shortCut q (x .code) (y .code))))) (λ e. e .kind) (λ e. layCode (e .code)) t₀ l₀
-            (cond (u && v) (nodeMade 1 (b .next) (lay (both q ∷ a .place ∷ b .place ∷ []) (b .top) l₂)) (failedMade Kind 0 (b .next) (b .top) l₂) .got)
-            (cond (u && v) (nodeMade 1 (b .next) (lay (both q ∷ a .place ∷ b .place ∷ []) (b .top) l₂)) (failedMade Kind 0 (b .next) (b .top) l₂) .list)
-        go true true = told-or (some (elaborated 1 (shortCut q (x .code) (y .code)))) (λ e. absurd (none-some (sym e))) (λ c e. rw (← some-inj e) (refl, refl, rw (← la, ← lb) refl))
-        go true false = bad
-        go false v = bad
+        go : (o : TwoSided) → Told (orUnfit (elabOf (σ .types) o x y)) (λ e. e .kind) (λ e. layCode (e .code)) t₀ l₀
+            (ruledNode (toldOf (σ .types) o (x .kind) (y .kind)) (a .place) (b .place) (b .next) (b .top) l₂ .got) (ruledNode (toldOf (σ .types) o (x .kind) (y .kind)) (a .place) (b .place) (b .next) (b .top) l₂ .list)
+        go (strict o) = by-rule (operatorRule (σ .types) o (x .kind) (y .kind))
+        go (lazy q) = by-test q (bothBooleans (x .kind) (y .kind))
 
   one-told : (a : Got) (x : Elaborated) → a .kind ≡ x .kind → out (a .place) (a .top) l₂ ≡ layCode (x .code) t₀ l₀ → (f : Fun)
       → Told (orUnfit (functionRule (σ .types) f (x .kind) >>= λ r. some (elaborated (r .kind) (calculate1 (r .operation) (x .code))))) (λ e. e .kind) (λ e. layCode (e .code)) t₀ l₀
@@ -230,10 +226,6 @@ pub stays-paired : (l ts : List ℕ) (op : ℕ) (a b : Got) → Stays (paired l 
 unfolding paired operated
 stays-paired l ts op a b = stays-clear (lowest (a .fault) (b .fault)) 0 (b .next) (b .top) l _ (stays-ruled _ (a .place) (b .place) (b .next) (b .top) l)
 
-pub stays-shorted : (l : List ℕ) (q : Bool) (a b : Got) → Stays (shorted l q a b) (b .next) (b .top) l
-unfolding shorted lazily
-stays-shorted l q a b = stays-clear (lowest (a .fault) (b .fault)) 0 (b .next) (b .top) l (lazily l q a b) (stays-cond (eqb (a .kind) 1 && eqb (b .kind) 1) (stays-node 1 (b .next) (b .top) (both q ∷ a .place ∷ b .place ∷ []) l) (stays-failed Kind 0 (b .next) (b .top) l))
-
 stays-ruled1 : (x : Ruling) (i : Info) (u q t : ℕ) (l : List ℕ) → Stays (ruledNode1 x i u q t l) q t l
 unfolding ruledNode1
 stays-ruled1 Misfit i u q t l = stays-failed Kind 0 q t l
@@ -248,21 +240,12 @@ stays-applied l ts f a = stays-clear (a .fault) 0 (a .next) (a .top) l _ (stays-
 module _ (s l ts : List ℕ) (scope : Scope) (d at top : ℕ) (a : Got) (l₁ : List ℕ) (A : GivesExpr s l ts scope d at top a l₁) where
   -- a first side without a form
   module _ (t : Bool) (e : t ≡ isForm (a .fault)) where
-    pub two-left : (op : ℕ) → op < 15 → t ≡ true → GivesForm s l ts scope (Two op) d at top a l₁
-    two-left op h z = record {
+    pub two-left : (op : ℕ) → t ≡ true → GivesTwo s l ts scope op d at top a l₁
+    two-left op z = record {
       leaves = left-wrong (A .moves) (sym e ∙ z);
-      says = λ σ bs S.
-          let o = op-known op h in
+      says = λ o h σ bs S.
           let n = expr-missing (A .says σ bs S) (sym e ∙ z) in
-          expr-failed σ (formIn (Two op) d (first (stackAt s at))) top l a l₁ (two-form op d (first (stackAt s at)) (o .0) (o .2) ∙ rw n (none-bind _)) (form-true (a .fault) (sym e ∙ z));
-    }
-
-    pub short-left : (q : Bool) → t ≡ true → GivesForm s l ts scope (Short q) d at top a l₁
-    short-left q z = record {
-      leaves = left-wrong (A .moves) (sym e ∙ z);
-      says = λ σ bs S.
-          let n = expr-missing (A .says σ bs S) (sym e ∙ z) in
-          expr-failed σ (formIn (Short q) d (first (stackAt s at))) top l a l₁ (short-form q d (first (stackAt s at)) ∙ rw n (none-bind _)) (form-true (a .fault) (sym e ∙ z));
+          expr-failed σ (twoIn o d (first (stackAt s at))) top l a l₁ (rw n (none-bind _)) (form-true (a .fault) (sym e ∙ z));
     }
 
     -- both sides
@@ -283,41 +266,23 @@ module _ (s l ts : List ℕ) (scope : Scope) (d at top : ℕ) (a : Got) (l₁ : 
       last-scene : (σ : Environment) (bs : List ℕ) → Scene s l ts scope top σ bs → Scene s l₂ ts scope (b .top) σ bs
       last-scene σ bs S = scene-kept (scene-kept S (A .moves .keeps) (A .moves .grows)) (B .moves .keeps) (B .moves .grows)
 
-      two-made : (op : ℕ) (o : Op) → opNumber o ≡ op → exprHeadMeant (Two op) ≡ some (hOp o) → Makes (paired l₂ ts op a x) r l′ → GivesForm s l ts scope (Two op) d at top r l′
+      two-both : (op : ℕ) → Makes (paired l₂ ts op a x) r l′ → GivesTwo s l ts scope op d at top r l′
       unfolding paired
-      two-made op o n k m = record {
+      two-both op m = record {
         leaves = leaves-two (A .moves) (sym e ∙ z) (B .moves) C (stays-paired l₂ ts op a x) (λ g. right-lowest (a .fault) (x .fault) (clear-form (lowest (a .fault) (x .fault)) 0 (x .next) (x .top) l₂ _ g)) m;
-        says = λ σ bs S.
+        says = λ o n σ bs S.
             let T = A .says σ bs S .told in
             let U = second σ bs S .told in
             record {
-              told = rw (two-form op d us o k, binary-staged σ o (exprIn d us) (exprIn d (rest us) >>= λ y. closed (rest (rest us)) y), m .given, m .left, ← n)
-                  (told-join (a .fault) (x .fault) 0 (x .next) (x .top) l₂ (operated l₂ ts (opNumber o) a x) (exprStaged σ (exprIn d us)) (exprStaged σ (exprIn d (rest us) >>= λ y. closed (rest (rest us)) y)) _
+              told = rw (two-staged σ o (exprIn d us) (exprIn d (rest us) >>= λ y. closed (rest (rest us)) y), m .given, m .left, n)
+                  (told-join (a .fault) (x .fault) 0 (x .next) (x .top) l₂ (operated l₂ ts (rowNumber o) a x) (exprStaged σ (exprIn d us)) (exprStaged σ (exprIn d (rest us) >>= λ y. closed (rest (rest us)) y)) _
                   (T .fault-is) (U .fault-is)
                   (λ p q ep eq. operated-told (last-scene σ bs S) a x p q (T .laid p ep .0) (T .laid p ep .1) (U .laid q eq .0) (U .laid q eq .1) o));
             };
       }
 
-      pub two-both : (op : ℕ) → op < 15 → Makes (paired l₂ ts op a x) r l′ → GivesForm s l ts scope (Two op) d at top r l′
-      two-both op h m = let o = op-known op h in two-made op (o .0) (o .1) (o .2) m
-
-      pub short-both : (q : Bool) → Makes (shorted l₂ q a x) r l′ → GivesForm s l ts scope (Short q) d at top r l′
-      unfolding shorted
-      short-both q m = record {
-        leaves = leaves-two (A .moves) (sym e ∙ z) (B .moves) C (stays-shorted l₂ q a x) (λ g. right-lowest (a .fault) (x .fault) (clear-form (lowest (a .fault) (x .fault)) 0 (x .next) (x .top) l₂ _ g)) m;
-        says = λ σ bs S.
-            let T = A .says σ bs S .told in
-            let U = second σ bs S .told in
-            record {
-              told = rw (short-form q d us, short-staged σ q (exprIn d us) (exprIn d (rest us) >>= λ y. closed (rest (rest us)) y), m .given, m .left)
-                  (told-join (a .fault) (x .fault) 0 (x .next) (x .top) l₂ (lazily l₂ q a x) (exprStaged σ (exprIn d us)) (exprStaged σ (exprIn d (rest us) >>= λ y. closed (rest (rest us)) y)) _
-                  (T .fault-is) (U .fault-is)
-                  (λ p w ep eq. lazily-told (last-scene σ bs S) a x p w (T .laid p ep .0) (T .laid p ep .1) (U .laid w eq .0) (U .laid w eq .1) q));
-            };
-      }
-
-    pub two-second : (op : ℕ) → op < 15 → t ≡ false → (r : Got) (l′ : List ℕ) → GivesSecond s l₁ ts scope op d a r l′ → GivesForm s l ts scope (Two op) d at top r l′
-    two-second op h z r l′ G = two-both z (G .side) (G .list) (G .gives) (G .past) (G .closes) r l′ op h (G .makes)
+    pub two-second : (op : ℕ) → t ≡ false → (r : Got) (l′ : List ℕ) → GivesSecond s l₁ ts scope op d a r l′ → GivesTwo s l ts scope op d at top r l′
+    two-second op z r l′ G = two-both z (G .side) (G .list) (G .gives) (G .past) (G .closes) r l′ op (G .makes)
 
   -- one side
   one-made : (x : Got) → Closes s a x → (f : ℕ) (k : Fun) → funNumber k ≡ f → exprHeadMeant (One f) ≡ some (hFun k) → (r : Got) (l′ : List ℕ) → Makes (applied l₁ ts f x) r l′ → GivesForm s l ts scope (One f) d at top r l′
@@ -338,6 +303,16 @@ module _ (s l ts : List ℕ) (scope : Scope) (d at top : ℕ) (a : Got) (l₁ : 
   pub one-side : (x : Got) → Closes s a x → (f : ℕ) → f < 11 → (r : Got) (l′ : List ℕ) → Makes (applied l₁ ts f x) r l′ → GivesForm s l ts scope (One f) d at top r l′
   one-side x C f h r l′ m = let k = fun-known f h in one-made x C f (k .0) (k .1) (k .2) r l′ m
 
+-- by the head word: an operator's number is its row, `and_then` and `or_else` have theirs
+module _ (s l ts : List ℕ) (scope : Scope) (op d at top : ℕ) (r : Got) (l′ : List ℕ) (G : GivesTwo s l ts scope op d at top r l′) where
+  pub two-gives : op < 15 → GivesForm s l ts scope (Two op) d at top r l′
+  two-gives h =
+      let o = op-known op h in
+      record { leaves = G .leaves; says = λ σ bs S. rw (two-form op d (first (stackAt s at)) (o .0) (o .2)) (G .says (strict (o .0)) (sym (o .1)) σ bs S) }
+
+  pub short-gives : (q : Bool) → op ≡ rowNumber (lazy q) → GivesForm s l ts scope (Short q) d at top r l′
+  short-gives q h = record { leaves = G .leaves; says = λ σ bs S. rw (short-form q d (first (stackAt s at))) (G .says (lazy q) h σ bs S) }
+
 -- a number that no operator or function has
 pub two-none : (s l ts : List ℕ) (scope : Scope) (op d at top q : ℕ) (r : Got) → 15 ≤ op → r ≡ failedGot Form 0 q top → GivesForm s l ts scope (Two op) d at top r l
 two-none s l ts scope op d at top q r h e = rw e (record {
@@ -355,8 +330,6 @@ pub second-is : (s l ts : List ℕ) (scope : Scope) (op d : ℕ) (a b : Got) (l�
     → GivesSecond s l ts scope op d a r l′
 second-is s l ts scope op d a b l₂ x r l′ B C M = record { side = b; list = l₂; past = x; gives = B; closes = C; makes = M }
 
-pub ruleset two-laws = (two-none, two-left, two-second)
+pub ruleset two-laws = (two-left, two-second)
 
 pub ruleset one-laws = (one-none, one-side)
-
-pub ruleset short-laws = (short-left, short-both)

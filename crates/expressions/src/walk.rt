@@ -5,7 +5,6 @@ use crate::words::word;
 use atoms::type_name;
 use compounds::operators::apply;
 use compounds::operators::pair;
-use compounds::operators::short_pair;
 use compounds::targets::index;
 use compounds::targets::load;
 use compounds::targets::select;
@@ -25,6 +24,7 @@ use faults::Got;
 use faults::failed;
 use faults::is_form;
 use faults::lowest;
+use kinds::short_row;
 use parts::End;
 use parts::Part;
 use parts::end_at;
@@ -33,11 +33,11 @@ use shapes::ExprHead;
 use shapes::expr_head;
 use tables::Scope;
 use worklist::slot;
-ghost use Rattle.shapes.specs.declared.ExprHead.the-variants.{At, Dot, Members, Minus, Bound, Short, Two, One};
+ghost use Rattle.shapes.specs.declared.ExprHead.the-variants.{At, Dot, Members, Minus, Bound, One};
 ghost use Rattle.expressions.specs.Walks.{GivesExpr, GivesTarget, GivesForm, GivesPlace, GivesInner, GivesInnerPlace};
 ghost use Rattle.expressions.specs.Members.{GivesMembers};
 ghost use Rattle.expressions.specs.MinusForm.{GivesMinus};
-ghost use Rattle.expressions.specs.Sides.{GivesSecond};
+ghost use Rattle.expressions.specs.Sides.{GivesSecond, GivesTwo};
 
 // An expression.
 pub fn expr(
@@ -101,14 +101,19 @@ fn headed(
         ExprHead::Members => set_form(text, work, types, scope, depth, at, top),
         ExprHead::Minus => minus(text, work, types, scope, depth, at, top),
         ExprHead::Bound(last) => bound(text, work, types, scope, last, depth, at, top),
-        ExprHead::Short(every) => short(text, work, types, scope, every, depth, at, top),
-        ExprHead::Two(op) => two(text, work, types, scope, op, depth, at, top),
+        ExprHead::Short(every) => two(text, work, types, scope, short_row(every), depth, at, top),
+        ExprHead::Two(op) => {
+            if op >= 15 {
+                return failed(Fault::Form, 0, at, top);
+            }
+            two(text, work, types, scope, op, depth, at, top)
+        }
         ExprHead::One(f) => one(text, work, types, scope, f, depth, at, top),
         ExprHead::Nothing => failed(Fault::Form, 0, at, top),
     }
 }
 
-// Two sides.
+// Two sides of the operator that has row `op` in the table of kinds.
 fn two(
     text: &[u8],
     work: &mut [u32],
@@ -119,11 +124,8 @@ fn two(
     at: usize,
     top: u32,
 ) -> Got
-    ensures { λ r. ⌜ GivesForm (now (text .entry)) (now (work .entry)) (now (types .entry)) scope (Two op) depth at top r (now (work .exit)) ⌝ }
+    ensures { λ r. ⌜ GivesTwo (now (text .entry)) (now (work .entry)) (now (types .entry)) scope op depth at top r (now (work .exit)) ⌝ }
 {
-    if op >= 15 {
-        return failed(Fault::Form, 0, at, top);
-    }
     let a = expr(text, work, types, scope, depth, at, top);
     let f = a.fault;
     if is_form(f) {
@@ -146,28 +148,6 @@ fn second(
 {
     let b = expr(text, work, types, scope, depth, a.next, a.top);
     pair(work, types, op, a, closing(text, b))
-}
-
-// Two sides, the second of which may be left alone.
-fn short(
-    text: &[u8],
-    work: &mut [u32],
-    types: &[u32],
-    scope: Scope,
-    every: bool,
-    depth: usize,
-    at: usize,
-    top: u32,
-) -> Got
-    ensures { λ r. ⌜ GivesForm (now (text .entry)) (now (work .entry)) (now (types .entry)) scope (Short every) depth at top r (now (work .exit)) ⌝ }
-{
-    let a = expr(text, work, types, scope, depth, at, top);
-    let f = a.fault;
-    if is_form(f) {
-        return a;
-    }
-    let b = expr(text, work, types, scope, depth, a.next, a.top);
-    short_pair(work, every, a, closing(text, b))
 }
 
 // One side.

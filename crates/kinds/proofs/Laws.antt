@@ -8,8 +8,8 @@ use native.Mathlib.Omega.{arith}
 use lib.Dec.{lit≤}
 use lib.ListN.{getD, length, List·getD-eq-default}
 use Rattle.semantics.specs.Base.{pick}
-use Rattle.semantics.specs.Operators.{Op, Fun}
-use Rattle.kinds.specs.Kinds.{rowOf, classes, operators, operationOf, coded, table, nodeAt, partnerOf, resultOf, numbered, ruling2}
+use Rattle.semantics.specs.Operators.{Fun}
+use Rattle.kinds.specs.Kinds.{TwoSided, rows, entryOf, rowOf, classes, table, nodeAt, partnerOf, resultOf, numbered, ruling2}
 use Rattle.kinds.specs.Functions.{functions, takes, funNode, table1, nodeAt1, resultOf1, ruling1}
 use Rattle.kinds.specs.declared.Class.{Class}
 use Rattle.kinds.specs.declared.Class.the-variants.{Integer, Boolean, Enum, Set, Whole}
@@ -48,7 +48,7 @@ row-at P f d h n (x ∷ xs) zero = h x
 row-at P f d h n (x ∷ xs) (suc i) = row-at P f d h n xs i
 
 module _ (o a b : ℕ) where
-  pub node-op : 15 ≤ o → _≡_ {A = ℕ} 0 (nodeAt o a b)
+  pub node-op : 17 ≤ o → _≡_ {A = ℕ} 0 (nodeAt o a b)
   unfolding nodeAt table
   node-op h = let e : getD table o [] ≡ [] = List·getD-eq-default table [] {n = o} h in rw e refl
 
@@ -56,7 +56,7 @@ module _ (o a b : ℕ) where
   unfolding nodeAt table
   node-left h =
       let s : length (getD table o []) ≤ 5 =
-      row-at (λ (m : List (List ℕ)). length m ≤ 5) (λ (q : Op). map (λ (x : Class). map (λ (y : Class). coded (operationOf q x y)) classes) classes) [] (λ q. lit≤ tt) (lit≤ tt) operators o in
+      row-at (λ (m : List (List ℕ)). length m ≤ 5) (λ (q : TwoSided). map (λ (x : Class). map (λ (y : Class). entryOf q x y) classes) classes) [] (λ q. lit≤ tt) (lit≤ tt) rows o in
       let e : getD (getD table o []) a [] ≡ [] = List·getD-eq-default (getD table o []) [] {n = a} (omega arith) in
       rw e refl
 
@@ -64,8 +64,8 @@ module _ (o a b : ℕ) where
   unfolding nodeAt table
   node-right h =
       let s : length (getD (getD table o []) a []) ≤ 5 =
-      row-at (λ (m : List (List ℕ)). length (getD m a []) ≤ 5) (λ (q : Op). map (λ (x : Class). map (λ (y : Class). coded (operationOf q x y)) classes) classes) []
-      (λ q. row-at (λ (m : List ℕ). length m ≤ 5) (λ (x : Class). map (λ (y : Class). coded (operationOf q x y)) classes) [] (λ x. lit≤ tt) (lit≤ tt) classes a) (lit≤ tt) operators o in
+      row-at (λ (m : List (List ℕ)). length (getD m a []) ≤ 5) (λ (q : TwoSided). map (λ (x : Class). map (λ (y : Class). entryOf q x y) classes) classes) []
+      (λ q. row-at (λ (m : List ℕ). length m ≤ 5) (λ (x : Class). map (λ (y : Class). entryOf q x y) classes) [] (λ x. lit≤ tt) (lit≤ tt) classes a) (lit≤ tt) rows o in
       sym (List·getD-eq-default (getD (getD table o []) a []) 0 {n = b} (omega arith))
 
 pub ruleset node-laws = (node-op, node-left, node-right)
@@ -96,19 +96,23 @@ module _ (o k b : ℕ) where
 pub ruleset partner-laws = (partner-base, partner-kind)
 
 module _ (n k : ℕ) where
-  pub result-integer : n < 15 → _≡_ {A = ℕ} 0 (resultOf n k)
+  pub result-short : n < 9 → _≡_ {A = ℕ} 1 (resultOf n k)
   unfolding resultOf
-  result-integer h = rw (lt-ltb n 15 h) refl
+  result-short h = rw (lt-ltb n 9 h) refl
+
+  pub result-integer : 9 ≤ n → n < 15 → _≡_ {A = ℕ} 0 (resultOf n k)
+  unfolding resultOf
+  result-integer g h = rw (le-ltb n 9 g, lt-ltb n 15 h) refl
 
   pub result-own : 15 ≤ n → n < 18 → k ≡ resultOf n k
   unfolding resultOf
-  result-own h g = rw (le-ltb n 15 h, lt-ltb n 18 g) refl
+  result-own h g = rw (le-ltb n 9 (omega arith), le-ltb n 15 h, lt-ltb n 18 g) refl
 
   pub result-boolean : 18 ≤ n → _≡_ {A = ℕ} 1 (resultOf n k)
   unfolding resultOf
-  result-boolean h = rw (le-ltb n 15 (omega arith), le-ltb n 18 h) refl
+  result-boolean h = rw (le-ltb n 9 (omega arith), le-ltb n 15 (omega arith), le-ltb n 18 h) refl
 
-pub ruleset result-laws = (result-integer, result-own, result-boolean)
+pub ruleset result-laws = (result-short, result-integer, result-own, result-boolean)
 
 module _ (n k b : ℕ) where
   pub result-30 : n ≡ 30 → _≡_ {A = ℕ} 1 (resultOf1 n k b)

@@ -1,6 +1,6 @@
 -- The code's table against the definition: `ruling2` at the sides of a table of types is what `operatorRule` says.
 use mathlib.Core.Path.{_≡_, refl, sym, ap, _∙_}
-use mathlib.Core.Bool.{Bool, true, false, _&&_, and-self}
+use mathlib.Core.Bool.{Bool, true, false, cond, _&&_, and-self}
 use mathlib.Core.List.{List, [], map}
 use mathlib.Core.Option.{Option, none, some}
 use Prim.Native.Nat.{ℕ, zero, suc, _+_}
@@ -9,11 +9,11 @@ use borrow.Author.Tests.{eqb-true, eq-eqb, ne-eqb}
 use lib.Dec.{eqb}
 use lib.ListN.{getD}
 use Rattle.semantics.specs.Base.{given, either, pick}
-use Rattle.semantics.specs.Layout.{operationNumber}
+use Rattle.semantics.specs.Layout.{both, operationNumber}
 use Rattle.semantics.specs.Operators.{Op, plus, minus, times, power, divide, modulo, equal, unequal, less, atMost, greater, atLeast, member, andBoth, orBoth, Operation, intAdd, intSub, intMul, intPower, intDiv, intMod, setUnion, setDifference, setIntersection, numEqual, numUnequal, numLess, numAtMost, numGreater, numAtLeast, setWithin, setHolds, memberOf, boolAnd, boolOr, Rule, rule, bothIntegers, bothBooleans, sameOrdinals, sameSets, operatorRule}
 use Rattle.semantics.specs.Types.{Types, Shape, ordinalShape, setShape, arrayShape, recordShape, infoAt, ordinal?, set?, baseOf, isOrdinal, isSet}
 use Rattle.semantics.proofs.ValuesInRange.{wrong}
-use Rattle.kinds.specs.Kinds.{classBy, classAt, sideOf, Kinded, rowOf, classes, integerClass, booleanClass, ordinalClass, setClass, integers, booleans, ordinals, sets, operationOf, coded, operators, opNumber, table, nodeAt, partnerOf, resultOf, numbered, ruling2, told}
+use Rattle.kinds.specs.Kinds.{TwoSided, strict, lazy, rows, rowNumber, entryOf, toldOf, classBy, classAt, sideOf, Kinded, rowOf, classes, integerClass, booleanClass, ordinalClass, setClass, integers, booleans, ordinals, sets, operationOf, coded, opNumber, table, nodeAt, partnerOf, resultOf, numbered, ruling2, told}
 use Rattle.kinds.specs.declared.Class.{Class}
 use Rattle.kinds.specs.declared.Class.the-variants.{Integer, Boolean, Enum, Set, Whole}
 use Rattle.kinds.specs.declared.Ruling.{Ruling}
@@ -21,23 +21,25 @@ use Rattle.kinds.specs.declared.Ruling.the-variants.{Misfit, Fits}
 
 -- ---- the entry at an operator and two classes
 
-op-at : {B : Type 0} (f : Op → B) (d : B) (o : Op) → getD (map f operators) (opNumber o) d ≡ f o
+op-at : {B : Type 0} (f : TwoSided → B) (d : B) (o : TwoSided) → getD (map f rows) (rowNumber o) d ≡ f o
 unfolding opNumber
-op-at f d plus = refl
-op-at f d minus = refl
-op-at f d times = refl
-op-at f d power = refl
-op-at f d divide = refl
-op-at f d modulo = refl
-op-at f d equal = refl
-op-at f d unequal = refl
-op-at f d less = refl
-op-at f d atMost = refl
-op-at f d greater = refl
-op-at f d atLeast = refl
-op-at f d member = refl
-op-at f d andBoth = refl
-op-at f d orBoth = refl
+op-at f d (strict plus) = refl
+op-at f d (strict minus) = refl
+op-at f d (strict times) = refl
+op-at f d (strict power) = refl
+op-at f d (strict divide) = refl
+op-at f d (strict modulo) = refl
+op-at f d (strict equal) = refl
+op-at f d (strict unequal) = refl
+op-at f d (strict less) = refl
+op-at f d (strict atMost) = refl
+op-at f d (strict greater) = refl
+op-at f d (strict atLeast) = refl
+op-at f d (strict member) = refl
+op-at f d (strict andBoth) = refl
+op-at f d (strict orBoth) = refl
+op-at f d (lazy true) = refl
+op-at f d (lazy false) = refl
 
 pub class-at : {B : Type 0} (f : Class → B) (d : B) (c : Class) → getD (map f classes) (rowOf c) d ≡ f c
 unfolding rowOf
@@ -47,12 +49,12 @@ class-at f d Enum = refl
 class-at f d Set = refl
 class-at f d Whole = refl
 
-entry : (o : Op) (a b : Class) → nodeAt (opNumber o) (rowOf a) (rowOf b) ≡ coded (operationOf o a b)
+entry : (o : TwoSided) (a b : Class) → nodeAt (rowNumber o) (rowOf a) (rowOf b) ≡ entryOf o a b
 unfolding nodeAt table
 entry o a b =
-    ap (λ (m : List (List ℕ)). getD (getD m (rowOf a) []) (rowOf b) 0) (op-at (λ (q : Op). map (λ (x : Class). map (λ (y : Class). coded (operationOf q x y)) classes) classes) [] o)
-    ∙ ap (λ (m : List ℕ). getD m (rowOf b) 0) (class-at (λ (x : Class). map (λ (y : Class). coded (operationOf o x y)) classes) [] a)
-    ∙ class-at (λ (y : Class). coded (operationOf o a y)) 0 b
+    ap (λ (m : List (List ℕ)). getD (getD m (rowOf a) []) (rowOf b) 0) (op-at (λ (q : TwoSided). map (λ (x : Class). map (λ (y : Class). entryOf q x y) classes) classes) [] o)
+    ∙ ap (λ (m : List ℕ). getD m (rowOf b) 0) (class-at (λ (x : Class). map (λ (y : Class). entryOf o x y) classes) [] a)
+    ∙ class-at (λ (y : Class). entryOf o a y) 0 b
 
 -- the kind that the code gives an operation's result
 abbrev kindOf : Operation → ℕ → ℕ
@@ -158,6 +160,13 @@ two-ways true false true P Q x y k g h = rw (← g, ← h) refl
 two-ways true false false P Q x y k g h = rw (← g, ← h) refl
 two-ways false p q P Q x y k g h = rw (← g, ← h) refl
 
+short-way : (q e t : Bool) (k : ℕ) → pick e (numbered (cond t (both q) 0) k) Misfit ≡ pick (e && t) (Fits (both q) 1) Misfit
+unfolding numbered pick resultOf both
+short-way true true true k = refl
+short-way false true true k = refl
+short-way q true false k = refl
+short-way q false t k = refl
+
 module _ (Γ : Types) (K : Kinded Γ) where
   abbrev class : ℕ → Class
   class k = classAt Γ k
@@ -204,8 +213,14 @@ module _ (Γ : Types) (K : Kinded Γ) where
 
     -- the code's answer, with the entry in place of its number
     start : (o : Op) → ruling2 (opNumber o) (sideOf Γ l) (sideOf Γ r) ≡ pick (eqb l (partnerOf (opNumber o) r (baseOf Γ r))) (ruled (operationOf o (class l) (class r)) l) Misfit
-    unfolding ruling2
-    start o = rw (entry o (class l) (class r), numbered-is (operationOf o (class l) (class r)) l) refl
+    unfolding ruling2 entryOf
+    start o = rw (entry (strict o) (class l) (class r), numbered-is (operationOf o (class l) (class r)) l) refl
+
+    -- `and_then` and `or_else`
+    short-rule : (q : Bool) → ruling2 (rowNumber (lazy q)) (sideOf Γ l) (sideOf Γ r) ≡ toldOf Γ (lazy q) l r
+    unfolding ruling2 entryOf partnerOf
+    short-rule true = rw (entry (lazy true) (class l) (class r), ← two-booleans) (short-way true (eqb l r) (booleans (class l) (class r)) l)
+    short-rule false = rw (entry (lazy false) (class l) (class r), ← two-booleans) (short-way false (eqb l r) (booleans (class l) (class r)) l)
 
     -- the five ways of the table
     arithmetic : (x y : Operation) → pick (eqb l r) (ruled (either (given (integers (class l) (class r)) x) (given (sets (class l) (class r)) y)) l) Misfit
@@ -225,25 +240,26 @@ module _ (Γ : Types) (K : Kinded Γ) where
     ordinal-only : (x : Operation) → pick (eqb l r) (ruled (given (ordinals (class l) (class r)) x) l) Misfit ≡ told (given (sameOrdinals Γ l r) (rule x (kindOf x l)))
     ordinal-only x = one-way (eqb l r) (ordinals (class l) (class r)) (sameOrdinals Γ l r) x l two-ordinals
 
-    -- the theorem: the code's answer is the definition's, for every operator and any two kinds
-    pub two-sided-rule : (o : Op) → ruling2 (opNumber o) (sideOf Γ l) (sideOf Γ r) ≡ told (operatorRule Γ o l r)
+    -- the theorem: the code's answer is the definition's, for every row and any two kinds
+    pub two-sided-rule : (o : TwoSided) → ruling2 (rowNumber o) (sideOf Γ l) (sideOf Γ r) ≡ toldOf Γ o l r
     unfolding operatorRule operationOf partnerOf opNumber resultOf operationNumber
-    two-sided-rule plus = start plus ∙ arithmetic intAdd setUnion
-    two-sided-rule minus = start minus ∙ arithmetic intSub setDifference
-    two-sided-rule times = start times ∙ arithmetic intMul setIntersection
-    two-sided-rule power = start power ∙ integer-only intPower
-    two-sided-rule divide = start divide ∙ integer-only intDiv
-    two-sided-rule modulo = start modulo ∙ integer-only intMod
-    two-sided-rule equal = start equal ∙ comparison numEqual numEqual
-    two-sided-rule unequal = start unequal ∙ comparison numUnequal numUnequal
-    two-sided-rule less = start less ∙ ordinal-only numLess
-    two-sided-rule atMost = start atMost ∙ comparison numAtMost setWithin
-    two-sided-rule greater = start greater ∙ ordinal-only numGreater
-    two-sided-rule atLeast = start atLeast ∙ comparison numAtLeast setHolds
-    two-sided-rule member =
+    two-sided-rule (strict plus) = start plus ∙ arithmetic intAdd setUnion
+    two-sided-rule (strict minus) = start minus ∙ arithmetic intSub setDifference
+    two-sided-rule (strict times) = start times ∙ arithmetic intMul setIntersection
+    two-sided-rule (strict power) = start power ∙ integer-only intPower
+    two-sided-rule (strict divide) = start divide ∙ integer-only intDiv
+    two-sided-rule (strict modulo) = start modulo ∙ integer-only intMod
+    two-sided-rule (strict equal) = start equal ∙ comparison numEqual numEqual
+    two-sided-rule (strict unequal) = start unequal ∙ comparison numUnequal numUnequal
+    two-sided-rule (strict less) = start less ∙ ordinal-only numLess
+    two-sided-rule (strict atMost) = start atMost ∙ comparison numAtMost setWithin
+    two-sided-rule (strict greater) = start greater ∙ ordinal-only numGreater
+    two-sided-rule (strict atLeast) = start atLeast ∙ comparison numAtLeast setHolds
+    two-sided-rule (strict member) =
         start member ∙ one-way (eqb l (baseOf Γ r)) (ordinalClass (class l) && setClass (class r)) (set? Γ r && eqb l (baseOf Γ r)) memberOf l one-member
-    two-sided-rule andBoth = start andBoth ∙ boolean-only boolAnd
-    two-sided-rule orBoth = start orBoth ∙ boolean-only boolOr
+    two-sided-rule (strict andBoth) = start andBoth ∙ boolean-only boolAnd
+    two-sided-rule (strict orBoth) = start orBoth ∙ boolean-only boolOr
+    two-sided-rule (lazy q) = short-rule q
 
 -- ---- what the answer says of the rule
 

@@ -1,14 +1,14 @@
 -- The table of operator by left class by right class, and what an operator comes to at its sides (semantics, Operators and Layout).
 use mathlib.Core.Path.{_≡_}
-use mathlib.Core.Bool.{Bool, true, cond, _&&_}
-use mathlib.Core.List.{List, [], _∷_, map}
+use mathlib.Core.Bool.{Bool, true, false, cond, _&&_}
+use mathlib.Core.List.{List, [], _∷_, _++_, map}
 use mathlib.Core.Option.{Option, none, some}
 use Prim.Native.Nat.{ℕ, zero, suc, _+_}
 use lib.Dec.{eqb, ltb}
 use lib.ListN.{getD}
 use Rattle.semantics.specs.Base.{given, either, pick}
-use Rattle.semantics.specs.Layout.{operationNumber}
-use Rattle.semantics.specs.Operators.{Op, plus, minus, times, power, divide, modulo, equal, unequal, less, atMost, greater, atLeast, member, andBoth, orBoth, Operation, intAdd, intSub, intMul, intPower, intDiv, intMod, setUnion, setDifference, setIntersection, numEqual, numUnequal, numLess, numAtMost, numGreater, numAtLeast, setWithin, setHolds, memberOf, boolAnd, boolOr, Rule}
+use Rattle.semantics.specs.Layout.{both, operationNumber}
+use Rattle.semantics.specs.Operators.{Op, plus, minus, times, power, divide, modulo, equal, unequal, less, atMost, greater, atLeast, member, andBoth, orBoth, Operation, bothBooleans, operatorRule, intAdd, intSub, intMul, intPower, intDiv, intMod, setUnion, setDifference, setIntersection, numEqual, numUnequal, numLess, numAtMost, numGreater, numAtLeast, setWithin, setHolds, memberOf, boolAnd, boolOr, Rule}
 use Rattle.semantics.specs.Types.{Types, Shape, ordinalShape, setShape, arrayShape, recordShape, infoAt, ordinal?, set?, baseOf}
 use Rattle.kinds.specs.declared.Class.{Class}
 use Rattle.kinds.specs.declared.Class.the-variants.{Integer, Boolean, Enum, Set, Whole}
@@ -109,7 +109,7 @@ operationOf member a b = given (ordinalClass a && setClass b) memberOf
 operationOf andBoth a b = given (booleans a b) boolAnd
 operationOf orBoth a b = given (booleans a b) boolOr
 
--- the number of its node, as it is laid; 0 of none
+-- the number of its node; 0 of none
 unfoldable pub coded : Option Operation → ℕ
 coded none = 0
 coded (some o) = 9 + operationNumber o
@@ -136,9 +136,27 @@ opNumber member = 12
 opNumber andBoth = 13
 opNumber orBoth = 14
 
+-- the rows of the table: those operators, and `and_then` (true) and `or_else` (false), which may leave their right side alone
+pub data TwoSided : Type 0 where
+  strict : Op → TwoSided
+  lazy : Bool → TwoSided
+
+abbrev pub rows : List TwoSided
+rows = map strict operators ++ (lazy true ∷ lazy false ∷ [])
+
+abbrev pub rowNumber : TwoSided → ℕ
+rowNumber (strict o) = opNumber o
+rowNumber (lazy true) = 15
+rowNumber (lazy false) = 16
+
+-- the number of the node at two classes, as it is laid; 0 of a misfit
+unfoldable pub entryOf : TwoSided → Class → Class → ℕ
+entryOf (strict o) a b = coded (operationOf o a b)
+entryOf (lazy q) a b = cond (booleans a b) (both q) 0
+
 -- by operator, left class and right class
 unfoldable pub table : List (List (List ℕ))
-table = map (λ (o : Op). map (λ (a : Class). map (λ (b : Class). coded (operationOf o a b)) classes) classes) operators
+table = map (λ (o : TwoSided). map (λ (a : Class). map (λ (b : Class). entryOf o a b) classes) classes) rows
 
 -- an entry, 0 where there is none
 unfoldable pub nodeAt : ℕ → ℕ → ℕ → ℕ
@@ -152,7 +170,7 @@ partnerOf o k base = cond (eqb o 12) base k
 
 -- the kind of the result, by the node's number
 unfoldable pub resultOf : ℕ → ℕ → ℕ
-resultOf n k = cond (ltb n 15) 0 (cond (ltb n 18) k 1)
+resultOf n k = cond (ltb n 9) 1 (cond (ltb n 15) 0 (cond (ltb n 18) k 1))
 
 -- what an entry of the table says where the left side's kind is k
 unfoldable pub numbered : ℕ → ℕ → Ruling
@@ -166,3 +184,8 @@ ruling2 o l r = pick (eqb (l .kind) (partnerOf o (r .kind) (r .base))) (numbered
 unfoldable pub told : Option Rule → Ruling
 told none = Misfit
 told (some x) = Fits (9 + operationNumber (x .operation)) (x .kind)
+
+-- what the definitions say of two kinds, for each row: `operatorRule`, and the test of `elabExpr` at `shortCircuit`
+abbrev pub toldOf : Types → TwoSided → ℕ → ℕ → Ruling
+toldOf Γ (strict o) l r = told (operatorRule Γ o l r)
+toldOf Γ (lazy q) l r = pick (bothBooleans l r) (Fits (both q) 1) Misfit

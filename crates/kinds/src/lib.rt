@@ -1,6 +1,6 @@
 // The kinds that the operators and functions take, as constant tables.
 ghost use mathlib.Core.Path.{_≡_};
-ghost use Rattle.kinds.specs.Kinds.{rowOf, nodeAt, partnerOf, resultOf, ruling2};
+ghost use Rattle.kinds.specs.Kinds.{lazy, rowNumber, rowOf, nodeAt, partnerOf, resultOf, ruling2};
 ghost use Rattle.kinds.specs.Functions.{nodeAt1, resultOf1, ruling1};
 
 // What a kind is to an operator: one of the two built-in kinds, another ordinal, a set, or an array or record.
@@ -29,7 +29,7 @@ pub enum Ruling {
 const MEMBER: usize = 12;
 
 // By operator, left class and right class: the number of the node, or 0 for a misfit.
-const TWO_SIDED: [[[u32; 5]; 5]; 15] = [
+const TWO_SIDED: [[[u32; 5]; 5]; 17] = [
     // +
     [
         [ops::expr::ADD, 0, 0, 0, 0],
@@ -150,6 +150,22 @@ const TWO_SIDED: [[[u32; 5]; 5]; 15] = [
         [0, 0, 0, 0, 0],
         [0, 0, 0, 0, 0],
     ],
+    // and_then
+    [
+        [0, 0, 0, 0, 0],
+        [0, ops::expr::AND_THEN, 0, 0, 0],
+        [0, 0, 0, 0, 0],
+        [0, 0, 0, 0, 0],
+        [0, 0, 0, 0, 0],
+    ],
+    // or_else
+    [
+        [0, 0, 0, 0, 0],
+        [0, ops::expr::OR_ELSE, 0, 0, 0],
+        [0, 0, 0, 0, 0],
+        [0, 0, 0, 0, 0],
+        [0, 0, 0, 0, 0],
+    ],
 ];
 
 // By function and class: the number of the node, or 0 for a misfit.
@@ -184,7 +200,7 @@ fn row_of(c: Class) -> usize
 fn node_at(op: usize, left: usize, right: usize) -> u32
     ensures { λ r. ⌜ r ≡ nodeAt op left right ⌝ }
 {
-    if op >= 15 {
+    if op >= 17 {
         return 0;
     }
     if left >= 5 {
@@ -206,10 +222,13 @@ fn partner(op: usize, right: u32, base: u32) -> u32
     right
 }
 
-// The kind of the result of node n: integer of arithmetic, the sides' own of sets, else boolean.
+// The kind of the result of node n: integer of arithmetic, the sides' own of sets, else boolean, as of the short cuts before them.
 fn result_of(n: u32, kind: u32) -> u32
     ensures { λ r. ⌜ r ≡ resultOf n kind ⌝ }
 {
+    if n < ops::expr::TWO_SIDED {
+        return 1;
+    }
     if n < ops::expr::UNION {
         return 0;
     }
@@ -217,6 +236,16 @@ fn result_of(n: u32, kind: u32) -> u32
         return kind;
     }
     1
+}
+
+// The row of `and_then` (every) or `or_else` in the first table.
+pub fn short_row(every: bool) -> usize
+    ensures { λ r. ⌜ r ≡ rowNumber (lazy every) ⌝ }
+{
+    if every {
+        return 15;
+    }
+    16
 }
 
 // What a two-sided operator comes to at its sides: their kinds must agree, and the table must have an entry for their classes.

@@ -24,7 +24,7 @@ use Rattle.semantics.specs.Operators.{Op, Fun, Operation, Operation1, predIn, s
 use Rattle.semantics.specs.Readback.{operationAt, operation1At}
 use Rattle.semantics.specs.Types.{Types, infoAt, ordinal?}
 use Rattle.semantics.proofs.LayoutCode.{signed-bits}
-use Rattle.kinds.specs.Kinds.{Kinded, told, ruling2}
+use Rattle.kinds.specs.Kinds.{strict, Kinded, told, ruling2}
 use Rattle.kinds.specs.Functions.{nodeOf, told1, ruling1}
 use Rattle.kinds.proofs.TwoSided.{two-sided-rule}
 use Rattle.kinds.proofs.OneSided.{one-sided-rule}
@@ -115,7 +115,7 @@ module _ (l ts : List ℕ) (op : ℕ) (x y r : Carried) (fx : SFits w64 (x .word
         → r ≡ ruledWord R (wire (x .word)) (wire (y .word)) → Operates l ts op x y r
     operates-both a b R g ea eb eR e = rw (e, eR, ea, eb, toZ-ofZ fx, toZ-ofZ fy) (record {
       says = λ s scope σ S m o n v w X Y. carried-value X (rw (toZ-ofZ fx) at h) (λ p q f i k. carried-value Y (rw (toZ-ofZ fy) at g) (λ p′ q′ f′ i′ k′.
-          rw (q, q′, side-in (S .scene) (x .kind), side-in (S .scene) (y .kind), n, k, k′, two-sided-rule (σ .types) (kinded (S .scene)) (p .kind) (p′ .kind) o, f, f′)
+          rw (q, q′, side-in (S .scene) (x .kind), side-in (S .scene) (y .kind), n, k, k′, two-sided-rule (σ .types) (kinded (S .scene)) (p .kind) (p′ .kind) (strict o), f, f′)
           (told-carries (σ .types) (kinded (S .scene)) m o (p .kind) (p′ .kind) (sole (p .cells)) (sole (p′ .cells)) i i′)));
     })
 

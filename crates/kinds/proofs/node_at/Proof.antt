@@ -1,8 +1,8 @@
 -- `kinds::node_at` meets its contract. Written by hand: the constant is `table` by computation. Assumes nothing.
 use mathlib.Core.Path.{refl}
 use Rattle.semantics.specs.Base.{given, either}
-use Rattle.semantics.specs.Layout.{operationNumber}
-use Rattle.kinds.specs.Kinds.{rowOf, operationOf, coded, table, nodeAt}
+use Rattle.semantics.specs.Layout.{both, operationNumber}
+use Rattle.kinds.specs.Kinds.{rowOf, operationOf, coded, entryOf, table, nodeAt}
 use Rattle.kinds.proofs.Laws.{node-laws}
 use borrow.Author.Needs.{needs}
 use Rattle.kinds.proofs.node_at.Statement.{statement}
@@ -36,7 +36,7 @@ index-3-result : tie.Need-index-3-result
 index-3-result c = search needs
 
 returns-4 : tie.Need-returns-4
-unfolding nodeAt table coded operationOf operationNumber rowOf given either
+unfolding nodeAt table entryOf coded operationOf operationNumber both rowOf given either
 returns-4 c = refl
 
 pub node-at-spec : {M : Type 1} → statement M

@@ -9,69 +9,65 @@ use borrow.Author.Needs.{needs}
 use Rattle.expressions.proofs.Dispatch.{by-laws, by-place-laws, expr-laws, inner-laws, place-laws, target-laws}
 use Rattle.expressions.proofs.Membership.{members-again, members-falls, members-laws, set-form-laws, sofar-start}
 use Rattle.expressions.proofs.Minus.{minus-laws, minus-parts-laws}
-use Rattle.expressions.proofs.Operators.{one-laws, second-is, short-laws, two-laws}
+use Rattle.expressions.proofs.Operators.{one-laws, second-is, two-laws}
 use Rattle.expressions.proofs.Targets.{at-laws, dot-laws, loads-at, loads-dot}
 use Prim.Native.Nat.{ℕ, _<_, _≤_, _+_, _*_, _-_}
 use borrow.Fn.Kinds.{In}
 use borrow.Fn.PlainCycle.{Measures, is, falls, and}
 use Rattle.expressions.proofs.walk.element.Reads as element
 use Rattle.expressions.proofs.walk.element.Kinds as element-kinds
-use Rattle.expressions.proofs.walk.+element+expr+field+headed+inner+load_at+load_dot+member_list+minus+minus_parts+one+place+place_headed+second+set_form+short+target+two.Lts-element as element-lts
+use Rattle.expressions.proofs.walk.+element+expr+field+headed+inner+load_at+load_dot+member_list+minus+minus_parts+one+place+place_headed+second+set_form+target+two.Lts-element as element-lts
 use Rattle.expressions.proofs.walk.expr.Reads as expr
 use Rattle.expressions.proofs.walk.expr.Kinds as expr-kinds
-use Rattle.expressions.proofs.walk.+element+expr+field+headed+inner+load_at+load_dot+member_list+minus+minus_parts+one+place+place_headed+second+set_form+short+target+two.Lts-expr as expr-lts
+use Rattle.expressions.proofs.walk.+element+expr+field+headed+inner+load_at+load_dot+member_list+minus+minus_parts+one+place+place_headed+second+set_form+target+two.Lts-expr as expr-lts
 use Rattle.expressions.proofs.walk.field.Reads as field
 use Rattle.expressions.proofs.walk.field.Kinds as field-kinds
-use Rattle.expressions.proofs.walk.+element+expr+field+headed+inner+load_at+load_dot+member_list+minus+minus_parts+one+place+place_headed+second+set_form+short+target+two.Lts-field as field-lts
+use Rattle.expressions.proofs.walk.+element+expr+field+headed+inner+load_at+load_dot+member_list+minus+minus_parts+one+place+place_headed+second+set_form+target+two.Lts-field as field-lts
 use Rattle.expressions.proofs.walk.headed.Reads as headed
 use Rattle.expressions.proofs.walk.headed.Kinds as headed-kinds
-use Rattle.expressions.proofs.walk.+element+expr+field+headed+inner+load_at+load_dot+member_list+minus+minus_parts+one+place+place_headed+second+set_form+short+target+two.Lts-headed as headed-lts
+use Rattle.expressions.proofs.walk.+element+expr+field+headed+inner+load_at+load_dot+member_list+minus+minus_parts+one+place+place_headed+second+set_form+target+two.Lts-headed as headed-lts
 use Rattle.expressions.proofs.walk.inner.Reads as inner
 use Rattle.expressions.proofs.walk.inner.Kinds as inner-kinds
-use Rattle.expressions.proofs.walk.+element+expr+field+headed+inner+load_at+load_dot+member_list+minus+minus_parts+one+place+place_headed+second+set_form+short+target+two.Lts-inner as inner-lts
+use Rattle.expressions.proofs.walk.+element+expr+field+headed+inner+load_at+load_dot+member_list+minus+minus_parts+one+place+place_headed+second+set_form+target+two.Lts-inner as inner-lts
 use Rattle.expressions.proofs.walk.load_at.Reads as load-at
 use Rattle.expressions.proofs.walk.load_at.Kinds as load-at-kinds
-use Rattle.expressions.proofs.walk.+element+expr+field+headed+inner+load_at+load_dot+member_list+minus+minus_parts+one+place+place_headed+second+set_form+short+target+two.Lts-load_at as load-at-lts
+use Rattle.expressions.proofs.walk.+element+expr+field+headed+inner+load_at+load_dot+member_list+minus+minus_parts+one+place+place_headed+second+set_form+target+two.Lts-load_at as load-at-lts
 use Rattle.expressions.proofs.walk.load_dot.Reads as load-dot
 use Rattle.expressions.proofs.walk.load_dot.Kinds as load-dot-kinds
-use Rattle.expressions.proofs.walk.+element+expr+field+headed+inner+load_at+load_dot+member_list+minus+minus_parts+one+place+place_headed+second+set_form+short+target+two.Lts-load_dot as load-dot-lts
+use Rattle.expressions.proofs.walk.+element+expr+field+headed+inner+load_at+load_dot+member_list+minus+minus_parts+one+place+place_headed+second+set_form+target+two.Lts-load_dot as load-dot-lts
 use Rattle.expressions.proofs.walk.member_list.Reads as member-list
 use Rattle.expressions.proofs.walk.member_list.Kinds as member-list-kinds
-use Rattle.expressions.proofs.walk.+element+expr+field+headed+inner+load_at+load_dot+member_list+minus+minus_parts+one+place+place_headed+second+set_form+short+target+two.Lts-member_list as member-list-lts
+use Rattle.expressions.proofs.walk.+element+expr+field+headed+inner+load_at+load_dot+member_list+minus+minus_parts+one+place+place_headed+second+set_form+target+two.Lts-member_list as member-list-lts
 use Rattle.expressions.proofs.walk.minus.Reads as minus
 use Rattle.expressions.proofs.walk.minus.Kinds as minus-kinds
-use Rattle.expressions.proofs.walk.+element+expr+field+headed+inner+load_at+load_dot+member_list+minus+minus_parts+one+place+place_headed+second+set_form+short+target+two.Lts-minus as minus-lts
+use Rattle.expressions.proofs.walk.+element+expr+field+headed+inner+load_at+load_dot+member_list+minus+minus_parts+one+place+place_headed+second+set_form+target+two.Lts-minus as minus-lts
 use Rattle.expressions.proofs.walk.minus_parts.Reads as minus-parts
 use Rattle.expressions.proofs.walk.minus_parts.Kinds as minus-parts-kinds
-use Rattle.expressions.proofs.walk.+element+expr+field+headed+inner+load_at+load_dot+member_list+minus+minus_parts+one+place+place_headed+second+set_form+short+target+two.Lts-minus_parts as minus-parts-lts
+use Rattle.expressions.proofs.walk.+element+expr+field+headed+inner+load_at+load_dot+member_list+minus+minus_parts+one+place+place_headed+second+set_form+target+two.Lts-minus_parts as minus-parts-lts
 use Rattle.expressions.proofs.walk.one.Reads as one
 use Rattle.expressions.proofs.walk.one.Kinds as one-kinds
-use Rattle.expressions.proofs.walk.+element+expr+field+headed+inner+load_at+load_dot+member_list+minus+minus_parts+one+place+place_headed+second+set_form+short+target+two.Lts-one as one-lts
+use Rattle.expressions.proofs.walk.+element+expr+field+headed+inner+load_at+load_dot+member_list+minus+minus_parts+one+place+place_headed+second+set_form+target+two.Lts-one as one-lts
 use Rattle.expressions.proofs.walk.place.Reads as place
 use Rattle.expressions.proofs.walk.place.Kinds as place-kinds
-use Rattle.expressions.proofs.walk.+element+expr+field+headed+inner+load_at+load_dot+member_list+minus+minus_parts+one+place+place_headed+second+set_form+short+target+two.Lts-place as place-lts
+use Rattle.expressions.proofs.walk.+element+expr+field+headed+inner+load_at+load_dot+member_list+minus+minus_parts+one+place+place_headed+second+set_form+target+two.Lts-place as place-lts
 use Rattle.expressions.proofs.walk.place_headed.Reads as place-headed
 use Rattle.expressions.proofs.walk.place_headed.Kinds as place-headed-kinds
-use Rattle.expressions.proofs.walk.+element+expr+field+headed+inner+load_at+load_dot+member_list+minus+minus_parts+one+place+place_headed+second+set_form+short+target+two.Lts-place_headed as place-headed-lts
+use Rattle.expressions.proofs.walk.+element+expr+field+headed+inner+load_at+load_dot+member_list+minus+minus_parts+one+place+place_headed+second+set_form+target+two.Lts-place_headed as place-headed-lts
 use Rattle.expressions.proofs.walk.second.Reads as second
 use Rattle.expressions.proofs.walk.second.Kinds as second-kinds
-use Rattle.expressions.proofs.walk.+element+expr+field+headed+inner+load_at+load_dot+member_list+minus+minus_parts+one+place+place_headed+second+set_form+short+target+two.Lts-second as second-lts
+use Rattle.expressions.proofs.walk.+element+expr+field+headed+inner+load_at+load_dot+member_list+minus+minus_parts+one+place+place_headed+second+set_form+target+two.Lts-second as second-lts
 use Rattle.expressions.proofs.walk.set_form.Reads as set-form
 use Rattle.expressions.proofs.walk.set_form.Kinds as set-form-kinds
-use Rattle.expressions.proofs.walk.+element+expr+field+headed+inner+load_at+load_dot+member_list+minus+minus_parts+one+place+place_headed+second+set_form+short+target+two.Lts-set_form as set-form-lts
-use Rattle.expressions.proofs.walk.short.Reads as short
-use Rattle.expressions.proofs.walk.short.Kinds as short-kinds
-use Rattle.expressions.proofs.walk.+element+expr+field+headed+inner+load_at+load_dot+member_list+minus+minus_parts+one+place+place_headed+second+set_form+short+target+two.Lts-short as short-lts
+use Rattle.expressions.proofs.walk.+element+expr+field+headed+inner+load_at+load_dot+member_list+minus+minus_parts+one+place+place_headed+second+set_form+target+two.Lts-set_form as set-form-lts
 use Rattle.expressions.proofs.walk.target.Reads as target
 use Rattle.expressions.proofs.walk.target.Kinds as target-kinds
-use Rattle.expressions.proofs.walk.+element+expr+field+headed+inner+load_at+load_dot+member_list+minus+minus_parts+one+place+place_headed+second+set_form+short+target+two.Lts-target as target-lts
+use Rattle.expressions.proofs.walk.+element+expr+field+headed+inner+load_at+load_dot+member_list+minus+minus_parts+one+place+place_headed+second+set_form+target+two.Lts-target as target-lts
 use Rattle.expressions.proofs.walk.two.Reads as two
 use Rattle.expressions.proofs.walk.two.Kinds as two-kinds
-use Rattle.expressions.proofs.walk.+element+expr+field+headed+inner+load_at+load_dot+member_list+minus+minus_parts+one+place+place_headed+second+set_form+short+target+two.Lts-two as two-lts
+use Rattle.expressions.proofs.walk.+element+expr+field+headed+inner+load_at+load_dot+member_list+minus+minus_parts+one+place+place_headed+second+set_form+target+two.Lts-two as two-lts
 use Rattle.atoms.proofs.type_name.Reads as type-name-reads
 use Rattle.compounds.proofs.operators.apply.Reads as apply-reads
 use Rattle.compounds.proofs.operators.pair.Reads as pair-reads
-use Rattle.compounds.proofs.operators.short_pair.Reads as short-pair-reads
 use Rattle.compounds.proofs.targets.index.Reads as index-reads
 use Rattle.compounds.proofs.targets.load.Reads as load-reads
 use Rattle.compounds.proofs.targets.select.Reads as select-reads
@@ -86,6 +82,7 @@ use Rattle.exprleaves.proofs.links.slot_after.Reads as slot-after-reads
 use Rattle.exprleaves.proofs.words.negative.Reads as negative-reads
 use Rattle.exprleaves.proofs.words.number_alone.Reads as number-alone-reads
 use Rattle.exprnodes.proofs.members.member_fault.Reads as member-fault-reads
+use Rattle.kinds.proofs.short_row.Reads as short-row-reads
 use Rattle.exprnodes.proofs.bracket.closing.Reads as closing-reads
 use Rattle.parts.proofs.end_at.Reads as end-at-reads
 use Rattle.faults.proofs.failed.Reads as failed-reads
@@ -94,10 +91,10 @@ use Rattle.faults.proofs.lowest.Reads as lowest-reads
 use Rattle.parts.proofs.part_at.Reads as part-at-reads
 use Rattle.shapes.proofs.expr_head.Reads as expr-head-reads
 use Rattle.worklist.proofs.slot.Reads as slot-reads
-use Rattle.expressions.proofs.walk.+element+expr+field+headed+inner+load_at+load_dot+member_list+minus+minus_parts+one+place+place_headed+second+set_form+short+target+two.{
+use Rattle.expressions.proofs.walk.+element+expr+field+headed+inner+load_at+load_dot+member_list+minus+minus_parts+one+place+place_headed+second+set_form+target+two.{
   statement,
 }
-use Rattle.expressions.proofs.walk.+element+expr+field+headed+inner+load_at+load_dot+member_list+minus+minus_parts+one+place+place_headed+second+set_form+short+target+two.Tie.{
+use Rattle.expressions.proofs.walk.+element+expr+field+headed+inner+load_at+load_dot+member_list+minus+minus_parts+one+place+place_headed+second+set_form+target+two.Tie.{
   close,
 }
 
@@ -145,9 +142,6 @@ abbrev μ-second : Measures 3 second-kinds.ps ℕ
 
 abbrev μ-set-form : Measures 3 set-form-kinds.ps ℕ
 μ-set-form κs a = 8 * a .1 .1 .1 .1 .0 + 3
-
-abbrev μ-short : Measures 3 short-kinds.ps ℕ
-μ-short κs a = 8 * a .1 .1 .1 .1 .1 .0 + 2
 
 abbrev μ-target : Measures 3 target-kinds.ps ℕ
 μ-target κs a = 8 * a .1 .1 .1 .1 .0
@@ -257,12 +251,6 @@ abbrev set-form-below : ℕ → In 3 set-form-kinds.ps
 set-form-below t =
     and 3 set-form-kinds.ps (falls 3 set-form-kinds.ps _<_ μ-set-form t) set-form.Pre
 
-abbrev short-at : ℕ → In 3 short-kinds.ps
-short-at t = and 3 short-kinds.ps (is 3 short-kinds.ps μ-short t) short.Pre
-
-abbrev short-below : ℕ → In 3 short-kinds.ps
-short-below t = and 3 short-kinds.ps (falls 3 short-kinds.ps _<_ μ-short t) short.Pre
-
 abbrev target-at : ℕ → In 3 target-kinds.ps
 target-at t = and 3 target-kinds.ps (is 3 target-kinds.ps μ-target t) target.Pre
 
@@ -275,7 +263,7 @@ two-at t = and 3 two-kinds.ps (is 3 two-kinds.ps μ-two t) two.Pre
 abbrev two-below : ℕ → In 3 two-kinds.ps
 two-below t = and 3 two-kinds.ps (falls 3 two-kinds.ps _<_ μ-two t) two.Pre
 
--- src/walk.rt:439:9
+-- src/walk.rt:391:9
 element-target-requires : (t : ℕ) → element-lts.Need-target-requires (
   target-below t,
   target.Post,
@@ -290,7 +278,7 @@ element-target-requires : (t : ℕ) → element-lts.Need-target-requires (
 ) (element-at t) element.Post
 element-target-requires t c κs = search needs
 
--- src/walk.rt:441:8
+-- src/walk.rt:393:8
 element-is-form-requires : (t : ℕ) → element-lts.Need-is-form-requires (
   target-below t,
   target.Post,
@@ -305,7 +293,7 @@ element-is-form-requires : (t : ℕ) → element-lts.Need-is-form-requires (
 ) (element-at t) element.Post
 element-is-form-requires t c κs = search needs
 
--- src/walk.rt:442:9
+-- src/walk.rt:394:9
 element-same-length : (t : ℕ) → element-lts.Need-same-length (
   target-below t,
   target.Post,
@@ -320,7 +308,7 @@ element-same-length : (t : ℕ) → element-lts.Need-same-length (
 ) (element-at t) element.Post
 element-same-length t c = search needs
 
--- src/walk.rt:442:9
+-- src/walk.rt:394:9
 element-returns : (t : ℕ) → element-lts.Need-returns (
   target-below t,
   target.Post,
@@ -335,7 +323,7 @@ element-returns : (t : ℕ) → element-lts.Need-returns (
 ) (element-at t) element.Post
 element-returns t c = search at-laws
 
--- src/walk.rt:444:9
+-- src/walk.rt:396:9
 element-expr-requires : (t : ℕ) → element-lts.Need-expr-requires (
   target-below t,
   target.Post,
@@ -350,7 +338,7 @@ element-expr-requires : (t : ℕ) → element-lts.Need-expr-requires (
 ) (element-at t) element.Post
 element-expr-requires t c κs = search needs
 
--- src/walk.rt:445:27
+-- src/walk.rt:397:27
 element-closing-requires : (t : ℕ) → element-lts.Need-closing-requires (
   target-below t,
   target.Post,
@@ -365,7 +353,7 @@ element-closing-requires : (t : ℕ) → element-lts.Need-closing-requires (
 ) (element-at t) element.Post
 element-closing-requires t c κs = search needs
 
--- src/walk.rt:445:5
+-- src/walk.rt:397:5
 element-index-requires : (t : ℕ) → element-lts.Need-index-requires (
   target-below t,
   target.Post,
@@ -380,7 +368,7 @@ element-index-requires : (t : ℕ) → element-lts.Need-index-requires (
 ) (element-at t) element.Post
 element-index-requires t c κs = search needs
 
--- src/walk.rt:428:1
+-- src/walk.rt:380:1
 element-same-length-2 : (t : ℕ) → element-lts.Need-same-length-2 (
   target-below t,
   target.Post,
@@ -395,7 +383,7 @@ element-same-length-2 : (t : ℕ) → element-lts.Need-same-length-2 (
 ) (element-at t) element.Post
 element-same-length-2 t c = search needs
 
--- src/walk.rt:428:1
+-- src/walk.rt:380:1
 element-returns-2 : (t : ℕ) → element-lts.Need-returns-2 (
   target-below t,
   target.Post,
@@ -605,7 +593,7 @@ expr-returns-4 : (t : ℕ) → expr-lts.Need-returns-4 (
 ) (expr-at t) expr.Post
 expr-returns-4 t c = search expr-laws
 
--- src/walk.rt:460:9
+-- src/walk.rt:412:9
 field-target-requires : (t : ℕ) → field-lts.Need-target-requires (
   target-below t,
   target.Post,
@@ -620,7 +608,7 @@ field-target-requires : (t : ℕ) → field-lts.Need-target-requires (
 ) (field-at t) field.Post
 field-target-requires t c κs = search needs
 
--- src/walk.rt:462:8
+-- src/walk.rt:414:8
 field-is-form-requires : (t : ℕ) → field-lts.Need-is-form-requires (
   target-below t,
   target.Post,
@@ -635,7 +623,7 @@ field-is-form-requires : (t : ℕ) → field-lts.Need-is-form-requires (
 ) (field-at t) field.Post
 field-is-form-requires t c κs = search needs
 
--- src/walk.rt:463:9
+-- src/walk.rt:415:9
 field-same-length : (t : ℕ) → field-lts.Need-same-length (
   target-below t,
   target.Post,
@@ -650,7 +638,7 @@ field-same-length : (t : ℕ) → field-lts.Need-same-length (
 ) (field-at t) field.Post
 field-same-length t c = search needs
 
--- src/walk.rt:463:9
+-- src/walk.rt:415:9
 field-returns : (t : ℕ) → field-lts.Need-returns (
   target-below t,
   target.Post,
@@ -665,7 +653,7 @@ field-returns : (t : ℕ) → field-lts.Need-returns (
 ) (field-at t) field.Post
 field-returns t c = search dot-laws
 
--- src/walk.rt:465:9
+-- src/walk.rt:417:9
 field-sole-name-requires : (t : ℕ) → field-lts.Need-sole-name-requires (
   target-below t,
   target.Post,
@@ -680,7 +668,7 @@ field-sole-name-requires : (t : ℕ) → field-lts.Need-sole-name-requires (
 ) (field-at t) field.Post
 field-sole-name-requires t c κs = search needs
 
--- src/walk.rt:467:20
+-- src/walk.rt:419:20
 field-enum-known-n : (t : ℕ) → field-lts.Need-enum-known-n (
   target-below t,
   target.Post,
@@ -695,7 +683,7 @@ field-enum-known-n : (t : ℕ) → field-lts.Need-enum-known-n (
 ) (field-at t) field.Post
 field-enum-known-n t c = search needs
 
--- src/walk.rt:467:29
+-- src/walk.rt:419:29
 field-select-requires : (t : ℕ) → field-lts.Need-select-requires (
   target-below t,
   target.Post,
@@ -710,7 +698,7 @@ field-select-requires : (t : ℕ) → field-lts.Need-select-requires (
 ) (field-at t) field.Post
 field-select-requires t c κs = search needs
 
--- src/walk.rt:468:33
+-- src/walk.rt:420:33
 field-enum-told : (t : ℕ) → field-lts.Need-enum-told (
   target-below t,
   target.Post,
@@ -725,7 +713,7 @@ field-enum-told : (t : ℕ) → field-lts.Need-enum-told (
 ) (field-at t) field.Post
 field-enum-told t c = search needs
 
--- src/walk.rt:468:26
+-- src/walk.rt:420:26
 field-failed-requires : (t : ℕ) → field-lts.Need-failed-requires (
   target-below t,
   target.Post,
@@ -740,7 +728,7 @@ field-failed-requires : (t : ℕ) → field-lts.Need-failed-requires (
 ) (field-at t) field.Post
 field-failed-requires t c κs = search needs
 
--- src/walk.rt:449:1
+-- src/walk.rt:401:1
 field-same-length-2 : (t : ℕ) → field-lts.Need-same-length-2 (
   target-below t,
   target.Post,
@@ -755,7 +743,7 @@ field-same-length-2 : (t : ℕ) → field-lts.Need-same-length-2 (
 ) (field-at t) field.Post
 field-same-length-2 t c = search needs
 
--- src/walk.rt:449:1
+-- src/walk.rt:401:1
 field-returns-2 : (t : ℕ) → field-lts.Need-returns-2 (
   target-below t,
   target.Post,
@@ -770,7 +758,7 @@ field-returns-2 : (t : ℕ) → field-lts.Need-returns-2 (
 ) (field-at t) field.Post
 field-returns-2 t c = search dot-laws
 
--- src/walk.rt:449:1
+-- src/walk.rt:401:1
 field-same-length-3 : (t : ℕ) → field-lts.Need-same-length-3 (
   target-below t,
   target.Post,
@@ -785,7 +773,7 @@ field-same-length-3 : (t : ℕ) → field-lts.Need-same-length-3 (
 ) (field-at t) field.Post
 field-same-length-3 t c = search needs
 
--- src/walk.rt:449:1
+-- src/walk.rt:401:1
 field-returns-3 : (t : ℕ) → field-lts.Need-returns-3 (
   target-below t,
   target.Post,
@@ -800,7 +788,7 @@ field-returns-3 : (t : ℕ) → field-lts.Need-returns-3 (
 ) (field-at t) field.Post
 field-returns-3 t c = search dot-laws
 
--- src/walk.rt:108:39
+-- src/walk.rt:99:39
 headed-enum-told : (t : ℕ) → headed-lts.Need-enum-told (
   load-at-below t,
   load-at.Post,
@@ -812,18 +800,18 @@ headed-enum-told : (t : ℕ) → headed-lts.Need-enum-told (
   minus.Post,
   bound-reads.Asked,
   bound-reads.Learnt,
-  short-below t,
-  short.Post,
+  short-row-reads.Asked,
+  short-row-reads.Learnt,
   two-below t,
   two.Post,
-  one-below t,
-  one.Post,
   failed-reads.Asked,
   failed-reads.Learnt,
+  one-below t,
+  one.Post,
 ) (headed-at t) headed.Post
 headed-enum-told t c = search needs
 
--- src/walk.rt:108:25
+-- src/walk.rt:99:25
 headed-load-at-requires : (t : ℕ) → headed-lts.Need-load-at-requires (
   load-at-below t,
   load-at.Post,
@@ -835,18 +823,18 @@ headed-load-at-requires : (t : ℕ) → headed-lts.Need-load-at-requires (
   minus.Post,
   bound-reads.Asked,
   bound-reads.Learnt,
-  short-below t,
-  short.Post,
+  short-row-reads.Asked,
+  short-row-reads.Learnt,
   two-below t,
   two.Post,
-  one-below t,
-  one.Post,
   failed-reads.Asked,
   failed-reads.Learnt,
+  one-below t,
+  one.Post,
 ) (headed-at t) headed.Post
 headed-load-at-requires t c κs = search needs
 
--- src/walk.rt:109:41
+-- src/walk.rt:100:41
 headed-enum-told-2 : (t : ℕ) → headed-lts.Need-enum-told-2 (
   load-at-below t,
   load-at.Post,
@@ -858,18 +846,18 @@ headed-enum-told-2 : (t : ℕ) → headed-lts.Need-enum-told-2 (
   minus.Post,
   bound-reads.Asked,
   bound-reads.Learnt,
-  short-below t,
-  short.Post,
+  short-row-reads.Asked,
+  short-row-reads.Learnt,
   two-below t,
   two.Post,
-  one-below t,
-  one.Post,
   failed-reads.Asked,
   failed-reads.Learnt,
+  one-below t,
+  one.Post,
 ) (headed-at t) headed.Post
 headed-enum-told-2 t c = search needs
 
--- src/walk.rt:109:26
+-- src/walk.rt:100:26
 headed-load-dot-requires : (t : ℕ) → headed-lts.Need-load-dot-requires (
   load-at-below t,
   load-at.Post,
@@ -881,18 +869,18 @@ headed-load-dot-requires : (t : ℕ) → headed-lts.Need-load-dot-requires (
   minus.Post,
   bound-reads.Asked,
   bound-reads.Learnt,
-  short-below t,
-  short.Post,
+  short-row-reads.Asked,
+  short-row-reads.Learnt,
   two-below t,
   two.Post,
-  one-below t,
-  one.Post,
   failed-reads.Asked,
   failed-reads.Learnt,
+  one-below t,
+  one.Post,
 ) (headed-at t) headed.Post
 headed-load-dot-requires t c κs = search needs
 
--- src/walk.rt:110:45
+-- src/walk.rt:101:45
 headed-enum-told-3 : (t : ℕ) → headed-lts.Need-enum-told-3 (
   load-at-below t,
   load-at.Post,
@@ -904,18 +892,18 @@ headed-enum-told-3 : (t : ℕ) → headed-lts.Need-enum-told-3 (
   minus.Post,
   bound-reads.Asked,
   bound-reads.Learnt,
-  short-below t,
-  short.Post,
+  short-row-reads.Asked,
+  short-row-reads.Learnt,
   two-below t,
   two.Post,
-  one-below t,
-  one.Post,
   failed-reads.Asked,
   failed-reads.Learnt,
+  one-below t,
+  one.Post,
 ) (headed-at t) headed.Post
 headed-enum-told-3 t c = search needs
 
--- src/walk.rt:110:30
+-- src/walk.rt:101:30
 headed-set-form-requires : (t : ℕ) → headed-lts.Need-set-form-requires (
   load-at-below t,
   load-at.Post,
@@ -927,18 +915,18 @@ headed-set-form-requires : (t : ℕ) → headed-lts.Need-set-form-requires (
   minus.Post,
   bound-reads.Asked,
   bound-reads.Learnt,
-  short-below t,
-  short.Post,
+  short-row-reads.Asked,
+  short-row-reads.Learnt,
   two-below t,
   two.Post,
-  one-below t,
-  one.Post,
   failed-reads.Asked,
   failed-reads.Learnt,
+  one-below t,
+  one.Post,
 ) (headed-at t) headed.Post
 headed-set-form-requires t c κs = search needs
 
--- src/walk.rt:111:40
+-- src/walk.rt:102:40
 headed-enum-told-4 : (t : ℕ) → headed-lts.Need-enum-told-4 (
   load-at-below t,
   load-at.Post,
@@ -950,18 +938,18 @@ headed-enum-told-4 : (t : ℕ) → headed-lts.Need-enum-told-4 (
   minus.Post,
   bound-reads.Asked,
   bound-reads.Learnt,
-  short-below t,
-  short.Post,
+  short-row-reads.Asked,
+  short-row-reads.Learnt,
   two-below t,
   two.Post,
-  one-below t,
-  one.Post,
   failed-reads.Asked,
   failed-reads.Learnt,
+  one-below t,
+  one.Post,
 ) (headed-at t) headed.Post
 headed-enum-told-4 t c = search needs
 
--- src/walk.rt:111:28
+-- src/walk.rt:102:28
 headed-minus-requires : (t : ℕ) → headed-lts.Need-minus-requires (
   load-at-below t,
   load-at.Post,
@@ -973,18 +961,18 @@ headed-minus-requires : (t : ℕ) → headed-lts.Need-minus-requires (
   minus.Post,
   bound-reads.Asked,
   bound-reads.Learnt,
-  short-below t,
-  short.Post,
+  short-row-reads.Asked,
+  short-row-reads.Learnt,
   two-below t,
   two.Post,
-  one-below t,
-  one.Post,
   failed-reads.Asked,
   failed-reads.Learnt,
+  one-below t,
+  one.Post,
 ) (headed-at t) headed.Post
 headed-minus-requires t c κs = search needs
 
--- src/walk.rt:112:25
+-- src/walk.rt:103:25
 headed-enum-known-head : (t : ℕ) → headed-lts.Need-enum-known-head (
   load-at-below t,
   load-at.Post,
@@ -996,18 +984,18 @@ headed-enum-known-head : (t : ℕ) → headed-lts.Need-enum-known-head (
   minus.Post,
   bound-reads.Asked,
   bound-reads.Learnt,
-  short-below t,
-  short.Post,
+  short-row-reads.Asked,
+  short-row-reads.Learnt,
   two-below t,
   two.Post,
-  one-below t,
-  one.Post,
   failed-reads.Asked,
   failed-reads.Learnt,
+  one-below t,
+  one.Post,
 ) (headed-at t) headed.Post
 headed-enum-known-head t c = search needs
 
--- src/walk.rt:112:34
+-- src/walk.rt:103:34
 headed-bound-requires : (t : ℕ) → headed-lts.Need-bound-requires (
   load-at-below t,
   load-at.Post,
@@ -1019,18 +1007,18 @@ headed-bound-requires : (t : ℕ) → headed-lts.Need-bound-requires (
   minus.Post,
   bound-reads.Asked,
   bound-reads.Learnt,
-  short-below t,
-  short.Post,
+  short-row-reads.Asked,
+  short-row-reads.Learnt,
   two-below t,
   two.Post,
-  one-below t,
-  one.Post,
   failed-reads.Asked,
   failed-reads.Learnt,
+  one-below t,
+  one.Post,
 ) (headed-at t) headed.Post
 headed-bound-requires t c κs = search needs
 
--- src/walk.rt:113:25
+-- src/walk.rt:104:25
 headed-enum-known-head-2 : (t : ℕ) → headed-lts.Need-enum-known-head-2 (
   load-at-below t,
   load-at.Post,
@@ -1042,19 +1030,19 @@ headed-enum-known-head-2 : (t : ℕ) → headed-lts.Need-enum-known-head-2 (
   minus.Post,
   bound-reads.Asked,
   bound-reads.Learnt,
-  short-below t,
-  short.Post,
+  short-row-reads.Asked,
+  short-row-reads.Learnt,
   two-below t,
   two.Post,
-  one-below t,
-  one.Post,
   failed-reads.Asked,
   failed-reads.Learnt,
+  one-below t,
+  one.Post,
 ) (headed-at t) headed.Post
 headed-enum-known-head-2 t c = search needs
 
--- src/walk.rt:113:35
-headed-short-requires : (t : ℕ) → headed-lts.Need-short-requires (
+-- src/walk.rt:104:65
+headed-short-row-requires : (t : ℕ) → headed-lts.Need-short-row-requires (
   load-at-below t,
   load-at.Post,
   load-dot-below t,
@@ -1065,41 +1053,18 @@ headed-short-requires : (t : ℕ) → headed-lts.Need-short-requires (
   minus.Post,
   bound-reads.Asked,
   bound-reads.Learnt,
-  short-below t,
-  short.Post,
+  short-row-reads.Asked,
+  short-row-reads.Learnt,
   two-below t,
   two.Post,
-  one-below t,
-  one.Post,
   failed-reads.Asked,
   failed-reads.Learnt,
-) (headed-at t) headed.Post
-headed-short-requires t c κs = search needs
-
--- src/walk.rt:114:23
-headed-enum-known-head-3 : (t : ℕ) → headed-lts.Need-enum-known-head-3 (
-  load-at-below t,
-  load-at.Post,
-  load-dot-below t,
-  load-dot.Post,
-  set-form-below t,
-  set-form.Post,
-  minus-below t,
-  minus.Post,
-  bound-reads.Asked,
-  bound-reads.Learnt,
-  short-below t,
-  short.Post,
-  two-below t,
-  two.Post,
   one-below t,
   one.Post,
-  failed-reads.Asked,
-  failed-reads.Learnt,
 ) (headed-at t) headed.Post
-headed-enum-known-head-3 t c = search needs
+headed-short-row-requires t c κs = search needs
 
--- src/walk.rt:114:30
+-- src/walk.rt:104:35
 headed-two-requires : (t : ℕ) → headed-lts.Need-two-requires (
   load-at-below t,
   load-at.Post,
@@ -1111,19 +1076,19 @@ headed-two-requires : (t : ℕ) → headed-lts.Need-two-requires (
   minus.Post,
   bound-reads.Asked,
   bound-reads.Learnt,
-  short-below t,
-  short.Post,
+  short-row-reads.Asked,
+  short-row-reads.Learnt,
   two-below t,
   two.Post,
-  one-below t,
-  one.Post,
   failed-reads.Asked,
   failed-reads.Learnt,
+  one-below t,
+  one.Post,
 ) (headed-at t) headed.Post
 headed-two-requires t c κs = search needs
 
--- src/walk.rt:115:23
-headed-enum-known-head-4 : (t : ℕ) → headed-lts.Need-enum-known-head-4 (
+-- src/walk.rt:105:23
+headed-enum-known-head-3 : (t : ℕ) → headed-lts.Need-enum-known-head-3 (
   load-at-below t,
   load-at.Post,
   load-dot-below t,
@@ -1134,64 +1099,18 @@ headed-enum-known-head-4 : (t : ℕ) → headed-lts.Need-enum-known-head-4 (
   minus.Post,
   bound-reads.Asked,
   bound-reads.Learnt,
-  short-below t,
-  short.Post,
+  short-row-reads.Asked,
+  short-row-reads.Learnt,
   two-below t,
   two.Post,
-  one-below t,
-  one.Post,
   failed-reads.Asked,
   failed-reads.Learnt,
-) (headed-at t) headed.Post
-headed-enum-known-head-4 t c = search needs
-
--- src/walk.rt:115:29
-headed-one-requires : (t : ℕ) → headed-lts.Need-one-requires (
-  load-at-below t,
-  load-at.Post,
-  load-dot-below t,
-  load-dot.Post,
-  set-form-below t,
-  set-form.Post,
-  minus-below t,
-  minus.Post,
-  bound-reads.Asked,
-  bound-reads.Learnt,
-  short-below t,
-  short.Post,
-  two-below t,
-  two.Post,
   one-below t,
   one.Post,
-  failed-reads.Asked,
-  failed-reads.Learnt,
 ) (headed-at t) headed.Post
-headed-one-requires t c κs = search needs
+headed-enum-known-head-3 t c = search needs
 
--- src/walk.rt:116:37
-headed-enum-told-5 : (t : ℕ) → headed-lts.Need-enum-told-5 (
-  load-at-below t,
-  load-at.Post,
-  load-dot-below t,
-  load-dot.Post,
-  set-form-below t,
-  set-form.Post,
-  minus-below t,
-  minus.Post,
-  bound-reads.Asked,
-  bound-reads.Learnt,
-  short-below t,
-  short.Post,
-  two-below t,
-  two.Post,
-  one-below t,
-  one.Post,
-  failed-reads.Asked,
-  failed-reads.Learnt,
-) (headed-at t) headed.Post
-headed-enum-told-5 t c = search needs
-
--- src/walk.rt:116:30
+-- src/walk.rt:107:17
 headed-failed-requires : (t : ℕ) → headed-lts.Need-failed-requires (
   load-at-below t,
   load-at.Post,
@@ -1203,41 +1122,18 @@ headed-failed-requires : (t : ℕ) → headed-lts.Need-failed-requires (
   minus.Post,
   bound-reads.Asked,
   bound-reads.Learnt,
-  short-below t,
-  short.Post,
+  short-row-reads.Asked,
+  short-row-reads.Learnt,
   two-below t,
   two.Post,
-  one-below t,
-  one.Post,
   failed-reads.Asked,
   failed-reads.Learnt,
+  one-below t,
+  one.Post,
 ) (headed-at t) headed.Post
 headed-failed-requires t c κs = search needs
 
--- src/walk.rt:95:1
-headed-same-length : (t : ℕ) → headed-lts.Need-same-length (
-  load-at-below t,
-  load-at.Post,
-  load-dot-below t,
-  load-dot.Post,
-  set-form-below t,
-  set-form.Post,
-  minus-below t,
-  minus.Post,
-  bound-reads.Asked,
-  bound-reads.Learnt,
-  short-below t,
-  short.Post,
-  two-below t,
-  two.Post,
-  one-below t,
-  one.Post,
-  failed-reads.Asked,
-  failed-reads.Learnt,
-) (headed-at t) headed.Post
-headed-same-length t c = search needs
-
--- src/walk.rt:95:1
+-- src/walk.rt:107:17
 headed-returns : (t : ℕ) → headed-lts.Need-returns (
   load-at-below t,
   load-at.Post,
@@ -1249,19 +1145,19 @@ headed-returns : (t : ℕ) → headed-lts.Need-returns (
   minus.Post,
   bound-reads.Asked,
   bound-reads.Learnt,
-  short-below t,
-  short.Post,
+  short-row-reads.Asked,
+  short-row-reads.Learnt,
   two-below t,
   two.Post,
-  one-below t,
-  one.Post,
   failed-reads.Asked,
   failed-reads.Learnt,
+  one-below t,
+  one.Post,
 ) (headed-at t) headed.Post
 headed-returns t c = search by-laws
 
--- src/walk.rt:95:1
-headed-same-length-2 : (t : ℕ) → headed-lts.Need-same-length-2 (
+-- src/walk.rt:109:13
+headed-two-requires-2 : (t : ℕ) → headed-lts.Need-two-requires-2 (
   load-at-below t,
   load-at.Post,
   load-dot-below t,
@@ -1272,18 +1168,133 @@ headed-same-length-2 : (t : ℕ) → headed-lts.Need-same-length-2 (
   minus.Post,
   bound-reads.Asked,
   bound-reads.Learnt,
-  short-below t,
-  short.Post,
+  short-row-reads.Asked,
+  short-row-reads.Learnt,
   two-below t,
   two.Post,
-  one-below t,
-  one.Post,
   failed-reads.Asked,
   failed-reads.Learnt,
+  one-below t,
+  one.Post,
 ) (headed-at t) headed.Post
-headed-same-length-2 t c = search needs
+headed-two-requires-2 t c κs = search needs
 
--- src/walk.rt:95:1
+-- src/walk.rt:111:23
+headed-enum-known-head-4 : (t : ℕ) → headed-lts.Need-enum-known-head-4 (
+  load-at-below t,
+  load-at.Post,
+  load-dot-below t,
+  load-dot.Post,
+  set-form-below t,
+  set-form.Post,
+  minus-below t,
+  minus.Post,
+  bound-reads.Asked,
+  bound-reads.Learnt,
+  short-row-reads.Asked,
+  short-row-reads.Learnt,
+  two-below t,
+  two.Post,
+  failed-reads.Asked,
+  failed-reads.Learnt,
+  one-below t,
+  one.Post,
+) (headed-at t) headed.Post
+headed-enum-known-head-4 t c = search needs
+
+-- src/walk.rt:111:29
+headed-one-requires : (t : ℕ) → headed-lts.Need-one-requires (
+  load-at-below t,
+  load-at.Post,
+  load-dot-below t,
+  load-dot.Post,
+  set-form-below t,
+  set-form.Post,
+  minus-below t,
+  minus.Post,
+  bound-reads.Asked,
+  bound-reads.Learnt,
+  short-row-reads.Asked,
+  short-row-reads.Learnt,
+  two-below t,
+  two.Post,
+  failed-reads.Asked,
+  failed-reads.Learnt,
+  one-below t,
+  one.Post,
+) (headed-at t) headed.Post
+headed-one-requires t c κs = search needs
+
+-- src/walk.rt:112:37
+headed-enum-told-5 : (t : ℕ) → headed-lts.Need-enum-told-5 (
+  load-at-below t,
+  load-at.Post,
+  load-dot-below t,
+  load-dot.Post,
+  set-form-below t,
+  set-form.Post,
+  minus-below t,
+  minus.Post,
+  bound-reads.Asked,
+  bound-reads.Learnt,
+  short-row-reads.Asked,
+  short-row-reads.Learnt,
+  two-below t,
+  two.Post,
+  failed-reads.Asked,
+  failed-reads.Learnt,
+  one-below t,
+  one.Post,
+) (headed-at t) headed.Post
+headed-enum-told-5 t c = search needs
+
+-- src/walk.rt:112:30
+headed-failed-requires-2 : (t : ℕ) → headed-lts.Need-failed-requires-2 (
+  load-at-below t,
+  load-at.Post,
+  load-dot-below t,
+  load-dot.Post,
+  set-form-below t,
+  set-form.Post,
+  minus-below t,
+  minus.Post,
+  bound-reads.Asked,
+  bound-reads.Learnt,
+  short-row-reads.Asked,
+  short-row-reads.Learnt,
+  two-below t,
+  two.Post,
+  failed-reads.Asked,
+  failed-reads.Learnt,
+  one-below t,
+  one.Post,
+) (headed-at t) headed.Post
+headed-failed-requires-2 t c κs = search needs
+
+-- src/walk.rt:86:1
+headed-same-length : (t : ℕ) → headed-lts.Need-same-length (
+  load-at-below t,
+  load-at.Post,
+  load-dot-below t,
+  load-dot.Post,
+  set-form-below t,
+  set-form.Post,
+  minus-below t,
+  minus.Post,
+  bound-reads.Asked,
+  bound-reads.Learnt,
+  short-row-reads.Asked,
+  short-row-reads.Learnt,
+  two-below t,
+  two.Post,
+  failed-reads.Asked,
+  failed-reads.Learnt,
+  one-below t,
+  one.Post,
+) (headed-at t) headed.Post
+headed-same-length t c = search needs
+
+-- src/walk.rt:86:1
 headed-returns-2 : (t : ℕ) → headed-lts.Need-returns-2 (
   load-at-below t,
   load-at.Post,
@@ -1295,19 +1306,19 @@ headed-returns-2 : (t : ℕ) → headed-lts.Need-returns-2 (
   minus.Post,
   bound-reads.Asked,
   bound-reads.Learnt,
-  short-below t,
-  short.Post,
+  short-row-reads.Asked,
+  short-row-reads.Learnt,
   two-below t,
   two.Post,
-  one-below t,
-  one.Post,
   failed-reads.Asked,
   failed-reads.Learnt,
+  one-below t,
+  one.Post,
 ) (headed-at t) headed.Post
 headed-returns-2 t c = search by-laws
 
--- src/walk.rt:95:1
-headed-same-length-3 : (t : ℕ) → headed-lts.Need-same-length-3 (
+-- src/walk.rt:86:1
+headed-same-length-2 : (t : ℕ) → headed-lts.Need-same-length-2 (
   load-at-below t,
   load-at.Post,
   load-dot-below t,
@@ -1318,18 +1329,18 @@ headed-same-length-3 : (t : ℕ) → headed-lts.Need-same-length-3 (
   minus.Post,
   bound-reads.Asked,
   bound-reads.Learnt,
-  short-below t,
-  short.Post,
+  short-row-reads.Asked,
+  short-row-reads.Learnt,
   two-below t,
   two.Post,
-  one-below t,
-  one.Post,
   failed-reads.Asked,
   failed-reads.Learnt,
+  one-below t,
+  one.Post,
 ) (headed-at t) headed.Post
-headed-same-length-3 t c = search needs
+headed-same-length-2 t c = search needs
 
--- src/walk.rt:95:1
+-- src/walk.rt:86:1
 headed-returns-3 : (t : ℕ) → headed-lts.Need-returns-3 (
   load-at-below t,
   load-at.Post,
@@ -1341,19 +1352,19 @@ headed-returns-3 : (t : ℕ) → headed-lts.Need-returns-3 (
   minus.Post,
   bound-reads.Asked,
   bound-reads.Learnt,
-  short-below t,
-  short.Post,
+  short-row-reads.Asked,
+  short-row-reads.Learnt,
   two-below t,
   two.Post,
-  one-below t,
-  one.Post,
   failed-reads.Asked,
   failed-reads.Learnt,
+  one-below t,
+  one.Post,
 ) (headed-at t) headed.Post
 headed-returns-3 t c = search by-laws
 
--- src/walk.rt:95:1
-headed-same-length-4 : (t : ℕ) → headed-lts.Need-same-length-4 (
+-- src/walk.rt:86:1
+headed-same-length-3 : (t : ℕ) → headed-lts.Need-same-length-3 (
   load-at-below t,
   load-at.Post,
   load-dot-below t,
@@ -1364,18 +1375,18 @@ headed-same-length-4 : (t : ℕ) → headed-lts.Need-same-length-4 (
   minus.Post,
   bound-reads.Asked,
   bound-reads.Learnt,
-  short-below t,
-  short.Post,
+  short-row-reads.Asked,
+  short-row-reads.Learnt,
   two-below t,
   two.Post,
-  one-below t,
-  one.Post,
   failed-reads.Asked,
   failed-reads.Learnt,
+  one-below t,
+  one.Post,
 ) (headed-at t) headed.Post
-headed-same-length-4 t c = search needs
+headed-same-length-3 t c = search needs
 
--- src/walk.rt:95:1
+-- src/walk.rt:86:1
 headed-returns-4 : (t : ℕ) → headed-lts.Need-returns-4 (
   load-at-below t,
   load-at.Post,
@@ -1387,19 +1398,19 @@ headed-returns-4 : (t : ℕ) → headed-lts.Need-returns-4 (
   minus.Post,
   bound-reads.Asked,
   bound-reads.Learnt,
-  short-below t,
-  short.Post,
+  short-row-reads.Asked,
+  short-row-reads.Learnt,
   two-below t,
   two.Post,
-  one-below t,
-  one.Post,
   failed-reads.Asked,
   failed-reads.Learnt,
+  one-below t,
+  one.Post,
 ) (headed-at t) headed.Post
 headed-returns-4 t c = search by-laws
 
--- src/walk.rt:95:1
-headed-same-length-5 : (t : ℕ) → headed-lts.Need-same-length-5 (
+-- src/walk.rt:86:1
+headed-same-length-4 : (t : ℕ) → headed-lts.Need-same-length-4 (
   load-at-below t,
   load-at.Post,
   load-dot-below t,
@@ -1410,18 +1421,18 @@ headed-same-length-5 : (t : ℕ) → headed-lts.Need-same-length-5 (
   minus.Post,
   bound-reads.Asked,
   bound-reads.Learnt,
-  short-below t,
-  short.Post,
+  short-row-reads.Asked,
+  short-row-reads.Learnt,
   two-below t,
   two.Post,
-  one-below t,
-  one.Post,
   failed-reads.Asked,
   failed-reads.Learnt,
+  one-below t,
+  one.Post,
 ) (headed-at t) headed.Post
-headed-same-length-5 t c = search needs
+headed-same-length-4 t c = search needs
 
--- src/walk.rt:95:1
+-- src/walk.rt:86:1
 headed-returns-5 : (t : ℕ) → headed-lts.Need-returns-5 (
   load-at-below t,
   load-at.Post,
@@ -1433,19 +1444,19 @@ headed-returns-5 : (t : ℕ) → headed-lts.Need-returns-5 (
   minus.Post,
   bound-reads.Asked,
   bound-reads.Learnt,
-  short-below t,
-  short.Post,
+  short-row-reads.Asked,
+  short-row-reads.Learnt,
   two-below t,
   two.Post,
-  one-below t,
-  one.Post,
   failed-reads.Asked,
   failed-reads.Learnt,
+  one-below t,
+  one.Post,
 ) (headed-at t) headed.Post
 headed-returns-5 t c = search by-laws
 
--- src/walk.rt:95:1
-headed-same-length-6 : (t : ℕ) → headed-lts.Need-same-length-6 (
+-- src/walk.rt:86:1
+headed-same-length-5 : (t : ℕ) → headed-lts.Need-same-length-5 (
   load-at-below t,
   load-at.Post,
   load-dot-below t,
@@ -1456,18 +1467,18 @@ headed-same-length-6 : (t : ℕ) → headed-lts.Need-same-length-6 (
   minus.Post,
   bound-reads.Asked,
   bound-reads.Learnt,
-  short-below t,
-  short.Post,
+  short-row-reads.Asked,
+  short-row-reads.Learnt,
   two-below t,
   two.Post,
-  one-below t,
-  one.Post,
   failed-reads.Asked,
   failed-reads.Learnt,
+  one-below t,
+  one.Post,
 ) (headed-at t) headed.Post
-headed-same-length-6 t c = search needs
+headed-same-length-5 t c = search needs
 
--- src/walk.rt:95:1
+-- src/walk.rt:86:1
 headed-returns-6 : (t : ℕ) → headed-lts.Need-returns-6 (
   load-at-below t,
   load-at.Post,
@@ -1479,19 +1490,19 @@ headed-returns-6 : (t : ℕ) → headed-lts.Need-returns-6 (
   minus.Post,
   bound-reads.Asked,
   bound-reads.Learnt,
-  short-below t,
-  short.Post,
+  short-row-reads.Asked,
+  short-row-reads.Learnt,
   two-below t,
   two.Post,
-  one-below t,
-  one.Post,
   failed-reads.Asked,
   failed-reads.Learnt,
+  one-below t,
+  one.Post,
 ) (headed-at t) headed.Post
 headed-returns-6 t c = search by-laws
 
--- src/walk.rt:95:1
-headed-same-length-7 : (t : ℕ) → headed-lts.Need-same-length-7 (
+-- src/walk.rt:86:1
+headed-same-length-6 : (t : ℕ) → headed-lts.Need-same-length-6 (
   load-at-below t,
   load-at.Post,
   load-dot-below t,
@@ -1502,18 +1513,18 @@ headed-same-length-7 : (t : ℕ) → headed-lts.Need-same-length-7 (
   minus.Post,
   bound-reads.Asked,
   bound-reads.Learnt,
-  short-below t,
-  short.Post,
+  short-row-reads.Asked,
+  short-row-reads.Learnt,
   two-below t,
   two.Post,
-  one-below t,
-  one.Post,
   failed-reads.Asked,
   failed-reads.Learnt,
+  one-below t,
+  one.Post,
 ) (headed-at t) headed.Post
-headed-same-length-7 t c = search needs
+headed-same-length-6 t c = search needs
 
--- src/walk.rt:95:1
+-- src/walk.rt:86:1
 headed-returns-7 : (t : ℕ) → headed-lts.Need-returns-7 (
   load-at-below t,
   load-at.Post,
@@ -1525,19 +1536,19 @@ headed-returns-7 : (t : ℕ) → headed-lts.Need-returns-7 (
   minus.Post,
   bound-reads.Asked,
   bound-reads.Learnt,
-  short-below t,
-  short.Post,
+  short-row-reads.Asked,
+  short-row-reads.Learnt,
   two-below t,
   two.Post,
-  one-below t,
-  one.Post,
   failed-reads.Asked,
   failed-reads.Learnt,
+  one-below t,
+  one.Post,
 ) (headed-at t) headed.Post
 headed-returns-7 t c = search by-laws
 
--- src/walk.rt:95:1
-headed-same-length-8 : (t : ℕ) → headed-lts.Need-same-length-8 (
+-- src/walk.rt:86:1
+headed-same-length-7 : (t : ℕ) → headed-lts.Need-same-length-7 (
   load-at-below t,
   load-at.Post,
   load-dot-below t,
@@ -1548,18 +1559,18 @@ headed-same-length-8 : (t : ℕ) → headed-lts.Need-same-length-8 (
   minus.Post,
   bound-reads.Asked,
   bound-reads.Learnt,
-  short-below t,
-  short.Post,
+  short-row-reads.Asked,
+  short-row-reads.Learnt,
   two-below t,
   two.Post,
-  one-below t,
-  one.Post,
   failed-reads.Asked,
   failed-reads.Learnt,
+  one-below t,
+  one.Post,
 ) (headed-at t) headed.Post
-headed-same-length-8 t c = search needs
+headed-same-length-7 t c = search needs
 
--- src/walk.rt:95:1
+-- src/walk.rt:86:1
 headed-returns-8 : (t : ℕ) → headed-lts.Need-returns-8 (
   load-at-below t,
   load-at.Post,
@@ -1571,18 +1582,41 @@ headed-returns-8 : (t : ℕ) → headed-lts.Need-returns-8 (
   minus.Post,
   bound-reads.Asked,
   bound-reads.Learnt,
-  short-below t,
-  short.Post,
+  short-row-reads.Asked,
+  short-row-reads.Learnt,
   two-below t,
   two.Post,
-  one-below t,
-  one.Post,
   failed-reads.Asked,
   failed-reads.Learnt,
+  one-below t,
+  one.Post,
 ) (headed-at t) headed.Post
 headed-returns-8 t c = search by-laws
 
--- src/walk.rt:95:1
+-- src/walk.rt:86:1
+headed-same-length-8 : (t : ℕ) → headed-lts.Need-same-length-8 (
+  load-at-below t,
+  load-at.Post,
+  load-dot-below t,
+  load-dot.Post,
+  set-form-below t,
+  set-form.Post,
+  minus-below t,
+  minus.Post,
+  bound-reads.Asked,
+  bound-reads.Learnt,
+  short-row-reads.Asked,
+  short-row-reads.Learnt,
+  two-below t,
+  two.Post,
+  failed-reads.Asked,
+  failed-reads.Learnt,
+  one-below t,
+  one.Post,
+) (headed-at t) headed.Post
+headed-same-length-8 t c = search needs
+
+-- src/walk.rt:86:1
 headed-returns-9 : (t : ℕ) → headed-lts.Need-returns-9 (
   load-at-below t,
   load-at.Post,
@@ -1594,16 +1628,39 @@ headed-returns-9 : (t : ℕ) → headed-lts.Need-returns-9 (
   minus.Post,
   bound-reads.Asked,
   bound-reads.Learnt,
-  short-below t,
-  short.Post,
+  short-row-reads.Asked,
+  short-row-reads.Learnt,
   two-below t,
   two.Post,
-  one-below t,
-  one.Post,
   failed-reads.Asked,
   failed-reads.Learnt,
+  one-below t,
+  one.Post,
 ) (headed-at t) headed.Post
 headed-returns-9 t c = search by-laws
+
+-- src/walk.rt:86:1
+headed-returns-10 : (t : ℕ) → headed-lts.Need-returns-10 (
+  load-at-below t,
+  load-at.Post,
+  load-dot-below t,
+  load-dot.Post,
+  set-form-below t,
+  set-form.Post,
+  minus-below t,
+  minus.Post,
+  bound-reads.Asked,
+  bound-reads.Learnt,
+  short-row-reads.Asked,
+  short-row-reads.Learnt,
+  two-below t,
+  two.Post,
+  failed-reads.Asked,
+  failed-reads.Learnt,
+  one-below t,
+  one.Post,
+) (headed-at t) headed.Post
+headed-returns-10 t c = search by-laws
 
 -- src/walk.rt:77:9
 inner-part-at-requires : (t : ℕ) → inner-lts.Need-part-at-requires (
@@ -1631,7 +1688,7 @@ inner-enum-known-p : (t : ℕ) → inner-lts.Need-enum-known-p (
 ) (inner-at t) inner.Post
 inner-enum-known-p t c = search needs
 
--- src/walk.rt:84:13
+-- src/walk.rt:79:65
 inner-expr-head-requires : (t : ℕ) → inner-lts.Need-expr-head-requires (
   part-at-reads.Asked,
   part-at-reads.Learnt,
@@ -1657,7 +1714,7 @@ inner-headed-requires : (t : ℕ) → inner-lts.Need-headed-requires (
 ) (inner-at t) inner.Post
 inner-headed-requires t c κs = search needs
 
--- src/walk.rt:89:20
+-- src/walk.rt:80:20
 inner-enum-known-p-2 : (t : ℕ) → inner-lts.Need-enum-known-p-2 (
   part-at-reads.Asked,
   part-at-reads.Learnt,
@@ -1670,7 +1727,7 @@ inner-enum-known-p-2 : (t : ℕ) → inner-lts.Need-enum-known-p-2 (
 ) (inner-at t) inner.Post
 inner-enum-known-p-2 t c = search needs
 
--- src/walk.rt:89:26
+-- src/walk.rt:80:26
 inner-failed-requires : (t : ℕ) → inner-lts.Need-failed-requires (
   part-at-reads.Asked,
   part-at-reads.Learnt,
@@ -1683,7 +1740,7 @@ inner-failed-requires : (t : ℕ) → inner-lts.Need-failed-requires (
 ) (inner-at t) inner.Post
 inner-failed-requires t c κs = search needs
 
--- src/walk.rt:90:20
+-- src/walk.rt:81:20
 inner-enum-known-p-3 : (t : ℕ) → inner-lts.Need-enum-known-p-3 (
   part-at-reads.Asked,
   part-at-reads.Learnt,
@@ -1696,7 +1753,7 @@ inner-enum-known-p-3 : (t : ℕ) → inner-lts.Need-enum-known-p-3 (
 ) (inner-at t) inner.Post
 inner-enum-known-p-3 t c = search needs
 
--- src/walk.rt:90:26
+-- src/walk.rt:81:26
 inner-failed-requires-2 : (t : ℕ) → inner-lts.Need-failed-requires-2 (
   part-at-reads.Asked,
   part-at-reads.Learnt,
@@ -1761,7 +1818,7 @@ inner-returns-3 : (t : ℕ) → inner-lts.Need-returns-3 (
 ) (inner-at t) inner.Post
 inner-returns-3 t c = search inner-laws
 
--- src/walk.rt:329:9
+-- src/walk.rt:290:9
 load-at-element-requires : (t : ℕ) → load-at-lts.Need-element-requires (
   element-below t,
   element.Post,
@@ -1770,7 +1827,7 @@ load-at-element-requires : (t : ℕ) → load-at-lts.Need-element-requires (
 ) (load-at-at t) load-at.Post
 load-at-element-requires t c κs = search needs
 
--- src/walk.rt:330:5
+-- src/walk.rt:291:5
 load-at-load-requires : (t : ℕ) → load-at-lts.Need-load-requires (
   element-below t,
   element.Post,
@@ -1779,7 +1836,7 @@ load-at-load-requires : (t : ℕ) → load-at-lts.Need-load-requires (
 ) (load-at-at t) load-at.Post
 load-at-load-requires t c κs = search needs
 
--- src/walk.rt:318:1
+-- src/walk.rt:279:1
 load-at-same-length : (t : ℕ) → load-at-lts.Need-same-length (
   element-below t,
   element.Post,
@@ -1788,7 +1845,7 @@ load-at-same-length : (t : ℕ) → load-at-lts.Need-same-length (
 ) (load-at-at t) load-at.Post
 load-at-same-length t c = search needs
 
--- src/walk.rt:318:1
+-- src/walk.rt:279:1
 load-at-returns : (t : ℕ) → load-at-lts.Need-returns (
   element-below t,
   element.Post,
@@ -1797,7 +1854,7 @@ load-at-returns : (t : ℕ) → load-at-lts.Need-returns (
 ) (load-at-at t) load-at.Post
 load-at-returns t c = search loads-at
 
--- src/walk.rt:345:9
+-- src/walk.rt:306:9
 load-dot-field-requires : (t : ℕ) → load-dot-lts.Need-field-requires (
   field-below t,
   field.Post,
@@ -1806,7 +1863,7 @@ load-dot-field-requires : (t : ℕ) → load-dot-lts.Need-field-requires (
 ) (load-dot-at t) load-dot.Post
 load-dot-field-requires t c κs = search needs
 
--- src/walk.rt:346:5
+-- src/walk.rt:307:5
 load-dot-load-requires : (t : ℕ) → load-dot-lts.Need-load-requires (
   field-below t,
   field.Post,
@@ -1815,7 +1872,7 @@ load-dot-load-requires : (t : ℕ) → load-dot-lts.Need-load-requires (
 ) (load-dot-at t) load-dot.Post
 load-dot-load-requires t c κs = search needs
 
--- src/walk.rt:334:1
+-- src/walk.rt:295:1
 load-dot-same-length : (t : ℕ) → load-dot-lts.Need-same-length (
   field-below t,
   field.Post,
@@ -1824,7 +1881,7 @@ load-dot-same-length : (t : ℕ) → load-dot-lts.Need-same-length (
 ) (load-dot-at t) load-dot.Post
 load-dot-same-length t c = search needs
 
--- src/walk.rt:334:1
+-- src/walk.rt:295:1
 load-dot-returns : (t : ℕ) → load-dot-lts.Need-returns (
   field-below t,
   field.Post,
@@ -1839,7 +1896,7 @@ member-list-Inv-loop text work₀ types scope base depth at chain top next₀ li
 abbrev member-list-μ-loop : member-list-lts.MeasureT-loop
 member-list-μ-loop text work₀ types scope base depth at chain top next₀ link₀ free₀ fault₀ work next link free fault = many (first (stackAt text next))
 
--- src/walk.rt:297:5
+-- src/walk.rt:258:5
 member-list-loop-holds : (t : ℕ) → member-list-lts.Need-loop-holds (
   end-at-reads.Asked,
   end-at-reads.Learnt,
@@ -1860,7 +1917,7 @@ member-list-loop-holds : (t : ℕ) → member-list-lts.Need-loop-holds (
 ) (member-list-at t) member-list.Post member-list-Inv-loop member-list-μ-loop
 member-list-loop-holds t c = (refl, sofar-start _ _ _ _ _ _ _ _ _)
 
--- src/walk.rt:298:13
+-- src/walk.rt:259:13
 member-list-end-at-requires : (t : ℕ) → member-list-lts.Need-end-at-requires (
   end-at-reads.Asked,
   end-at-reads.Learnt,
@@ -1881,7 +1938,7 @@ member-list-end-at-requires : (t : ℕ) → member-list-lts.Need-end-at-requires
 ) (member-list-at t) member-list.Post member-list-Inv-loop member-list-μ-loop
 member-list-end-at-requires t c κs = search needs
 
--- src/walk.rt:300:23
+-- src/walk.rt:261:23
 member-list-enum-known-e : (t : ℕ) → member-list-lts.Need-enum-known-e (
   end-at-reads.Asked,
   end-at-reads.Learnt,
@@ -1902,7 +1959,7 @@ member-list-enum-known-e : (t : ℕ) → member-list-lts.Need-enum-known-e (
 ) (member-list-at t) member-list.Post member-list-Inv-loop member-list-μ-loop
 member-list-enum-known-e t c = search needs
 
--- src/walk.rt:301:17
+-- src/walk.rt:262:17
 member-list-failed-requires : (t : ℕ) → member-list-lts.Need-failed-requires (
   end-at-reads.Asked,
   end-at-reads.Learnt,
@@ -1923,7 +1980,7 @@ member-list-failed-requires : (t : ℕ) → member-list-lts.Need-failed-requires
 ) (member-list-at t) member-list.Post member-list-Inv-loop member-list-μ-loop
 member-list-failed-requires t c κs = search needs
 
--- src/walk.rt:301:17
+-- src/walk.rt:262:17
 member-list-same-length : (t : ℕ) → member-list-lts.Need-same-length (
   end-at-reads.Asked,
   end-at-reads.Learnt,
@@ -1944,7 +2001,7 @@ member-list-same-length : (t : ℕ) → member-list-lts.Need-same-length (
 ) (member-list-at t) member-list.Post member-list-Inv-loop member-list-μ-loop
 member-list-same-length t c = search needs
 
--- src/walk.rt:301:17
+-- src/walk.rt:262:17
 member-list-returns : (t : ℕ) → member-list-lts.Need-returns (
   end-at-reads.Asked,
   end-at-reads.Learnt,
@@ -1985,7 +2042,7 @@ member-list-enum-told : (t : ℕ) → member-list-lts.Need-enum-told (
 ) (member-list-at t) member-list.Post member-list-Inv-loop member-list-μ-loop
 member-list-enum-told t c = search needs
 
--- src/walk.rt:305:13
+-- src/walk.rt:266:13
 member-list-expr-requires : (t : ℕ) → member-list-lts.Need-expr-requires (
   end-at-reads.Asked,
   end-at-reads.Learnt,
@@ -2006,7 +2063,7 @@ member-list-expr-requires : (t : ℕ) → member-list-lts.Need-expr-requires (
 ) (member-list-at t) member-list.Post member-list-Inv-loop member-list-μ-loop
 member-list-expr-requires t c κs = search needs
 
--- src/walk.rt:307:12
+-- src/walk.rt:268:12
 member-list-is-form-requires : (t : ℕ) → member-list-lts.Need-is-form-requires (
   end-at-reads.Asked,
   end-at-reads.Learnt,
@@ -2027,7 +2084,7 @@ member-list-is-form-requires : (t : ℕ) → member-list-lts.Need-is-form-requir
 ) (member-list-at t) member-list.Post member-list-Inv-loop member-list-μ-loop
 member-list-is-form-requires t c κs = search needs
 
--- src/walk.rt:308:13
+-- src/walk.rt:269:13
 member-list-same-length-2 : (t : ℕ) → member-list-lts.Need-same-length-2 (
   end-at-reads.Asked,
   end-at-reads.Learnt,
@@ -2048,7 +2105,7 @@ member-list-same-length-2 : (t : ℕ) → member-list-lts.Need-same-length-2 (
 ) (member-list-at t) member-list.Post member-list-Inv-loop member-list-μ-loop
 member-list-same-length-2 t c = search needs
 
--- src/walk.rt:308:13
+-- src/walk.rt:269:13
 member-list-returns-2 : (t : ℕ) → member-list-lts.Need-returns-2 (
   end-at-reads.Asked,
   end-at-reads.Learnt,
@@ -2069,7 +2126,7 @@ member-list-returns-2 : (t : ℕ) → member-list-lts.Need-returns-2 (
 ) (member-list-at t) member-list.Post member-list-Inv-loop member-list-μ-loop
 member-list-returns-2 t c = search members-laws
 
--- src/walk.rt:310:31
+-- src/walk.rt:271:31
 member-list-member-fault-requires : (t : ℕ) → member-list-lts.Need-member-fault-requires (
   end-at-reads.Asked,
   end-at-reads.Learnt,
@@ -2090,7 +2147,7 @@ member-list-member-fault-requires : (t : ℕ) → member-list-lts.Need-member-fa
 ) (member-list-at t) member-list.Post member-list-Inv-loop member-list-μ-loop
 member-list-member-fault-requires t c κs = search needs
 
--- src/walk.rt:310:9
+-- src/walk.rt:271:9
 member-list-lowest-requires : (t : ℕ) → member-list-lts.Need-lowest-requires (
   end-at-reads.Asked,
   end-at-reads.Learnt,
@@ -2111,7 +2168,7 @@ member-list-lowest-requires : (t : ℕ) → member-list-lts.Need-lowest-requires
 ) (member-list-at t) member-list.Post member-list-Inv-loop member-list-μ-loop
 member-list-lowest-requires t c κs = search needs
 
--- src/walk.rt:311:9
+-- src/walk.rt:272:9
 member-list-link-to-requires : (t : ℕ) → member-list-lts.Need-link-to-requires (
   end-at-reads.Asked,
   end-at-reads.Learnt,
@@ -2132,7 +2189,7 @@ member-list-link-to-requires : (t : ℕ) → member-list-lts.Need-link-to-requir
 ) (member-list-at t) member-list.Post member-list-Inv-loop member-list-μ-loop
 member-list-link-to-requires t c κs = search needs
 
--- src/walk.rt:312:9
+-- src/walk.rt:273:9
 member-list-slot-after-requires : (t : ℕ) → member-list-lts.Need-slot-after-requires (
   end-at-reads.Asked,
   end-at-reads.Learnt,
@@ -2153,7 +2210,7 @@ member-list-slot-after-requires : (t : ℕ) → member-list-lts.Need-slot-after-
 ) (member-list-at t) member-list.Post member-list-Inv-loop member-list-μ-loop
 member-list-slot-after-requires t c κs = search needs
 
--- src/walk.rt:297:5
+-- src/walk.rt:258:5
 member-list-loop-less : (t : ℕ) → member-list-lts.Need-loop-less (
   end-at-reads.Asked,
   end-at-reads.Learnt,
@@ -2174,7 +2231,7 @@ member-list-loop-less : (t : ℕ) → member-list-lts.Need-loop-less (
 ) (member-list-at t) member-list.Post member-list-Inv-loop member-list-μ-loop
 member-list-loop-less t c = search members-falls
 
--- src/walk.rt:297:5
+-- src/walk.rt:258:5
 member-list-loop-again : (t : ℕ) → member-list-lts.Need-loop-again (
   end-at-reads.Asked,
   end-at-reads.Learnt,
@@ -2195,7 +2252,7 @@ member-list-loop-again : (t : ℕ) → member-list-lts.Need-loop-again (
 ) (member-list-at t) member-list.Post member-list-Inv-loop member-list-μ-loop
 member-list-loop-again t c = (search needs, search members-again)
 
--- src/walk.rt:214:9
+-- src/walk.rt:185:9
 minus-number-alone-requires : (t : ℕ) → minus-lts.Need-number-alone-requires (
   number-alone-reads.Asked,
   number-alone-reads.Learnt,
@@ -2206,7 +2263,7 @@ minus-number-alone-requires : (t : ℕ) → minus-lts.Need-number-alone-requires
 ) (minus-at t) minus.Post
 minus-number-alone-requires t c κs = search needs
 
--- src/walk.rt:216:23
+-- src/walk.rt:187:23
 minus-enum-known-n : (t : ℕ) → minus-lts.Need-enum-known-n (
   number-alone-reads.Asked,
   number-alone-reads.Learnt,
@@ -2217,7 +2274,7 @@ minus-enum-known-n : (t : ℕ) → minus-lts.Need-enum-known-n (
 ) (minus-at t) minus.Post
 minus-enum-known-n t c = search needs
 
--- src/walk.rt:216:32
+-- src/walk.rt:187:32
 minus-negative-requires : (t : ℕ) → minus-lts.Need-negative-requires (
   number-alone-reads.Asked,
   number-alone-reads.Learnt,
@@ -2228,7 +2285,7 @@ minus-negative-requires : (t : ℕ) → minus-lts.Need-negative-requires (
 ) (minus-at t) minus.Post
 minus-negative-requires t c κs = search needs
 
--- src/walk.rt:217:40
+-- src/walk.rt:188:40
 minus-enum-told : (t : ℕ) → minus-lts.Need-enum-told (
   number-alone-reads.Asked,
   number-alone-reads.Learnt,
@@ -2239,7 +2296,7 @@ minus-enum-told : (t : ℕ) → minus-lts.Need-enum-told (
 ) (minus-at t) minus.Post
 minus-enum-told t c = search needs
 
--- src/walk.rt:217:22
+-- src/walk.rt:188:22
 minus-minus-parts-requires : (t : ℕ) → minus-lts.Need-minus-parts-requires (
   number-alone-reads.Asked,
   number-alone-reads.Learnt,
@@ -2250,7 +2307,7 @@ minus-minus-parts-requires : (t : ℕ) → minus-lts.Need-minus-parts-requires (
 ) (minus-at t) minus.Post
 minus-minus-parts-requires t c κs = search needs
 
--- src/walk.rt:203:1
+-- src/walk.rt:174:1
 minus-same-length : (t : ℕ) → minus-lts.Need-same-length (
   number-alone-reads.Asked,
   number-alone-reads.Learnt,
@@ -2261,7 +2318,7 @@ minus-same-length : (t : ℕ) → minus-lts.Need-same-length (
 ) (minus-at t) minus.Post
 minus-same-length t c = search needs
 
--- src/walk.rt:203:1
+-- src/walk.rt:174:1
 minus-returns : (t : ℕ) → minus-lts.Need-returns (
   number-alone-reads.Asked,
   number-alone-reads.Learnt,
@@ -2272,7 +2329,7 @@ minus-returns : (t : ℕ) → minus-lts.Need-returns (
 ) (minus-at t) minus.Post
 minus-returns t c = search (minus-laws, sfits-of)
 
--- src/walk.rt:203:1
+-- src/walk.rt:174:1
 minus-same-length-2 : (t : ℕ) → minus-lts.Need-same-length-2 (
   number-alone-reads.Asked,
   number-alone-reads.Learnt,
@@ -2283,7 +2340,7 @@ minus-same-length-2 : (t : ℕ) → minus-lts.Need-same-length-2 (
 ) (minus-at t) minus.Post
 minus-same-length-2 t c = search needs
 
--- src/walk.rt:203:1
+-- src/walk.rt:174:1
 minus-returns-2 : (t : ℕ) → minus-lts.Need-returns-2 (
   number-alone-reads.Asked,
   number-alone-reads.Learnt,
@@ -2294,7 +2351,7 @@ minus-returns-2 : (t : ℕ) → minus-lts.Need-returns-2 (
 ) (minus-at t) minus.Post
 minus-returns-2 t c = search (minus-laws, sfits-of)
 
--- src/walk.rt:233:9
+-- src/walk.rt:204:9
 minus-parts-expr-requires : (t : ℕ) → minus-parts-lts.Need-expr-requires (
   expr-below t,
   expr.Post,
@@ -2311,7 +2368,7 @@ minus-parts-expr-requires : (t : ℕ) → minus-parts-lts.Need-expr-requires (
 ) (minus-parts-at t) minus-parts.Post
 minus-parts-expr-requires t c κs = search needs
 
--- src/walk.rt:235:8
+-- src/walk.rt:206:8
 minus-parts-is-form-requires : (t : ℕ) → minus-parts-lts.Need-is-form-requires (
   expr-below t,
   expr.Post,
@@ -2328,7 +2385,7 @@ minus-parts-is-form-requires : (t : ℕ) → minus-parts-lts.Need-is-form-requir
 ) (minus-parts-at t) minus-parts.Post
 minus-parts-is-form-requires t c κs = search needs
 
--- src/walk.rt:236:9
+-- src/walk.rt:207:9
 minus-parts-same-length : (t : ℕ) → minus-parts-lts.Need-same-length (
   expr-below t,
   expr.Post,
@@ -2345,7 +2402,7 @@ minus-parts-same-length : (t : ℕ) → minus-parts-lts.Need-same-length (
 ) (minus-parts-at t) minus-parts.Post
 minus-parts-same-length t c = search needs
 
--- src/walk.rt:236:9
+-- src/walk.rt:207:9
 minus-parts-returns : (t : ℕ) → minus-parts-lts.Need-returns (
   expr-below t,
   expr.Post,
@@ -2362,7 +2419,7 @@ minus-parts-returns : (t : ℕ) → minus-parts-lts.Need-returns (
 ) (minus-parts-at t) minus-parts.Post
 minus-parts-returns t c = search minus-parts-laws
 
--- src/walk.rt:238:9
+-- src/walk.rt:209:9
 minus-parts-end-at-requires : (t : ℕ) → minus-parts-lts.Need-end-at-requires (
   expr-below t,
   expr.Post,
@@ -2379,7 +2436,7 @@ minus-parts-end-at-requires : (t : ℕ) → minus-parts-lts.Need-end-at-requires
 ) (minus-parts-at t) minus-parts.Post
 minus-parts-end-at-requires t c κs = search needs
 
--- src/walk.rt:240:31
+-- src/walk.rt:211:31
 minus-parts-enum-told : (t : ℕ) → minus-parts-lts.Need-enum-told (
   expr-below t,
   expr.Post,
@@ -2396,7 +2453,7 @@ minus-parts-enum-told : (t : ℕ) → minus-parts-lts.Need-enum-told (
 ) (minus-parts-at t) minus-parts.Post
 minus-parts-enum-told t c = search needs
 
--- src/walk.rt:240:47
+-- src/walk.rt:211:47
 minus-parts-closing-requires : (t : ℕ) → minus-parts-lts.Need-closing-requires (
   expr-below t,
   expr.Post,
@@ -2413,7 +2470,7 @@ minus-parts-closing-requires : (t : ℕ) → minus-parts-lts.Need-closing-requir
 ) (minus-parts-at t) minus-parts.Post
 minus-parts-closing-requires t c κs = search needs
 
--- src/walk.rt:240:25
+-- src/walk.rt:211:25
 minus-parts-apply-requires : (t : ℕ) → minus-parts-lts.Need-apply-requires (
   expr-below t,
   expr.Post,
@@ -2430,7 +2487,7 @@ minus-parts-apply-requires : (t : ℕ) → minus-parts-lts.Need-apply-requires (
 ) (minus-parts-at t) minus-parts.Post
 minus-parts-apply-requires t c κs = search needs
 
--- src/walk.rt:241:35
+-- src/walk.rt:212:35
 minus-parts-enum-told-2 : (t : ℕ) → minus-parts-lts.Need-enum-told-2 (
   expr-below t,
   expr.Post,
@@ -2447,7 +2504,7 @@ minus-parts-enum-told-2 : (t : ℕ) → minus-parts-lts.Need-enum-told-2 (
 ) (minus-parts-at t) minus-parts.Post
 minus-parts-enum-told-2 t c = search needs
 
--- src/walk.rt:241:22
+-- src/walk.rt:212:22
 minus-parts-second-requires : (t : ℕ) → minus-parts-lts.Need-second-requires (
   expr-below t,
   expr.Post,
@@ -2464,7 +2521,7 @@ minus-parts-second-requires : (t : ℕ) → minus-parts-lts.Need-second-requires
 ) (minus-parts-at t) minus-parts.Post
 minus-parts-second-requires t c κs = search needs
 
--- src/walk.rt:222:1
+-- src/walk.rt:193:1
 minus-parts-same-length-2 : (t : ℕ) → minus-parts-lts.Need-same-length-2 (
   expr-below t,
   expr.Post,
@@ -2481,7 +2538,7 @@ minus-parts-same-length-2 : (t : ℕ) → minus-parts-lts.Need-same-length-2 (
 ) (minus-parts-at t) minus-parts.Post
 minus-parts-same-length-2 t c = search needs
 
--- src/walk.rt:222:1
+-- src/walk.rt:193:1
 minus-parts-returns-2 : (t : ℕ) → minus-parts-lts.Need-returns-2 (
   expr-below t,
   expr.Post,
@@ -2498,7 +2555,7 @@ minus-parts-returns-2 : (t : ℕ) → minus-parts-lts.Need-returns-2 (
 ) (minus-parts-at t) minus-parts.Post
 minus-parts-returns-2 t c = search minus-parts-laws
 
--- src/walk.rt:222:1
+-- src/walk.rt:193:1
 minus-parts-same-length-3 : (t : ℕ) → minus-parts-lts.Need-same-length-3 (
   expr-below t,
   expr.Post,
@@ -2515,7 +2572,7 @@ minus-parts-same-length-3 : (t : ℕ) → minus-parts-lts.Need-same-length-3 (
 ) (minus-parts-at t) minus-parts.Post
 minus-parts-same-length-3 t c = search needs
 
--- src/walk.rt:222:1
+-- src/walk.rt:193:1
 minus-parts-returns-3 : (t : ℕ) → minus-parts-lts.Need-returns-3 (
   expr-below t,
   expr.Post,
@@ -2532,7 +2589,7 @@ minus-parts-returns-3 : (t : ℕ) → minus-parts-lts.Need-returns-3 (
 ) (minus-parts-at t) minus-parts.Post
 minus-parts-returns-3 t c = search minus-parts-laws
 
--- src/walk.rt:196:9
+-- src/walk.rt:167:9
 one-failed-requires : (t : ℕ) → one-lts.Need-failed-requires (
   failed-reads.Asked,
   failed-reads.Learnt,
@@ -2545,7 +2602,7 @@ one-failed-requires : (t : ℕ) → one-lts.Need-failed-requires (
 ) (one-at t) one.Post
 one-failed-requires t c κs = search needs
 
--- src/walk.rt:196:9
+-- src/walk.rt:167:9
 one-returns : (t : ℕ) → one-lts.Need-returns (
   failed-reads.Asked,
   failed-reads.Learnt,
@@ -2558,7 +2615,7 @@ one-returns : (t : ℕ) → one-lts.Need-returns (
 ) (one-at t) one.Post
 one-returns t c = search one-laws
 
--- src/walk.rt:198:9
+-- src/walk.rt:169:9
 one-expr-requires : (t : ℕ) → one-lts.Need-expr-requires (
   failed-reads.Asked,
   failed-reads.Learnt,
@@ -2571,7 +2628,7 @@ one-expr-requires : (t : ℕ) → one-lts.Need-expr-requires (
 ) (one-at t) one.Post
 one-expr-requires t c κs = search needs
 
--- src/walk.rt:199:27
+-- src/walk.rt:170:27
 one-closing-requires : (t : ℕ) → one-lts.Need-closing-requires (
   failed-reads.Asked,
   failed-reads.Learnt,
@@ -2584,7 +2641,7 @@ one-closing-requires : (t : ℕ) → one-lts.Need-closing-requires (
 ) (one-at t) one.Post
 one-closing-requires t c κs = search needs
 
--- src/walk.rt:199:5
+-- src/walk.rt:170:5
 one-apply-requires : (t : ℕ) → one-lts.Need-apply-requires (
   failed-reads.Asked,
   failed-reads.Learnt,
@@ -2597,7 +2654,7 @@ one-apply-requires : (t : ℕ) → one-lts.Need-apply-requires (
 ) (one-at t) one.Post
 one-apply-requires t c κs = search needs
 
--- src/walk.rt:183:1
+-- src/walk.rt:154:1
 one-same-length : (t : ℕ) → one-lts.Need-same-length (
   failed-reads.Asked,
   failed-reads.Learnt,
@@ -2610,7 +2667,7 @@ one-same-length : (t : ℕ) → one-lts.Need-same-length (
 ) (one-at t) one.Post
 one-same-length t c = search needs
 
--- src/walk.rt:183:1
+-- src/walk.rt:154:1
 one-returns-2 : (t : ℕ) → one-lts.Need-returns-2 (
   failed-reads.Asked,
   failed-reads.Learnt,
@@ -2623,7 +2680,7 @@ one-returns-2 : (t : ℕ) → one-lts.Need-returns-2 (
 ) (one-at t) one.Post
 one-returns-2 t c = search one-laws
 
--- src/walk.rt:384:9
+-- src/walk.rt:345:9
 place-part-at-requires : (t : ℕ) → place-lts.Need-part-at-requires (
   part-at-reads.Asked,
   part-at-reads.Learnt,
@@ -2636,7 +2693,7 @@ place-part-at-requires : (t : ℕ) → place-lts.Need-part-at-requires (
 ) (place-at t) place.Post
 place-part-at-requires t c κs = search needs
 
--- src/walk.rt:386:20
+-- src/walk.rt:347:20
 place-enum-known-p : (t : ℕ) → place-lts.Need-enum-known-p (
   part-at-reads.Asked,
   part-at-reads.Learnt,
@@ -2649,7 +2706,7 @@ place-enum-known-p : (t : ℕ) → place-lts.Need-enum-known-p (
 ) (place-at t) place.Post
 place-enum-known-p t c = search needs
 
--- src/walk.rt:391:13
+-- src/walk.rt:347:71
 place-expr-head-requires : (t : ℕ) → place-lts.Need-expr-head-requires (
   part-at-reads.Asked,
   part-at-reads.Learnt,
@@ -2662,7 +2719,7 @@ place-expr-head-requires : (t : ℕ) → place-lts.Need-expr-head-requires (
 ) (place-at t) place.Post
 place-expr-head-requires t c κs = search needs
 
--- src/walk.rt:386:32
+-- src/walk.rt:347:32
 place-place-headed-requires : (t : ℕ) → place-lts.Need-place-headed-requires (
   part-at-reads.Asked,
   part-at-reads.Learnt,
@@ -2675,7 +2732,7 @@ place-place-headed-requires : (t : ℕ) → place-lts.Need-place-headed-requires
 ) (place-at t) place.Post
 place-place-headed-requires t c κs = search needs
 
--- src/walk.rt:396:20
+-- src/walk.rt:348:20
 place-enum-known-p-2 : (t : ℕ) → place-lts.Need-enum-known-p-2 (
   part-at-reads.Asked,
   part-at-reads.Learnt,
@@ -2688,7 +2745,7 @@ place-enum-known-p-2 : (t : ℕ) → place-lts.Need-enum-known-p-2 (
 ) (place-at t) place.Post
 place-enum-known-p-2 t c = search needs
 
--- src/walk.rt:396:26
+-- src/walk.rt:348:26
 place-failed-requires : (t : ℕ) → place-lts.Need-failed-requires (
   part-at-reads.Asked,
   part-at-reads.Learnt,
@@ -2701,7 +2758,7 @@ place-failed-requires : (t : ℕ) → place-lts.Need-failed-requires (
 ) (place-at t) place.Post
 place-failed-requires t c κs = search needs
 
--- src/walk.rt:397:20
+-- src/walk.rt:349:20
 place-enum-known-p-3 : (t : ℕ) → place-lts.Need-enum-known-p-3 (
   part-at-reads.Asked,
   part-at-reads.Learnt,
@@ -2714,7 +2771,7 @@ place-enum-known-p-3 : (t : ℕ) → place-lts.Need-enum-known-p-3 (
 ) (place-at t) place.Post
 place-enum-known-p-3 t c = search needs
 
--- src/walk.rt:397:26
+-- src/walk.rt:349:26
 place-failed-requires-2 : (t : ℕ) → place-lts.Need-failed-requires-2 (
   part-at-reads.Asked,
   part-at-reads.Learnt,
@@ -2727,7 +2784,7 @@ place-failed-requires-2 : (t : ℕ) → place-lts.Need-failed-requires-2 (
 ) (place-at t) place.Post
 place-failed-requires-2 t c κs = search needs
 
--- src/walk.rt:373:1
+-- src/walk.rt:334:1
 place-same-length : (t : ℕ) → place-lts.Need-same-length (
   part-at-reads.Asked,
   part-at-reads.Learnt,
@@ -2740,7 +2797,7 @@ place-same-length : (t : ℕ) → place-lts.Need-same-length (
 ) (place-at t) place.Post
 place-same-length t c = search needs
 
--- src/walk.rt:373:1
+-- src/walk.rt:334:1
 place-returns : (t : ℕ) → place-lts.Need-returns (
   part-at-reads.Asked,
   part-at-reads.Learnt,
@@ -2753,7 +2810,7 @@ place-returns : (t : ℕ) → place-lts.Need-returns (
 ) (place-at t) place.Post
 place-returns t c = search place-laws
 
--- src/walk.rt:373:1
+-- src/walk.rt:334:1
 place-returns-2 : (t : ℕ) → place-lts.Need-returns-2 (
   part-at-reads.Asked,
   part-at-reads.Learnt,
@@ -2766,7 +2823,7 @@ place-returns-2 : (t : ℕ) → place-lts.Need-returns-2 (
 ) (place-at t) place.Post
 place-returns-2 t c = search place-laws
 
--- src/walk.rt:373:1
+-- src/walk.rt:334:1
 place-returns-3 : (t : ℕ) → place-lts.Need-returns-3 (
   part-at-reads.Asked,
   part-at-reads.Learnt,
@@ -2779,7 +2836,7 @@ place-returns-3 : (t : ℕ) → place-lts.Need-returns-3 (
 ) (place-at t) place.Post
 place-returns-3 t c = search place-laws
 
--- src/walk.rt:415:39
+-- src/walk.rt:367:39
 place-headed-enum-told : (t : ℕ) → place-headed-lts.Need-enum-told (
   element-below t,
   element.Post,
@@ -2790,7 +2847,7 @@ place-headed-enum-told : (t : ℕ) → place-headed-lts.Need-enum-told (
 ) (place-headed-at t) place-headed.Post
 place-headed-enum-told t c = search needs
 
--- src/walk.rt:415:25
+-- src/walk.rt:367:25
 place-headed-element-requires : (t : ℕ) → place-headed-lts.Need-element-requires (
   element-below t,
   element.Post,
@@ -2801,7 +2858,7 @@ place-headed-element-requires : (t : ℕ) → place-headed-lts.Need-element-requ
 ) (place-headed-at t) place-headed.Post
 place-headed-element-requires t c κs = search needs
 
--- src/walk.rt:416:38
+-- src/walk.rt:368:38
 place-headed-enum-told-2 : (t : ℕ) → place-headed-lts.Need-enum-told-2 (
   element-below t,
   element.Post,
@@ -2812,7 +2869,7 @@ place-headed-enum-told-2 : (t : ℕ) → place-headed-lts.Need-enum-told-2 (
 ) (place-headed-at t) place-headed.Post
 place-headed-enum-told-2 t c = search needs
 
--- src/walk.rt:416:26
+-- src/walk.rt:368:26
 place-headed-field-requires : (t : ℕ) → place-headed-lts.Need-field-requires (
   element-below t,
   element.Post,
@@ -2823,7 +2880,7 @@ place-headed-field-requires : (t : ℕ) → place-headed-lts.Need-field-requires
 ) (place-headed-at t) place-headed.Post
 place-headed-field-requires t c κs = search needs
 
--- src/walk.rt:417:37
+-- src/walk.rt:369:37
 place-headed-enum-told-3 : (t : ℕ) → place-headed-lts.Need-enum-told-3 (
   element-below t,
   element.Post,
@@ -2834,7 +2891,7 @@ place-headed-enum-told-3 : (t : ℕ) → place-headed-lts.Need-enum-told-3 (
 ) (place-headed-at t) place-headed.Post
 place-headed-enum-told-3 t c = search needs
 
--- src/walk.rt:417:30
+-- src/walk.rt:369:30
 place-headed-failed-requires : (t : ℕ) → place-headed-lts.Need-failed-requires (
   element-below t,
   element.Post,
@@ -2845,7 +2902,7 @@ place-headed-failed-requires : (t : ℕ) → place-headed-lts.Need-failed-requir
 ) (place-headed-at t) place-headed.Post
 place-headed-failed-requires t c κs = search needs
 
--- src/walk.rt:418:35
+-- src/walk.rt:370:35
 place-headed-enum-told-4 : (t : ℕ) → place-headed-lts.Need-enum-told-4 (
   element-below t,
   element.Post,
@@ -2856,7 +2913,7 @@ place-headed-enum-told-4 : (t : ℕ) → place-headed-lts.Need-enum-told-4 (
 ) (place-headed-at t) place-headed.Post
 place-headed-enum-told-4 t c = search needs
 
--- src/walk.rt:418:28
+-- src/walk.rt:370:28
 place-headed-failed-requires-2 : (t : ℕ) → place-headed-lts.Need-failed-requires-2 (
   element-below t,
   element.Post,
@@ -2867,7 +2924,7 @@ place-headed-failed-requires-2 : (t : ℕ) → place-headed-lts.Need-failed-requ
 ) (place-headed-at t) place-headed.Post
 place-headed-failed-requires-2 t c κs = search needs
 
--- src/walk.rt:419:38
+-- src/walk.rt:371:38
 place-headed-enum-told-5 : (t : ℕ) → place-headed-lts.Need-enum-told-5 (
   element-below t,
   element.Post,
@@ -2878,7 +2935,7 @@ place-headed-enum-told-5 : (t : ℕ) → place-headed-lts.Need-enum-told-5 (
 ) (place-headed-at t) place-headed.Post
 place-headed-enum-told-5 t c = search needs
 
--- src/walk.rt:419:31
+-- src/walk.rt:371:31
 place-headed-failed-requires-3 : (t : ℕ) → place-headed-lts.Need-failed-requires-3 (
   element-below t,
   element.Post,
@@ -2889,7 +2946,7 @@ place-headed-failed-requires-3 : (t : ℕ) → place-headed-lts.Need-failed-requ
 ) (place-headed-at t) place-headed.Post
 place-headed-failed-requires-3 t c κs = search needs
 
--- src/walk.rt:420:38
+-- src/walk.rt:372:38
 place-headed-enum-told-6 : (t : ℕ) → place-headed-lts.Need-enum-told-6 (
   element-below t,
   element.Post,
@@ -2900,7 +2957,7 @@ place-headed-enum-told-6 : (t : ℕ) → place-headed-lts.Need-enum-told-6 (
 ) (place-headed-at t) place-headed.Post
 place-headed-enum-told-6 t c = search needs
 
--- src/walk.rt:420:31
+-- src/walk.rt:372:31
 place-headed-failed-requires-4 : (t : ℕ) → place-headed-lts.Need-failed-requires-4 (
   element-below t,
   element.Post,
@@ -2911,7 +2968,7 @@ place-headed-failed-requires-4 : (t : ℕ) → place-headed-lts.Need-failed-requ
 ) (place-headed-at t) place-headed.Post
 place-headed-failed-requires-4 t c κs = search needs
 
--- src/walk.rt:421:36
+-- src/walk.rt:373:36
 place-headed-enum-told-7 : (t : ℕ) → place-headed-lts.Need-enum-told-7 (
   element-below t,
   element.Post,
@@ -2922,7 +2979,7 @@ place-headed-enum-told-7 : (t : ℕ) → place-headed-lts.Need-enum-told-7 (
 ) (place-headed-at t) place-headed.Post
 place-headed-enum-told-7 t c = search needs
 
--- src/walk.rt:421:29
+-- src/walk.rt:373:29
 place-headed-failed-requires-5 : (t : ℕ) → place-headed-lts.Need-failed-requires-5 (
   element-below t,
   element.Post,
@@ -2933,7 +2990,7 @@ place-headed-failed-requires-5 : (t : ℕ) → place-headed-lts.Need-failed-requ
 ) (place-headed-at t) place-headed.Post
 place-headed-failed-requires-5 t c κs = search needs
 
--- src/walk.rt:422:36
+-- src/walk.rt:374:36
 place-headed-enum-told-8 : (t : ℕ) → place-headed-lts.Need-enum-told-8 (
   element-below t,
   element.Post,
@@ -2944,7 +3001,7 @@ place-headed-enum-told-8 : (t : ℕ) → place-headed-lts.Need-enum-told-8 (
 ) (place-headed-at t) place-headed.Post
 place-headed-enum-told-8 t c = search needs
 
--- src/walk.rt:422:29
+-- src/walk.rt:374:29
 place-headed-failed-requires-6 : (t : ℕ) → place-headed-lts.Need-failed-requires-6 (
   element-below t,
   element.Post,
@@ -2955,7 +3012,7 @@ place-headed-failed-requires-6 : (t : ℕ) → place-headed-lts.Need-failed-requ
 ) (place-headed-at t) place-headed.Post
 place-headed-failed-requires-6 t c κs = search needs
 
--- src/walk.rt:423:37
+-- src/walk.rt:375:37
 place-headed-enum-told-9 : (t : ℕ) → place-headed-lts.Need-enum-told-9 (
   element-below t,
   element.Post,
@@ -2966,7 +3023,7 @@ place-headed-enum-told-9 : (t : ℕ) → place-headed-lts.Need-enum-told-9 (
 ) (place-headed-at t) place-headed.Post
 place-headed-enum-told-9 t c = search needs
 
--- src/walk.rt:423:30
+-- src/walk.rt:375:30
 place-headed-failed-requires-7 : (t : ℕ) → place-headed-lts.Need-failed-requires-7 (
   element-below t,
   element.Post,
@@ -2977,7 +3034,7 @@ place-headed-failed-requires-7 : (t : ℕ) → place-headed-lts.Need-failed-requ
 ) (place-headed-at t) place-headed.Post
 place-headed-failed-requires-7 t c κs = search needs
 
--- src/walk.rt:402:1
+-- src/walk.rt:354:1
 place-headed-same-length : (t : ℕ) → place-headed-lts.Need-same-length (
   element-below t,
   element.Post,
@@ -2988,7 +3045,7 @@ place-headed-same-length : (t : ℕ) → place-headed-lts.Need-same-length (
 ) (place-headed-at t) place-headed.Post
 place-headed-same-length t c = search needs
 
--- src/walk.rt:402:1
+-- src/walk.rt:354:1
 place-headed-returns : (t : ℕ) → place-headed-lts.Need-returns (
   element-below t,
   element.Post,
@@ -2999,7 +3056,7 @@ place-headed-returns : (t : ℕ) → place-headed-lts.Need-returns (
 ) (place-headed-at t) place-headed.Post
 place-headed-returns t c = search by-place-laws
 
--- src/walk.rt:402:1
+-- src/walk.rt:354:1
 place-headed-same-length-2 : (t : ℕ) → place-headed-lts.Need-same-length-2 (
   element-below t,
   element.Post,
@@ -3010,7 +3067,7 @@ place-headed-same-length-2 : (t : ℕ) → place-headed-lts.Need-same-length-2 (
 ) (place-headed-at t) place-headed.Post
 place-headed-same-length-2 t c = search needs
 
--- src/walk.rt:402:1
+-- src/walk.rt:354:1
 place-headed-returns-2 : (t : ℕ) → place-headed-lts.Need-returns-2 (
   element-below t,
   element.Post,
@@ -3021,7 +3078,7 @@ place-headed-returns-2 : (t : ℕ) → place-headed-lts.Need-returns-2 (
 ) (place-headed-at t) place-headed.Post
 place-headed-returns-2 t c = search by-place-laws
 
--- src/walk.rt:402:1
+-- src/walk.rt:354:1
 place-headed-returns-3 : (t : ℕ) → place-headed-lts.Need-returns-3 (
   element-below t,
   element.Post,
@@ -3032,7 +3089,7 @@ place-headed-returns-3 : (t : ℕ) → place-headed-lts.Need-returns-3 (
 ) (place-headed-at t) place-headed.Post
 place-headed-returns-3 t c = search by-place-laws
 
--- src/walk.rt:402:1
+-- src/walk.rt:354:1
 place-headed-returns-4 : (t : ℕ) → place-headed-lts.Need-returns-4 (
   element-below t,
   element.Post,
@@ -3043,7 +3100,7 @@ place-headed-returns-4 : (t : ℕ) → place-headed-lts.Need-returns-4 (
 ) (place-headed-at t) place-headed.Post
 place-headed-returns-4 t c = search by-place-laws
 
--- src/walk.rt:402:1
+-- src/walk.rt:354:1
 place-headed-returns-5 : (t : ℕ) → place-headed-lts.Need-returns-5 (
   element-below t,
   element.Post,
@@ -3054,7 +3111,7 @@ place-headed-returns-5 : (t : ℕ) → place-headed-lts.Need-returns-5 (
 ) (place-headed-at t) place-headed.Post
 place-headed-returns-5 t c = search by-place-laws
 
--- src/walk.rt:402:1
+-- src/walk.rt:354:1
 place-headed-returns-6 : (t : ℕ) → place-headed-lts.Need-returns-6 (
   element-below t,
   element.Post,
@@ -3065,7 +3122,7 @@ place-headed-returns-6 : (t : ℕ) → place-headed-lts.Need-returns-6 (
 ) (place-headed-at t) place-headed.Post
 place-headed-returns-6 t c = search by-place-laws
 
--- src/walk.rt:402:1
+-- src/walk.rt:354:1
 place-headed-returns-7 : (t : ℕ) → place-headed-lts.Need-returns-7 (
   element-below t,
   element.Post,
@@ -3076,7 +3133,7 @@ place-headed-returns-7 : (t : ℕ) → place-headed-lts.Need-returns-7 (
 ) (place-headed-at t) place-headed.Post
 place-headed-returns-7 t c = search by-place-laws
 
--- src/walk.rt:402:1
+-- src/walk.rt:354:1
 place-headed-returns-8 : (t : ℕ) → place-headed-lts.Need-returns-8 (
   element-below t,
   element.Post,
@@ -3087,7 +3144,7 @@ place-headed-returns-8 : (t : ℕ) → place-headed-lts.Need-returns-8 (
 ) (place-headed-at t) place-headed.Post
 place-headed-returns-8 t c = search by-place-laws
 
--- src/walk.rt:402:1
+-- src/walk.rt:354:1
 place-headed-returns-9 : (t : ℕ) → place-headed-lts.Need-returns-9 (
   element-below t,
   element.Post,
@@ -3098,7 +3155,7 @@ place-headed-returns-9 : (t : ℕ) → place-headed-lts.Need-returns-9 (
 ) (place-headed-at t) place-headed.Post
 place-headed-returns-9 t c = search by-place-laws
 
--- src/walk.rt:156:9
+-- src/walk.rt:149:9
 second-expr-requires : (t : ℕ) → second-lts.Need-expr-requires (
   expr-below t,
   expr.Post,
@@ -3109,7 +3166,7 @@ second-expr-requires : (t : ℕ) → second-lts.Need-expr-requires (
 ) (second-at t) second.Post
 second-expr-requires t c κs = search needs
 
--- src/walk.rt:157:30
+-- src/walk.rt:150:30
 second-closing-requires : (t : ℕ) → second-lts.Need-closing-requires (
   expr-below t,
   expr.Post,
@@ -3120,7 +3177,7 @@ second-closing-requires : (t : ℕ) → second-lts.Need-closing-requires (
 ) (second-at t) second.Post
 second-closing-requires t c κs = search needs
 
--- src/walk.rt:157:5
+-- src/walk.rt:150:5
 second-pair-requires : (t : ℕ) → second-lts.Need-pair-requires (
   expr-below t,
   expr.Post,
@@ -3131,7 +3188,7 @@ second-pair-requires : (t : ℕ) → second-lts.Need-pair-requires (
 ) (second-at t) second.Post
 second-pair-requires t c κs = search needs
 
--- src/walk.rt:145:1
+-- src/walk.rt:138:1
 second-same-length : (t : ℕ) → second-lts.Need-same-length (
   expr-below t,
   expr.Post,
@@ -3142,7 +3199,7 @@ second-same-length : (t : ℕ) → second-lts.Need-same-length (
 ) (second-at t) second.Post
 second-same-length t c = search needs
 
--- src/walk.rt:145:1
+-- src/walk.rt:138:1
 second-returns : (t : ℕ) → second-lts.Need-returns (
   expr-below t,
   expr.Post,
@@ -3153,7 +3210,7 @@ second-returns : (t : ℕ) → second-lts.Need-returns (
 ) (second-at t) second.Post
 second-returns t c = search second-is
 
--- src/walk.rt:257:9
+-- src/walk.rt:228:9
 set-form-type-name-requires : (t : ℕ) → set-form-lts.Need-type-name-requires (
   type-name-reads.Asked,
   type-name-reads.Learnt,
@@ -3172,7 +3229,7 @@ set-form-type-name-requires : (t : ℕ) → set-form-lts.Need-type-name-requires
 ) (set-form-at t) set-form.Post
 set-form-type-name-requires t c κs = search needs
 
--- src/walk.rt:259:8
+-- src/walk.rt:230:8
 set-form-is-form-requires : (t : ℕ) → set-form-lts.Need-is-form-requires (
   type-name-reads.Asked,
   type-name-reads.Learnt,
@@ -3191,7 +3248,7 @@ set-form-is-form-requires : (t : ℕ) → set-form-lts.Need-is-form-requires (
 ) (set-form-at t) set-form.Post
 set-form-is-form-requires t c κs = search needs
 
--- src/walk.rt:260:9
+-- src/walk.rt:231:9
 set-form-failed-requires : (t : ℕ) → set-form-lts.Need-failed-requires (
   type-name-reads.Asked,
   type-name-reads.Learnt,
@@ -3210,7 +3267,7 @@ set-form-failed-requires : (t : ℕ) → set-form-lts.Need-failed-requires (
 ) (set-form-at t) set-form.Post
 set-form-failed-requires t c κs = search needs
 
--- src/walk.rt:260:9
+-- src/walk.rt:231:9
 set-form-same-length : (t : ℕ) → set-form-lts.Need-same-length (
   type-name-reads.Asked,
   type-name-reads.Learnt,
@@ -3229,7 +3286,7 @@ set-form-same-length : (t : ℕ) → set-form-lts.Need-same-length (
 ) (set-form-at t) set-form.Post
 set-form-same-length t c = search needs
 
--- src/walk.rt:260:9
+-- src/walk.rt:231:9
 set-form-returns : (t : ℕ) → set-form-lts.Need-returns (
   type-name-reads.Asked,
   type-name-reads.Learnt,
@@ -3248,7 +3305,7 @@ set-form-returns : (t : ℕ) → set-form-lts.Need-returns (
 ) (set-form-at t) set-form.Post
 set-form-returns t c = search set-form-laws
 
--- src/walk.rt:262:9
+-- src/walk.rt:233:9
 set-form-base-of-requires : (t : ℕ) → set-form-lts.Need-base-of-requires (
   type-name-reads.Asked,
   type-name-reads.Learnt,
@@ -3267,7 +3324,7 @@ set-form-base-of-requires : (t : ℕ) → set-form-lts.Need-base-of-requires (
 ) (set-form-at t) set-form.Post
 set-form-base-of-requires t c κs = search needs
 
--- src/walk.rt:263:9
+-- src/walk.rt:234:9
 set-form-slot-requires : (t : ℕ) → set-form-lts.Need-slot-requires (
   type-name-reads.Asked,
   type-name-reads.Learnt,
@@ -3286,7 +3343,7 @@ set-form-slot-requires : (t : ℕ) → set-form-lts.Need-slot-requires (
 ) (set-form-at t) set-form.Post
 set-form-slot-requires t c κs = search needs
 
--- src/walk.rt:264:9
+-- src/walk.rt:235:9
 set-form-member-list-requires : (t : ℕ) → set-form-lts.Need-member-list-requires (
   type-name-reads.Asked,
   type-name-reads.Learnt,
@@ -3305,7 +3362,7 @@ set-form-member-list-requires : (t : ℕ) → set-form-lts.Need-member-list-requ
 ) (set-form-at t) set-form.Post
 set-form-member-list-requires t c κs = search needs
 
--- src/walk.rt:276:5
+-- src/walk.rt:237:5
 set-form-set-of-requires : (t : ℕ) → set-form-lts.Need-set-of-requires (
   type-name-reads.Asked,
   type-name-reads.Learnt,
@@ -3324,7 +3381,7 @@ set-form-set-of-requires : (t : ℕ) → set-form-lts.Need-set-of-requires (
 ) (set-form-at t) set-form.Post
 set-form-set-of-requires t c κs = search needs
 
--- src/walk.rt:246:1
+-- src/walk.rt:217:1
 set-form-same-length-2 : (t : ℕ) → set-form-lts.Need-same-length-2 (
   type-name-reads.Asked,
   type-name-reads.Learnt,
@@ -3343,7 +3400,7 @@ set-form-same-length-2 : (t : ℕ) → set-form-lts.Need-same-length-2 (
 ) (set-form-at t) set-form.Post
 set-form-same-length-2 t c = search needs
 
--- src/walk.rt:246:1
+-- src/walk.rt:217:1
 set-form-returns-2 : (t : ℕ) → set-form-lts.Need-returns-2 (
   type-name-reads.Asked,
   type-name-reads.Learnt,
@@ -3362,124 +3419,7 @@ set-form-returns-2 : (t : ℕ) → set-form-lts.Need-returns-2 (
 ) (set-form-at t) set-form.Post
 set-form-returns-2 t c = search set-form-laws
 
--- src/walk.rt:173:9
-short-expr-requires : (t : ℕ) → short-lts.Need-expr-requires (
-  expr-below t,
-  expr.Post,
-  is-form-reads.Asked,
-  is-form-reads.Learnt,
-  closing-reads.Asked,
-  closing-reads.Learnt,
-  short-pair-reads.Asked,
-  short-pair-reads.Learnt,
-) (short-at t) short.Post
-short-expr-requires t c κs = search needs
-
--- src/walk.rt:175:8
-short-is-form-requires : (t : ℕ) → short-lts.Need-is-form-requires (
-  expr-below t,
-  expr.Post,
-  is-form-reads.Asked,
-  is-form-reads.Learnt,
-  closing-reads.Asked,
-  closing-reads.Learnt,
-  short-pair-reads.Asked,
-  short-pair-reads.Learnt,
-) (short-at t) short.Post
-short-is-form-requires t c κs = search needs
-
--- src/walk.rt:176:9
-short-same-length : (t : ℕ) → short-lts.Need-same-length (
-  expr-below t,
-  expr.Post,
-  is-form-reads.Asked,
-  is-form-reads.Learnt,
-  closing-reads.Asked,
-  closing-reads.Learnt,
-  short-pair-reads.Asked,
-  short-pair-reads.Learnt,
-) (short-at t) short.Post
-short-same-length t c = search needs
-
--- src/walk.rt:176:9
-short-returns : (t : ℕ) → short-lts.Need-returns (
-  expr-below t,
-  expr.Post,
-  is-form-reads.Asked,
-  is-form-reads.Learnt,
-  closing-reads.Asked,
-  closing-reads.Learnt,
-  short-pair-reads.Asked,
-  short-pair-reads.Learnt,
-) (short-at t) short.Post
-short-returns t c = search short-laws
-
--- src/walk.rt:178:9
-short-expr-requires-2 : (t : ℕ) → short-lts.Need-expr-requires-2 (
-  expr-below t,
-  expr.Post,
-  is-form-reads.Asked,
-  is-form-reads.Learnt,
-  closing-reads.Asked,
-  closing-reads.Learnt,
-  short-pair-reads.Asked,
-  short-pair-reads.Learnt,
-) (short-at t) short.Post
-short-expr-requires-2 t c κs = search needs
-
--- src/walk.rt:179:32
-short-closing-requires : (t : ℕ) → short-lts.Need-closing-requires (
-  expr-below t,
-  expr.Post,
-  is-form-reads.Asked,
-  is-form-reads.Learnt,
-  closing-reads.Asked,
-  closing-reads.Learnt,
-  short-pair-reads.Asked,
-  short-pair-reads.Learnt,
-) (short-at t) short.Post
-short-closing-requires t c κs = search needs
-
--- src/walk.rt:179:5
-short-short-pair-requires : (t : ℕ) → short-lts.Need-short-pair-requires (
-  expr-below t,
-  expr.Post,
-  is-form-reads.Asked,
-  is-form-reads.Learnt,
-  closing-reads.Asked,
-  closing-reads.Learnt,
-  short-pair-reads.Asked,
-  short-pair-reads.Learnt,
-) (short-at t) short.Post
-short-short-pair-requires t c κs = search needs
-
--- src/walk.rt:161:1
-short-same-length-2 : (t : ℕ) → short-lts.Need-same-length-2 (
-  expr-below t,
-  expr.Post,
-  is-form-reads.Asked,
-  is-form-reads.Learnt,
-  closing-reads.Asked,
-  closing-reads.Learnt,
-  short-pair-reads.Asked,
-  short-pair-reads.Learnt,
-) (short-at t) short.Post
-short-same-length-2 t c = search needs
-
--- src/walk.rt:161:1
-short-returns-2 : (t : ℕ) → short-lts.Need-returns-2 (
-  expr-below t,
-  expr.Post,
-  is-form-reads.Asked,
-  is-form-reads.Learnt,
-  closing-reads.Asked,
-  closing-reads.Learnt,
-  short-pair-reads.Asked,
-  short-pair-reads.Learnt,
-) (short-at t) short.Post
-short-returns-2 t c = search short-laws
-
--- src/walk.rt:362:9
+-- src/walk.rt:323:9
 target-failed-requires : (t : ℕ) → target-lts.Need-failed-requires (
   failed-reads.Asked,
   failed-reads.Learnt,
@@ -3492,7 +3432,7 @@ target-failed-requires : (t : ℕ) → target-lts.Need-failed-requires (
 ) (target-at t) target.Post
 target-failed-requires t c κs = search needs
 
--- src/walk.rt:362:9
+-- src/walk.rt:323:9
 target-returns : (t : ℕ) → target-lts.Need-returns (
   failed-reads.Asked,
   failed-reads.Learnt,
@@ -3505,7 +3445,7 @@ target-returns : (t : ℕ) → target-lts.Need-returns (
 ) (target-at t) target.Post
 target-returns t c = search target-laws
 
--- src/walk.rt:364:9
+-- src/walk.rt:325:9
 target-part-at-requires : (t : ℕ) → target-lts.Need-part-at-requires (
   failed-reads.Asked,
   failed-reads.Learnt,
@@ -3518,7 +3458,7 @@ target-part-at-requires : (t : ℕ) → target-lts.Need-part-at-requires (
 ) (target-at t) target.Post
 target-part-at-requires t c κs = search needs
 
--- src/walk.rt:366:20
+-- src/walk.rt:327:20
 target-enum-known-p : (t : ℕ) → target-lts.Need-enum-known-p (
   failed-reads.Asked,
   failed-reads.Learnt,
@@ -3531,7 +3471,7 @@ target-enum-known-p : (t : ℕ) → target-lts.Need-enum-known-p (
 ) (target-at t) target.Post
 target-enum-known-p t c = search needs
 
--- src/walk.rt:366:32
+-- src/walk.rt:327:32
 target-variable-requires : (t : ℕ) → target-lts.Need-variable-requires (
   failed-reads.Asked,
   failed-reads.Learnt,
@@ -3544,7 +3484,7 @@ target-variable-requires : (t : ℕ) → target-lts.Need-variable-requires (
 ) (target-at t) target.Post
 target-variable-requires t c κs = search needs
 
--- src/walk.rt:367:20
+-- src/walk.rt:328:20
 target-enum-known-p-2 : (t : ℕ) → target-lts.Need-enum-known-p-2 (
   failed-reads.Asked,
   failed-reads.Learnt,
@@ -3557,7 +3497,7 @@ target-enum-known-p-2 : (t : ℕ) → target-lts.Need-enum-known-p-2 (
 ) (target-at t) target.Post
 target-enum-known-p-2 t c = search needs
 
--- src/walk.rt:367:58
+-- src/walk.rt:328:58
 target-sub-place : (t : ℕ) → target-lts.Need-sub-place (
   failed-reads.Asked,
   failed-reads.Learnt,
@@ -3570,7 +3510,7 @@ target-sub-place : (t : ℕ) → target-lts.Need-sub-place (
 ) (target-at t) target.Post
 target-sub-place t c = search needs
 
--- src/walk.rt:367:26
+-- src/walk.rt:328:26
 target-place-requires : (t : ℕ) → target-lts.Need-place-requires (
   failed-reads.Asked,
   failed-reads.Learnt,
@@ -3583,7 +3523,7 @@ target-place-requires : (t : ℕ) → target-lts.Need-place-requires (
 ) (target-at t) target.Post
 target-place-requires t c κs = search needs
 
--- src/walk.rt:368:20
+-- src/walk.rt:329:20
 target-enum-known-p-3 : (t : ℕ) → target-lts.Need-enum-known-p-3 (
   failed-reads.Asked,
   failed-reads.Learnt,
@@ -3596,7 +3536,7 @@ target-enum-known-p-3 : (t : ℕ) → target-lts.Need-enum-known-p-3 (
 ) (target-at t) target.Post
 target-enum-known-p-3 t c = search needs
 
--- src/walk.rt:368:26
+-- src/walk.rt:329:26
 target-failed-requires-2 : (t : ℕ) → target-lts.Need-failed-requires-2 (
   failed-reads.Asked,
   failed-reads.Learnt,
@@ -3609,7 +3549,7 @@ target-failed-requires-2 : (t : ℕ) → target-lts.Need-failed-requires-2 (
 ) (target-at t) target.Post
 target-failed-requires-2 t c κs = search needs
 
--- src/walk.rt:350:1
+-- src/walk.rt:311:1
 target-same-length : (t : ℕ) → target-lts.Need-same-length (
   failed-reads.Asked,
   failed-reads.Learnt,
@@ -3622,7 +3562,7 @@ target-same-length : (t : ℕ) → target-lts.Need-same-length (
 ) (target-at t) target.Post
 target-same-length t c = search needs
 
--- src/walk.rt:350:1
+-- src/walk.rt:311:1
 target-returns-2 : (t : ℕ) → target-lts.Need-returns-2 (
   failed-reads.Asked,
   failed-reads.Learnt,
@@ -3635,7 +3575,7 @@ target-returns-2 : (t : ℕ) → target-lts.Need-returns-2 (
 ) (target-at t) target.Post
 target-returns-2 t c = search target-laws
 
--- src/walk.rt:350:1
+-- src/walk.rt:311:1
 target-same-length-2 : (t : ℕ) → target-lts.Need-same-length-2 (
   failed-reads.Asked,
   failed-reads.Learnt,
@@ -3648,7 +3588,7 @@ target-same-length-2 : (t : ℕ) → target-lts.Need-same-length-2 (
 ) (target-at t) target.Post
 target-same-length-2 t c = search needs
 
--- src/walk.rt:350:1
+-- src/walk.rt:311:1
 target-returns-3 : (t : ℕ) → target-lts.Need-returns-3 (
   failed-reads.Asked,
   failed-reads.Learnt,
@@ -3661,7 +3601,7 @@ target-returns-3 : (t : ℕ) → target-lts.Need-returns-3 (
 ) (target-at t) target.Post
 target-returns-3 t c = search target-laws
 
--- src/walk.rt:350:1
+-- src/walk.rt:311:1
 target-returns-4 : (t : ℕ) → target-lts.Need-returns-4 (
   failed-reads.Asked,
   failed-reads.Learnt,
@@ -3674,36 +3614,8 @@ target-returns-4 : (t : ℕ) → target-lts.Need-returns-4 (
 ) (target-at t) target.Post
 target-returns-4 t c = search target-laws
 
--- src/walk.rt:134:9
-two-failed-requires : (t : ℕ) → two-lts.Need-failed-requires (
-  failed-reads.Asked,
-  failed-reads.Learnt,
-  expr-below t,
-  expr.Post,
-  is-form-reads.Asked,
-  is-form-reads.Learnt,
-  second-below t,
-  second.Post,
-) (two-at t) two.Post
-two-failed-requires t c κs = search needs
-
--- src/walk.rt:134:9
-two-returns : (t : ℕ) → two-lts.Need-returns (
-  failed-reads.Asked,
-  failed-reads.Learnt,
-  expr-below t,
-  expr.Post,
-  is-form-reads.Asked,
-  is-form-reads.Learnt,
-  second-below t,
-  second.Post,
-) (two-at t) two.Post
-two-returns t c = search two-laws
-
--- src/walk.rt:136:9
+-- src/walk.rt:129:9
 two-expr-requires : (t : ℕ) → two-lts.Need-expr-requires (
-  failed-reads.Asked,
-  failed-reads.Learnt,
   expr-below t,
   expr.Post,
   is-form-reads.Asked,
@@ -3713,10 +3625,8 @@ two-expr-requires : (t : ℕ) → two-lts.Need-expr-requires (
 ) (two-at t) two.Post
 two-expr-requires t c κs = search needs
 
--- src/walk.rt:138:8
+-- src/walk.rt:131:8
 two-is-form-requires : (t : ℕ) → two-lts.Need-is-form-requires (
-  failed-reads.Asked,
-  failed-reads.Learnt,
   expr-below t,
   expr.Post,
   is-form-reads.Asked,
@@ -3726,10 +3636,8 @@ two-is-form-requires : (t : ℕ) → two-lts.Need-is-form-requires (
 ) (two-at t) two.Post
 two-is-form-requires t c κs = search needs
 
--- src/walk.rt:139:9
+-- src/walk.rt:132:9
 two-same-length : (t : ℕ) → two-lts.Need-same-length (
-  failed-reads.Asked,
-  failed-reads.Learnt,
   expr-below t,
   expr.Post,
   is-form-reads.Asked,
@@ -3739,10 +3647,8 @@ two-same-length : (t : ℕ) → two-lts.Need-same-length (
 ) (two-at t) two.Post
 two-same-length t c = search needs
 
--- src/walk.rt:139:9
-two-returns-2 : (t : ℕ) → two-lts.Need-returns-2 (
-  failed-reads.Asked,
-  failed-reads.Learnt,
+-- src/walk.rt:132:9
+two-returns : (t : ℕ) → two-lts.Need-returns (
   expr-below t,
   expr.Post,
   is-form-reads.Asked,
@@ -3750,12 +3656,10 @@ two-returns-2 : (t : ℕ) → two-lts.Need-returns-2 (
   second-below t,
   second.Post,
 ) (two-at t) two.Post
-two-returns-2 t c = search two-laws
+two-returns t c = search two-laws
 
--- src/walk.rt:141:5
+-- src/walk.rt:134:5
 two-second-requires : (t : ℕ) → two-lts.Need-second-requires (
-  failed-reads.Asked,
-  failed-reads.Learnt,
   expr-below t,
   expr.Post,
   is-form-reads.Asked,
@@ -3765,10 +3669,8 @@ two-second-requires : (t : ℕ) → two-lts.Need-second-requires (
 ) (two-at t) two.Post
 two-second-requires t c κs = search needs
 
--- src/walk.rt:121:1
+-- src/walk.rt:117:1
 two-same-length-2 : (t : ℕ) → two-lts.Need-same-length-2 (
-  failed-reads.Asked,
-  failed-reads.Learnt,
   expr-below t,
   expr.Post,
   is-form-reads.Asked,
@@ -3778,10 +3680,8 @@ two-same-length-2 : (t : ℕ) → two-lts.Need-same-length-2 (
 ) (two-at t) two.Post
 two-same-length-2 t c = search needs
 
--- src/walk.rt:121:1
-two-returns-3 : (t : ℕ) → two-lts.Need-returns-3 (
-  failed-reads.Asked,
-  failed-reads.Learnt,
+-- src/walk.rt:117:1
+two-returns-2 : (t : ℕ) → two-lts.Need-returns-2 (
   expr-below t,
   expr.Post,
   is-form-reads.Asked,
@@ -3789,11 +3689,11 @@ two-returns-3 : (t : ℕ) → two-lts.Need-returns-3 (
   second-below t,
   second.Post,
 ) (two-at t) two.Post
-two-returns-3 t c = search two-laws
+two-returns-2 t c = search two-laws
 
-pub +element+expr+field+headed+inner+load-at+load-dot+member-list+minus+minus-parts+one+place+place-headed+second+set-form+short+target+two-spec :
+pub +element+expr+field+headed+inner+load-at+load-dot+member-list+minus+minus-parts+one+place+place-headed+second+set-form+target+two-spec :
     {M : Type 1} → statement M
-+element+expr+field+headed+inner+load-at+load-dot+member-list+minus+minus-parts+one+place+place-headed+second+set-form+short+target+two-spec =
++element+expr+field+headed+inner+load-at+load-dot+member-list+minus+minus-parts+one+place+place-headed+second+set-form+target+two-spec =
     close
     μ-element
     μ-expr
@@ -3810,7 +3710,6 @@ pub +element+expr+field+headed+inner+load-at+load-dot+member-list+minus+minus-pa
     μ-place-headed
     μ-second
     μ-set-form
-    μ-short
     μ-target
     μ-two
     (λ t. element-lts.spec (
@@ -3901,14 +3800,14 @@ pub +element+expr+field+headed+inner+load-at+load-dot+member-list+minus+minus-pa
       minus.Post,
       bound-reads.Asked,
       bound-reads.Learnt,
-      short-below t,
-      short.Post,
+      short-row-reads.Asked,
+      short-row-reads.Learnt,
       two-below t,
       two.Post,
-      one-below t,
-      one.Post,
       failed-reads.Asked,
       failed-reads.Learnt,
+      one-below t,
+      one.Post,
     )
     (headed-at t)
     headed.Post
@@ -3923,30 +3822,33 @@ pub +element+expr+field+headed+inner+load-at+load-dot+member-list+minus+minus-pa
     (headed-enum-known-head t)
     (headed-bound-requires t)
     (headed-enum-known-head-2 t)
-    (headed-short-requires t)
-    (headed-enum-known-head-3 t)
+    (headed-short-row-requires t)
     (headed-two-requires t)
+    (headed-enum-known-head-3 t)
+    (headed-failed-requires t)
+    (headed-returns t)
+    (headed-two-requires-2 t)
     (headed-enum-known-head-4 t)
     (headed-one-requires t)
     (headed-enum-told-5 t)
-    (headed-failed-requires t)
+    (headed-failed-requires-2 t)
     (headed-same-length t)
-    (headed-returns t)
-    (headed-same-length-2 t)
     (headed-returns-2 t)
-    (headed-same-length-3 t)
+    (headed-same-length-2 t)
     (headed-returns-3 t)
-    (headed-same-length-4 t)
+    (headed-same-length-3 t)
     (headed-returns-4 t)
-    (headed-same-length-5 t)
+    (headed-same-length-4 t)
     (headed-returns-5 t)
-    (headed-same-length-6 t)
+    (headed-same-length-5 t)
     (headed-returns-6 t)
-    (headed-same-length-7 t)
+    (headed-same-length-6 t)
     (headed-returns-7 t)
-    (headed-same-length-8 t)
+    (headed-same-length-7 t)
     (headed-returns-8 t)
-    (headed-returns-9 t))
+    (headed-same-length-8 t)
+    (headed-returns-9 t)
+    (headed-returns-10 t))
     (λ t. inner-lts.spec (
       part-at-reads.Asked,
       part-at-reads.Learnt,
@@ -4201,27 +4103,6 @@ pub +element+expr+field+headed+inner+load-at+load-dot+member-list+minus+minus-pa
     (set-form-set-of-requires t)
     (set-form-same-length-2 t)
     (set-form-returns-2 t))
-    (λ t. short-lts.spec (
-      expr-below t,
-      expr.Post,
-      is-form-reads.Asked,
-      is-form-reads.Learnt,
-      closing-reads.Asked,
-      closing-reads.Learnt,
-      short-pair-reads.Asked,
-      short-pair-reads.Learnt,
-    )
-    (short-at t)
-    short.Post
-    (short-expr-requires t)
-    (short-is-form-requires t)
-    (short-same-length t)
-    (short-returns t)
-    (short-expr-requires-2 t)
-    (short-closing-requires t)
-    (short-short-pair-requires t)
-    (short-same-length-2 t)
-    (short-returns-2 t))
     (λ t. target-lts.spec (
       failed-reads.Asked,
       failed-reads.Learnt,
@@ -4250,8 +4131,6 @@ pub +element+expr+field+headed+inner+load-at+load-dot+member-list+minus+minus-pa
     (target-returns-3 t)
     (target-returns-4 t))
     λ t. two-lts.spec (
-      failed-reads.Asked,
-      failed-reads.Learnt,
       expr-below t,
       expr.Post,
       is-form-reads.Asked,
@@ -4261,12 +4140,10 @@ pub +element+expr+field+headed+inner+load-at+load-dot+member-list+minus+minus-pa
     )
     (two-at t)
     two.Post
-    (two-failed-requires t)
-    (two-returns t)
     (two-expr-requires t)
     (two-is-form-requires t)
     (two-same-length t)
-    (two-returns-2 t)
+    (two-returns t)
     (two-second-requires t)
     (two-same-length-2 t)
-    (two-returns-3 t)
+    (two-returns-2 t)
