@@ -1,12 +1,13 @@
 // A text run by the marking machine, and its report as `markscript` prints it.
 use marking::mark;
 use telling::markings::mark_shown;
+ghost use mathlib.Core.Path.{_≡_};
 ghost use lib.ListN.{length};
-ghost use Rattle.semantics.specs.Print.{show};
-ghost use Rattle.semantics.specs.Whole.{markOf};
-ghost use Rattle.writing.specs.Written.{Puts, namesAt};
+ghost use Rattle.semantics.specs.Whole.{markOf, workAfter};
+ghost use Rattle.writing.specs.Written.{namesAt};
+ghost use Rattle.printing.specs.Shown.{Shows};
 
-// A text run by the marking machine on a lent store, and its report.
+// A text run by the marking machine on a lent store, and its report; store and working list are left as by `mark`.
 pub fn mark_scripted(
     out: &mut [u8],
     text: &[u8],
@@ -16,7 +17,7 @@ pub fn mark_scripted(
     marks: &mut [u8],
     budget: u32,
 ) -> usize
-    ensures { λ r. ⌜ Puts (show (namesAt (now (text .entry)) (now (names .entry))) (markOf (now (text .entry)) (length (now (work .entry))) (now (values .entry)) (now (marks .entry)) budget)) (now (out .entry)) 0 r (now (out .exit)) ⌝ }
+    ensures { λ r. ⌜ Shows (namesAt (now (text .entry)) (now (names .entry))) (markOf (now (text .entry)) (length (now (work .entry))) (now (values .entry)) (now (marks .entry)) budget) (now (out .entry)) r (now (out .exit)) (now (values .exit)) (now (marks .exit)) × (now (work .exit) ≡ workAfter (now (work .entry))) ⌝ }
 {
     let report = mark(text, work, values, marks, budget);
     mark_shown(out, text, names, values, marks, report)

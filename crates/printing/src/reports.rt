@@ -1,12 +1,13 @@
 // A text run, and its report as `runscript` prints it.
 use running::run;
 use telling::reports::shown;
+ghost use mathlib.Core.Path.{_≡_};
 ghost use lib.ListN.{length};
-ghost use Rattle.semantics.specs.Print.{show};
-ghost use Rattle.semantics.specs.Whole.{runOf};
-ghost use Rattle.writing.specs.Written.{Puts, namesAt};
+ghost use Rattle.semantics.specs.Whole.{runOf, workAfter};
+ghost use Rattle.writing.specs.Written.{namesAt};
+ghost use Rattle.printing.specs.Shown.{Shows};
 
-// A text run on a lent store, and its report: what document 01 has `runscript` print.
+// A text run on a lent store, and its report: what document 01 has `runscript` print; store and working list are left as by `run`.
 pub fn scripted(
     out: &mut [u8],
     text: &[u8],
@@ -16,7 +17,7 @@ pub fn scripted(
     marks: &mut [u8],
     budget: u32,
 ) -> usize
-    ensures { λ r. ⌜ Puts (show (namesAt (now (text .entry)) (now (names .entry))) (runOf (now (text .entry)) (length (now (work .entry))) (now (values .entry)) (now (marks .entry)) budget)) (now (out .entry)) 0 r (now (out .exit)) ⌝ }
+    ensures { λ r. ⌜ Shows (namesAt (now (text .entry)) (now (names .entry))) (runOf (now (text .entry)) (length (now (work .entry))) (now (values .entry)) (now (marks .entry)) budget) (now (out .entry)) r (now (out .exit)) (now (values .exit)) (now (marks .exit)) × (now (work .exit) ≡ workAfter (now (work .entry))) ⌝ }
 {
     let report = run(text, work, values, marks, budget);
     shown(out, text, names, values, marks, report)
