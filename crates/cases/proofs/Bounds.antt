@@ -5,7 +5,7 @@ use lib.IntN.{ℤ, pos, negsuc, negℤ, _-ℤ_, +ℤ-idl}
 use mir.Syntax.{w64}
 use mir.Val.{SFits, toZ}
 use mir.Facts.{toZ-pos}
-use Rattle.arith.proofs.Machine.{fits-mag}
+use Rattle.leaf_integers.proofs.Machine.{fits-mag}
 
 opposite-fits : (n : ℕ) → n < 1000000000000000000 → SFits w64 (negℤ (pos n))
 opposite-fits zero h = fits-mag (pos 0) (omega arith)

@@ -3,15 +3,15 @@ use mathlib.Core.Path.{_≡_, ap, _∙_}
 use mathlib.Core.List.{List}
 use Prim.Native.Nat.{ℕ}
 use lib.IntN.{ℤ}
-use Rattle.semantics.specs.Whole as Whole
-use Rattle.answers.specs.declared.Verdict.{Verdict}
-use Rattle.answers.specs.declared.Counted.{Counted}
-use Rattle.answers.specs.declared.Report.{Report}
-use Rattle.answers.specs.declared.MarkReport.{MarkReport}
-use Rattle.answers.specs.RunReports.{endingOf, Reports}
-use Rattle.answers.specs.MarkingReports.{markEnding, MarkReports}
-use Rattle.replies.specs.declared.Reply.{Reply}
-use Rattle.replies.specs.Replies.{verdictReply, countReply, endingReply, Replies}
+use Rattle.law.specs.Whole as Whole
+use Rattle.law_answers.specs.declared.Verdict.{Verdict}
+use Rattle.law_answers.specs.declared.Counted.{Counted}
+use Rattle.law_answers.specs.declared.Report.{Report}
+use Rattle.law_answers.specs.declared.MarkReport.{MarkReport}
+use Rattle.law_answers.specs.RunReports.{endingOf, Reports}
+use Rattle.law_answers.specs.MarkingReports.{markEnding, MarkReports}
+use Rattle.host_replies.specs.declared.Reply.{Reply}
+use Rattle.host_replies.specs.Replies.{verdictReply, countReply, endingReply, Replies}
 
 pub verdict-told : (r : Reply) (v w : Verdict) → v ≡ w → r ≡ verdictReply v → r ≡ verdictReply w
 verdict-told r v w e f = f ∙ ap verdictReply e

@@ -1,22 +1,22 @@
 // The functions that a host in C or Rust calls (include/drive.h): each is one that `drive` passes on, its answer told in numbers.
-use counting::cells;
-use counting::owners;
-use marking::mark;
-use marking::owning::mark_owners;
-use replies::Reply;
-use replies::counted;
-use replies::mark_reported;
-use replies::reported;
-use replies::told;
-use running::run;
-use texts::verdict_of;
+use host_replies::Reply;
+use host_replies::counted;
+use host_replies::mark_reported;
+use host_replies::reported;
+use host_replies::told;
+use mark_texts::mark;
+use mark_texts::owning::mark_owners;
+use rule_cells::cells;
+use rule_cells::owners;
+use rule_texts::verdict_of;
+use run_texts::run;
 ghost use mathlib.Core.Path.{_≡_};
 ghost use lib.ListN.{length};
-ghost use Rattle.semantics.specs.Verdict.{judge, loosely};
-ghost use Rattle.semantics.specs.Whole.{verdictOf, runOf, markOf, workAfter};
-ghost use Rattle.answers.specs.Verdicts.{toldVerdict, cellsTold};
-ghost use Rattle.counting.specs.Cells.{Owners};
-ghost use Rattle.replies.specs.Replies.{verdictReply, countReply, Replies};
+ghost use Rattle.law.specs.Verdict.{judge, loosely};
+ghost use Rattle.law.specs.Whole.{verdictOf, runOf, markOf, workAfter};
+ghost use Rattle.law_answers.specs.Verdicts.{toldVerdict, cellsTold};
+ghost use Rattle.rule_cells.specs.Cells.{Owners};
+ghost use Rattle.host_replies.specs.Replies.{verdictReply, countReply, Replies};
 
 // The verdict on a text.
 #[no_mangle]

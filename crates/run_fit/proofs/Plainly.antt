@@ -1,4 +1,4 @@
--- Code that is ready for an engine (semantics, CodeReady) is code that the emitter has nodes and instructions for (run_nodes, run_emit).
+-- Code that is ready for an engine (law, CodeReady) is code that the emitter has nodes and instructions for (run_nodes, run_emit).
 use mathlib.Core.Path.{_≡_, refl}
 use mathlib.Core.Bool.{true}
 use mathlib.Core.List.{List}
@@ -7,16 +7,16 @@ use native.Mathlib.Omega.{arith}
 use borrow.Author.Tests.{leb-true}
 use lib.IntN.{ℤ, pos, negsuc}
 use lib.ListN.{getD}
-use Rattle.arith.specs.Integers.{inside}
-use Rattle.arith.proofs.Ranges.{inside-is}
-use Rattle.semantics.specs.Code as C
-use Rattle.semantics.specs.Readback.{allAtPlaces, atPlaces, bodyAtPlaces, casesAtPlaces}
-use Rattle.semantics.proofs.CodeCalls as Calls
-use Rattle.semantics.proofs.CodeCalls.{Calls, CallsAll, CallsCases, CallsBody}
-use Rattle.semantics.proofs.CodeReady as R
-use Rattle.semantics.proofs.CodeReady.{ReadyCode, ReadyPlace, ReadyCodes, ReadyAct, ReadyActs, ReadyCases, ReadyBody}
-use Rattle.semantics.proofs.CodeSized.{InSet}
-use Rattle.semantics.proofs.ValuesInRange.{wrong}
+use Rattle.leaf_integers.specs.Integers.{inside}
+use Rattle.leaf_integers.proofs.Ranges.{inside-is}
+use Rattle.law.specs.Code as C
+use Rattle.law.specs.Readback.{allAtPlaces, atPlaces, bodyAtPlaces, casesAtPlaces}
+use Rattle.law.proofs.CodeCalls as Calls
+use Rattle.law.proofs.CodeCalls.{Calls, CallsAll, CallsCases, CallsBody}
+use Rattle.law.proofs.CodeReady as R
+use Rattle.law.proofs.CodeReady.{ReadyCode, ReadyPlace, ReadyCodes, ReadyAct, ReadyActs, ReadyCases, ReadyBody}
+use Rattle.law.proofs.CodeSized.{InSet}
+use Rattle.law.proofs.ValuesInRange.{wrong}
 use Rattle.run_nodes.specs.Emitted.{Plain, PlainCodes, PlainPlace, Small, SmallFor, baseOf}
 use Rattle.run_emit.specs.Plainly.{Callable, PlainAct, PlainActs, PlainBody, PlainCases, PlainWhole}
 

@@ -1,12 +1,12 @@
--- The emitter's numbers (run_nodes, spanCode; run_emit, spanAct) are a measure of code (semantics, Measure): an accepted text's code has room for them.
+-- The emitter's numbers (run_nodes, spanCode; run_emit, spanAct) are a measure of code (law, Measure): an accepted text's code has room for them.
 use mathlib.Core.Path.{_≡_, refl}
 use mathlib.Core.List.{List, [], _∷_}
 use mathlib.Core.Logic.{_⊎_, inl, inr}
 use Prim.Native.Nat.{ℕ, _+_, _*_, _<_, _≤_}
 use native.Mathlib.Omega.{arith}
 use lib.ListN.{length}
-use Rattle.semantics.specs.Code.{Acts, stop, _also_, BodyCode}
-use Rattle.semantics.proofs.Measure.{Measure, total}
+use Rattle.law.specs.Code.{Acts, stop, _also_, BodyCode}
+use Rattle.law.proofs.Measure.{Measure, total}
 use Rattle.run_nodes.specs.Emitted.{indicesIn, membersIn, spanCode, spanMembers, spanPlace}
 use Rattle.run_emit.specs.Spans.{spanAct, spanActs, spanBody, spanCases, spanLabels}
 use Rattle.run_fit.proofs.Sums.{sumOf}

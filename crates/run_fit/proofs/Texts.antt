@@ -5,16 +5,16 @@ use Prim.Native.Nat.{ℕ, suc, _-_, _<_, _≤_}
 use native.Mathlib.Nat.{zero-add}
 use native.Mathlib.Omega.{arith}
 use lib.ListN.{getD, length, length-map}
-use Rattle.semantics.specs.Code.{BodyCode}
-use Rattle.semantics.specs.Readback.{bodyAtPlaces, readBody}
-use Rattle.semantics.specs.Verdict.{Read, accepted}
-use Rattle.semantics.specs.Whole.{verdictOf}
-use Rattle.semantics.proofs.Bodies.{body-get}
-use Rattle.semantics.proofs.CodeCalls.{CallsBody}
-use Rattle.semantics.proofs.CodeReady.{ReadyBody, body-ready-at-places}
-use Rattle.semantics.proofs.Demand3.{any-room-at, body-count, code-calls, code-ready, for-room-at, room-enough}
-use Rattle.semantics.proofs.LayoutBodies.{Bodies, BodiesAt}
-use Rattle.semantics.proofs.ListMachineRuns.{size-within}
+use Rattle.law.specs.Code.{BodyCode}
+use Rattle.law.specs.Readback.{bodyAtPlaces, readBody}
+use Rattle.law.specs.Verdict.{Read, accepted}
+use Rattle.law.specs.Whole.{verdictOf}
+use Rattle.law.proofs.Bodies.{body-get}
+use Rattle.law.proofs.CodeCalls.{CallsBody}
+use Rattle.law.proofs.CodeReady.{ReadyBody, body-ready-at-places}
+use Rattle.law.proofs.Demand3.{any-room-at, body-count, code-calls, code-ready, for-room-at, room-enough}
+use Rattle.law.proofs.LayoutBodies.{Bodies, BodiesAt}
+use Rattle.law.proofs.ListMachineRuns.{size-within}
 use Rattle.run_linear.specs.Bodies.{noBody}
 use Rattle.run_linear.proofs.Bodies.{loops}
 use Rattle.run_emit.specs.Plainly.{Callable}

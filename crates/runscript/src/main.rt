@@ -4,11 +4,11 @@ use drive::MOST_CELLS;
 use drive::TEXT_LENGTH;
 use drive::WORK_LENGTH;
 use drive::owners;
-use input::Input;
-use input::read_text;
+use host_input::Input;
+use host_input::read_text;
+use host_printing::reports::scripted;
+use host_writing::rows::refused;
 use libc::STDOUT_FILENO;
-use printing::reports::scripted;
-use writing::rows::refused;
 ghost use Prim.Native.Nat.{_≤_};
 ghost use lib.ListN.{length};
 

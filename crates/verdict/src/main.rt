@@ -1,13 +1,13 @@
 // Reads a script from standard input and prints the verdict: `accepted`, or `refused`, the number, the line and the refusal's word, and then
 // the line's text if there is such a line.
-use answers::Verdict;
-use framing::lines::next_line;
-use input::Input;
-use input::read_text;
+use host_input::Input;
+use host_input::read_text;
+use law_answers::Verdict;
 use libc::STDOUT_FILENO;
-use texts::TEXT_LENGTH;
-use texts::WORK_LENGTH;
-use texts::verdict_of;
+use rule_texts::TEXT_LENGTH;
+use rule_texts::WORK_LENGTH;
+use rule_texts::verdict_of;
+use text_lines::lines::next_line;
 ghost use Prim.Native.Nat.{_≤_};
 ghost use lib.ListN.{length};
 

@@ -1,11 +1,11 @@
-use Rattle.input.proofs.Arriving.{came-laws}
+use Rattle.host_input.proofs.Arriving.{came-laws}
 use borrow.Author.Needs.{needs}
 use Rattle.cases.proofs.serve.Statement.{statement}
 use Rattle.cases.proofs.serve.Tie as tie
 use Rattle.cases.proofs.serve.Reads as reads
 use Rattle.cases.proofs.serve.Lts as lts
 use Rattle.cases.proofs.try_all.Reads as try-all-reads
-use Rattle.input.proofs.read_text.Reads as read-text-reads
+use Rattle.host_input.proofs.read_text.Reads as read-text-reads
 
 -- src/main.rt:192:9
 read-text-requires : tie.Need-read-text-requires

@@ -4,8 +4,8 @@ use Rattle.hostlink.proofs.drive_cells.Statement.{statement}
 use Rattle.hostlink.proofs.drive_cells.Tie as tie
 use Rattle.hostlink.proofs.drive_cells.Reads as reads
 use Rattle.hostlink.proofs.drive_cells.Lts as lts
-use Rattle.counting.proofs.cells.Reads as cells-reads
-use Rattle.replies.proofs.counted.Reads as counted-reads
+use Rattle.rule_cells.proofs.cells.Reads as cells-reads
+use Rattle.host_replies.proofs.counted.Reads as counted-reads
 
 -- src/lib.rt:37:9
 cells-requires : tie.Need-cells-requires

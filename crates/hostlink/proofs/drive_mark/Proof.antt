@@ -4,8 +4,8 @@ use Rattle.hostlink.proofs.drive_mark.Statement.{statement}
 use Rattle.hostlink.proofs.drive_mark.Tie as tie
 use Rattle.hostlink.proofs.drive_mark.Reads as reads
 use Rattle.hostlink.proofs.drive_mark.Lts as lts
-use Rattle.replies.proofs.mark_reported.Reads as mark-reported-reads
-use Rattle.marking.proofs.mark.Reads as mark-reads
+use Rattle.host_replies.proofs.mark_reported.Reads as mark-reported-reads
+use Rattle.mark_texts.proofs.mark.Reads as mark-reads
 
 -- src/lib.rt:85:9
 mark-requires : tie.Need-mark-requires

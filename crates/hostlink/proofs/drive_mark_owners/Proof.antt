@@ -4,8 +4,8 @@ use Rattle.hostlink.proofs.drive_mark_owners.Statement.{statement}
 use Rattle.hostlink.proofs.drive_mark_owners.Tie as tie
 use Rattle.hostlink.proofs.drive_mark_owners.Reads as reads
 use Rattle.hostlink.proofs.drive_mark_owners.Lts as lts
-use Rattle.replies.proofs.counted.Reads as counted-reads
-use Rattle.marking.proofs.owning.mark_owners.Reads as mark-owners-reads
+use Rattle.host_replies.proofs.counted.Reads as counted-reads
+use Rattle.mark_texts.proofs.owning.mark_owners.Reads as mark-owners-reads
 
 -- src/lib.rt:70:9
 mark-owners-requires : tie.Need-mark-owners-requires

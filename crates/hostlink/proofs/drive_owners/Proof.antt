@@ -4,8 +4,8 @@ use Rattle.hostlink.proofs.drive_owners.Statement.{statement}
 use Rattle.hostlink.proofs.drive_owners.Tie as tie
 use Rattle.hostlink.proofs.drive_owners.Reads as reads
 use Rattle.hostlink.proofs.drive_owners.Lts as lts
-use Rattle.counting.proofs.owners.Reads as owners-reads
-use Rattle.replies.proofs.counted.Reads as counted-reads
+use Rattle.rule_cells.proofs.owners.Reads as owners-reads
+use Rattle.host_replies.proofs.counted.Reads as counted-reads
 
 -- src/lib.rt:46:9
 owners-requires : tie.Need-owners-requires

@@ -4,8 +4,8 @@ use Rattle.hostlink.proofs.drive_run.Statement.{statement}
 use Rattle.hostlink.proofs.drive_run.Tie as tie
 use Rattle.hostlink.proofs.drive_run.Reads as reads
 use Rattle.hostlink.proofs.drive_run.Lts as lts
-use Rattle.running.proofs.run.Reads as run-reads
-use Rattle.replies.proofs.reported.Reads as reported-reads
+use Rattle.run_texts.proofs.run.Reads as run-reads
+use Rattle.host_replies.proofs.reported.Reads as reported-reads
 
 -- src/lib.rt:61:9
 run-requires : tie.Need-run-requires

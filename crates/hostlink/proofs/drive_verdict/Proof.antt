@@ -4,8 +4,8 @@ use Rattle.hostlink.proofs.drive_verdict.Statement.{statement}
 use Rattle.hostlink.proofs.drive_verdict.Tie as tie
 use Rattle.hostlink.proofs.drive_verdict.Reads as reads
 use Rattle.hostlink.proofs.drive_verdict.Lts as lts
-use Rattle.texts.proofs.verdict_of.Reads as verdict-of-reads
-use Rattle.replies.proofs.told.Reads as told-reads
+use Rattle.rule_texts.proofs.verdict_of.Reads as verdict-of-reads
+use Rattle.host_replies.proofs.told.Reads as told-reads
 
 -- src/lib.rt:28:9
 verdict-of-requires : tie.Need-verdict-of-requires

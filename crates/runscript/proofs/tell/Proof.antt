@@ -1,4 +1,4 @@
-use Rattle.input.proofs.Arriving.{part-long}
+use Rattle.host_input.proofs.Arriving.{part-long}
 use borrow.Author.Needs.{needs}
 use Rattle.runscript.proofs.tell.Statement.{statement}
 use Rattle.runscript.proofs.tell.Tie as tie

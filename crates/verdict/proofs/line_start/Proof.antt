@@ -5,7 +5,7 @@ use Rattle.verdict.proofs.line_start.Statement.{statement}
 use Rattle.verdict.proofs.line_start.Tie as tie
 use Rattle.verdict.proofs.line_start.Reads as reads
 use Rattle.verdict.proofs.line_start.Lts as lts
-use Rattle.framing.proofs.lines.next_line.Reads as next-line-reads
+use Rattle.text_lines.proofs.lines.next_line.Reads as next-line-reads
 
 abbrev Inv-loop : tie.InvT-loop
 Inv-loop text line p₀ n₀ p n = 1 ≤ n

@@ -1,11 +1,11 @@
-use Rattle.input.proofs.Arriving.{came-laws}
+use Rattle.host_input.proofs.Arriving.{came-laws}
 use borrow.Author.Needs.{needs}
 use Rattle.verdict.proofs.serve.Statement.{statement}
 use Rattle.verdict.proofs.serve.Tie as tie
 use Rattle.verdict.proofs.serve.Reads as reads
 use Rattle.verdict.proofs.serve.Lts as lts
 use Rattle.verdict.proofs.answer.Reads as answer-reads
-use Rattle.input.proofs.read_text.Reads as read-text-reads
+use Rattle.host_input.proofs.read_text.Reads as read-text-reads
 
 -- src/main.rt:118:9
 read-text-requires : tie.Need-read-text-requires

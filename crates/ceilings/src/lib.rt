@@ -1,1 +1,0 @@
-// Long scripts at the ceilings of document 01, computed from the definitions of `semantics`: see proofs/.

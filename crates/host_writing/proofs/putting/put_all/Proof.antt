@@ -1,0 +1,66 @@
+use Prim.Native.Nat.{ℕ, _<_, _≤_, _-_}
+use native.Mathlib.Omega.{arith}
+use lib.ListN.{length}
+use mathlib.Core.Path.{_≡_}
+use lib.ListN.{drop}
+use Rattle.host_writing.proofs.Writing.{Still}
+use borrow.Author.Needs.{needs}
+use Rattle.host_writing.proofs.Writing.{all-laws, still-long, still-start}
+use Rattle.host_writing.proofs.putting.put_all.Statement.{statement}
+use Rattle.host_writing.proofs.putting.put_all.Tie as tie
+use Rattle.host_writing.proofs.putting.put_all.Reads as reads
+use Rattle.host_writing.proofs.putting.put_all.Lts as lts
+use Rattle.host_writing.proofs.putting.put.Reads as put-reads
+
+abbrev Inv-loop : tie.InvT-loop
+Inv-loop out₀ at bytes p₀ i₀ out p i = Still bytes out₀ at (drop i bytes) out p
+
+abbrev μ-loop : tie.MeasureT-loop
+μ-loop out₀ at bytes p₀ i₀ out p i = length bytes - i
+
+-- src/putting.rt:26:5
+loop-holds : tie.Need-loop-holds Inv-loop μ-loop
+loop-holds c = still-start _ _ _
+
+-- src/putting.rt:27:25
+shared-slice-read-put : tie.Need-shared-slice-read-put Inv-loop μ-loop
+shared-slice-read-put c = search needs
+
+-- src/putting.rt:27:9
+put-requires : tie.Need-put-requires Inv-loop μ-loop
+put-requires c κs = search needs
+
+-- src/putting.rt:28:9
+add-i : tie.Need-add-i Inv-loop μ-loop
+add-i c = search needs
+
+-- src/putting.rt:26:5
+loop-less : tie.Need-loop-less Inv-loop μ-loop
+loop-less c = omega arith
+
+-- src/putting.rt:26:5
+loop-again : tie.Need-loop-again Inv-loop μ-loop
+loop-again c = search all-laws
+
+-- src/putting.rt:21:1
+same-length : tie.Need-same-length Inv-loop μ-loop
+same-length c = search (still-long, needs)
+
+-- src/putting.rt:21:1
+returns : tie.Need-returns Inv-loop μ-loop
+returns c = search all-laws
+
+pub put-all-spec : {M : Type 1} → statement M
+put-all-spec =
+    tie.close
+    (tie.spec
+    Inv-loop
+    μ-loop
+    loop-holds
+    shared-slice-read-put
+    put-requires
+    add-i
+    loop-less
+    loop-again
+    same-length
+    returns)

@@ -1,0 +1,156 @@
+-- Document 01, "Names other than fields share one space": what the lines so far have declared.
+use mathlib.Core.Bool.{Bool, true, false}
+use mathlib.Core.List.{List, [], _∷_, _++_}
+use Prim.Native.Nat.{ℕ, zero, suc, _+_}
+use lib.IntN.{ℤ, pos, _-ℤ_, sucℤ}
+use lib.ListN.{length, replicate}
+use Rattle.leaf_integers.specs.Integers.{least, most}
+use Rattle.law.specs.Base.{Name}
+use Rattle.law.specs.Calculate.{natOf}
+use Rattle.law.specs.Script.{Body, Const, Decl, Entry, alias, arrayOf, enum, newMain, newProc, newType, newVar, range, recordOf, setOf}
+use Rattle.law.specs.Types.{Field, TypeInfo, Types, Vars, arrayShape, setShape, cellsOf, infoAt, ordinalShape, recordShape, sizeOf}
+
+-- the sorts of name
+pub data NameSort : Type 0 where
+  aType aVar aProc : ℕ → NameSort
+  aValue : Const → NameSort
+
+-- the environment: what a name means, and the types and variables that it may mean
+pub record Environment : Type 0 where
+  pub names : List (Name × NameSort)
+  pub types : Types
+  pub vars : Vars
+
+-- a body with the tables of its own line
+pub record PlacedBody : Type 0 where
+  pub types : Types
+  pub vars : Vars
+  pub body : Body
+
+-- all that the lines so far have declared
+pub record Declared : Type 0 where
+  pub env : Environment
+  pub cells : List ℕ  -- each cell's type
+  pub owners : List Name  -- each cell's variable
+  pub typeLines : ℕ
+  pub bodies : List PlacedBody  -- of the procedures in their order, main's last
+  pub stmts : ℕ  -- statements so far
+  pub nodes : ℕ  -- brackets and words so far
+  pub ended : Bool  -- whether `main` has come
+
+-- ---- types
+
+-- an ordinal type of host h
+abbrev pub ordinalInfo : ℕ → ℤ → ℤ → TypeInfo
+ordinalInfo h lo hi = record { shape = ordinalShape; host = h; low = lo; high = hi; cells = []; index = 0; element = 0; fields = [] }
+
+-- integer and boolean
+abbrev pub builtIn : Types
+builtIn = ordinalInfo 0 least most ∷ ordinalInfo 1 (pos 0) (pos 1) ∷ []
+
+-- the list n times
+unfoldable pub copies : ℕ → List ℕ → List ℕ
+copies zero cs = []
+copies (suc n) cs = cs ++ copies n cs
+
+-- fields lie one after another
+unfoldable pub layFields : Types → ℕ → List (Name × ℕ) → List Field
+layFields Γ a [] = []
+layFields Γ a (f ∷ fs) = record { name = f .0; type = f .1; offset = a } ∷ layFields Γ (a + sizeOf Γ (f .1)) fs
+
+-- the cells of all fields
+unfoldable pub fieldCells : Types → List (Name × ℕ) → List ℕ
+fieldCells Γ [] = []
+fieldCells Γ (f ∷ fs) = cellsOf Γ (f .1) ++ fieldCells Γ fs
+
+-- how many values an ordinal type has
+abbrev pub valueCount : Types → ℕ → ℕ
+valueCount Γ i = natOf (sucℤ (infoAt Γ i .high -ℤ infoAt Γ i .low))
+
+-- what a declaration says of its type
+unfoldable pub typeInfoOf : Types → Decl → TypeInfo
+typeInfoOf Γ (alias t) = infoAt Γ t
+typeInfoOf Γ (enum v vs) = ordinalInfo (length Γ) (pos 0) (pos (length vs))
+typeInfoOf Γ (range a b) = ordinalInfo (a .kind) (a .value) (b .value)
+typeInfoOf Γ (arrayOf i e) = record { shape = arrayShape; host = 0; low = infoAt Γ i .low; high = infoAt Γ i .high; cells = copies (valueCount Γ i) (cellsOf Γ e); index = i; element = e; fields = [] }
+typeInfoOf Γ (recordOf fs) = record { shape = recordShape; host = 0; low = pos 0; high = pos 0; cells = fieldCells Γ fs; index = 0; element = 0; fields = layFields Γ 0 fs }
+typeInfoOf Γ (setOf b) = record { shape = setShape; host = 0; low = infoAt Γ b .low; high = infoAt Γ b .high; cells = []; index = 0; element = b; fields = [] }
+
+-- a type name for a type makes an alias: no new type. Any other declaration is the table's next entry
+unfoldable pub extendTypes : Types → Decl → Types
+extendTypes Γ (alias t) = Γ
+extendTypes Γ (enum v vs) = Γ ++ (typeInfoOf Γ (enum v vs) ∷ [])
+extendTypes Γ (range a b) = Γ ++ (typeInfoOf Γ (range a b) ∷ [])
+extendTypes Γ (arrayOf i e) = Γ ++ (typeInfoOf Γ (arrayOf i e) ∷ [])
+extendTypes Γ (recordOf fs) = Γ ++ (typeInfoOf Γ (recordOf fs) ∷ [])
+extendTypes Γ (setOf b) = Γ ++ (typeInfoOf Γ (setOf b) ∷ [])
+
+-- ---- names
+
+-- the names of an enumeration, with their ordinals from n on
+unfoldable pub enumNames : ℕ → ℕ → List Name → List (Name × NameSort)
+enumNames t n [] = []
+enumNames t n (w ∷ ws) = (w, aValue (record { kind = t; value = pos n })) ∷ enumNames t (suc n) ws
+
+-- the names that a `type` line declares
+unfoldable pub declNames : Types → Name → Decl → List (Name × NameSort)
+declNames Γ w (alias t) = (w, aType t) ∷ []
+declNames Γ w (enum v vs) = (w, aType (length Γ)) ∷ enumNames (length Γ) 0 (v ∷ vs)
+declNames Γ w (range a b) = (w, aType (length Γ)) ∷ []
+declNames Γ w (arrayOf i e) = (w, aType (length Γ)) ∷ []
+declNames Γ w (recordOf fs) = (w, aType (length Γ)) ∷ []
+declNames Γ w (setOf b) = (w, aType (length Γ)) ∷ []
+
+-- ---- lines
+
+abbrev pub environment : List (Name × NameSort) → Types → Vars → Environment
+environment ns Γ Δ = record { names = ns; types = Γ; vars = Δ }
+
+abbrev pub nothingDeclared : Declared
+nothingDeclared = record { env = environment [] builtIn []; cells = []; owners = []; typeLines = 0; bodies = []; stmts = 0; nodes = 0; ended = false }
+
+abbrev pub withBody : Environment → Body → PlacedBody
+withBody σ b = record { types = σ .types; vars = σ .vars; body = b }
+
+-- what is known after a line, with the statements and nodes up to its end
+unfoldable pub declareLine : Declared → Entry → ℕ → ℕ → Declared
+declareLine k (newType w d) s n = record {
+  env = environment (declNames (k .env .types) w d ++ k .env .names) (extendTypes (k .env .types) d) (k .env .vars);
+  cells = k .cells;
+  owners = k .owners;
+  typeLines = suc (k .typeLines);
+  bodies = k .bodies;
+  stmts = s;
+  nodes = n;
+  ended = false;
+}
+declareLine k (newVar w t) s n = record {
+  env = environment ((w, aVar (length (k .env .vars))) ∷ k .env .names) (k .env .types) (k .env .vars ++ (record { type = t; base = length (k .cells) } ∷ []));
+  cells = k .cells ++ cellsOf (k .env .types) t;
+  owners = k .owners ++ replicate (sizeOf (k .env .types) t) w;
+  typeLines = k .typeLines;
+  bodies = k .bodies;
+  stmts = s;
+  nodes = n;
+  ended = false;
+}
+declareLine k (newProc w b) s n = record {
+  env = environment ((w, aProc (length (k .bodies))) ∷ k .env .names) (k .env .types) (k .env .vars);
+  cells = k .cells;
+  owners = k .owners;
+  typeLines = k .typeLines;
+  bodies = k .bodies ++ (withBody (k .env) b ∷ []);
+  stmts = s;
+  nodes = n;
+  ended = false;
+}
+declareLine k (newMain b) s n = record {
+  env = k .env;
+  cells = k .cells;
+  owners = k .owners;
+  typeLines = k .typeLines;
+  bodies = k .bodies ++ (withBody (k .env) b ∷ []);
+  stmts = s;
+  nodes = n;
+  ended = true;
+}

@@ -1,0 +1,1 @@
+// Scripts with their answers, computed from the definitions of `law`: see proofs/.

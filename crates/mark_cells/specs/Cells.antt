@@ -1,0 +1,70 @@
+-- Cells' words after a store into them. The other words of the array stay.
+use mathlib.Core.Path.{_≡_}
+use mathlib.Core.List.{List, [], _∷_}
+use Prim.Native.Nat.{ℕ, _+_, _<_, _≤_, min}
+use lib.IntN.{ℤ, pos}
+use lib.ListN.{getD, length}
+use Rattle.law.specs.Machine.{storeCells, storeOrdinal, storeWhole}
+use Rattle.code_calc.specs.Words.{InRange, storeWord, storeWords}
+use Rattle.mark_steps.specs.Ends.{leftIn}
+use Rattle.mark_steps.specs.Stands.{Runs}
+
+-- the number that a place's word is
+pub record Addresses (w : ℤ) (r : ℕ) : Type 0 where
+  pub says : (a : ℕ) → a ≤ 4294967295 → w ≡ pos a → r ≡ a
+
+-- z in cell a
+pub record Puts (ws : List ℤ) (a : ℕ) (z : ℤ) (ws′ : List ℤ) : Type 0 where
+  pub at : length ws ≡ storeWords → a < storeCells → storeWord ws′ a ≡ z
+  pub other : (i : ℕ) → ((i ≡ a) → ⊥) → storeWord ws′ i ≡ storeWord ws i
+  pub long : length ws′ ≡ length ws
+  pub beside : (i : ℕ) → storeCells ≤ i → getD ws′ i (pos 0) ≡ getD ws i (pos 0)
+
+-- the cells from a + lo to a + hi, as far as there are any, hold what those from s + lo on held
+pub record Copies (ws : List ℤ) (s a lo hi : ℕ) (ws′ : List ℤ) : Type 0 where
+  pub here : (j : ℕ) → lo ≤ j → j < hi → a + j < storeCells → storeWord ws′ (a + j) ≡ storeWord ws (s + j)
+  pub below : (i : ℕ) → i < a + lo → storeWord ws′ i ≡ storeWord ws i
+  pub above : (i : ℕ) → a + hi ≤ i → storeWord ws′ i ≡ storeWord ws i
+  pub long : length ws′ ≡ length ws
+  pub beside : (i : ℕ) → storeCells ≤ i → getD ws′ i (pos 0) ≡ getD ws i (pos 0)
+
+-- k cells copied from s on to a on
+pub record Copying (ws : List ℤ) (s a k : ℕ) (ws′ : List ℤ) : Type 0 where
+  pub says : length ws ≡ storeWords → Copies ws s a 0 k ws′
+
+-- the first first, which serves where a is not above s
+pub record CopyingUp (ws : List ℤ) (s a k : ℕ) (ws′ : List ℤ) : Type 0 where
+  pub says : length ws ≡ storeWords → a ≤ s → Copies ws s a 0 k ws′
+
+-- the last first; those below i are still to be copied
+pub record CopyingFrom (ws : List ℤ) (s a i k : ℕ) (ws′ : List ℤ) : Type 0 where
+  pub says : length ws ≡ storeWords → s < a → Copies ws s a i k ws′
+
+pub record CopyingDown (ws : List ℤ) (s a k : ℕ) (ws′ : List ℤ) : Type 0 where
+  pub says : length ws ≡ storeWords → s < a → Copies ws s a 0 k ws′
+
+-- ---- what statement n stores in the cells from a on, by the word w of that place; the end's word is none of sticking
+
+-- the ordinal x, of lo to hi
+pub record StoresOrdinal (n : ℕ) (lo hi w x : ℤ) (ws : List ℤ) (left : ℕ) (ws′ : List ℤ) (r : ℕ) : Type 0 where
+  pub says : InRange x → (a : ℕ) → w ≡ pos (min a 4294967295) → Runs (storeOrdinal n a lo hi x) ws left ws′ r
+  pub fewer : leftIn r ≤ left
+  pub plain : left ≤ 4294967295 → r < 12884901888
+
+-- one cell with no range test
+pub record StoresOne (n : ℕ) (w x : ℤ) (ws : List ℤ) (left : ℕ) (ws′ : List ℤ) (r : ℕ) : Type 0 where
+  pub says : InRange x → (a : ℕ) → w ≡ pos (min a 4294967295) → Runs (storeWhole n a (x ∷ [])) ws left ws′ r
+  pub fewer : leftIn r ≤ left
+  pub plain : left ≤ 4294967295 → r < 12884901888
+
+-- the cells zs are the k words from s on
+pub record CellsAre (ws : List ℤ) (s k : ℕ) (zs : List ℤ) : Type 0 where
+  pub count : length zs ≡ k
+  pub here : (j : ℕ) → j < length zs → storeWord ws (s + j) ≡ getD zs j (pos 0)
+  pub ranged : (j : ℕ) → j < length zs → InRange (getD zs j (pos 0))
+
+-- k cells from s on
+pub record StoresCells (n s k : ℕ) (w : ℤ) (ws : List ℤ) (left : ℕ) (ws′ : List ℤ) (r : ℕ) : Type 0 where
+  pub says : (zs : List ℤ) → CellsAre ws s k zs → (a : ℕ) → w ≡ pos (min a 4294967295) → Runs (storeWhole n a zs) ws left ws′ r
+  pub fewer : leftIn r ≤ left
+  pub plain : left ≤ 4294967295 → r < 12884901888

@@ -1,0 +1,111 @@
+// Storing into cells; one past the last changes nothing.
+use code_calc::cells::cell;
+use code_calc::words::CELLS;
+use code_calc::words::Store;
+use leaf_integers::in_range;
+use mark_steps::ends::raising;
+ghost use Prim.Native.Nat.{_+_};
+ghost use Rattle.mark_cells.specs.Cells.{Puts, Copying, CopyingUp, CopyingDown, Addresses, StoresOrdinal, StoresOne, StoresCells};
+ghost use Rattle.code_calc.specs.Words.{storeWord};
+
+// A place's word as a number: what is no place is past every cell.
+pub fn address(w: i64) -> u32
+    ensures { λ r. ⌜ Addresses w r ⌝ }
+{
+    if w < 0 {
+        return 4294967295;
+    }
+    if w > 4294967295 {
+        return 4294967295;
+    }
+    w as u32
+}
+
+// z in cell a.
+pub fn put(store: &mut Store, a: u32, z: i64)
+    ensures { λ r. ⌜ Puts (now (store .entry)) a z (now (store .exit)) ⌝ }
+{
+    let i = a as usize;
+    if i < CELLS {
+        store[i] = z;
+    }
+}
+
+// One cell copied: that at s + i into that at a + i.
+fn copy_one(store: &mut Store, s: u32, a: u32, i: u32)
+    ensures { λ r. ⌜ Puts (now (store .entry)) (a + i) (storeWord (now (store .entry)) (s + i)) (now (store .exit)) ⌝ }
+{
+    let z = cell(store, s as usize + i as usize);
+    let j = a as usize + i as usize;
+    if j < CELLS {
+        store[j] = z;
+    }
+}
+
+// k cells from s on to a on, the first first.
+fn copy_up(store: &mut Store, s: u32, a: u32, k: u32)
+    ensures { λ r. ⌜ CopyingUp (now (store .entry)) s a k (now (store .exit)) ⌝ }
+{
+    let mut i = 0;
+    while i < k {
+        copy_one(store, s, a, i);
+        i += 1;
+    }
+}
+
+// The same, the last first.
+fn copy_down(store: &mut Store, s: u32, a: u32, k: u32)
+    ensures { λ r. ⌜ CopyingDown (now (store .entry)) s a k (now (store .exit)) ⌝ }
+{
+    let mut i = k;
+    while i > 0 {
+        i -= 1;
+        copy_one(store, s, a, i);
+    }
+}
+
+// k cells from s on to a on; the two may overlap.
+pub fn copy(store: &mut Store, s: u32, a: u32, k: u32)
+    ensures { λ r. ⌜ Copying (now (store .entry)) s a k (now (store .exit)) ⌝ }
+{
+    if a <= s {
+        copy_up(store, s, a, k);
+    } else {
+        copy_down(store, s, a, k);
+    }
+}
+
+// The ordinal x stored in the cell of the word a, if it lies in the bounds, by statement n.
+pub fn store_ordinal(
+    store: &mut Store,
+    left: u64,
+    n: u32,
+    low: i64,
+    high: i64,
+    a: i64,
+    x: i64,
+) -> u64
+    ensures { λ r. ⌜ StoresOrdinal n low high a x (now (store .entry)) left (now (store .exit)) r ⌝ }
+{
+    if in_range(x, low, high) {
+        put(store, address(a), x);
+        return left;
+    }
+    raising(store, left, -103, n)
+}
+
+// One cell x stored with no range test in the cell of the word a, by statement n.
+pub fn store_one(store: &mut Store, left: u64, n: u32, a: i64, x: i64) -> u64
+    ensures { λ r. ⌜ StoresOne n a x (now (store .entry)) left (now (store .exit)) r ⌝ }
+{
+    put(store, address(a), x);
+    left
+}
+
+// The k cells from `from` on stored from the cell of the word a on, by statement n; the two may overlap.
+pub fn store_cells(store: &mut Store, left: u64, n: u32, from: u32, k: u32, a: i64) -> u64
+    ensures { λ r. ⌜ StoresCells n from k a (now (store .entry)) left (now (store .exit)) r ⌝ }
+{
+    copy(store, from, address(a), k);
+    left
+}

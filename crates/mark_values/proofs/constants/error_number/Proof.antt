@@ -1,0 +1,23 @@
+use Rattle.mark_values.proofs.Settling.{latest-laws}
+use borrow.Author.Needs.{needs}
+use Rattle.mark_values.proofs.constants.error_number.Statement.{statement}
+use Rattle.mark_values.proofs.constants.error_number.Tie as tie
+use Rattle.mark_values.proofs.constants.error_number.Reads as reads
+use Rattle.mark_values.proofs.constants.error_number.Lts as lts
+use Rattle.mark_values.proofs.values.value.Reads as value-reads
+use Rattle.code_calc.proofs.cells.latest.Reads as latest-reads
+
+-- src/constants.rt:69:14
+latest-requires : tie.Need-latest-requires
+latest-requires c κs = search needs
+
+-- src/constants.rt:69:5
+value-requires : tie.Need-value-requires
+value-requires c κs = search needs
+
+-- src/constants.rt:66:1
+returns : tie.Need-returns
+returns c = search latest-laws
+
+pub error-number-spec : {M : Type 1} → statement M
+error-number-spec = tie.close (tie.spec latest-requires value-requires returns)

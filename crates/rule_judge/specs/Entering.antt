@@ -1,0 +1,82 @@
+-- What the answer for a line's parts tells.
+use mathlib.Core.Bool.{Bool, true}
+use mathlib.Core.List.{List, _++_}
+use mathlib.Core.Option as Option
+use mathlib.Core.Option.{Option}
+use mathlib.Core.Path.{_≡_}
+use Prim.Native.Nat.{ℕ, _+_, _-_, _≤_}
+use lib.ListN.{length, getD}
+use Rattle.law.specs.Base.{_>>=_}
+use Rattle.law.specs.Ceilings.{lineBounded}
+use Rattle.law.specs.Code.{BodyCode}
+use Rattle.law.specs.Environment.{declareLine}
+use Rattle.law.specs.LayoutSize.{symbolSize, sizeBodies}
+use Rattle.law.specs.Script.{Entry}
+use Rattle.law.specs.Stages.{fits}
+use Rattle.law.specs.Syntax.{LineForm}
+use Rattle.law.specs.Trees.{nodesIn, first, stackAt}
+use Rattle.law.specs.Verdict.{Read}
+use Rattle.law.proofs.LayoutBodies.{Bodies}
+use Rattle.law.proofs.LinesMeasured.{Measured}
+use Rattle.law.specs.Layout.{lay}
+use Rattle.table_names.specs.Keys.{keyed}
+use Rattle.table_scope.specs.Scene.{meaningHere}
+use Rattle.rule_faults.specs.declared.Fault.{Fault}
+use Rattle.rule_faults.specs.declared.Fault.the-variants.{Clear}
+use Rattle.rule_faults.specs.declared.Got.{Got}
+use Rattle.rule_faults.specs.Got.{lowest, faultOf}
+use Rattle.rule_statements.specs.Walks.{GivesBody}
+use Rattle.rule_declarations.specs.declared.State.{State}
+use Rattle.rule_declarations.specs.Names.{newFault}
+use Rattle.text_heads.specs.declared.LineHead.{LineHead}
+use Rattle.text_heads.specs.Heads.{lineHeadMeant}
+use Rattle.rule_declarations.specs.State.{Holds}
+use Rattle.rule_known.specs.declared.Known.{Known}
+use Rattle.rule_known.specs.declared.Entered.{Entered}
+use Rattle.rule_judge.specs.Answers.{procNumbers, procEntry}
+use Rattle.rule_judge.specs.Judging.{Standing}
+use Rattle.rule_judge.specs.Whole.{headIn, wholeStaged}
+
+-- what stands after a line that declares e, with the code cs; its last statement has the number n, nn brackets and words came up to its end,
+-- and the free place was top
+pub record EntryStands (s l ts : List ℕ) (top : ℕ) (g : Entered) (r : Read) (e : Entry) (cs : List BodyCode) (n nn : ℕ) : Type 0 where
+  pub places : List ℕ
+  pub holds : Holds s l ts (g .state) (declareLine (r .known) e n nn) places
+  pub top-is : g .state .top ≡ top + symbolSize e + sizeBodies cs
+  pub bodies : (other : BodyCode) → Bodies other 1 (g .state .top) l places (r .codes ++ cs)
+  pub stmts-are : g .stmts ≡ n
+  pub ended-is : g .ended ≡ declareLine (r .known) e n nn .ended
+  pub main-is : declareLine (r .known) e n nn .ended ≡ true → g .main ≡ getD places (length places - 1) 0
+
+-- the number of the last statement
+abbrev pub lastOf : Option (LineForm × ℕ) → ℕ
+lastOf Option.none = 0
+lastOf (Option.some p) = p .1
+
+pub record EntryTold (s l ts : List ℕ) (top : ℕ) (r : Read) (o : Option (LineForm × ℕ)) (g : Entered) : Type 0 where
+  pub fault-is : g .fault ≡ faultOf (wholeStaged (r .known) o)
+  pub within-is : (e : Entry) (cs : List BodyCode) → wholeStaged (r .known) o ≡ fits (e, cs) → g .within ≡ lineBounded (r .known) e
+  pub stands : (e : Entry) (cs : List BodyCode) → wholeStaged (r .known) o ≡ fits (e, cs) → lineBounded (r .known) e ≡ true → top + symbolSize e + sizeBodies cs ≤ 16384
+      → (nn : ℕ) → Measured (declareLine (r .known) e (lastOf o) nn) (r .codes ++ cs) → EntryStands s l ts top g r e cs (lastOf o) nn
+
+-- the parts after the head word h, at an offset
+pub record Enters (s l ts : List ℕ) (kn : Known) (h : LineHead) (at : ℕ) (g : Entered) (l′ ts′ : List ℕ) : Type 0 where
+  pub says : (r : Read) (bs : List ℕ) → Standing s l ts kn r bs → r .known .stmts + nodesIn (first (stackAt s at)) ≤ 65535
+      → EntryTold s l′ ts′ (kn .state .top) r (lineHeadMeant h >>= λ k. headIn k (r .known .stmts) (first (stackAt s at))) g
+
+-- what is laid after the body of a procedure that has no fault; the free place is u then
+pub record ProcLaid (st : State) (f : Fault) (name : ℕ) (g : Got) (l : List ℕ) (u : ℕ) (l′ : List ℕ) : Type 0 where
+  pub laid-so : f ≡ Clear → (u ≡ lay (procNumbers st name (g .place)) (g .top) l .top) × (l′ ≡ lay (procNumbers st name (g .place)) (g .top) l .list)
+
+-- the entry of its name, and its answer
+pub record ProcEnds (kn : Known) (f : Fault) (g : Got) (name : ℕ) (l : List ℕ) (e : Entered) (l′ : List ℕ) : Type 0 where
+  pub free : ℕ
+  pub laid : ProcLaid (kn .state) f name g l free l′
+  pub given : e ≡ procEntry kn f g free
+
+-- a procedure from its name at p on; its body begins at an offset
+pub record ProcNamed (s l ts : List ℕ) (kn : Known) (p at : ℕ) (e : Entered) (l′ : List ℕ) : Type 0 where
+  pub answer : Got
+  pub list : List ℕ
+  pub gives : GivesBody s l ts (kn .state .scope) (kn .state .procs) (kn .stmts) at (kn .state .top) answer list
+  pub ends : ProcEnds kn (lowest (answer .fault) (newFault Clear (meaningHere s l (kn .state .scope) p))) answer (keyed s p) list e l′

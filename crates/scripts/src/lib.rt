@@ -1,1 +1,0 @@
-// Scripts with their answers, computed from the definitions of `semantics`: see proofs/.

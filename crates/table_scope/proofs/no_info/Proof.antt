@@ -1,0 +1,12 @@
+use Rattle.table_scope.proofs.Ways.{info-laws}
+use Rattle.table_scope.proofs.no_info.Statement.{statement}
+use Rattle.table_scope.proofs.no_info.Tie as tie
+use Rattle.table_scope.proofs.no_info.Reads as reads
+use Rattle.table_scope.proofs.no_info.Lts as lts
+
+-- src/lib.rt:96:1
+returns : tie.Need-returns
+returns c = search info-laws
+
+pub no-info-spec : {M : Type 1} → statement M
+no-info-spec = tie.close (tie.spec returns)
