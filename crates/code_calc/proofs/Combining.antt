@@ -29,7 +29,7 @@ use Rattle.leaf_sets.proofs.Signed.{pattern-lt}
 use Rattle.law.specs.Base.{pick}
 use Rattle.law.specs.Calculate.{Result, is, fails, stuck, _>>=_, integer, exceptionOf, memberIn, truth, isTrue, equalZ, setValue, tested, rangeError, compute, compute1}
 use Rattle.law.specs.Operators.{Operation, intAdd, intSub, intMul, intPower, intDiv, intMod, setUnion, setDifference, setIntersection, numEqual, numUnequal, numLess, numAtMost, numGreater, numAtLeast, setWithin, setHolds, memberOf, boolAnd, boolOr, Operation1, intNegate, boolNot, intAbs, intSqr, intOdd, ordinalOf, predIn, succIn, setCard, setLeast, setGreatest}
-use Rattle.law.specs.Readback.{operations, operations1, operationAt, operation1At}
+use Rattle.code.specs.Readback.{operations, operations1, operationAt, operation1At}
 use Rattle.code_calc.specs.Words.{greatest, faultBase, rangeWord, numericWord, wordOf, resultOf, applied, applied1, testedWord}
 
 -- ---- `word`, `member`

@@ -27,7 +27,7 @@ use Rattle.law.specs.Base.{pick}
 use Rattle.law.specs.Calculate.{natOf, Result, is, fails, stuck, _>>=_, integer, exceptionOf, memberIn, truth, isTrue, equalZ, setValue, compute, compute1}
 use Rattle.law.specs.Machine.{sole, oneCell}
 use Rattle.law.specs.Operators.{Operation, intAdd, intSub, intMul, intPower, intDiv, intMod, setUnion, setDifference, setIntersection, numEqual, numUnequal, numLess, numAtMost, numGreater, numAtLeast, setWithin, setHolds, memberOf, boolAnd, boolOr, Operation1, intNegate, boolNot, intAbs, intSqr, intOdd, ordinalOf, predIn, succIn, setCard, setLeast, setGreatest}
-use Rattle.law.specs.Readback.{operations1, operation1At}
+use Rattle.code.specs.Readback.{operations1, operation1At}
 use Rattle.code_calc.specs.Words.{lowest, noResult, greatest, faultBase, wordOf, resultOf, applied, applied1, InRange, Exceptional, Ranged, Means, first}
 
 -- ---- the range

@@ -17,7 +17,7 @@ ghost use lib.Signed.{leZ, ltZ};
 ghost use Rattle.leaf_sets.specs.Sets.{membersOf, holds, unionOf, differenceOf, intersectionOf, within};
 ghost use Rattle.law.specs.Calculate.{integer, memberIn, truth, isTrue, equalZ, setValue, tested, rangeError, compute, compute1};
 ghost use Rattle.law.specs.Operators.{predIn, succIn};
-ghost use Rattle.law.specs.Readback.{operationAt, operation1At};
+ghost use Rattle.code.specs.Readback.{operationAt, operation1At};
 ghost use Rattle.code_calc.specs.Words.{wordOf, applied, applied1, testedWord, distanceWord, elementWord, shiftedWord};
 
 // The word of an arithmetic result.

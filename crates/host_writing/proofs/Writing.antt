@@ -17,7 +17,7 @@ use mir.Facts.{toZ-ofZ}
 use Rattle.leaf_integers.proofs.Machine.{wire}
 use Rattle.leaf_bytes.specs.Bytes.{bytes, small}
 use Rattle.law.specs.Base.{Name}
-use Rattle.law.proofs.Reading.{none-word}
+use Rattle.law_theorems.proofs.Reading.{none-word}
 use Rattle.text_words.specs.Sights.{Ends}
 use Rattle.law.specs.Print.{decimalOf, signedOf, row, cellValue, cells}
 use Rattle.law.specs.Print.{decimal as decimalBy}

@@ -9,7 +9,7 @@ use Rattle.leaf_bytes.specs.Bytes.{bytes}
 use Rattle.leaf_reserved.specs.Table.{placeOf}
 use Rattle.law.specs.Forms.{armHeads, heads, lineHeads, makers, truths, verbs}
 use Rattle.law.specs.Print.{runscript}
-use Rattle.law.specs.Open.{everything}
+use Rattle.law.proofs.Open.{everything}
 
 pub record Case : Type 0 where
   pub text : String

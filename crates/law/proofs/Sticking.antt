@@ -7,7 +7,7 @@ use Prim.Native.String.{String}
 use lib.IntN.{pos, negsuc}
 use Rattle.leaf_bytes.specs.Bytes.{bytes}
 use Rattle.law.specs.Machine.{normal}
-use Rattle.law.specs.Open.{everything}
+use Rattle.law.proofs.Open.{everything}
 use Rattle.law.specs.Print.{markscript}
 use Rattle.law.specs.Whole.{markOf, ran, refusal, reported, runOf}
 

@@ -11,11 +11,7 @@ pub mod Environment
 pub mod Names
 pub mod Code
 pub mod Elaborate
-pub mod Layout
-pub mod LayoutSize
-pub mod Readback
 pub mod Rules
-pub mod Stages
 pub mod Ceilings
 pub mod Verdict
 pub mod Calculate
@@ -26,6 +22,4 @@ pub mod Store
 pub mod Whole
 pub mod Rest
 pub mod Demands
-pub mod ListMachine
 pub mod Print
-pub mod Open

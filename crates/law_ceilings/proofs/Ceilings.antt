@@ -8,7 +8,7 @@ use Rattle.leaf_bytes.specs.Bytes.{bytes}
 use Rattle.law.specs.Verdict.{Verdict, Read, accepted, refused}
 use Rattle.law.specs.Whole.{verdictOf}
 use Rattle.law.specs.Print.{decimalOf}
-use Rattle.law.specs.Open.{everything}
+use Rattle.law.proofs.Open.{everything}
 
 -- n copies of the bytes; n copies with the numbers from i on between two parts
 unfoldable pub times : ℕ → List ℕ → List ℕ

@@ -1,7 +1,7 @@
 -- Short scripts that are refused, at least one for each rule of the refusal table's rows 3 to 9, each from its bytes to what is printed.
 use mathlib.Core.Path.{_≡_, refl}
 use mathlib.Core.List.{List, [], _∷_}
-use Rattle.law.specs.Open.{everything}
+use Rattle.law.proofs.Open.{everything}
 use Rattle.law.proofs.FittingSheet.{Case, case, Print, all, _&_}
 use Rattle.leaf_bytes.specs.Bytes.{bytes}
 use Rattle.law.specs.Print.{runscript}

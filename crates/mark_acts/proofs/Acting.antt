@@ -21,7 +21,7 @@ use Rattle.law.specs.Script.{Expr}
 use Rattle.law.specs.Syntax as Syntax
 use Rattle.law.specs.Trees.{Trees, end, _then_, Run, first, stackAt}
 use Rattle.law.specs.Types.{hostOf, ordinal?}
-use Rattle.law.proofs.Inversion.{none-some}
+use Rattle.law_theorems.proofs.Inversion.{none-some}
 use Rattle.text_heads.specs.Parts.{rest, exprIn, targetIn}
 use Rattle.text_heads.proofs.Expressions.{expr-end, target-end}
 use Rattle.text_skips.specs.Skips.{Skips}

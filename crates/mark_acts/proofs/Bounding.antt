@@ -28,7 +28,7 @@ use Rattle.law.specs.Script as Script
 use Rattle.law.specs.Syntax as Syntax
 use Rattle.law.specs.Trees.{word, form, Trees, end, _then_, Run, first, stackAt}
 use Rattle.law.specs.Types.{Types, Var, Vars, variable, infoAt, hostOf, ordinal?}
-use Rattle.law.proofs.Inversion.{none-some, some-inj, bind-some}
+use Rattle.law_theorems.proofs.Inversion.{none-some, some-inj, bind-some}
 use Rattle.code_calc.specs.Words.{noResult, greatest, Holds}
 use Rattle.text_heads.specs.declared.Atom.{Atom}
 use Rattle.text_heads.specs.declared.Atom.the-variants as AT

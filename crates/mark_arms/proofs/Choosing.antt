@@ -22,7 +22,7 @@ use Rattle.law.specs.Script as Script
 use Rattle.law.specs.Script.{Const}
 use Rattle.law.specs.Syntax.{Constant, Stmt, Arms, arm, elseArm, noElse}
 use Rattle.law.specs.Trees.{Tree, word, form, Trees, end, _then_, Run, first, later, wordAt, stackAt}
-use Rattle.law.proofs.Inversion.{none-some, some-inj, bind-some}
+use Rattle.law_theorems.proofs.Inversion.{none-some, some-inj, bind-some}
 use Rattle.text_parts.specs.Parts.{Before, FormAt, ShutAt, Stands}
 use Rattle.text_parts.specs.declared.Part.{Part}
 use Rattle.text_parts.specs.declared.Part.the-variants as part

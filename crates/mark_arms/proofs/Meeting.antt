@@ -21,7 +21,7 @@ use Rattle.law.specs.Script.{Const}
 use Rattle.law.specs.Syntax.{Constant}
 use Rattle.law.specs.Trees.{Tree, Trees, end, _then_, Run, first, stackAt}
 use Rattle.law.specs.Words.{worded}
-use Rattle.law.proofs.Inversion.{none-some, some-inj, bind-some}
+use Rattle.law_theorems.proofs.Inversion.{none-some, some-inj, bind-some}
 use Rattle.text_heads.specs.Parts.{partOf, rest, constantIn}
 use Rattle.rule_labels.specs.Blocks.{Held}
 use Rattle.rule_labels.proofs.Telling.{number-same, number-other}

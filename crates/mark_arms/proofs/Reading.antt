@@ -22,12 +22,12 @@ use Rattle.law.specs.Forms.{constant}
 use Rattle.law.specs.Names.{constOf, constantOf}
 use Rattle.law.specs.Rules.{plain}
 use Rattle.law.specs.Script.{Const}
-use Rattle.law.specs.Stages.{fits, staged, named, ruled}
+use Rattle.rule_stages.specs.Stages.{fits, staged, named, ruled}
 use Rattle.law.specs.Syntax as Syntax
 use Rattle.law.specs.Syntax.{Constant, Stmt}
 use Rattle.law.specs.Trees.{Tree, word, form, Trees, end, _then_, Run, first, stackAt}
 use Rattle.law.specs.Words.{worded}
-use Rattle.law.proofs.Inversion.{none-some, some-inj, bind-some}
+use Rattle.law_theorems.proofs.Inversion.{none-some, some-inj, bind-some}
 use Rattle.rule_faults.specs.Got.{isClear, faultOf}
 use Rattle.text_parts.specs.Parts.{Before, Shuts}
 use Rattle.text_parts.specs.declared.End.{End}

@@ -16,7 +16,7 @@ use Rattle.law.specs.Operators.{Fun}
 use Rattle.law.specs.Syntax as S
 use Rattle.law.specs.Trees.{word, form, Trees, end, _then_, list}
 use Rattle.law.specs.Words.{Word}
-use Rattle.law.proofs.Inversion.{none-some, some-inj, bind-some, either-some, and-true}
+use Rattle.law_theorems.proofs.Inversion.{none-some, some-inj, bind-some, either-some, and-true}
 
 pub bind-of : {A B : Type 0} (o : Option A) (a : A) (f : A → Option B) → o ≡ some a → (o >>= f) ≡ f a
 unfolding _>>=_

@@ -12,7 +12,7 @@ use Rattle.law.specs.Forms as Forms
 use Rattle.law.specs.Syntax.{Arms, Body, Constant, Expr, Exprs, Stmt, Stmts, Target, TypeName, _next_, arm}
 use Rattle.law.specs.Trees.{Tree, word, form, Trees, end, _then_, Run}
 use Rattle.law.specs.Words.{Word, worded, wordedAll, wordBy}
-use Rattle.law.proofs.Inversion.{none-some, some-inj, bind-some, given-some}
+use Rattle.law_theorems.proofs.Inversion.{none-some, some-inj, bind-some, given-some}
 use Rattle.text_heads.specs.Heads.{verbOf, verbMeant}
 use Rattle.text_heads.specs.Parts.{partOf, closed, keyIn, exprIn, targetIn, nameIn, numberIn, typeNameIn, constantIn, stmtIn, exprsIn, stmtsIn, elseIn, armIn, armHeadIn, elseArmIn, armsIn, handlerIn, handling, withFirst, handlerLast, bodyIn}
 use Rattle.text_heads.specs.declared.Verb as Heading

@@ -23,7 +23,7 @@ use Rattle.law.specs.Script.{Expr, Exprs, nil, _and_}
 use Rattle.law.specs.Syntax as Syntax
 use Rattle.law.specs.Trees.{Trees, end, _then_, Run, first, stackAt}
 use Rattle.law.specs.Types.{baseOf}
-use Rattle.law.proofs.Inversion.{some-inj, bind-some}
+use Rattle.law_theorems.proofs.Inversion.{some-inj, bind-some}
 use Rattle.code_calc.specs.Words.{greatest, Holds}
 use Rattle.code_calc.proofs.Joining.{joined-turn, joined-set, bind-id, bind-twice}
 use Rattle.code_calc.proofs.Ranging.{low-range}

@@ -13,7 +13,7 @@ use Rattle.law.specs.Forms.{Item, hOp, hFun, expr, target}
 use Rattle.law.specs.Operators.{Op, Fun, negate, minus}
 use Rattle.law.specs.Syntax as Syntax
 use Rattle.law.specs.Trees.{Tree, Trees, end, _then_, Run, first, stackAt}
-use Rattle.law.proofs.Inversion.{none-some, some-inj, bind-some}
+use Rattle.law_theorems.proofs.Inversion.{none-some, some-inj, bind-some}
 use Rattle.table_kinds.specs.Kinds.{operators, opNumber}
 use Rattle.table_kinds.specs.Functions.{functions, funNumber}
 use Rattle.text_heads.specs.declared.ExprHead.the-variants as EH

@@ -21,11 +21,11 @@ use Rattle.law.specs.Machine.{Store}
 use Rattle.law.specs.Marking.{typedPlace, markExpr, markTarget}
 use Rattle.law.specs.Names.{asExpr, asVar, constOf, exprOf, targetOf, varOf, typeOf, atomOf as atomMeant}
 use Rattle.law.specs.Script.{Expr, const, read, errorNumber, var}
-use Rattle.law.specs.Stages.{staged, named, ruled, fits}
+use Rattle.rule_stages.specs.Stages.{staged, named, ruled, fits}
 use Rattle.law.specs.Syntax as Syntax
 use Rattle.law.specs.Trees.{first, stackAt, wordAt}
 use Rattle.law.specs.Types.{Var, variable}
-use Rattle.law.proofs.Inversion.{none-some, some-inj, bind-some}
+use Rattle.law_theorems.proofs.Inversion.{none-some, some-inj, bind-some}
 use Rattle.text_heads.specs.declared.Atom.{Atom}
 use Rattle.text_heads.specs.declared.Atom.the-variants as AT
 use Rattle.text_heads.specs.declared.ExprHead.the-variants as EH

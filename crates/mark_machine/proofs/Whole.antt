@@ -19,7 +19,7 @@ use Rattle.law.specs.Calculate.{natOf}
 use Rattle.law.specs.Environment.{PlacedBody}
 use Rattle.law.specs.Machine.{Store, raised, readCell, sticks, state, storeCells}
 use Rattle.law.specs.Whole.{fresh, markBody}
-use Rattle.law.proofs.BodiesInRange.{filled-get, filled-length}
+use Rattle.law_theorems.proofs.BodiesInRange.{filled-get, filled-length}
 use Rattle.law_answers.specs.declared.Marked.{Marked}
 use Rattle.law_answers.specs.declared.Ending.{Ending}
 use Rattle.law_answers.specs.declared.Ending.the-variants.{Normal, Raised, Spent, Stuck}

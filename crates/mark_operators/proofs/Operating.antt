@@ -17,13 +17,13 @@ use Rattle.leaf_integers.specs.Integers.{inside, least, most}
 use Rattle.leaf_integers.proofs.Machine.{wire}
 use Rattle.leaf_words.specs.Numbers.{signed}
 use Rattle.law.specs.Calculate.{Result, is, fails, stuck, _>>=_, isTrue, compute, compute1}
-use Rattle.law.specs.Layout.{operationNumber, node1}
+use Rattle.code.specs.Layout.{operationNumber, node1}
 use Rattle.law.specs.Machine.{Store, sole, oneCell, shortCircuited}
 use Rattle.law.specs.Marking.{TypedValue, typedValue, typedAs, orStuck, require, wanted}
 use Rattle.law.specs.Operators.{Op, Fun, Operation, Operation1, predIn, succIn, Rule, Rule1, operatorRule, functionRule}
-use Rattle.law.specs.Readback.{operationAt, operation1At}
+use Rattle.code.specs.Readback.{operationAt, operation1At}
 use Rattle.law.specs.Types.{Types, infoAt, ordinal?}
-use Rattle.law.proofs.LayoutCode.{signed-bits}
+use Rattle.code.proofs.LayoutCode.{signed-bits}
 use Rattle.table_kinds.specs.Kinds.{strict, Kinded, told, ruling2}
 use Rattle.table_kinds.specs.Functions.{nodeOf, told1, ruling1}
 use Rattle.table_kinds.proofs.TwoSided.{two-sided-rule}

@@ -11,7 +11,7 @@ use Rattle.law.specs.Environment.{Environment}
 use Rattle.law.specs.Machine.{Store, sole, oneCell, shortCircuited}
 use Rattle.law.specs.Marking.{TypedValue, typedAs, orStuck, wanted}
 use Rattle.law.specs.Operators.{Op, Fun, predIn, succIn, operatorRule, functionRule}
-use Rattle.law.specs.Readback.{operationAt, operation1At}
+use Rattle.code.specs.Readback.{operationAt, operation1At}
 use Rattle.law.specs.Types.{Types, ordinal?}
 use Rattle.table_kinds.specs.Kinds.{opNumber}
 use Rattle.table_kinds.specs.Functions.{funNumber}

@@ -30,8 +30,8 @@ use Rattle.law.specs.Syntax.{Stmt}
 use Rattle.law.specs.Trees.{word, form, Trees, end, _then_, Run, first, later, wordAt, stackAt}
 use Rattle.law.specs.Types.{ordinal?}
 use Rattle.law.specs.Whole.{markBody}
-use Rattle.law.proofs.Inversion.{none-some, some-inj, bind-some}
-use Rattle.law.proofs.LinesKeep.{proc-in}
+use Rattle.law_theorems.proofs.Inversion.{none-some, some-inj, bind-some}
+use Rattle.law_theorems.proofs.LinesKeep.{proc-in}
 use Rattle.text_heads.specs.declared.Verb.{Verb}
 use Rattle.text_heads.specs.declared.Verb.the-variants as VB
 use Rattle.text_heads.specs.Heads.{verbOf}

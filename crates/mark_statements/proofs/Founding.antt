@@ -17,7 +17,7 @@ use Rattle.law.specs.Syntax as Syntax
 use Rattle.law.specs.Syntax.{Stmt, Stmts, Arms, arm, elseArm, noElse}
 use Rattle.law.specs.Trees.{Tree, word, form, Trees, end, _then_, Run, first, stackAt}
 use Rattle.law.specs.Types.{Types, Vars}
-use Rattle.law.proofs.Inversion.{none-some, some-inj, bind-some}
+use Rattle.law_theorems.proofs.Inversion.{none-some, some-inj, bind-some}
 use Rattle.text_heads.specs.declared.Verb.{Verb}
 use Rattle.text_heads.specs.declared.Verb.the-variants as VB
 use Rattle.text_heads.specs.Heads.{verbOf}

@@ -20,7 +20,7 @@ use Rattle.law.specs.Machine.{planned}
 use Rattle.law.specs.Names.{asProc}
 use Rattle.law.specs.Syntax.{Body, Stmt, Stmts}
 use Rattle.law.specs.Trees.{word, form, Trees, end, _then_, Run, first, later, wordAt, stackAt}
-use Rattle.law.proofs.Inversion.{none-some, some-inj}
+use Rattle.law_theorems.proofs.Inversion.{none-some, some-inj}
 use Rattle.text_heads.specs.Parts.{rest, nameIn, bodyIn, handlerIn}
 use Rattle.table_scope.specs.declared.Scope.{Scope}
 use Rattle.table_scope.specs.declared.Meaning.{Meaning}

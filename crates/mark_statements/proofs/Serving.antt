@@ -18,7 +18,7 @@ use Rattle.law.specs.Syntax.{Body, Stmts}
 use Rattle.law.specs.Trees.{first, stackAt}
 use Rattle.law.specs.Types.{Types, Vars}
 use Rattle.law.specs.Whole.{markBody, markAll}
-use Rattle.law.proofs.Inversion.{some-inj, bind-some}
+use Rattle.law_theorems.proofs.Inversion.{some-inj, bind-some}
 use Rattle.text_heads.specs.Parts.{stmtsIn, bodyIn}
 use Rattle.mark_steps.specs.Ends.{leftIn}
 use Rattle.mark_steps.specs.Stands.{Stands}

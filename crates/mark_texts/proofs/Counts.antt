@@ -8,7 +8,7 @@ use lib.ListN.{length, take, drop, replicate}
 use lib.Seq.{take-at}
 use Rattle.rule_declarations.specs.State.{notes}
 use Rattle.law.specs.Verdict.{Verdict, Read, accepted, refused, judge, loosely}
-use Rattle.law.proofs.LinesCover.{judged-covered}
+use Rattle.law_theorems.proofs.LinesCover.{judged-covered}
 use Rattle.law_answers.specs.declared.Counted.{Counted}
 use Rattle.law_answers.specs.Verdicts.{cellsTold}
 use Rattle.table_bodies.specs.Table.{upTo}

@@ -16,7 +16,7 @@ use Rattle.law.specs.Store.{storeFault}
 use Rattle.law.specs.Verdict.{Verdict, Read, accepted, refused, judge, loosely}
 use Rattle.law.specs.Whole as Whole
 use Rattle.law.specs.Whole.{report, fresh, lent, onStore, unless, markAll, markOf, workAfter}
-use Rattle.law.proofs.LinesCover.{judged-covered}
+use Rattle.law_theorems.proofs.LinesCover.{judged-covered}
 use Rattle.law_answers.specs.declared.Marked.{Marked}
 use Rattle.law_answers.specs.declared.MarkReport.{MarkReport}
 use Rattle.law_answers.specs.declared.MarkReport.the-variants.{Refused, Ran}

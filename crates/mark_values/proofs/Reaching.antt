@@ -24,7 +24,7 @@ use Rattle.law.specs.Machine.{Store, readCell, readCells, sole}
 use Rattle.law.specs.Marking.{TypedValue, TypedPlace, typedValue, typedPlace, typedAs, placedAs, orStuck}
 use Rattle.law.specs.Trees.{wordAt}
 use Rattle.law.specs.Types.{Types, Shape, ordinalShape, setShape, arrayShape, recordShape, Field, infoAt, isOrdinal, isSet, hostBy, cellsBy, hostOf, sizeOf, ordinal?, set?, array?, fieldOf}
-use Rattle.law.proofs.TypeTables.{Table}
+use Rattle.law_theorems.proofs.TypeTables.{Table}
 use Rattle.code_calc.specs.Words.{noResult, greatest, rangeWord, wordOf, resultOf, placeWord, cellOf, storeWord, cellsWord, cellsAt, distanceWord, elementWord, shiftedWord, InRange, Ranged, Means, Holds, first, Exceptional}
 use Rattle.code_calc.proofs.Combining.{value-again}
 use Rattle.code_calc.proofs.Ranging.{range-value, low-range}

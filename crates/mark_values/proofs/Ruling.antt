@@ -6,11 +6,11 @@ use Prim.Native.Nat.{ℕ, _-_, _<_}
 use native.Mathlib.Omega.{arith}
 use lib.Dec.{eqb}
 use Rattle.law.specs.Base.{given, either}
-use Rattle.law.specs.Layout.{operationNumber, node1}
+use Rattle.code.specs.Layout.{operationNumber, node1}
 use Rattle.law.specs.Operators.{Op, plus, minus, times, power, divide, modulo, equal, unequal, less, atMost, greater, atLeast, member, andBoth, orBoth, Fun, negate, notOf, abs, sqr, odd, ord, pred, succ, card, setmin, setmax, Operation, intAdd, intSub, intMul, intPower, intDiv, intMod, setUnion, setDifference, setIntersection, numEqual, numUnequal, numLess, numAtMost, numGreater, numAtLeast, setWithin, setHolds, memberOf, boolAnd, boolOr, Operation1, intNegate, boolNot, intAbs, intSqr, intOdd, ordinalOf, predIn, succIn, setCard, setLeast, setGreatest, Rule, rule, Rule1, rule1, bothIntegers, bothBooleans, sameOrdinals, sameSets, operatorRule, functionRule}
-use Rattle.law.specs.Readback.{operations, operationAt, operations1, operation1At}
+use Rattle.code.specs.Readback.{operations, operationAt, operations1, operation1At}
 use Rattle.law.specs.Types.{Types, infoAt, ordinal?, set?, baseOf}
-use Rattle.law.proofs.Inversion.{given-some, either-some, and-true}
+use Rattle.law_theorems.proofs.Inversion.{given-some, either-some, and-true}
 use Rattle.table_kinds.specs.Functions.{nodeOf}
 use Rattle.table_kinds.specs.Kinds.{Kinded}
 use Rattle.mark_values.specs.Values.{simple?}

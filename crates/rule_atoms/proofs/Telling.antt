@@ -17,7 +17,7 @@ use Rattle.law.specs.Calculate.{truth}
 use Rattle.law.specs.Environment.{Environment, NameSort}
 use Rattle.law.specs.Names.{typeOf, constantOf, constOf, asType, asValue}
 use Rattle.law.specs.Rules.{plain}
-use Rattle.law.specs.Stages.{wrong, unnamed, unfit, fits, ruled, named, staged}
+use Rattle.rule_stages.specs.Stages.{wrong, unnamed, unfit, fits, ruled, named, staged}
 use Rattle.rule_faults.specs.declared.Fault.the-variants as fault
 use Rattle.table_scope.specs.declared.Meaning.{Meaning}
 use Rattle.table_scope.specs.Scene.{Told, unknown, known, a-type, a-var, a-proc, a-value}

@@ -24,7 +24,7 @@ use Rattle.law.specs.Forms.{typeName, free, keyOf, isNumber}
 use Rattle.law.specs.Words as Words
 use Rattle.law.specs.Words.{worded, wordedAll}
 use Rattle.law.specs.Names.{typeOf, constantOf}
-use Rattle.law.specs.Stages.{staged}
+use Rattle.rule_stages.specs.Stages.{staged}
 use Rattle.law.specs.Syntax.{Constant, minus}
 use Rattle.law.specs.Trees.{word, form, Trees, end, _then_, Run, first, later, wordAt, stackAt}
 use Rattle.table_scope.specs.declared.Scope.{Scope}

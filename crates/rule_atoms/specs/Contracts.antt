@@ -10,7 +10,7 @@ use Rattle.law.specs.Environment.{Environment}
 use Rattle.law.specs.Names.{typeOf, constantOf}
 use Rattle.law.specs.Rules.{plain}
 use Rattle.law.specs.Script.{Const}
-use Rattle.law.specs.Stages.{Staged, fits, staged}
+use Rattle.rule_stages.specs.Stages.{Staged, fits, staged}
 use Rattle.law.specs.Syntax.{Constant, minus}
 use Rattle.law.specs.Trees.{Tree, form, Trees, end, _then_, Run, first, later, stackAt}
 use Rattle.table_scope.specs.declared.Scope.{Scope}

@@ -12,7 +12,7 @@ use Rattle.rule_declarations.specs.State.{notes}
 use Rattle.law.specs.Verdict as Meaning
 use Rattle.law.specs.Verdict.{Read, accepted, refused}
 use Rattle.law.specs.Whole.{verdictOf}
-use Rattle.law.proofs.LinesCover.{text-covered}
+use Rattle.law_theorems.proofs.LinesCover.{text-covered}
 use Rattle.law_answers.specs.declared.Counted.{Counted}
 use Rattle.law_answers.specs.declared.Counted.the-variants as told
 use Rattle.law_answers.specs.Verdicts.{cellsTold}

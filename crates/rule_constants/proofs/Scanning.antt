@@ -14,7 +14,7 @@ use Rattle.law.specs.Environment.{nothingDeclared}
 use Rattle.law.specs.Names.{constantOf}
 use Rattle.law.specs.Rules.{plain}
 use Rattle.law.specs.Script.{Const}
-use Rattle.law.specs.Stages.{ruled, named as namedStage, staged}
+use Rattle.rule_stages.specs.Stages.{ruled, named as namedStage, staged}
 use Rattle.law.specs.Syntax.{Constant, number, minus, truth, named}
 use Rattle.law.specs.Trees.{Tree, word, form, Trees, end, nodes, nodesIn, Run, first, later, push, wordAt, stackAt}
 use Rattle.text_words.specs.Passes.{nodesAll}

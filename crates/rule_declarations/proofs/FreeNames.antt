@@ -17,12 +17,12 @@ use Rattle.law.specs.Base.{_>>=_}
 use Rattle.law.specs.Environment.{Environment}
 use Rattle.law.specs.Forms.{free}
 use Rattle.law.specs.Names.{typeOf}
-use Rattle.law.specs.Stages as Stages
-use Rattle.law.specs.Stages.{ruled, staged}
+use Rattle.rule_stages.specs.Stages as Stages
+use Rattle.rule_stages.specs.Stages.{ruled, staged}
 use Rattle.law.specs.Trees.{Tree, form, Trees, end, _then_, Run, first, later, wordAt, stackAt}
 use Rattle.law.specs.Words as Words
 use Rattle.law.specs.Words.{worded, wordedAll}
-use Rattle.law.proofs.Reading.{none-word}
+use Rattle.law_theorems.proofs.Reading.{none-word}
 use Rattle.table_scope.specs.declared.Scope.{Scope}
 use Rattle.rule_faults.specs.declared.Fault.{Fault}
 use Rattle.rule_faults.specs.declared.Fault.the-variants.{Clear, Kind, Name, Form}

@@ -7,10 +7,10 @@ use borrow.Author.Tests.{ne-eqb}
 use Rattle.leaf_bytes.specs.Bytes.{small}
 use Rattle.law.specs.Base.{Name}
 use Rattle.law.specs.Environment.{Environment, NameSort, environment}
-use Rattle.law.specs.Layout.{lay}
+use Rattle.code.specs.Layout.{lay}
 use Rattle.law.specs.Trees.{wordAt}
 use Rattle.law.specs.Types.{variable}
-use Rattle.law.proofs.LayoutRegions.{Same, Room, lay-g}
+use Rattle.code.proofs.LayoutRegions.{Same, Room, lay-g}
 use Rattle.table_names.specs.Keys.{keyed}
 use Rattle.table_names.specs.Chain.{entries}
 use Rattle.table_names.proofs.Chained.{Names, no-names, one-name, Below, Added, added, entries-kept, names-kept, below-kept, below-higher}

@@ -7,11 +7,11 @@ use borrow.Author.Tests.{ne-eqb}
 use lib.ListN.{length, getD}
 use Rattle.law.specs.Base.{find}
 use Rattle.law.specs.Environment.{builtIn, nothingDeclared}
-use Rattle.law.specs.Layout.{bits}
+use Rattle.code.specs.Layout.{bits}
 use Rattle.law.specs.Types.{infoAt, sizeOf}
-use Rattle.law.proofs.Inversion.{none-some}
-use Rattle.law.proofs.LinesKeep.{keeps-start, no-names as none-fair}
-use Rattle.law.proofs.TypeTables.{started}
+use Rattle.law_theorems.proofs.Inversion.{none-some}
+use Rattle.law_theorems.proofs.LinesKeep.{keeps-start, no-names as none-fair}
+use Rattle.law_theorems.proofs.TypeTables.{started}
 use Rattle.table_names.specs.Chain.{entries}
 use Rattle.table_names.proofs.Chained.{no-names, no-entry}
 use Rattle.table_scope.specs.Descriptions.{shapeNumber, integerInfo, booleanInfo, noInfo, infoOf, fieldsAt, Tells, EndsBelow}

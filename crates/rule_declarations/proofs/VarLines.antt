@@ -14,20 +14,20 @@ use Rattle.law.specs.Base.{Name, _>>=_, find, given}
 use Rattle.law.specs.Ceilings.{lineBounded}
 use Rattle.law.specs.Environment.{Declared, Environment, NameSort, aVar, aValue, declareLine}
 use Rattle.law.specs.Forms.{free, typeName, lineBy, isVar}
-use Rattle.law.specs.Layout.{lay}
-use Rattle.law.specs.LayoutSize.{symbolSize}
+use Rattle.code.specs.Layout.{lay}
+use Rattle.code.specs.LayoutSize.{symbolSize}
 use Rattle.law.specs.Names.{typeOf, isKnown, listedIn, distinct, noneKnown, newNames, entryOf}
 use Rattle.law.specs.Rules.{keepsRules}
 use Rattle.law.specs.Script.{Const, Entry, newVar}
-use Rattle.law.specs.Stages as Stages
-use Rattle.law.specs.Stages.{Staged, wrong, unnamed, unfit, fits, ruled, staged, onFits, unknown}
+use Rattle.rule_stages.specs.Stages as Stages
+use Rattle.rule_stages.specs.Stages.{Staged, wrong, unnamed, unfit, fits, ruled, staged, onFits, unknown}
 use Rattle.law.specs.Syntax.{LineForm, TypeName, varLine}
 use Rattle.law.specs.Trees.{Trees, end, _then_, Run, first, wordAt, stackAt, list}
 use Rattle.law.specs.Types.{Var, Vars, variable, sizeOf}
 use Rattle.law.specs.Words.{Word, wordedAll}
-use Rattle.law.proofs.Inversion.{none-some, some-inj, and-true}
-use Rattle.law.proofs.LayoutRegions.{Same, Room, lay-g, lay-l}
-use Rattle.law.proofs.LinesKeep.{Keeps, line-keeps}
+use Rattle.law_theorems.proofs.Inversion.{none-some, some-inj, and-true}
+use Rattle.code.proofs.LayoutRegions.{Same, Room, lay-g, lay-l}
+use Rattle.law_theorems.proofs.LinesKeep.{Keeps, line-keeps}
 use Rattle.table_list.specs.Laid.{Laid}
 use Rattle.table_names.specs.Keys.{keyed}
 use Rattle.table_scope.proofs.Cells.{keeps-cells}

@@ -8,15 +8,15 @@ use Rattle.law.specs.Base.{_>>=_}
 use Rattle.law.specs.Ceilings.{lineBounded}
 use Rattle.law.specs.Environment.{Declared, declareLine}
 use Rattle.law.specs.Forms.{LineHead, lineBy}
-use Rattle.law.specs.LayoutSize.{symbolSize}
+use Rattle.code.specs.LayoutSize.{symbolSize}
 use Rattle.law.specs.Names.{entryOf}
 use Rattle.law.specs.Rules.{keepsRules}
 use Rattle.law.specs.Script.{Entry}
-use Rattle.law.specs.Stages.{Staged, fits, staged, onFits, unknown}
+use Rattle.rule_stages.specs.Stages.{Staged, fits, staged, onFits, unknown}
 use Rattle.law.specs.Syntax.{LineForm}
 use Rattle.law.specs.Trees.{Trees, Run, list}
 use Rattle.law.specs.Words.{wordedAll}
-use Rattle.law.proofs.LayoutRegions.{Same}
+use Rattle.code.proofs.LayoutRegions.{Same}
 use Rattle.rule_faults.specs.declared.Fault.{Fault}
 use Rattle.rule_faults.specs.Got.{faultOf}
 use Rattle.rule_declarations.specs.State.{Holds}

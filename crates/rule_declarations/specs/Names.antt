@@ -10,7 +10,7 @@ use Rattle.law.specs.Base.{_>>=_}
 use Rattle.law.specs.Environment.{Environment}
 use Rattle.law.specs.Names.{typeOf, constantOf}
 use Rattle.law.specs.Rules.{plain}
-use Rattle.law.specs.Stages.{staged}
+use Rattle.rule_stages.specs.Stages.{staged}
 use Rattle.law.specs.Syntax.{TypeName, Constant}
 use Rattle.law.specs.Trees.{Trees, Run, first, later, wordAt, stackAt}
 use Rattle.table_scope.specs.declared.Scope.{Scope}

@@ -8,7 +8,7 @@ use lib.Dec.{leb}
 use lib.ListN.{length}
 use Rattle.leaf_bytes.specs.Bytes.{small}
 use Rattle.law.specs.Base.{Name, _>>=_}
-use Rattle.law.specs.Layout.{lay}
+use Rattle.code.specs.Layout.{lay}
 use Rattle.law.specs.Syntax.{LineForm, varLine}
 use Rattle.law.specs.Trees.{Trees, Run, first, wordAt, stackAt}
 use Rattle.table_scope.specs.Descriptions.{infoOf}

@@ -24,7 +24,7 @@ ghost use mathlib.Core.Path.{_≡_};
 ghost use Prim.Native.Nat.{_+_, _*_, _%_};
 ghost use Rattle.table_scope.specs.Scene.{meaningHere};
 ghost use Rattle.law.specs.Forms.{isVar};
-ghost use Rattle.law.specs.Layout.{lay as laid};
+ghost use Rattle.code.specs.Layout.{lay as laid};
 ghost use Rattle.law.specs.Trees.{first, stackAt};
 ghost use Rattle.text_heads.specs.Heads.{atomOf};
 ghost use Rattle.rule_atoms.specs.Answers.{typed as typedBy};

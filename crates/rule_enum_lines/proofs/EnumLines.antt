@@ -15,17 +15,17 @@ use Rattle.law.specs.Base.{Name, _>>=_}
 use Rattle.law.specs.Ceilings.{lineBounded, typeBounded}
 use Rattle.law.specs.Environment.{Declared, aType, declareLine, extendTypes, declNames, enumNames, typeInfoOf}
 use Rattle.law.specs.Forms.{some?}
-use Rattle.law.specs.Layout.{bits}
-use Rattle.law.specs.LayoutSize.{symbolSize, sizeDecl}
+use Rattle.code.specs.Layout.{bits}
+use Rattle.code.specs.LayoutSize.{symbolSize, sizeDecl}
 use Rattle.law.specs.Names.{entryOf}
 use Rattle.law.specs.Rules.{keepsRules}
 use Rattle.law.specs.Script.{Entry, newType, enum}
-use Rattle.law.specs.Stages.{Staged, wrong, unnamed, fits, staged}
+use Rattle.rule_stages.specs.Stages.{Staged, wrong, unnamed, fits, staged}
 use Rattle.law.specs.Syntax.{LineForm, TypeForm, typeLine}
 use Rattle.law.specs.Trees.{Trees, Run, first, later, wordAt, stackAt}
 use Rattle.law.specs.Types.{Types, infoAt, cellsBy, isRecord}
-use Rattle.law.proofs.Inversion.{and-true}
-use Rattle.law.proofs.LayoutRegions.{Same, Room, Has, lay-g, lay-l}
+use Rattle.law_theorems.proofs.Inversion.{and-true}
+use Rattle.code.proofs.LayoutRegions.{Same, Room, Has, lay-g, lay-l}
 use Rattle.table_names.specs.Keys.{keyed}
 use Rattle.table_names.proofs.Chained.{called-keyed}
 use Rattle.table_scope.proofs.Cells.{keeps-cells}

@@ -14,7 +14,7 @@ use Rattle.law.specs.Names.{listedIn, isKnown, distinct, noneKnown, newNames}
 use Rattle.law.specs.Syntax.{enum}
 use Rattle.law.specs.Trees.{Trees, end, _then_, Run, first, later, wordAt, stackAt, list}
 use Rattle.law.specs.Words.{Word, worded, wordedAll}
-use Rattle.law.proofs.Inversion.{none-some, some-inj, bind-some}
+use Rattle.law_theorems.proofs.Inversion.{none-some, some-inj, bind-some}
 use mir.Syntax.{w32}
 use mir.Val.{Fits}
 use lib.Dec.{ltb}

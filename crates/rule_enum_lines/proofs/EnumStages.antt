@@ -10,8 +10,8 @@ use Rattle.law.specs.Names.{declOf, entryOf}
 use Rattle.law.specs.Rules.{keepsRules, keptDecl}
 use Rattle.law.specs.Script as Script
 use Rattle.law.specs.Script.{newType}
-use Rattle.law.specs.Stages as Stages
-use Rattle.law.specs.Stages.{wrong, unnamed, fits, ruled, staged}
+use Rattle.rule_stages.specs.Stages as Stages
+use Rattle.rule_stages.specs.Stages.{wrong, unnamed, fits, ruled, staged}
 use Rattle.law.specs.Syntax.{LineForm, TypeForm, typeLine, enum}
 use Rattle.law.specs.Trees.{Trees, Run}
 use Rattle.rule_declarations.specs.Lines.{entryStaged}

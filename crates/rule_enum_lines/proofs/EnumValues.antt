@@ -15,13 +15,13 @@ use Rattle.leaf_bytes.specs.Bytes.{small, same}
 use Rattle.leaf_bytes.proofs.Same.{same-equal}
 use Rattle.law.specs.Base.{Name, find}
 use Rattle.law.specs.Environment.{Environment, NameSort, aValue, enumNames}
-use Rattle.law.specs.Layout.{lay}
+use Rattle.code.specs.Layout.{lay}
 use Rattle.law.specs.Script.{Const}
 use Rattle.law.specs.Trees.{first, wordAt, stackAt}
 use Rattle.law.specs.Types.{Types}
-use Rattle.law.proofs.Inversion.{some-inj, bind-some}
-use Rattle.law.proofs.LayoutRegions.{Same, Room, Has, lay-g, lay-l}
-use Rattle.law.proofs.LinesKeep.{AllFair, Fair, value, find-fair}
+use Rattle.law_theorems.proofs.Inversion.{some-inj, bind-some}
+use Rattle.code.proofs.LayoutRegions.{Same, Room, Has, lay-g, lay-l}
+use Rattle.law_theorems.proofs.LinesKeep.{AllFair, Fair, value, find-fair}
 use Rattle.table_list.specs.Laid.{Laid}
 use Rattle.table_names.specs.Keys.{keyed}
 use Rattle.table_names.specs.Chain.{entries, Called}

@@ -8,9 +8,9 @@ use Prim.Native.Nat.{ℕ, _+_, _*_, _-_, _%_, _<_, _≤_}
 use lib.Dec.{eqb, ltb}
 use lib.ListN.{length, getD, set}
 use Rattle.law.specs.Base.{Name}
-use Rattle.law.specs.Layout.{Out, lay}
+use Rattle.code.specs.Layout.{Out, lay}
 use Rattle.law.specs.Trees.{first, stackAt}
-use Rattle.law.proofs.LayoutRegions.{Same, Room}
+use Rattle.code.proofs.LayoutRegions.{Same, Room}
 use Rattle.table_names.specs.Keys.{keyed}
 use Rattle.table_names.specs.Chain.{Called}
 use Rattle.rule_faults.specs.declared.Fault.{Fault}

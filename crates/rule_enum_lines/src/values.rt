@@ -24,7 +24,7 @@ use table_scope::TYPE_NUMBERS;
 use table_scope::ordinal_info;
 ghost use mathlib.Core.Path.{_≡_};
 ghost use Prim.Native.Nat.{_-_};
-ghost use Rattle.law.specs.Layout.{lay as laid};
+ghost use Rattle.code.specs.Layout.{lay as laid};
 ghost use Rattle.law.specs.Trees.{first, stackAt};
 ghost use Rattle.table_list.specs.Laid.{Laid};
 ghost use Rattle.rule_enum_lines.specs.Enums.{enumIn};

@@ -4,7 +4,7 @@ use mathlib.Core.Bool.{Bool, true, false}
 use mathlib.Core.List.{List, [], _∷_}
 use Prim.Native.Nat.{ℕ, _<_, _≤_}
 use borrow.Author.Tests.{lt-ltb, le-ltb}
-use Rattle.law.specs.Layout.{lay}
+use Rattle.code.specs.Layout.{lay}
 use Rattle.table_kinds.specs.Kinds.{ruling2}
 use Rattle.table_kinds.specs.Functions.{ruling1}
 use Rattle.table_kinds.specs.declared.Side.{Side}

@@ -8,8 +8,8 @@ use borrow.Author.Tests.{eq-eqb, ne-eqb}
 use lib.Dec.{eqb}
 use lib.ListN.{getD}
 use Rattle.law.specs.Base as Base
-use Rattle.law.specs.Layout.{lay}
-use Rattle.law.proofs.LayoutRegions.{Same, lay-g}
+use Rattle.code.specs.Layout.{lay}
+use Rattle.code.proofs.LayoutRegions.{Same, lay-g}
 use Rattle.rule_faults.specs.declared.Fault.{Fault}
 use Rattle.rule_faults.specs.declared.Fault.the-variants.{Clear, Kind, Name, Form}
 use Rattle.table_scope.specs.declared.Info.{Info}

@@ -3,7 +3,7 @@ use mathlib.Core.Bool.{cond}
 use mathlib.Core.List.{List, [], _∷_}
 use Prim.Native.Nat.{ℕ}
 use lib.Dec.{ltb}
-use Rattle.law.specs.Layout.{lay}
+use Rattle.code.specs.Layout.{lay}
 use Rattle.table_kinds.specs.Kinds.{ruling2}
 use Rattle.table_kinds.specs.Functions.{ruling1}
 use Rattle.table_kinds.specs.declared.Ruling.{Ruling}

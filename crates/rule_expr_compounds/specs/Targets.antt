@@ -6,8 +6,8 @@ use Prim.Native.Nat.{ℕ, _+_, _*_, _≤_}
 use lib.Dec.{eqb}
 use lib.ListN.{getD}
 use Rattle.law.specs.Base as Base
-use Rattle.law.specs.Layout.{lay}
-use Rattle.law.proofs.LayoutRegions.{Same}
+use Rattle.code.specs.Layout.{lay}
+use Rattle.code.proofs.LayoutRegions.{Same}
 use Rattle.rule_faults.specs.declared.Fault.the-variants.{Kind, Name}
 use Rattle.table_scope.specs.declared.Info.{Info}
 use Rattle.table_scope.specs.Descriptions.{infoOf, fieldPlace}

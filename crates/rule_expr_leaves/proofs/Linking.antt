@@ -5,7 +5,7 @@ use mathlib.Core.List.{List, [], _∷_}
 use Prim.Native.Nat.{ℕ}
 use borrow.Author.Tests.{eq-eqb, ne-eqb}
 use lib.ListN.{set}
-use Rattle.law.specs.Layout.{lay, link}
+use Rattle.code.specs.Layout.{lay, link}
 use Rattle.table_list.specs.Laid.{Laid}
 use Rattle.rule_faults.specs.declared.Fault.{Fault}
 use Rattle.rule_faults.specs.declared.Fault.the-variants.{Kind}

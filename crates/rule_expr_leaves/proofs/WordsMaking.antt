@@ -18,7 +18,7 @@ use Rattle.leaf_integers.specs.declared.Num.the-variants.{Value, Failed}
 use Rattle.leaf_integers.proofs.Machine.{wire}
 use Rattle.leaf_words.specs.declared.words.Word.{Word}
 use Rattle.leaf_words.specs.Words.{wordOf}
-use Rattle.law.specs.Layout.{lay, flag}
+use Rattle.code.specs.Layout.{lay, flag}
 use Rattle.law.specs.Trees.{end, word, first, later, wordAt, stackAt}
 use Rattle.text_heads.specs.Heads.{atomOf, atomNumber}
 use Rattle.text_heads.specs.Parts.{rest, numberIn, partOf}

@@ -3,7 +3,7 @@ use mathlib.Core.Bool.{cond}
 use mathlib.Core.List.{List, [], _∷_}
 use Prim.Native.Nat.{ℕ}
 use lib.Dec.{eqb}
-use Rattle.law.specs.Layout.{Out, lay, link}
+use Rattle.code.specs.Layout.{Out, lay, link}
 use Rattle.rule_faults.specs.declared.Fault.{Fault}
 use Rattle.rule_faults.specs.declared.Fault.the-variants.{Kind}
 use Rattle.table_scope.specs.declared.Info.{Info}

@@ -7,7 +7,7 @@ use Prim.Native.Nat.{ℕ}
 use lib.Dec.{eqb}
 use lib.IntN.{ℤ}
 use Rattle.leaf_words.specs.declared.words.Word.{Word}
-use Rattle.law.specs.Layout.{lay, flag}
+use Rattle.code.specs.Layout.{lay, flag}
 use Rattle.law.specs.Trees.{end, first, later, stackAt}
 use Rattle.text_heads.specs.Heads.{atomOf, atomNumber}
 use Rattle.text_heads.specs.Parts.{rest, numberIn}

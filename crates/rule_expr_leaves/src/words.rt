@@ -20,7 +20,7 @@ use text_parts::end_at;
 use text_parts::part_at;
 ghost use mathlib.Core.Path.{_≡_};
 ghost use lib.IntN.{negℤ};
-ghost use Rattle.law.specs.Layout.{flag as flagOf};
+ghost use Rattle.code.specs.Layout.{flag as flagOf};
 ghost use Rattle.rule_expr_nodes.specs.Nodes.{Makes, literalMade};
 ghost use Rattle.rule_expr_leaves.specs.Words.{wholeMade, namedMade, placeMade, endMade, boundMade, Ends, After, StandsAlone};
 

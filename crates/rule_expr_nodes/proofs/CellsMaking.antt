@@ -4,7 +4,7 @@ use mathlib.Core.Bool.{Bool, true, false}
 use mathlib.Core.List.{List, [], _∷_}
 use Prim.Native.Nat.{ℕ, _+_, _*_, _<_, _≤_}
 use borrow.Author.Tests.{eq-eqb, ne-eqb, lt-ltb, le-ltb}
-use Rattle.law.specs.Layout.{lay}
+use Rattle.code.specs.Layout.{lay}
 use Rattle.table_scope.specs.declared.Info.{Info}
 use Rattle.rule_faults.specs.declared.Got.{Got}
 use Rattle.rule_expr_nodes.specs.Nodes.{nodeMade, Makes}

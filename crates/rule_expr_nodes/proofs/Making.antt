@@ -13,7 +13,7 @@ use mir.Val.{SFits, toZ, ofZ}
 use mir.Facts.{toZ-ofZ}
 use Rattle.leaf_integers.specs.Integers.{inside, least, most}
 use Rattle.leaf_sets.specs.Sets.{patternOf}
-use Rattle.law.specs.Layout.{lay, bits}
+use Rattle.code.specs.Layout.{lay, bits}
 use Rattle.table_list.specs.Laid.{Laid}
 use Rattle.rule_faults.specs.declared.Fault.{Fault}
 use Rattle.rule_faults.specs.declared.Fault.the-variants.{Clear, Kind, Name, Form}

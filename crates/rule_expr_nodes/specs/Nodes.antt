@@ -5,7 +5,7 @@ use mathlib.Core.Path.{_≡_}
 use Prim.Native.Nat.{ℕ}
 use lib.IntN.{ℤ}
 use Rattle.leaf_integers.specs.Integers.{inside, least, most}
-use Rattle.law.specs.Layout.{Out, lay, bits}
+use Rattle.code.specs.Layout.{Out, lay, bits}
 use Rattle.rule_faults.specs.declared.Fault.{Fault}
 use Rattle.rule_faults.specs.declared.Fault.the-variants.{Clear, Kind, Name, Form}
 use Rattle.rule_faults.specs.declared.Got.{Got}

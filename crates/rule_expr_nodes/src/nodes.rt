@@ -5,7 +5,7 @@ use rule_faults::Fault;
 use rule_faults::Got;
 use rule_faults::failed;
 use table_list::lay;
-ghost use Rattle.law.specs.Layout.{lay as laid};
+ghost use Rattle.code.specs.Layout.{lay as laid};
 ghost use Rattle.rule_expr_nodes.specs.Nodes.{Makes, IsBits, nodeMade, literalMade};
 
 // A node at the free place, with its kind and where the walk goes on.

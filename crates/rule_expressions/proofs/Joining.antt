@@ -4,8 +4,8 @@ use mathlib.Core.Bool.{Bool, true, false}
 use mathlib.Core.List.{List}
 use mathlib.Core.Option.{Option, none, some}
 use Prim.Native.Nat.{ℕ}
-use Rattle.law.specs.Layout.{Out, out}
-use Rattle.law.specs.Stages.{Staged, wrong, unnamed, unfit, fits, join, onFits, orUnfit, keptIf, unknown}
+use Rattle.code.specs.Layout.{Out, out}
+use Rattle.rule_stages.specs.Stages.{Staged, wrong, unnamed, unfit, fits, join, onFits, orUnfit, keptIf, unknown}
 use Rattle.rule_faults.specs.declared.Fault.{Fault}
 use Rattle.rule_faults.specs.declared.Fault.the-variants.{Clear, Kind, Name, Form}
 use Rattle.rule_faults.specs.declared.Got.{Got}

@@ -13,17 +13,17 @@ use Rattle.law.specs.Base.{_>>=_, given}
 use Rattle.law.specs.Code.{Code, Codes, noCodes, _with_, makeSet}
 use Rattle.law.specs.Elaborate.{Elaborated, elaborated, elabMembers}
 use Rattle.law.specs.Environment.{Environment}
-use Rattle.law.specs.Layout.{Out, out, lay, link, layCode, layCodes, bits}
+use Rattle.code.specs.Layout.{Out, out, lay, link, layCode, layCodes, bits}
 use Rattle.law.specs.Names.{exprsOf, typeOf}
 use Rattle.law.specs.Rules.{plainExprs}
-use Rattle.law.specs.Stages.{Staged, wrong, unnamed, unfit, fits, staged, named, ruled, join, onFits, orUnfit, unknown, exprStaged, membersStaged}
+use Rattle.rule_stages.specs.Stages.{Staged, wrong, unnamed, unfit, fits, staged, named, ruled, join, onFits, orUnfit, unknown, exprStaged, membersStaged}
 use Rattle.law.specs.Syntax as Syntax
 use Rattle.law.specs.Trees.{Tree, Trees, end, _then_, Run, first, later, stackAt}
 use Rattle.law.specs.Types.{Types, infoAt, set?, baseOf, hostOf}
 use Rattle.law.specs.Words.{worded}
-use Rattle.law.proofs.Inversion.{none-some, some-inj}
-use Rattle.law.proofs.LayoutRegions.{Same, lay-g}
-use Rattle.law.proofs.OnePassExprs.{member-staged, members-staged, members-unknown}
+use Rattle.law_theorems.proofs.Inversion.{none-some, some-inj}
+use Rattle.code.proofs.LayoutRegions.{Same, lay-g}
+use Rattle.rule_stages.proofs.OnePassExprs.{member-staged, members-staged, members-unknown}
 use Rattle.table_list.specs.Laid.{Laid}
 use Rattle.text_heads.specs.Parts.{rest, exprIn, exprsIn, partOf, typeNameIn}
 use Rattle.table_scope.specs.declared.Scope.{Scope}

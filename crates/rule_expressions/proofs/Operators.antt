@@ -12,19 +12,19 @@ use Rattle.law.specs.Code.{Code, calculate, shortCut, calculate1}
 use Rattle.law.specs.Elaborate.{Elaborated, elaborated}
 use Rattle.law.specs.Environment.{Environment}
 use Rattle.law.specs.Forms.{hOp, hFun, hLazy, expr, target, exprForm}
-use Rattle.law.specs.Layout.{Out, out, lay, layCode, bits, both, node1, operationNumber}
+use Rattle.code.specs.Layout.{Out, out, lay, layCode, bits, both, node1, operationNumber}
 use Rattle.law.specs.Names.{exprOf}
 use Rattle.law.specs.Operators.{Op, plus, minus, times, power, divide, modulo, equal, unequal, less, atMost, greater, atLeast, member, andBoth, orBoth, Fun, negate, notOf, abs, sqr, odd, ord, pred, succ, card, setmin, setmax, Operation1, intNegate, boolNot, intAbs, intSqr, intOdd, ordinalOf, predIn, succIn, setCard, setLeast, setGreatest, Rule, Rule1, rule1, bothBooleans, operatorRule, functionRule}
 use Rattle.law.specs.Rules.{plainExpr}
-use Rattle.law.specs.Stages.{Staged, wrong, fits, join, onFits, orUnfit, exprStaged}
+use Rattle.rule_stages.specs.Stages.{Staged, wrong, fits, join, onFits, orUnfit, exprStaged}
 use Rattle.law.specs.Syntax as Syntax
 use Rattle.law.specs.Trees.{Trees, Run, first, stackAt, list}
 use Rattle.law.specs.Types.{Types, infoAt, ordinal?, set?}
 use Rattle.law.specs.Words.{wordedAll}
 use Rattle.law.specs.Elaborate.{elabExpr}
-use Rattle.law.proofs.LayoutRegions.{Same}
-use Rattle.law.proofs.Inversion.{none-some, some-inj}
-use Rattle.law.proofs.OnePassExprs.{binary-staged, short-staged, unary-staged}
+use Rattle.code.proofs.LayoutRegions.{Same}
+use Rattle.law_theorems.proofs.Inversion.{none-some, some-inj}
+use Rattle.rule_stages.proofs.OnePassExprs.{binary-staged, short-staged, unary-staged}
 use Rattle.table_kinds.specs.Kinds.{TwoSided, strict, lazy, rowNumber, opNumber, operators, told, toldOf}
 use Rattle.table_kinds.specs.Functions.{functions, funNumber, told1, nodeOf}
 use Rattle.table_kinds.proofs.TwoSided.{two-sided-rule}

@@ -15,17 +15,17 @@ use Rattle.law.specs.Base.{_>>=_, both, given}
 use Rattle.law.specs.Code.{Code, Place, cell, index, shift, load}
 use Rattle.law.specs.Elaborate.{Elaborated, Located, elaborated, located, elabTarget}
 use Rattle.law.specs.Environment.{Environment}
-use Rattle.law.specs.Layout.{Out, out, lay, layCode, layPlace, layLoad, bits}
+use Rattle.code.specs.Layout.{Out, out, lay, layCode, layPlace, layLoad, bits}
 use Rattle.law.specs.Names.{Reached, reached, targetOf, exprOf, elementOf, fieldIn}
 use Rattle.law.specs.Rules.{plainTarget}
 use Rattle.law.specs.Script as Script
-use Rattle.law.specs.Stages.{Staged, wrong, unnamed, unfit, fits, ruled, named, staged, join, onFits, orUnfit, dotted, exprStaged, targetStaged, targetName, targetType, typeBy}
+use Rattle.rule_stages.specs.Stages.{Staged, wrong, unnamed, unfit, fits, ruled, named, staged, join, onFits, orUnfit, dotted, exprStaged, targetStaged, targetName, targetType, typeBy}
 use Rattle.law.specs.Syntax as Syntax
 use Rattle.law.specs.Trees.{Trees, end, Run, first, wordAt, stackAt}
 use Rattle.law.specs.Types.{Types, Field, infoAt, hostOf, sizeOf, array?, record?, fieldOf}
-use Rattle.law.proofs.Inversion.{none-some, some-inj, bind-some, both-some, given-some}
-use Rattle.law.proofs.LayoutRegions.{Same}
-use Rattle.law.proofs.OnePassExprs.{at-staged, dot-staged, read-staged, fits-type}
+use Rattle.law_theorems.proofs.Inversion.{none-some, some-inj, bind-some, both-some, given-some}
+use Rattle.code.proofs.LayoutRegions.{Same}
+use Rattle.rule_stages.proofs.OnePassExprs.{at-staged, dot-staged, read-staged, fits-type}
 use Rattle.text_heads.specs.declared.ExprHead.{ExprHead}
 use Rattle.text_heads.specs.declared.ExprHead.the-variants as EH
 use Rattle.text_heads.specs.Parts.{rest, closed, exprIn, targetIn, nameIn, targetBy}

@@ -23,18 +23,18 @@ use Rattle.law.specs.Calculate.{truth}
 use Rattle.law.specs.Code.{literal, load, lastNumber, cell}
 use Rattle.law.specs.Elaborate.{Elaborated, elaborated, located, inKind, elabExpr, elabTarget}
 use Rattle.law.specs.Environment.{Environment, NameSort, aValue}
-use Rattle.law.specs.Layout.{lay, layCode, layPlace, layLoad, loadCell, bits, flag}
+use Rattle.code.specs.Layout.{lay, layCode, layPlace, layLoad, loadCell, bits, flag}
 use Rattle.law.specs.Names.{Reached, reached, asVar, asExpr, constOf, typeOf, varOf, exprOf, targetOf}
 use Rattle.law.specs.Names as Names
 use Rattle.law.specs.Rules.{plain, plainExpr, plainTarget}
 use Rattle.law.specs.Script as Script
 use Rattle.law.specs.Script.{Const}
-use Rattle.law.specs.Stages.{Staged, ruled, named, staged, exprStaged, targetName, targetStaged}
+use Rattle.rule_stages.specs.Stages.{Staged, ruled, named, staged, exprStaged, targetName, targetStaged}
 use Rattle.law.specs.Syntax as Syntax
 use Rattle.law.specs.Trees.{Trees, Run, first, later, wordAt, stackAt}
 use Rattle.law.specs.Types.{Var, variable, infoAt, hostOf, sizeOf, ordinal?}
-use Rattle.law.proofs.Inversion.{none-some, some-inj, and-true}
-use Rattle.law.proofs.LinesKeep.{Fair, value, find-fair}
+use Rattle.law_theorems.proofs.Inversion.{none-some, some-inj, and-true}
+use Rattle.law_theorems.proofs.LinesKeep.{Fair, value, find-fair}
 use Rattle.text_heads.specs.Heads.{atomOf, atomExpr, atomTarget}
 use Rattle.text_heads.specs.Parts.{rest, closed, typeNameIn}
 use Rattle.text_heads.specs.declared.Atom.{Atom}

@@ -5,10 +5,10 @@ use mathlib.Core.Path.{_≡_}
 use Prim.Native.Nat.{ℕ, suc, _≤_}
 use Rattle.law.specs.Code.{Codes}
 use Rattle.law.specs.Environment.{Environment}
-use Rattle.law.specs.Layout.{layCodes}
-use Rattle.law.specs.Stages.{fits, membersStaged}
+use Rattle.code.specs.Layout.{layCodes}
+use Rattle.rule_stages.specs.Stages.{fits, membersStaged}
 use Rattle.law.specs.Trees.{Trees, end, _then_, Run, first, later, stackAt}
-use Rattle.law.proofs.LayoutRegions.{Same}
+use Rattle.code.proofs.LayoutRegions.{Same}
 use Rattle.text_heads.specs.Parts.{exprsIn}
 use Rattle.table_scope.specs.declared.Scope.{Scope}
 use Rattle.table_scope.specs.Scene.{Scene}

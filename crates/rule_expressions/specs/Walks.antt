@@ -15,10 +15,10 @@ use Rattle.law.specs.Trees.{Tree, form, Trees, end, _then_, Run, first, later, 
 use Rattle.law.specs.Words.{wordedAll}
 use Rattle.law.specs.Environment.{Environment}
 use Rattle.law.specs.Elaborate.{Elaborated, Located}
-use Rattle.law.specs.Layout.{Out, layCode, layPlace}
+use Rattle.code.specs.Layout.{Out, layCode, layPlace}
 use Rattle.law.specs.Names.{Reached, targetOf}
-use Rattle.law.specs.Stages.{exprStaged, targetStaged}
-use Rattle.law.proofs.LayoutRegions.{Same}
+use Rattle.rule_stages.specs.Stages.{exprStaged, targetStaged}
+use Rattle.code.proofs.LayoutRegions.{Same}
 use Rattle.text_heads.specs.declared.ExprHead.{ExprHead}
 use Rattle.text_heads.specs.Heads.{exprHeadMeant, atomExpr, atomTarget, atomOf}
 use Rattle.text_heads.specs.Parts.{exprIn, targetIn, targetBy}

@@ -13,13 +13,13 @@ use Rattle.law.specs.Forms.{Item, isProc, isMain, lineBy, free}
 use Rattle.law.specs.Names.{entryOf, bodyOf, newNames}
 use Rattle.law.specs.Rules.{keepsRules, keptBody}
 use Rattle.law.specs.Script.{Body, Entry, newProc, newMain}
-use Rattle.law.specs.Stages.{Staged, wrong, unnamed, unfit, fits, ruled, named, staged, bodyStaged}
+use Rattle.rule_stages.specs.Stages.{Staged, wrong, unnamed, unfit, fits, ruled, named, staged, bodyStaged}
 use Rattle.law.specs.Syntax as Syntax
 use Rattle.law.specs.Syntax.{LineForm, procLine, mainLine}
 use Rattle.law.specs.Trees.{Trees, Run, list}
 use Rattle.law.specs.Verdict.{strictly}
 use Rattle.law.specs.Words.{Word, wordedAll}
-use Rattle.law.proofs.Inversion.{none-some, some-inj}
+use Rattle.law_theorems.proofs.Inversion.{none-some, some-inj}
 use Rattle.rule_faults.specs.Got.{lowest, faultOf}
 use Rattle.text_heads.specs.Parts.{rest, nameIn, bodyIn, partOf}
 use Rattle.text_heads.proofs.Statements.{body-parts}

@@ -23,19 +23,19 @@ use Rattle.table_scope.specs.declared.Meaning.{Meaning}
 use Rattle.table_scope.specs.Scene.{Told, unknown, known, a-type, a-var, a-proc, a-value, meaningHere}
 use Rattle.rule_declarations.specs.Names.{newFault}
 use Rattle.law.specs.Forms.{isProc, isMain}
-use Rattle.law.specs.Layout.{Out, out, lay, layBody}
-use Rattle.law.specs.LayoutSize.{symbolSize, sizeBody, sizeBodies, BodyFits}
+use Rattle.code.specs.Layout.{Out, out, lay, layBody}
+use Rattle.code.specs.LayoutSize.{symbolSize, sizeBody, sizeBodies, BodyFits}
 use Rattle.law.specs.Script.{Body, Entry, newProc, newMain}
-use Rattle.law.specs.Stages.{fits, bodyStaged}
+use Rattle.rule_stages.specs.Stages.{fits, bodyStaged}
 use Rattle.law.specs.Syntax as Syntax
 use Rattle.law.specs.Trees.{nodesIn, first, wordAt, stackAt}
 use Rattle.law.specs.Verdict.{Read}
-use Rattle.law.proofs.Bodies.{body-at}
-use Rattle.law.proofs.LayoutActs.{laid-body}
-use Rattle.law.proofs.LayoutBodies.{Bodies, body-next}
-use Rattle.law.proofs.LayoutFits.{bodies-fit}
-use Rattle.law.proofs.LayoutRegions.{Room, Lays, lay-l}
-use Rattle.law.proofs.LinesMeasured.{Measured}
+use Rattle.law_theorems.proofs.Bodies.{body-at}
+use Rattle.code.proofs.LayoutActs.{laid-body}
+use Rattle.code.proofs.LayoutBodies.{Bodies, body-next}
+use Rattle.code.proofs.LayoutFits.{bodies-fit}
+use Rattle.code.proofs.LayoutRegions.{Room, Lays, lay-l}
+use Rattle.code.proofs.LinesMeasured.{Measured}
 use Rattle.rule_faults.specs.declared.Got.{Got}
 use Rattle.rule_faults.specs.Got.{lowest, faultOf}
 use Rattle.text_parts.specs.Parts.{LeafAt}

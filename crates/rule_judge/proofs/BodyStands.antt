@@ -11,12 +11,12 @@ use lib.Seq.{getD-append-seam}
 use Rattle.leaf_bytes.specs.Bytes.{small}
 use Rattle.law.specs.Base.{Name}
 use Rattle.law.specs.Environment.{Declared, Environment, NameSort, aType, aVar, aProc, aValue, declareLine}
-use Rattle.law.specs.Layout.{lay}
+use Rattle.code.specs.Layout.{lay}
 use Rattle.law.specs.Script.{Body, Const, newMain, newProc}
 use Rattle.law.specs.Trees.{wordAt}
 use Rattle.law.specs.Types.{Types, Vars, variable}
-use Rattle.law.proofs.LayoutRegions.{Same, lay-g, lay-l}
-use Rattle.law.proofs.LinesKeep.{Keeps, Fair, AllFair, type, var, proc, value, no-names as none-fair, name as one-fair}
+use Rattle.code.proofs.LayoutRegions.{Same, lay-g, lay-l}
+use Rattle.law_theorems.proofs.LinesKeep.{Keeps, Fair, AllFair, type, var, proc, value, no-names as none-fair, name as one-fair}
 use Rattle.table_names.specs.Keys.{keyed}
 use Rattle.table_names.specs.Chain.{entries}
 use Rattle.table_names.proofs.Chained.{Names, no-names, one-name}

@@ -11,19 +11,19 @@ use Rattle.law.specs.Code.{BodyCode}
 use Rattle.law.specs.Environment.{Declared, Environment, declareLine}
 use Rattle.law.specs.Forms.{Item, isType, isVar, lineBy, two, free, typeName, typeForm}
 use Rattle.law.specs.Forms as Forms
-use Rattle.law.specs.LayoutSize.{symbolSize, sizeBodies}
+use Rattle.code.specs.LayoutSize.{symbolSize, sizeBodies}
 use Rattle.law.specs.Names.{entryOf, declOf, typeOf}
 use Rattle.law.specs.Rules.{keepsRules}
 use Rattle.law.specs.Script.{Entry, newType, newVar, newProc, newMain}
-use Rattle.law.specs.Stages.{Staged, wrong, unnamed, unfit, fits, ruled, named, staged, onFits}
+use Rattle.rule_stages.specs.Stages.{Staged, wrong, unnamed, unfit, fits, ruled, named, staged, onFits}
 use Rattle.law.specs.Syntax.{LineForm, typeLine, varLine, procLine, mainLine}
 use Rattle.law.specs.Trees.{Trees, Run, list, first, stackAt, nodesIn}
 use Rattle.law.specs.Verdict.{Read, strictly}
 use Rattle.law.specs.Words.{Word, wordedAll}
-use Rattle.law.proofs.Inversion.{none-some, some-inj, bind-some, given-some}
-use Rattle.law.proofs.LayoutBodies.{Bodies}
-use Rattle.law.proofs.LinesMeasured.{Measured}
-use Rattle.law.proofs.LayoutRegions.{Same}
+use Rattle.law_theorems.proofs.Inversion.{none-some, some-inj, bind-some, given-some}
+use Rattle.code.proofs.LayoutBodies.{Bodies}
+use Rattle.code.proofs.LinesMeasured.{Measured}
+use Rattle.code.proofs.LayoutRegions.{Same}
 use Rattle.rule_faults.specs.Got.{faultOf}
 use Rattle.text_heads.specs.declared.LineHead.{LineHead}
 use Rattle.text_heads.specs.declared.LineHead.the-variants as LH

@@ -11,11 +11,11 @@ use Rattle.law.specs.Base.{_>>=_}
 use Rattle.law.specs.Forms as Forms
 use Rattle.law.specs.Forms.{isType, isVar, isProc, isMain}
 use Rattle.law.specs.Lines.{Line}
-use Rattle.law.specs.Stages.{wrong, staged}
+use Rattle.rule_stages.specs.Stages.{wrong, staged}
 use Rattle.law.specs.Syntax as Syntax
 use Rattle.law.specs.Trees.{word, form, Trees, _then_, Run, nodes, nodesIn, first, later, wordAt, stackAt}
 use Rattle.law.specs.Verdict.{Read, bad, strictly, judgeLine}
-use Rattle.law.proofs.OnePassLines.{judgedBy}
+use Rattle.rule_stages.proofs.OnePassLines.{judgedBy}
 use Rattle.table_names.specs.Keys.{keyed}
 use Rattle.table_scope.specs.Scene.{meaningHere}
 use Rattle.rule_faults.specs.declared.Fault.{Fault}
@@ -25,7 +25,7 @@ use Rattle.rule_faults.specs.declared.Got.{Got}
 use Rattle.text_parts.specs.declared.Part.{Part}
 use Rattle.text_parts.specs.declared.Part.the-variants as part
 use Rattle.rule_faults.specs.Got.{lowest, isClear}
-use Rattle.law.specs.Layout.{lay}
+use Rattle.code.specs.Layout.{lay}
 use Rattle.table_list.specs.Laid.{Laid}
 use Rattle.text_parts.specs.Parts.{Stands}
 use Rattle.text_heads.specs.declared.LineHead.{LineHead}

@@ -13,21 +13,21 @@ use Rattle.law.specs.Code.{BodyCode}
 use Rattle.law.specs.Environment.{Declared, declareLine}
 use Rattle.law.specs.Forms as Forms
 use Rattle.law.specs.Forms.{Item, lineForm, lineBy, lineHeads, among, headed}
-use Rattle.law.specs.LayoutSize.{symbolSize, sizeBodies}
+use Rattle.code.specs.LayoutSize.{symbolSize, sizeBodies}
 use Rattle.law.specs.Lines.{Line}
 use Rattle.law.specs.Names.{entryOf}
 use Rattle.law.specs.Rules.{keepsRules}
 use Rattle.law.specs.Script.{Entry}
-use Rattle.law.specs.Stages.{Staged, wrong, unnamed, unfit, fits, ruled, named, staged}
+use Rattle.rule_stages.specs.Stages.{Staged, wrong, unnamed, unfit, fits, ruled, named, staged}
 use Rattle.law.specs.Syntax.{LineForm}
 use Rattle.law.specs.Trees.{Tree, word, form, Trees, end, _then_, Run, list, nodes, formOf}
 use Rattle.law.specs.Verdict.{Judged, good, bad, _>>=_, orBad, must, strictly, judgeLine}
 use Rattle.law.specs.Words.{Word, worded, wordedAll}
-use Rattle.law.proofs.Inversion.{bind-some, some-inj}
-use Rattle.law.proofs.OnePassLines.{judgedBy}
-use Rattle.law.proofs.TextsAgree.{stage-on, must-on}
-use Rattle.law.proofs.TextRoom.{entry-room}
-use Rattle.law.proofs.Weights.{line-weighs, worded-nodes}
+use Rattle.law_theorems.proofs.Inversion.{bind-some, some-inj}
+use Rattle.rule_stages.proofs.OnePassLines.{judgedBy}
+use Rattle.law_theorems.proofs.TextsAgree.{stage-on, must-on}
+use Rattle.code.proofs.TextRoom.{entry-room}
+use Rattle.law_theorems.proofs.Weights.{line-weighs, worded-nodes}
 use Rattle.text_heads.specs.declared.LineHead.{LineHead}
 use Rattle.text_heads.specs.Heads.{lineHeadOf, lineHeadMeant}
 use Rattle.text_heads.specs.Parts.{keyIn}

@@ -12,7 +12,7 @@ use Rattle.law.specs.Lines.{Line}
 use Rattle.law.specs.Trees.{Tree, word, form, Trees, end, _then_, Run, nodes, formOf, first, later, before, wordAt, stackAt}
 use Rattle.law.specs.Verdict.{Read, Fitting, Judged, bad, _>>=_, orBad, must, strictly, judgeLine}
 use Rattle.law.specs.Words.{Word, worded}
-use Rattle.law.proofs.TextsAgree.{stage-on}
+use Rattle.law_theorems.proofs.TextsAgree.{stage-on}
 use Rattle.text_lines.specs.Passes.{lineAt, balancedFrom}
 use Rattle.text_words.specs.Passes.{knownTree, knownAll, nodesAll}
 use Rattle.text_lines.proofs.Ties.{formed, unformed}

@@ -13,22 +13,22 @@ use Rattle.law.specs.Ceilings.{lineBounded}
 use Rattle.law.specs.Code.{BodyCode}
 use Rattle.law.specs.Environment.{Declared, declareLine}
 use Rattle.law.specs.Forms.{lineForm}
-use Rattle.law.specs.LayoutSize.{symbolSize, sizeSymbols, sizeBodies}
+use Rattle.code.specs.LayoutSize.{symbolSize, sizeSymbols, sizeBodies}
 use Rattle.law.specs.Lines.{Line}
 use Rattle.law.specs.Names.{entryOf}
 use Rattle.law.specs.Rules.{keepsRules}
 use Rattle.law.specs.Script.{Entry, newType, newVar, newProc, newMain}
-use Rattle.law.specs.Stages.{Staged, wrong, unnamed, unfit, fits}
+use Rattle.rule_stages.specs.Stages.{Staged, wrong, unnamed, unfit, fits}
 use Rattle.law.specs.Syntax.{LineForm}
 use Rattle.law.specs.Trees.{Tree, Run, nodes, formOf}
 use Rattle.law.specs.Verdict.{Judged, good, bad, _>>=_, must, Read, has, strictly, judgeLine}
 use Rattle.law.specs.Words.{Word, worded}
-use Rattle.law.proofs.Inversion.{bind-some, some-inj, and-true}
-use Rattle.law.proofs.OnePassLines.{judgedBy}
-use Rattle.law.proofs.LinesMeasured.{measured-line}
-use Rattle.law.proofs.StatementNumbers.{line-counts}
-use Rattle.law.proofs.TextRoom.{Room, room-line, entry-room, line-symbols, bodies-append}
-use Rattle.law.proofs.Weights.{line-weighs, worded-nodes}
+use Rattle.law_theorems.proofs.Inversion.{bind-some, some-inj, and-true}
+use Rattle.rule_stages.proofs.OnePassLines.{judgedBy}
+use Rattle.code.proofs.LinesMeasured.{measured-line}
+use Rattle.law_theorems.proofs.StatementNumbers.{line-counts}
+use Rattle.code.proofs.TextRoom.{Room, room-line, entry-room, line-symbols, bodies-append}
+use Rattle.law_theorems.proofs.Weights.{line-weighs, worded-nodes}
 use Rattle.rule_faults.specs.declared.Fault.the-variants.{Clear, Kind, Name, Form}
 use Rattle.rule_faults.specs.Got.{faultOf}
 use Rattle.rule_expressions.proofs.Targets.{fits-inv}

@@ -10,15 +10,15 @@ use Rattle.law.specs.Base.{_>>=_}
 use Rattle.law.specs.Ceilings.{lineBounded}
 use Rattle.law.specs.Code.{BodyCode}
 use Rattle.law.specs.Environment.{declareLine}
-use Rattle.law.specs.LayoutSize.{symbolSize, sizeBodies}
+use Rattle.code.specs.LayoutSize.{symbolSize, sizeBodies}
 use Rattle.law.specs.Script.{Entry}
-use Rattle.law.specs.Stages.{fits}
+use Rattle.rule_stages.specs.Stages.{fits}
 use Rattle.law.specs.Syntax.{LineForm}
 use Rattle.law.specs.Trees.{nodesIn, first, stackAt}
 use Rattle.law.specs.Verdict.{Read}
-use Rattle.law.proofs.LayoutBodies.{Bodies}
-use Rattle.law.proofs.LinesMeasured.{Measured}
-use Rattle.law.specs.Layout.{lay}
+use Rattle.code.proofs.LayoutBodies.{Bodies}
+use Rattle.code.proofs.LinesMeasured.{Measured}
+use Rattle.code.specs.Layout.{lay}
 use Rattle.table_names.specs.Keys.{keyed}
 use Rattle.table_scope.specs.Scene.{meaningHere}
 use Rattle.rule_faults.specs.declared.Fault.{Fault}

@@ -6,11 +6,11 @@ use Prim.Native.Nat.{ℕ, _+_, _-_, _≤_}
 use lib.ListN.{length, getD, drop}
 use Rattle.law.specs.Code.{BodyCode}
 use Rattle.law.specs.Environment.{Declared}
-use Rattle.law.specs.LayoutSize.{sizeSymbols, sizeBodies}
+use Rattle.code.specs.LayoutSize.{sizeSymbols, sizeBodies}
 use Rattle.law.specs.Verdict.{Judged, good, bad, Read, has, strictly, judgeLine}
-use Rattle.law.proofs.LayoutBodies.{Bodies}
-use Rattle.law.proofs.LinesMeasured.{Measured}
-use Rattle.law.proofs.TextRoom.{Room}
+use Rattle.code.proofs.LayoutBodies.{Bodies}
+use Rattle.code.proofs.LinesMeasured.{Measured}
+use Rattle.code.proofs.TextRoom.{Room}
 use Rattle.text_lines.specs.Passes.{lineAt}
 use Rattle.rule_declarations.specs.State.{Holds}
 use Rattle.rule_known.specs.declared.Known.{Known}

@@ -9,7 +9,7 @@ use Rattle.law.specs.Forms.{LineHead, lineForm, lineBy}
 use Rattle.law.specs.Names.{entryOf}
 use Rattle.law.specs.Rules.{keepsRules}
 use Rattle.law.specs.Script.{Entry}
-use Rattle.law.specs.Stages.{Staged, staged}
+use Rattle.rule_stages.specs.Stages.{Staged, staged}
 use Rattle.law.specs.Syntax.{LineForm}
 use Rattle.law.specs.Trees.{Tree, Trees, Run, list}
 use Rattle.law.specs.Verdict.{strictly}

@@ -12,14 +12,14 @@ use Rattle.law.specs.Base.{Name, _>>=_}
 use Rattle.law.specs.Ceilings.{lineBounded}
 use Rattle.law.specs.Environment.{Declared, declareLine, withBody}
 use Rattle.law.specs.Forms.{isMain}
-use Rattle.law.specs.Layout.{lay}
-use Rattle.law.specs.LayoutSize.{symbolSize}
+use Rattle.code.specs.Layout.{lay}
+use Rattle.code.specs.LayoutSize.{symbolSize}
 use Rattle.law.specs.Names.{bodyOf, newNames}
 use Rattle.law.specs.Script.{Body, Entry, newProc, newMain}
 use Rattle.law.specs.Syntax as Syntax
 use Rattle.law.specs.Trees.{nodesIn, first, wordAt, stackAt}
-use Rattle.law.proofs.LayoutRegions.{Same, lay-l}
-use Rattle.law.proofs.LinesKeep.{Keeps}
+use Rattle.code.proofs.LayoutRegions.{Same, lay-l}
+use Rattle.law_theorems.proofs.LinesKeep.{Keeps}
 use Rattle.table_names.specs.Keys.{keyed}
 use Rattle.table_scope.specs.Scene.{meaningHere}
 use Rattle.rule_faults.specs.declared.Fault.{Fault}

@@ -10,11 +10,11 @@ use Rattle.law.specs.Environment.{Declared, PlacedBody, declareLine}
 use Rattle.law.specs.Forms as Forms
 use Rattle.law.specs.Names.{entryOf}
 use Rattle.law.specs.Script.{Entry}
-use Rattle.law.specs.Stages.{fits, staged}
+use Rattle.rule_stages.specs.Stages.{fits, staged}
 use Rattle.law.specs.Syntax.{LineForm}
 use Rattle.law.specs.Trees.{first, stackAt}
-use Rattle.law.proofs.Inversion.{bind-some, given-some, some-inj}
-use Rattle.law.proofs.LinesKeep.{Extends, declared-more}
+use Rattle.law_theorems.proofs.Inversion.{bind-some, given-some, some-inj}
+use Rattle.law_theorems.proofs.LinesKeep.{Extends, declared-more}
 use Rattle.rule_statements.specs.Walks.{bare}
 use Rattle.rule_declarations.specs.declared.Lined.{Lined}
 use Rattle.rule_declarations.specs.Lines.{lineOf, entryStaged, GivesLine}

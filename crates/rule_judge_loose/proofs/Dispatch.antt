@@ -12,14 +12,14 @@ use Rattle.leaf_words.specs.Words.{wordOf}
 use Rattle.law.specs.Base.{_>>=_}
 use Rattle.law.specs.Environment.{Declared}
 use Rattle.law.specs.Forms.{isType, isVar, isProc, isMain}
-use Rattle.law.specs.Layout.{lay}
+use Rattle.code.specs.Layout.{lay}
 use Rattle.law.specs.Lines.{Line}
-use Rattle.law.specs.Stages.{staged}
+use Rattle.rule_stages.specs.Stages.{staged}
 use Rattle.law.specs.Syntax as Syntax
 use Rattle.law.specs.Trees.{word, form, Trees, end, _then_, Run, nodes, first, later, before, wordAt, stackAt}
 use Rattle.law.specs.Verdict.{bad, loosely, judgeLine}
 use Rattle.law.specs.Words.{worded}
-use Rattle.law.proofs.OnePassLines.{judgedBy}
+use Rattle.rule_stages.proofs.OnePassLines.{judgedBy}
 use Rattle.text_lines.specs.Passes.{lineAt, balancedFrom}
 use Rattle.text_words.specs.Passes.{knownAll, nodesAll}
 use Rattle.text_lines.proofs.Ties.{formed, unformed}

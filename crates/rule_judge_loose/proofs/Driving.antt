@@ -9,10 +9,10 @@ use borrow.Author.Tests.{le-leb, lt-leb}
 use lib.ListN.{length, getD, drop, drop-of-length-le}
 use Rattle.law.specs.Code.{BodyCode}
 use Rattle.law.specs.Environment.{Declared, nothingDeclared}
-use Rattle.law.specs.LayoutSize.{sizeSymbols, sizeTypes}
+use Rattle.code.specs.LayoutSize.{sizeSymbols, sizeTypes}
 use Rattle.law.specs.Lines.{Line, linesOf, refusedAt}
 use Rattle.law.specs.Verdict.{Verdict, Judged, good, bad, Read, has, accepted, must, onward, opening, loosely, judge, judgeLine, judgeLines}
-use Rattle.law.proofs.TypeSizes.{small-start}
+use Rattle.law_theorems.proofs.TypeSizes.{small-start}
 use Rattle.text_lines.specs.Passes.{lineAt, afterLine, lineOr}
 use Rattle.text_lines.proofs.Ties.{lines-at}
 use Rattle.rule_declarations.specs.State.{notes, startState}

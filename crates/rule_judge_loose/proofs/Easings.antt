@@ -12,7 +12,7 @@ use Rattle.law.specs.Environment.{Environment}
 use Rattle.law.specs.Names.{bodyOf}
 use Rattle.law.specs.Rules.{keptBody}
 use Rattle.law.specs.Script.{Body}
-use Rattle.law.specs.Stages.{ruled, named, staged, bodyStaged}
+use Rattle.rule_stages.specs.Stages.{ruled, named, staged, bodyStaged}
 use Rattle.law.specs.Syntax as Syntax
 use Rattle.law.specs.Trees.{first, stackAt}
 use Rattle.text_heads.specs.Parts.{bodyIn}

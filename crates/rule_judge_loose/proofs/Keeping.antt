@@ -8,10 +8,10 @@ use borrow.Author.Tests.{ne-eqb}
 use lib.ListN.{length, getD, List·getD-eq-default}
 use Rattle.leaf_integers.proofs.Order.{le-or-lt}
 use Rattle.law.specs.Environment.{Environment, PlacedBody}
-use Rattle.law.specs.Layout.{bits}
+use Rattle.code.specs.Layout.{bits}
 use Rattle.law.specs.Types.{Types, infoAt, undeclared}
-use Rattle.law.proofs.LayoutRegions.{Same}
-use Rattle.law.proofs.LinesKeep.{Extends}
+use Rattle.code.proofs.LayoutRegions.{Same}
+use Rattle.law_theorems.proofs.LinesKeep.{Extends}
 use Rattle.table_scope.specs.declared.Scope.{Scope}
 use Rattle.table_scope.specs.Descriptions.{shapeNumber, noInfo, infoOf, fieldsAt, Tells, EndsBelow}
 use Rattle.table_scope.specs.Scene.{Scene}

@@ -13,24 +13,24 @@ use Rattle.law.specs.Ceilings.{lineBounded}
 use Rattle.law.specs.Code.{BodyCode}
 use Rattle.law.specs.Environment.{Declared, declareLine, withBody}
 use Rattle.law.specs.Forms.{lineForm}
-use Rattle.law.specs.LayoutSize.{symbolSize, sizeBodies}
+use Rattle.code.specs.LayoutSize.{symbolSize, sizeBodies}
 use Rattle.law.specs.Lines.{Line}
 use Rattle.law.specs.Names.{entryOf}
 use Rattle.law.specs.Rules.{keepsRules}
 use Rattle.law.specs.Script.{Entry, newType, newVar, newProc, newMain}
-use Rattle.law.specs.Stages.{Staged, wrong, unnamed, unfit, fits, ruled, named, staged}
+use Rattle.rule_stages.specs.Stages.{Staged, wrong, unnamed, unfit, fits, ruled, named, staged}
 use Rattle.law.specs.Syntax.{LineForm, typeLine, varLine, procLine, mainLine}
 use Rattle.law.specs.Trees.{Tree, Run, nodes, formOf}
 use Rattle.law.specs.Verdict.{Judged, good, bad, _>>=_, orBad, must, loosely, strictly, judgeLine}
 use Rattle.law.specs.Words.{Word, worded}
-use Rattle.law.proofs.Inversion.{bind-some, given-some, some-inj, and-true}
-use Rattle.law.proofs.LinesKeep.{Keeps, line-keeps}
-use Rattle.law.proofs.OnePassLines.{judgedBy}
-use Rattle.law.proofs.StatementNumbers.{line-counts}
-use Rattle.law.proofs.TextRoom.{entry-room, line-symbols, line-types}
-use Rattle.law.proofs.TextsAgree.{stage-on, line-good}
-use Rattle.law.proofs.TypeSizes.{SmallTypes, small-declared}
-use Rattle.law.proofs.Weights.{line-weighs, weightL, worded-nodes}
+use Rattle.law_theorems.proofs.Inversion.{bind-some, given-some, some-inj, and-true}
+use Rattle.law_theorems.proofs.LinesKeep.{Keeps, line-keeps}
+use Rattle.rule_stages.proofs.OnePassLines.{judgedBy}
+use Rattle.law_theorems.proofs.StatementNumbers.{line-counts}
+use Rattle.code.proofs.TextRoom.{entry-room, line-symbols, line-types}
+use Rattle.law_theorems.proofs.TextsAgree.{stage-on, line-good}
+use Rattle.law_theorems.proofs.TypeSizes.{SmallTypes, small-declared}
+use Rattle.law_theorems.proofs.Weights.{line-weighs, weightL, worded-nodes}
 use Rattle.rule_faults.specs.Got.{faultOf}
 use Rattle.rule_expressions.proofs.Joining.{wrong-fits, unnamed-fits, unfit-fits, fits-inj}
 use Rattle.rule_statements.specs.Walks.{bare}

@@ -9,7 +9,7 @@ use Rattle.law.specs.Environment.{Declared}
 use Rattle.law.specs.Names.{entryOf, bodyOf, newNames}
 use Rattle.law.specs.Rules.{keepsRules, keptBody}
 use Rattle.law.specs.Script.{Body, Entry, newProc, newMain}
-use Rattle.law.specs.Stages.{fits, ruled, named, staged}
+use Rattle.rule_stages.specs.Stages.{fits, ruled, named, staged}
 use Rattle.law.specs.Syntax as Syntax
 use Rattle.rule_faults.specs.Got.{lowest, faultOf}
 use Rattle.rule_statements.specs.Walks.{bare}

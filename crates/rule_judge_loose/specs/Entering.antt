@@ -10,13 +10,13 @@ use Rattle.leaf_bytes.specs.Bytes.{small}
 use Rattle.law.specs.Base.{_>>=_}
 use Rattle.law.specs.Ceilings.{lineBounded}
 use Rattle.law.specs.Environment.{Declared, declareLine}
-use Rattle.law.specs.Layout.{lay}
-use Rattle.law.specs.LayoutSize.{symbolSize}
+use Rattle.code.specs.Layout.{lay}
+use Rattle.code.specs.LayoutSize.{symbolSize}
 use Rattle.law.specs.Script.{Entry}
-use Rattle.law.specs.Stages.{fits}
+use Rattle.rule_stages.specs.Stages.{fits}
 use Rattle.law.specs.Syntax.{LineForm, procLine}
 use Rattle.law.specs.Trees.{first, stackAt, nodesIn, wordAt}
-use Rattle.law.proofs.LinesKeep.{Keeps}
+use Rattle.law_theorems.proofs.LinesKeep.{Keeps}
 use Rattle.text_heads.specs.declared.LineHead.{LineHead}
 use Rattle.text_heads.specs.Heads.{lineHeadMeant}
 use Rattle.text_heads.specs.Parts.{bodyIn}

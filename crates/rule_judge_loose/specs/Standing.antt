@@ -6,10 +6,10 @@ use mathlib.Core.Path.{_≡_}
 use Prim.Native.Nat.{ℕ, _+_, _*_, _<_, _≤_}
 use lib.ListN.{length, getD}
 use Rattle.law.specs.Environment.{Declared, PlacedBody}
-use Rattle.law.specs.LayoutSize.{sizeSymbols}
+use Rattle.code.specs.LayoutSize.{sizeSymbols}
 use Rattle.law.specs.Types.{Types}
-use Rattle.law.proofs.LinesKeep.{Extends}
-use Rattle.law.proofs.TypeSizes.{SmallTypes}
+use Rattle.law_theorems.proofs.LinesKeep.{Extends}
+use Rattle.law_theorems.proofs.TypeSizes.{SmallTypes}
 use Rattle.rule_declarations.specs.State.{Holds}
 use Rattle.table_bodies.specs.Table.{upTo, typesOf, BodyStands}
 use Rattle.rule_known.specs.declared.Known.{Known}

@@ -13,7 +13,7 @@ use Rattle.law.specs.Elaborate.{elabLabels, elabArms}
 use Rattle.law.specs.Rules.{labelled, differ, labelsOf}
 use Rattle.law.specs.Script.{Const, Arms, arm, elseArm, noElse}
 use Rattle.law.specs.Types.{Types, Vars}
-use Rattle.law.proofs.Inversion.{bind-some, both-some, given-some, and-true, and-both}
+use Rattle.law_theorems.proofs.Inversion.{bind-some, both-some, given-some, and-true, and-both}
 use Rattle.rule_labels.specs.Blocks.{among, apart, meets, numbersOf}
 use Rattle.rule_labels.proofs.Telling.{equal-self, equal-is}
 

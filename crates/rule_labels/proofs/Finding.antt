@@ -21,10 +21,10 @@ use Rattle.law.specs.Names.{constantOf, armsOf}
 use Rattle.law.specs.Rules.{plain, allPlain, differ, labelsOf, keptStmt, keptArms}
 use Rattle.law.specs.Script as Script
 use Rattle.law.specs.Script.{Const, arm, elseArm, noElse}
-use Rattle.law.specs.Stages.{fits, ruled, named, staged, armsStaged}
+use Rattle.rule_stages.specs.Stages.{fits, ruled, named, staged, armsStaged}
 use Rattle.law.specs.Syntax.{Constant, Arms}
 use Rattle.law.specs.Trees.{first, stackAt}
-use Rattle.law.proofs.Inversion.{some-inj, bind-some, and-true, and-both}
+use Rattle.law_theorems.proofs.Inversion.{some-inj, bind-some, and-true, and-both}
 use Rattle.text_words.specs.Passes.{nodesAll}
 use Rattle.text_heads.specs.Parts.{armsIn}
 use Rattle.table_scope.specs.declared.Scope.{Scope}

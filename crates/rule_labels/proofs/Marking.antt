@@ -12,7 +12,7 @@ use Rattle.law.specs.Forms as Forms
 use Rattle.law.specs.Forms.{isArm, isElse}
 use Rattle.law.specs.Syntax.{Constant, Stmt, Arms, arm, elseArm, noElse}
 use Rattle.law.specs.Trees.{word, form, Trees, end, _then_, Run}
-use Rattle.law.proofs.Inversion.{none-some, some-inj, bind-some}
+use Rattle.law_theorems.proofs.Inversion.{none-some, some-inj, bind-some}
 use Rattle.text_heads.specs.Parts.{partOf, rest, closed, armIn, armsIn, elseArmIn}
 use Rattle.rule_labels.specs.Marks.{withMark, marksIn, marksOf, labelsOfArms}
 

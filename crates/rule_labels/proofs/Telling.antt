@@ -22,11 +22,11 @@ use Rattle.law.specs.Environment.{Environment, NameSort, aType, aVar, aProc, aV
 use Rattle.law.specs.Names.{constantOf, constOf, asValue}
 use Rattle.law.specs.Rules.{plain}
 use Rattle.law.specs.Script.{Const}
-use Rattle.law.specs.Stages.{fits, ruled, named, staged}
+use Rattle.rule_stages.specs.Stages.{fits, ruled, named, staged}
 use Rattle.law.specs.Syntax as Syntax
 use Rattle.law.specs.Syntax.{Constant, number, minus}
 use Rattle.law.specs.Trees.{word, form, Trees, end, _then_, Run, first, wordAt, stackAt}
-use Rattle.law.proofs.Inversion.{none-some, some-inj, bind-some}
+use Rattle.law_theorems.proofs.Inversion.{none-some, some-inj, bind-some}
 use Rattle.text_heads.specs.Heads.{atomOf, atomConstant, exprHeadOf, minusPick}
 use Rattle.text_heads.specs.Parts.{rest, closed, numberIn, constantBy}
 use Rattle.text_heads.specs.declared.Atom.{Atom}

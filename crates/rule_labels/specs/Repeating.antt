@@ -8,7 +8,7 @@ use Rattle.law.specs.Code.{Cases}
 use Rattle.law.specs.Environment.{Environment}
 use Rattle.law.specs.Names.{armsOf}
 use Rattle.law.specs.Rules.{differ, labelsOf}
-use Rattle.law.specs.Stages.{fits, armsStaged}
+use Rattle.rule_stages.specs.Stages.{fits, armsStaged}
 use Rattle.law.specs.Syntax.{Arms}
 use Rattle.law.specs.Trees.{first, stackAt}
 use Rattle.text_heads.specs.Parts.{armsIn}

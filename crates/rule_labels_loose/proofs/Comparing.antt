@@ -22,7 +22,7 @@ use Rattle.law.specs.Script as Script
 use Rattle.law.specs.Script.{Const}
 use Rattle.law.specs.Syntax.{Constant, Arms}
 use Rattle.law.specs.Trees.{first, wordAt, stackAt}
-use Rattle.law.proofs.Inversion.{none-some, some-inj, bind-some, and-true}
+use Rattle.law_theorems.proofs.Inversion.{none-some, some-inj, bind-some, and-true}
 use Rattle.text_words.specs.Passes.{nodesAll}
 use Rattle.text_heads.specs.Parts.{armsIn}
 use Rattle.table_scope.specs.declared.Scope.{Scope}

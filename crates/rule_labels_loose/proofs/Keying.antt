@@ -17,7 +17,7 @@ use Rattle.leaf_integers.proofs.Ranges.{Narrow, inside-mag}
 use Rattle.law.specs.Calculate.{equalZ}
 use Rattle.law.specs.Rules.{plain, allPlain, sameConst, labelled, differ}
 use Rattle.law.specs.Script.{Const}
-use Rattle.law.proofs.Inversion.{and-true, and-both}
+use Rattle.law_theorems.proofs.Inversion.{and-true, and-both}
 use Rattle.rule_labels.specs.Blocks.{among, apart}
 use Rattle.rule_labels.proofs.Telling.{equal-self, equal-is, wide-is}
 use Rattle.rule_labels_loose.specs.Keys.{keyBy, keysOf}

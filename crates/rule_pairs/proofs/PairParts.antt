@@ -17,13 +17,13 @@ use Rattle.law.specs.Ceilings.{fieldSizes}
 use Rattle.law.specs.Environment.{Environment}
 use Rattle.law.specs.Forms.{Item, free, typeName, field}
 use Rattle.law.specs.Names.{typeOf, distinct}
-use Rattle.law.specs.Stages as Stages
-use Rattle.law.specs.Stages.{staged, ruled, fits}
+use Rattle.rule_stages.specs.Stages as Stages
+use Rattle.rule_stages.specs.Stages.{staged, ruled, fits}
 use Rattle.law.specs.Syntax.{TypeName}
 use Rattle.law.specs.Trees.{Tree, word, form, Trees, end, _then_, Run, first, later, wordAt, stackAt, list}
 use Rattle.law.specs.Types.{sizeOf}
 use Rattle.law.specs.Words.{Word, worded, wordedAll, wordBy}
-use Rattle.law.proofs.Inversion.{none-some, some-inj, bind-some, and-true}
+use Rattle.law_theorems.proofs.Inversion.{none-some, some-inj, bind-some, and-true}
 use Rattle.table_scope.specs.declared.Scope.{Scope}
 use Rattle.rule_faults.specs.declared.Fault.{Fault}
 use Rattle.rule_faults.specs.declared.Fault.the-variants as fault

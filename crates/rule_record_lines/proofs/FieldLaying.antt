@@ -15,13 +15,13 @@ use Rattle.leaf_bytes.specs.Bytes.{small}
 use Rattle.law.specs.Base.{Name, _>>=_, each}
 use Rattle.law.specs.Ceilings.{fieldSizes}
 use Rattle.law.specs.Environment.{Environment, layFields}
-use Rattle.law.specs.Layout.{lay}
+use Rattle.code.specs.Layout.{lay}
 use Rattle.law.specs.Names.{typeOf}
 use Rattle.law.specs.Syntax.{TypeName}
 use Rattle.law.specs.Trees.{first, wordAt, stackAt}
 use Rattle.law.specs.Types.{sizeOf}
-use Rattle.law.proofs.Inversion.{none-some, some-inj, bind-some}
-use Rattle.law.proofs.LayoutRegions.{Same, Room, Has, lay-g, lay-l}
+use Rattle.law_theorems.proofs.Inversion.{none-some, some-inj, bind-some}
+use Rattle.code.proofs.LayoutRegions.{Same, Room, Has, lay-g, lay-l}
 use Rattle.table_list.specs.Laid.{Laid}
 use Rattle.table_names.specs.Keys.{keyed}
 use Rattle.table_scope.specs.declared.Scope.{Scope}

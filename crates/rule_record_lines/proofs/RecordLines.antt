@@ -14,20 +14,20 @@ use Rattle.law.specs.Base.{Name, _>>=_, each, given, find}
 use Rattle.law.specs.Ceilings.{lineBounded, typeBounded, fieldSizes}
 use Rattle.law.specs.Environment.{Declared, Environment, aType, declareLine, extendTypes, declNames, typeInfoOf, layFields, fieldCells}
 use Rattle.law.specs.Forms.{field, some?, madeType}
-use Rattle.law.specs.Layout.{bits, lay}
-use Rattle.law.specs.LayoutSize.{symbolSize, sizeDecl}
+use Rattle.code.specs.Layout.{bits, lay}
+use Rattle.code.specs.LayoutSize.{symbolSize, sizeDecl}
 use Rattle.law.specs.Names.{typeOf, isKnown, distinct, fieldNames, declOf, entryOf}
 use Rattle.law.specs.Rules.{keepsRules, keptDecl}
 use Rattle.law.specs.Script.{Entry, newType, Decl, recordOf}
-use Rattle.law.specs.Stages as Stages
-use Rattle.law.specs.Stages.{Staged, unnamed, fits, ruled, staged, onFits, unknown}
+use Rattle.rule_stages.specs.Stages as Stages
+use Rattle.rule_stages.specs.Stages.{Staged, unnamed, fits, ruled, staged, onFits, unknown}
 use Rattle.law.specs.Syntax as Syntax
 use Rattle.law.specs.Syntax.{LineForm, TypeForm, TypeName, typeLine}
 use Rattle.law.specs.Trees.{Trees, Run, end, list, first, later, wordAt, stackAt}
 use Rattle.law.specs.Types.{Types, infoAt, cellsBy, isRecord, sizeOf, cellsOf}
 use Rattle.law.specs.Words.{Word, wordedAll}
-use Rattle.law.proofs.Inversion.{and-true}
-use Rattle.law.proofs.LayoutRegions.{Same, Room, Has, lay-g, lay-l}
+use Rattle.law_theorems.proofs.Inversion.{and-true}
+use Rattle.code.proofs.LayoutRegions.{Same, Room, Has, lay-g, lay-l}
 use Rattle.table_names.specs.Keys.{keyed}
 use Rattle.table_scope.proofs.Cells.{keeps-cells}
 use Rattle.table_scope.proofs.Kept.{scene-kept}

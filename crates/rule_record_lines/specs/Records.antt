@@ -10,11 +10,11 @@ use Rattle.law.specs.Base.{Name, _>>=_}
 use Rattle.law.specs.Ceilings.{fieldSizes}
 use Rattle.law.specs.Environment.{Environment, layFields}
 use Rattle.law.specs.Forms.{madeType, mRecord}
-use Rattle.law.specs.Layout.{Out, lay}
+use Rattle.code.specs.Layout.{Out, lay}
 use Rattle.law.specs.Syntax.{TypeName, TypeForm}
 use Rattle.law.specs.Trees.{list, Trees, Run, first, stackAt}
 use Rattle.law.specs.Words.{wordedAll}
-use Rattle.law.proofs.LayoutRegions.{Same, Room}
+use Rattle.code.proofs.LayoutRegions.{Same, Room}
 use Rattle.table_names.specs.Keys.{keyed}
 use Rattle.table_scope.specs.declared.Scope.{Scope}
 use Rattle.rule_faults.specs.declared.Fault.the-variants as fault

@@ -22,7 +22,7 @@ use table_names::keys::name_number;
 use table_scope::Info;
 use table_scope::Scope;
 ghost use mathlib.Core.Path.{_≡_};
-ghost use Rattle.law.specs.Layout.{lay as laid};
+ghost use Rattle.code.specs.Layout.{lay as laid};
 ghost use Rattle.law.specs.Trees.{first, stackAt};
 ghost use Rattle.table_list.specs.Laid.{Laid};
 ghost use Rattle.rule_type_lines.specs.TypeLines.{GivesMade};

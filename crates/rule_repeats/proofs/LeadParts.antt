@@ -12,8 +12,8 @@ use Rattle.law.specs.Base.{Name, _>>=_}
 use Rattle.law.specs.Forms.{free}
 use Rattle.law.specs.Trees.{Tree, word, form, Trees, Run, first, later, wordAt, stackAt}
 use Rattle.law.specs.Words.{Word, wordBy, worded, wordedAll}
-use Rattle.law.proofs.Inversion.{none-some, some-inj}
-use Rattle.law.proofs.Reading.{none-word}
+use Rattle.law_theorems.proofs.Inversion.{none-some, some-inj}
+use Rattle.law_theorems.proofs.Reading.{none-word}
 use Rattle.text_words.specs.Sights.{Looks}
 use Rattle.text_words.specs.declared.sight.Sight.{Sight}
 use Rattle.text_words.specs.declared.sight.Sight.the-variants as sight

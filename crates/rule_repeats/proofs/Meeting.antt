@@ -12,7 +12,7 @@ use lib.Seq.{take-nil}
 use Rattle.leaf_bytes.specs.Bytes.{same}
 use Rattle.leaf_bytes.proofs.Same.{not-same}
 use Rattle.law.specs.Base.{Name}
-use Rattle.law.proofs.Inversion.{and-both}
+use Rattle.law_theorems.proofs.Inversion.{and-both}
 use Rattle.rule_repeats.specs.declared.leads.Lead.{Lead}
 use Rattle.rule_repeats.specs.declared.leads.Next.{Next}
 use Rattle.rule_repeats.specs.declared.leads.Next.the-variants as next

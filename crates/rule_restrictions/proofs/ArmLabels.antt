@@ -11,7 +11,7 @@ use Rattle.law.specs.Rules.{allPlain}
 use Rattle.law.specs.Syntax.{Constant, Stmt}
 use Rattle.law.specs.Trees.{Tree, Trees, end, _then_, Run, first, stackAt}
 use Rattle.law.specs.Words.{worded}
-use Rattle.law.proofs.Inversion.{none-some, some-inj, bind-some}
+use Rattle.law_theorems.proofs.Inversion.{none-some, some-inj, bind-some}
 use Rattle.text_heads.specs.Parts.{partOf, constantIn, stmtIn, armIn}
 use Rattle.text_parts.specs.declared.End.{End}
 use Rattle.text_parts.specs.declared.End.the-variants as ending

@@ -18,7 +18,7 @@ use Rattle.law.specs.Script as Script
 use Rattle.law.specs.Syntax as Syntax
 use Rattle.law.specs.Trees.{word, form, Trees, end, _then_, Run, first, later, wordAt, stackAt}
 use Rattle.law.specs.Types.{Var}
-use Rattle.law.proofs.Inversion.{none-some, some-inj, bind-some}
+use Rattle.law_theorems.proofs.Inversion.{none-some, some-inj, bind-some}
 use Rattle.text_heads.specs.declared.Atom.{Atom}
 use Rattle.text_heads.specs.declared.Atom.the-variants as AT
 use Rattle.text_heads.specs.declared.ExprHead.{ExprHead}

@@ -12,7 +12,7 @@ use Rattle.law.specs.Rules.{plainExpr, plainTarget}
 use Rattle.law.specs.Script as Script
 use Rattle.law.specs.Syntax as Syntax
 use Rattle.law.specs.Trees.{Tree, Trees, end, _then_, Run, first, stackAt}
-use Rattle.law.proofs.Inversion.{none-some, some-inj}
+use Rattle.law_theorems.proofs.Inversion.{none-some, some-inj}
 use Rattle.text_heads.specs.Parts.{rest, closed, exprIn, targetIn, stmtIn}
 use Rattle.text_heads.proofs.Expressions.{expr-end, target-end}
 use Rattle.text_heads.proofs.Statements.{stmt-end}

@@ -17,16 +17,16 @@ use Rattle.law.specs.Base.{Name, _>>=_, given}
 use Rattle.law.specs.Calculate.{natOf}
 use Rattle.law.specs.Ceilings.{typeBounded}
 use Rattle.law.specs.Environment.{Declared, Environment, typeInfoOf, valueCount}
-use Rattle.law.specs.Layout.{bits}
+use Rattle.code.specs.Layout.{bits}
 use Rattle.law.specs.Names.{typeOf, isKnown, newNames, declOf, entryOf}
 use Rattle.law.specs.Rules.{keptDecl}
 use Rattle.law.specs.Script.{Decl, newType, arrayOf}
-use Rattle.law.specs.Stages.{Staged, wrong, fits, ruled, staged, join}
+use Rattle.rule_stages.specs.Stages.{Staged, wrong, fits, ruled, staged, join}
 use Rattle.law.specs.Syntax as Syntax
 use Rattle.law.specs.Syntax.{TypeName, TypeForm, typeLine}
 use Rattle.law.specs.Trees.{Tree, Trees, Run, first, stackAt}
 use Rattle.law.specs.Types.{infoAt, ordinal?, sizeOf, cellsOf}
-use Rattle.law.proofs.Inversion.{and-true}
+use Rattle.law_theorems.proofs.Inversion.{and-true}
 use Rattle.rule_faults.specs.declared.Fault.{Fault}
 use Rattle.rule_faults.specs.declared.Fault.the-variants.{Clear, Kind, Form}
 use Rattle.rule_faults.specs.declared.Fault.the-variants as fault

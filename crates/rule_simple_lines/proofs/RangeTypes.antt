@@ -23,16 +23,16 @@ use Rattle.leaf_sets.specs.Sets.{patternOf}
 use Rattle.law.specs.Base.{Name, _>>=_, given}
 use Rattle.law.specs.Ceilings.{typeBounded}
 use Rattle.law.specs.Environment.{Declared, Environment, typeInfoOf}
-use Rattle.law.specs.Layout.{bits}
+use Rattle.code.specs.Layout.{bits}
 use Rattle.law.specs.Names.{constantOf, newNames, declOf, entryOf}
 use Rattle.law.specs.Rules.{keptDecl, plain}
 use Rattle.law.specs.Script.{Const, Decl, newType, range}
-use Rattle.law.specs.Stages as Stages
-use Rattle.law.specs.Stages.{Staged, fits, ruled, staged, join}
+use Rattle.rule_stages.specs.Stages as Stages
+use Rattle.rule_stages.specs.Stages.{Staged, fits, ruled, staged, join}
 use Rattle.law.specs.Syntax as Syntax
 use Rattle.law.specs.Syntax.{Constant, TypeForm, typeLine}
 use Rattle.law.specs.Trees.{Tree, Trees, end, Run, first, stackAt}
-use Rattle.law.proofs.Inversion.{and-true}
+use Rattle.law_theorems.proofs.Inversion.{and-true}
 use Rattle.table_scope.specs.declared.Scope.{Scope}
 use Rattle.rule_faults.specs.declared.Fault.{Fault}
 use Rattle.rule_faults.specs.declared.Fault.the-variants.{Clear, Kind, Form}

@@ -14,11 +14,11 @@ use Rattle.leaf_integers.specs.Integers.{least, most}
 use Rattle.law.specs.Base.{Name, _>>=_, given}
 use Rattle.law.specs.Ceilings.{typeBounded}
 use Rattle.law.specs.Environment.{Declared, Environment, typeInfoOf}
-use Rattle.law.specs.Layout.{bits}
+use Rattle.code.specs.Layout.{bits}
 use Rattle.law.specs.Names.{typeOf, isKnown, newNames, declOf, entryOf}
 use Rattle.law.specs.Rules.{keepsRules, keptDecl}
 use Rattle.law.specs.Script.{Decl, Entry, newType, setOf}
-use Rattle.law.specs.Stages.{Staged, wrong, unnamed, unfit, fits, ruled, staged, onFits, unknown}
+use Rattle.rule_stages.specs.Stages.{Staged, wrong, unnamed, unfit, fits, ruled, staged, onFits, unknown}
 use Rattle.law.specs.Syntax as Syntax
 use Rattle.law.specs.Syntax.{TypeName, TypeForm, typeLine}
 use Rattle.law.specs.Trees.{Trees, Run, first, stackAt}

@@ -9,8 +9,8 @@ use Rattle.law.specs.Environment.{Declared}
 use Rattle.law.specs.Names.{isKnown, newNames, entryOf}
 use Rattle.law.specs.Rules.{keepsRules, keptDecl}
 use Rattle.law.specs.Script.{Decl, Entry, newType}
-use Rattle.law.specs.Stages as Stages
-use Rattle.law.specs.Stages.{Staged, wrong, unnamed, unfit, fits, ruled, staged, join, onFits, unknown}
+use Rattle.rule_stages.specs.Stages as Stages
+use Rattle.rule_stages.specs.Stages.{Staged, wrong, unnamed, unfit, fits, ruled, staged, join, onFits, unknown}
 use Rattle.law.specs.Syntax.{LineForm}
 use Rattle.rule_faults.specs.declared.Fault.{Fault}
 use Rattle.rule_faults.specs.declared.Fault.the-variants.{Clear, Kind}

@@ -9,7 +9,7 @@ use Rattle.leaf_integers.specs.Integers.{inside, least, most}
 use Rattle.leaf_integers.specs.declared.Num.{Num}
 use Rattle.leaf_integers.specs.declared.Num.the-variants.{Value, Failed}
 use Rattle.leaf_sets.specs.Sets.{patternOf}
-use Rattle.law.specs.Layout.{bits}
+use Rattle.code.specs.Layout.{bits}
 use Rattle.rule_faults.specs.declared.Fault.{Fault}
 use Rattle.rule_faults.specs.declared.Fault.the-variants.{Clear, Kind}
 use Rattle.table_scope.specs.Descriptions.{ordinalInfo}

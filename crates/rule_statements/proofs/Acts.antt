@@ -8,12 +8,12 @@ use lib.Dec.{eqb}
 use Rattle.law.specs.Base.{Name, _>>=_, given}
 use Rattle.law.specs.Code.{Code, Act, Acts, raiseWith, whileLoop, branchOn, forLoop, noAct, sequence}
 use Rattle.law.specs.Environment.{Environment}
-use Rattle.law.specs.Layout.{Out, out, lay, layCode, layAct, layActs}
-use Rattle.law.specs.Stages.{Staged, wrong, unnamed, unfit, fits, staged, named, ruled, join, onFits, orUnfit, wantedStaged, stmtStaged, stmtsStaged}
+use Rattle.code.specs.Layout.{Out, out, lay, layCode, layAct, layActs}
+use Rattle.rule_stages.specs.Stages.{Staged, wrong, unnamed, unfit, fits, staged, named, ruled, join, onFits, orUnfit, wantedStaged, stmtStaged, stmtsStaged}
 use Rattle.law.specs.Syntax as Syntax
-use Rattle.law.proofs.Inversion.{none-some, some-inj, bind-some}
-use Rattle.law.proofs.Staging.{pair}
-use Rattle.law.proofs.OnePassStmts.{raise-staged, begin-staged, while-staged, if-staged}
+use Rattle.law_theorems.proofs.Inversion.{none-some, some-inj, bind-some}
+use Rattle.rule_stages.proofs.Staging.{pair}
+use Rattle.rule_stages.proofs.OnePassStmts.{raise-staged, begin-staged, while-staged, if-staged}
 use Rattle.law.specs.Names.{stmtOf}
 use Rattle.law.specs.Rules.{keptStmt}
 use Rattle.law.specs.Elaborate.{elabStmt}

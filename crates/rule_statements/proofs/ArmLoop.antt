@@ -18,16 +18,16 @@ use Rattle.law.specs.Elaborate.{elabArms}
 use Rattle.law.specs.Environment.{Environment}
 use Rattle.law.specs.Forms as Forms
 use Rattle.law.specs.Forms.{ArmHead, isArm, isElse, armsFirst, among, armHeads}
-use Rattle.law.specs.Layout.{Out, out, lay, link, layLabels, layAct, layCases}
+use Rattle.code.specs.Layout.{Out, out, lay, link, layLabels, layAct, layCases}
 use Rattle.law.specs.Names.{armsOf}
 use Rattle.law.specs.Rules.{keptArms}
-use Rattle.law.specs.Stages.{Staged, wrong, fits, staged, named, ruled, join, onFits, orUnfit, labelsStaged, stmtStaged, armsStaged}
+use Rattle.rule_stages.specs.Stages.{Staged, wrong, fits, staged, named, ruled, join, onFits, orUnfit, labelsStaged, stmtStaged, armsStaged}
 use Rattle.law.specs.Syntax as Syntax
 use Rattle.law.specs.Trees.{word, form, Trees, end, _then_, Run, first, later, stackAt, nodes, nodesIn}
-use Rattle.law.proofs.Inversion.{none-some, some-inj, bind-some}
-use Rattle.law.proofs.LayoutRegions.{Same, lay-g}
-use Rattle.law.proofs.OnePassStmts.{arm-staged, else-staged}
-use Rattle.law.proofs.Staging.{pair}
+use Rattle.law_theorems.proofs.Inversion.{none-some, some-inj, bind-some}
+use Rattle.code.proofs.LayoutRegions.{Same, lay-g}
+use Rattle.rule_stages.proofs.OnePassStmts.{arm-staged, else-staged}
+use Rattle.rule_stages.proofs.Staging.{pair}
 use Rattle.text_heads.specs.declared.ArmHead as Heads
 use Rattle.text_heads.specs.declared.ArmHead.the-variants as AH
 use Rattle.text_heads.specs.Heads.{armHeadOf, armHeadMeant}

@@ -12,15 +12,15 @@ use Rattle.law.specs.Code.{Act, Acts, stop, BodyCode}
 use Rattle.law.specs.Elaborate.{elabStmts, elabBody}
 use Rattle.law.specs.Environment.{Environment}
 use Rattle.law.specs.Forms.{plainBody}
-use Rattle.law.specs.Layout.{Out, out, lay, layAct, layActs, layBody, flag}
+use Rattle.code.specs.Layout.{Out, out, lay, layAct, layActs, layBody, flag}
 use Rattle.law.specs.Names.{stmtsOf, bodyOf}
 use Rattle.law.specs.Rules.{keptStmts, keptBody}
-use Rattle.law.specs.Stages.{Staged, wrong, fits, staged, named, ruled, join, orUnfit, stmtsStaged, bodyStaged}
+use Rattle.rule_stages.specs.Stages.{Staged, wrong, fits, staged, named, ruled, join, orUnfit, stmtsStaged, bodyStaged}
 use Rattle.law.specs.Syntax as Syntax
 use Rattle.law.specs.Trees.{Tree, word, form, Trees, end, _then_, Run, first, later, stackAt, nodes, nodesIn}
-use Rattle.law.proofs.Inversion.{none-some, some-inj, bind-some}
-use Rattle.law.proofs.LayoutRegions.{Same, lay-g}
-use Rattle.law.proofs.OnePassStmts.{body-staged}
+use Rattle.law_theorems.proofs.Inversion.{none-some, some-inj, bind-some}
+use Rattle.code.proofs.LayoutRegions.{Same, lay-g}
+use Rattle.rule_stages.proofs.OnePassStmts.{body-staged}
 use Rattle.text_heads.specs.Heads.{isException}
 use Rattle.text_heads.specs.Parts.{stmtIn, stmtsIn, bodyIn, handlerIn, handlerLast, handling}
 use Rattle.table_scope.specs.declared.Scope.{Scope}

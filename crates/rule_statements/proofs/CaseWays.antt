@@ -11,14 +11,14 @@ use Rattle.law.specs.Code.{Act, Cases, caseOf}
 use Rattle.law.specs.Elaborate.{Elaborated}
 use Rattle.law.specs.Environment.{Environment}
 use Rattle.law.specs.Forms.{armsFirst}
-use Rattle.law.specs.Layout.{Out, out, lay, layCode, layAct, layCases}
-use Rattle.law.specs.Stages.{Staged, wrong, unnamed, unfit, fits, staged, join, onFits, orUnfit, selected, exprStaged, stmtStaged, armsStaged, casesStaged}
+use Rattle.code.specs.Layout.{Out, out, lay, layCode, layAct, layCases}
+use Rattle.rule_stages.specs.Stages.{Staged, wrong, unnamed, unfit, fits, staged, join, onFits, orUnfit, selected, exprStaged, stmtStaged, armsStaged, casesStaged}
 use Rattle.law.specs.Syntax as Syntax
 use Rattle.law.specs.Trees.{first, stackAt}
 use Rattle.law.specs.Types.{ordinal?}
-use Rattle.law.proofs.Inversion.{none-some, some-inj, bind-some}
-use Rattle.law.proofs.LayoutRegions.{Same, lay-g}
-use Rattle.law.proofs.OnePassStmts.{case-staged}
+use Rattle.law_theorems.proofs.Inversion.{none-some, some-inj, bind-some}
+use Rattle.code.proofs.LayoutRegions.{Same, lay-g}
+use Rattle.rule_stages.proofs.OnePassStmts.{case-staged}
 use Rattle.text_heads.specs.declared.Verb.the-variants as VB
 use Rattle.text_heads.specs.Parts.{rest, exprIn, armsIn}
 use Rattle.table_scope.specs.declared.Scope.{Scope}

@@ -11,7 +11,7 @@ use Rattle.law.specs.Environment.{Environment}
 use Rattle.law.specs.Names.{armsOf}
 use Rattle.law.specs.Rules.{differ, labelsOf, keptArms}
 use Rattle.law.specs.Script as Script
-use Rattle.law.specs.Stages.{Staged, wrong, unnamed, unfit, fits, staged, named, ruled, join, onFits, orUnfit, selected, armsStaged, casesStaged}
+use Rattle.rule_stages.specs.Stages.{Staged, wrong, unnamed, unfit, fits, staged, named, ruled, join, onFits, orUnfit, selected, armsStaged, casesStaged}
 use Rattle.law.specs.Syntax as Syntax
 use Rattle.rule_faults.specs.declared.Fault.the-variants.{Clear, Kind, Name, Form}
 use Rattle.rule_faults.specs.Got.{lowest, faultOf}

@@ -11,15 +11,15 @@ use Rattle.law.specs.Base.{_>>=_}
 use Rattle.law.specs.Code.{Act, Acts, _also_, stop, sequence}
 use Rattle.law.specs.Elaborate.{elabStmts}
 use Rattle.law.specs.Environment.{Environment}
-use Rattle.law.specs.Layout.{Out, out, lay, link, layAct, layActs}
+use Rattle.code.specs.Layout.{Out, out, lay, link, layAct, layActs}
 use Rattle.law.specs.Names.{stmtsOf}
 use Rattle.law.specs.Rules.{keptStmts}
-use Rattle.law.specs.Stages.{Staged, fits, staged, named, ruled, join, onFits, orUnfit, stmtStaged, stmtsStaged}
+use Rattle.rule_stages.specs.Stages.{Staged, fits, staged, named, ruled, join, onFits, orUnfit, stmtStaged, stmtsStaged}
 use Rattle.law.specs.Syntax as Syntax
 use Rattle.law.specs.Trees.{Tree, Trees, end, _then_, Run, first, stackAt, nodesIn}
-use Rattle.law.proofs.Inversion.{none-some, some-inj, bind-some}
-use Rattle.law.proofs.LayoutRegions.{Same, lay-g}
-use Rattle.law.proofs.OnePassStmts.{stmts-staged, begin-staged}
+use Rattle.law_theorems.proofs.Inversion.{none-some, some-inj, bind-some}
+use Rattle.code.proofs.LayoutRegions.{Same, lay-g}
+use Rattle.rule_stages.proofs.OnePassStmts.{stmts-staged, begin-staged}
 use Rattle.text_heads.specs.Parts.{partOf, rest, stmtIn, stmtsIn}
 use Rattle.table_scope.specs.declared.Scope.{Scope}
 use Rattle.rule_faults.specs.declared.Fault.{Fault}

@@ -10,14 +10,14 @@ use Rattle.law.specs.Base.{_>>=_, given}
 use Rattle.law.specs.Code.{Code, Act}
 use Rattle.law.specs.Elaborate.{Elaborated}
 use Rattle.law.specs.Environment.{Environment}
-use Rattle.law.specs.Layout.{Out, out, lay, layCode, layAct}
+use Rattle.code.specs.Layout.{Out, out, lay, layCode, layAct}
 use Rattle.law.specs.Names.{exprOf}
-use Rattle.law.specs.Stages.{Staged, wrong, unnamed, unfit, fits, ruled, named, staged, join, onFits, orUnfit, exprStaged, wantedStaged, stmtStaged}
+use Rattle.rule_stages.specs.Stages.{Staged, wrong, unnamed, unfit, fits, ruled, named, staged, join, onFits, orUnfit, exprStaged, wantedStaged, stmtStaged}
 use Rattle.law.specs.Syntax as Syntax
 use Rattle.law.specs.Trees.{Trees, end, _then_, Tree, Run, first, later, stackAt}
-use Rattle.law.proofs.LayoutRegions.{Same, lay-g}
-use Rattle.law.proofs.Inversion.{none-some}
-use Rattle.law.proofs.OnePassExprs.{wanted-staged}
+use Rattle.code.proofs.LayoutRegions.{Same, lay-g}
+use Rattle.law_theorems.proofs.Inversion.{none-some}
+use Rattle.rule_stages.proofs.OnePassExprs.{wanted-staged}
 use Rattle.rule_faults.specs.declared.Fault.{Fault}
 use Rattle.rule_faults.specs.declared.Fault.the-variants.{Clear, Kind, Name, Form}
 use Rattle.rule_faults.specs.declared.Got.{Got}

@@ -12,16 +12,16 @@ use Rattle.law.specs.Code.{Act, Acts, _also_, BodyCode}
 use Rattle.law.specs.Elaborate.{elabStmt, elabStmts, elabBody}
 use Rattle.law.specs.Environment.{Environment}
 use Rattle.law.specs.Forms.{plainBody}
-use Rattle.law.specs.Layout.{Out, out, lay, link, layAct, layActs}
+use Rattle.code.specs.Layout.{Out, out, lay, link, layAct, layActs}
 use Rattle.law.specs.Names.{stmtOf, stmtsOf, bodyOf}
 use Rattle.law.specs.Rules.{keptStmt, keptStmts, keptBody}
 use Rattle.law.specs.Script as Script
-use Rattle.law.specs.Stages.{Staged, fits, staged, named, ruled, join, orUnfit, stmtStaged, bodyStaged}
+use Rattle.rule_stages.specs.Stages.{Staged, fits, staged, named, ruled, join, orUnfit, stmtStaged, bodyStaged}
 use Rattle.law.specs.Syntax as Syntax
 use Rattle.law.specs.Trees.{Tree, Trees, _then_, Run, first, stackAt, nodesIn}
-use Rattle.law.proofs.Inversion.{none-some, some-inj, bind-some}
-use Rattle.law.proofs.LayoutRegions.{Same, lay-g}
-use Rattle.law.proofs.Staging.{staged-two}
+use Rattle.law_theorems.proofs.Inversion.{none-some, some-inj, bind-some}
+use Rattle.code.proofs.LayoutRegions.{Same, lay-g}
+use Rattle.rule_stages.proofs.Staging.{staged-two}
 use Rattle.text_heads.specs.Parts.{partOf, rest, stmtIn, bodyIn, handlerIn, withFirst}
 use Rattle.table_scope.specs.declared.Scope.{Scope}
 use Rattle.rule_faults.specs.declared.Fault.{Fault}

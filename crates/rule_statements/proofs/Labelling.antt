@@ -18,17 +18,17 @@ use Rattle.law.specs.Base.{_>>=_, given, both, each}
 use Rattle.law.specs.Elaborate.{elabLabels}
 use Rattle.law.specs.Environment.{Environment}
 use Rattle.law.specs.Forms.{constant, stmt}
-use Rattle.law.specs.Layout.{Out, out, lay, link, bits, layLabels}
+use Rattle.code.specs.Layout.{Out, out, lay, link, bits, layLabels}
 use Rattle.law.specs.Names.{constantOf}
 use Rattle.law.specs.Rules.{plain, allPlain}
 use Rattle.law.specs.Script.{Const}
-use Rattle.law.specs.Stages.{Staged, wrong, fits, staged, named, ruled, join, orUnfit, labelsStaged}
+use Rattle.rule_stages.specs.Stages.{Staged, wrong, fits, staged, named, ruled, join, orUnfit, labelsStaged}
 use Rattle.law.specs.Syntax.{Constant, Stmt}
 use Rattle.law.specs.Trees.{Tree, Trees, end, _then_, Run, first, stackAt, nodes, nodesIn}
 use Rattle.law.specs.Words.{worded}
-use Rattle.law.proofs.Inversion.{none-some, some-inj}
-use Rattle.law.proofs.LayoutRegions.{Same, lay-g}
-use Rattle.law.proofs.Staging.{staged-two}
+use Rattle.law_theorems.proofs.Inversion.{none-some, some-inj}
+use Rattle.code.proofs.LayoutRegions.{Same, lay-g}
+use Rattle.rule_stages.proofs.Staging.{staged-two}
 use Rattle.text_heads.specs.Parts.{partOf, rest, closed, constantIn, stmtIn, armIn}
 use Rattle.table_scope.specs.declared.Scope.{Scope}
 use Rattle.rule_faults.specs.declared.Fault.{Fault}

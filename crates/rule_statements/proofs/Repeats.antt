@@ -12,14 +12,14 @@ use Rattle.leaf_words.specs.Words.{wordOf}
 use Rattle.law.specs.Base.{Name, _>>=_}
 use Rattle.law.specs.Code.{Act, Acts, sequence}
 use Rattle.law.specs.Environment.{Environment}
-use Rattle.law.specs.Layout.{Out, out, lay, layAct, layActs}
-use Rattle.law.specs.Stages.{Staged, fits, onFits, orUnfit, stmtStaged, stmtsStaged}
+use Rattle.code.specs.Layout.{Out, out, lay, layAct, layActs}
+use Rattle.rule_stages.specs.Stages.{Staged, fits, onFits, orUnfit, stmtStaged, stmtsStaged}
 use Rattle.law.specs.Syntax as Syntax
 use Rattle.law.specs.Trees.{word, _then_, first, later, wordAt, stackAt, nodes, nodesIn}
 use Rattle.law.specs.Types.{Var, hostOf}
-use Rattle.law.proofs.Inversion.{none-some, some-inj, bind-some}
-use Rattle.law.proofs.LayoutRegions.{Same, lay-g}
-use Rattle.law.proofs.OnePassStmts.{begin-staged}
+use Rattle.law_theorems.proofs.Inversion.{none-some, some-inj, bind-some}
+use Rattle.code.proofs.LayoutRegions.{Same, lay-g}
+use Rattle.rule_stages.proofs.OnePassStmts.{begin-staged}
 use Rattle.text_heads.specs.declared.Verb.the-variants as VB
 use Rattle.text_heads.specs.Heads.{atomOf, atomName}
 use Rattle.text_heads.specs.Parts.{rest, closed, exprIn, nameIn, stmtIn, stmtsIn}

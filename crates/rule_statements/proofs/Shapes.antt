@@ -12,7 +12,7 @@ use Rattle.law.specs.Forms.{stmt, stmtForm, armsFirst, isArm, isElse, vAssign, 
 use Rattle.law.specs.Syntax.{Constant, Stmt, Stmts, Arms, Body, Expr, Target, assign, begin, ifElse, while, for, case, call, raise, elseArm, arm}
 use Rattle.law.specs.Trees.{Tree, word, form, Trees, end, _then_, Run, list, nodes, nodesIn}
 use Rattle.law.specs.Words.{Word, wordedAll}
-use Rattle.law.proofs.Inversion.{none-some, some-inj, bind-some}
+use Rattle.law_theorems.proofs.Inversion.{none-some, some-inj, bind-some}
 use Rattle.text_heads.specs.declared.Verb.{Verb}
 use Rattle.text_heads.specs.declared.Verb.the-variants as VB
 use Rattle.text_heads.specs.Heads.{verbOf, verbMeant}

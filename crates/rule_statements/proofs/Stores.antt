@@ -11,16 +11,16 @@ use Rattle.law.specs.Base.{Name, _>>=_, both, given, find}
 use Rattle.law.specs.Code.{Code, Act, Place, assignOrdinal, assignWhole, callTo, forLoop}
 use Rattle.law.specs.Elaborate.{Elaborated, Located, elabExpr, elabStmt, expects, assigning}
 use Rattle.law.specs.Environment.{Environment, aProc}
-use Rattle.law.specs.Layout.{Out, out, lay, bits, layCode, layPlace, layAct}
+use Rattle.code.specs.Layout.{Out, out, lay, bits, layCode, layPlace, layAct}
 use Rattle.law.specs.Names.{varOf, asProc, exprOf, stmtOf}
 use Rattle.law.specs.Rules.{plainExpr, keptStmt, looping}
 use Rattle.law.specs.Script as Script
-use Rattle.law.specs.Stages.{Staged, wrong, unnamed, unfit, fits, staged, named, ruled, join, onFits, orUnfit, keptIf, unknown, exprStaged, wantedStaged, assignedStaged, stmtStaged}
+use Rattle.rule_stages.specs.Stages.{Staged, wrong, unnamed, unfit, fits, staged, named, ruled, join, onFits, orUnfit, keptIf, unknown, exprStaged, wantedStaged, assignedStaged, stmtStaged}
 use Rattle.law.specs.Syntax as Syntax
 use Rattle.law.specs.Types.{Var, variable, infoAt, hostOf, ordinal?}
-use Rattle.law.proofs.Inversion.{none-some, some-inj, bind-some}
-use Rattle.law.proofs.Staging.{pair, staged-unknown, staged-three}
-use Rattle.law.proofs.OnePassStmts.{assign-staged, for-staged}
+use Rattle.law_theorems.proofs.Inversion.{none-some, some-inj, bind-some}
+use Rattle.rule_stages.proofs.Staging.{pair, staged-unknown, staged-three}
+use Rattle.rule_stages.proofs.OnePassStmts.{assign-staged, for-staged}
 use Rattle.table_scope.specs.declared.Scope.{Scope}
 use Rattle.rule_faults.specs.declared.Fault.{Fault}
 use Rattle.rule_faults.specs.declared.Fault.the-variants.{Clear, Kind, Name as Unnamed, Form}

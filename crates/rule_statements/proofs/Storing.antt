@@ -13,17 +13,17 @@ use Rattle.leaf_words.specs.Words.{wordOf}
 use Rattle.law.specs.Base.{Name, _>>=_, find}
 use Rattle.law.specs.Elaborate.{Located}
 use Rattle.law.specs.Environment.{Environment}
-use Rattle.law.specs.Layout.{Out, out, lay, layPlace}
+use Rattle.code.specs.Layout.{Out, out, lay, layPlace}
 use Rattle.law.specs.Names.{varOf, targetOf}
 use Rattle.law.specs.Rules.{looping, steers}
 use Rattle.law.specs.Script as Script
-use Rattle.law.specs.Stages.{Staged, wrong, unnamed, unfit, fits, staged, named, keptIf, targetName, targetStaged, assignedStaged}
+use Rattle.rule_stages.specs.Stages.{Staged, wrong, unnamed, unfit, fits, staged, named, keptIf, targetName, targetStaged, assignedStaged}
 use Rattle.law.specs.Syntax as Syntax
 use Rattle.law.specs.Trees.{word, form, Trees, end, _then_, Run, first, later, wordAt, stackAt}
 use Rattle.law.specs.Types.{Var, variable}
-use Rattle.law.proofs.Inversion.{none-some, some-inj, bind-some}
-use Rattle.law.proofs.LayoutRegions.{Same, lay-g}
-use Rattle.law.proofs.OnePassStmts.{assigned-part, assigned-var}
+use Rattle.law_theorems.proofs.Inversion.{none-some, some-inj, bind-some}
+use Rattle.code.proofs.LayoutRegions.{Same, lay-g}
+use Rattle.rule_stages.proofs.OnePassStmts.{assigned-part, assigned-var}
 use Rattle.text_heads.specs.declared.Atom.{Atom}
 use Rattle.text_heads.specs.declared.Atom.the-variants as AT
 use Rattle.text_heads.specs.declared.ExprHead.{ExprHead}

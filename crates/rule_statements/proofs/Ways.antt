@@ -11,7 +11,7 @@ use Rattle.leaf_bytes.specs.Bytes.{small}
 use Rattle.leaf_words.specs.Words.{wordOf}
 use Rattle.law.specs.Base.{Name, _>>=_}
 use Rattle.law.specs.Environment.{Environment}
-use Rattle.law.specs.Stages.{staged, wantedStaged, exprStaged, stmtStaged}
+use Rattle.rule_stages.specs.Stages.{staged, wantedStaged, exprStaged, stmtStaged}
 use Rattle.law.specs.Syntax as Syntax
 use Rattle.law.specs.Trees.{word, form, Trees, end, _then_, Run, first, later, wordAt, stackAt, nodes, nodesIn}
 use Rattle.text_heads.specs.declared.Atom.{Atom}
@@ -29,7 +29,7 @@ use Rattle.rule_faults.specs.declared.Fault.the-variants.{Form}
 use Rattle.table_scope.specs.declared.Loops.{Loops}
 use Rattle.table_scope.specs.declared.Meaning.{Meaning}
 use Rattle.table_scope.specs.declared.Meaning.the-variants as meaning
-use Rattle.law.proofs.LayoutRegions.{Same, lay-g}
+use Rattle.code.proofs.LayoutRegions.{Same, lay-g}
 use Rattle.rule_statements.proofs.Chains.{none-of}
 use Rattle.table_scope.specs.Scene.{meaningHere}
 use Rattle.table_scope.proofs.Kept.{scene-kept}

@@ -10,12 +10,12 @@ use Rattle.law.specs.Base.{_>>=_}
 use Rattle.law.specs.Code.{Cases}
 use Rattle.law.specs.Environment.{Environment}
 use Rattle.law.specs.Forms.{ArmHead, isArm, isElse, armsFirst, constant, stmt}
-use Rattle.law.specs.Layout.{Out, lay, link, layLabels, layCases}
-use Rattle.law.specs.Stages.{fits, labelsStaged, armsStaged}
+use Rattle.code.specs.Layout.{Out, lay, link, layLabels, layCases}
+use Rattle.rule_stages.specs.Stages.{fits, labelsStaged, armsStaged}
 use Rattle.law.specs.Syntax.{Constant, Stmt, Arms}
 use Rattle.law.specs.Trees.{word, form, Trees, end, _then_, Run, first, later, stackAt, nodesIn}
 use Rattle.law.specs.Words.{worded}
-use Rattle.law.proofs.LayoutRegions.{Same}
+use Rattle.code.proofs.LayoutRegions.{Same}
 use Rattle.text_heads.specs.Parts.{rest, closed, stmtIn, armIn, armsIn, armHeadIn}
 use Rattle.table_scope.specs.declared.Scope.{Scope}
 use Rattle.rule_faults.specs.declared.Fault.{Fault}

@@ -6,11 +6,11 @@ use mathlib.Core.Path.{_≡_}
 use Prim.Native.Nat.{ℕ, suc, _+_, _≤_}
 use Rattle.law.specs.Code.{Acts}
 use Rattle.law.specs.Environment.{Environment}
-use Rattle.law.specs.Layout.{layActs}
-use Rattle.law.specs.Stages.{fits, stmtsStaged}
+use Rattle.code.specs.Layout.{layActs}
+use Rattle.rule_stages.specs.Stages.{fits, stmtsStaged}
 use Rattle.law.specs.Syntax.{Stmts}
 use Rattle.law.specs.Trees.{Trees, end, _then_, Run, first, later, stackAt, nodesIn}
-use Rattle.law.proofs.LayoutRegions.{Same}
+use Rattle.code.proofs.LayoutRegions.{Same}
 use Rattle.text_heads.specs.Parts.{stmtsIn}
 use Rattle.table_scope.specs.declared.Scope.{Scope}
 use Rattle.rule_faults.specs.declared.Fault.{Fault}

@@ -7,11 +7,11 @@ use Prim.Native.Nat.{ℕ, _+_, _≤_}
 use lib.ListN.{length}
 use Rattle.law.specs.Code.{Acts, BodyCode}
 use Rattle.law.specs.Environment.{Environment}
-use Rattle.law.specs.Layout.{Out, out, lay, layActs, flag}
-use Rattle.law.specs.Stages.{fits, bodyStaged}
+use Rattle.code.specs.Layout.{Out, out, lay, layActs, flag}
+use Rattle.rule_stages.specs.Stages.{fits, bodyStaged}
 use Rattle.law.specs.Syntax.{Body}
 use Rattle.law.specs.Trees.{first, later, stackAt, nodesIn}
-use Rattle.law.proofs.LayoutRegions.{Same}
+use Rattle.code.proofs.LayoutRegions.{Same}
 use Rattle.text_heads.specs.Parts.{bodyIn}
 use Rattle.table_scope.specs.declared.Scope.{Scope}
 use Rattle.rule_faults.specs.declared.Fault.{Fault}

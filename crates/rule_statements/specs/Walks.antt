@@ -11,14 +11,14 @@ use Rattle.law.specs.Code.{Code, Act, Acts, BodyCode}
 use Rattle.law.specs.Elaborate.{Located}
 use Rattle.law.specs.Environment.{Environment}
 use Rattle.law.specs.Forms.{stmt, stmtForm}
-use Rattle.law.specs.Layout.{Out, out, layCode, layPlace, layAct, layActs, layBody}
+use Rattle.code.specs.Layout.{Out, out, layCode, layPlace, layAct, layActs, layBody}
 use Rattle.law.specs.Names.{varOf}
 use Rattle.law.specs.Types.{Var, variable, hostOf}
-use Rattle.law.specs.Stages.{fits, wantedStaged, assignedStaged, stmtStaged, stmtsStaged, bodyStaged}
+use Rattle.rule_stages.specs.Stages.{fits, wantedStaged, assignedStaged, stmtStaged, stmtsStaged, bodyStaged}
 use Rattle.law.specs.Syntax.{Expr, Target, Stmt, Stmts, Body, ifElse, for, call}
 use Rattle.law.specs.Trees.{form, Trees, end, _then_, Run, first, later, wordAt, stackAt, nodesIn, list}
 use Rattle.law.specs.Words.{wordedAll}
-use Rattle.law.proofs.LayoutRegions.{Same}
+use Rattle.code.proofs.LayoutRegions.{Same}
 use Rattle.leaf_bytes.specs.Bytes.{small}
 use Rattle.text_heads.specs.declared.Verb.{Verb}
 use Rattle.text_heads.specs.declared.Verb.the-variants.{Assign, Raise, Call}

@@ -2,7 +2,7 @@
 use mathlib.Core.Bool.{cond}
 use mathlib.Core.List.{List}
 use Prim.Native.Nat.{ℕ}
-use Rattle.law.specs.Layout.{lay}
+use Rattle.code.specs.Layout.{lay}
 use Rattle.rule_faults.specs.declared.Fault.{Fault}
 use Rattle.rule_faults.specs.declared.Fault.the-variants.{Kind}
 use Rattle.table_scope.specs.declared.Loops.{Loops}

@@ -7,7 +7,7 @@ use Prim.Native.Nat.{ℕ}
 use Rattle.leaf_words.specs.declared.words.Word.{Word}
 use Rattle.leaf_words.specs.Words.{wordOf}
 use Rattle.law.specs.Base.{given}
-use Rattle.law.specs.Layout.{lay}
+use Rattle.code.specs.Layout.{lay}
 use Rattle.law.specs.Trees.{Tree, word, form, Trees, end, _then_, Run, first, later, wordAt, stackAt}
 use Rattle.text_heads.specs.Heads.{isException}
 use Rattle.text_heads.specs.Parts.{handlerIn}

@@ -4,7 +4,7 @@ use mathlib.Core.List.{List, [], _∷_}
 use Prim.Native.Nat.{ℕ, _+_}
 use lib.Dec.{eqb, ltb}
 use lib.ListN.{set}
-use Rattle.law.specs.Layout.{Out, out, lay, link, flag}
+use Rattle.code.specs.Layout.{Out, out, lay, link, flag}
 use Rattle.rule_faults.specs.declared.Fault.{Fault}
 use Rattle.rule_faults.specs.declared.Fault.the-variants.{Clear, Kind, Name, Form}
 use Rattle.table_scope.specs.declared.Info.{Info}

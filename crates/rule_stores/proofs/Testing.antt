@@ -19,17 +19,17 @@ use Rattle.leaf_integers.proofs.Order.{leZ-trans}
 use Rattle.leaf_integers.proofs.Ranges.{inside-both}
 use Rattle.leaf_bytes.specs.Bytes.{small}
 use Rattle.law.specs.Environment.{Declared}
-use Rattle.law.specs.LayoutSize.{IsInteger}
+use Rattle.code.specs.LayoutSize.{IsInteger}
 use Rattle.law.specs.Machine.{defined, isDefined}
 use Rattle.law.specs.Store.{cellFits, cellOk, cellsOk, faultOf, storeFault}
 use Rattle.law.specs.Trees.{wordAt}
 use Rattle.law.specs.Types.{Shape, Types, arrayShape, infoAt, isOrdinal, isSet, ordinalShape, recordShape, setShape, sizeOf}
-use Rattle.law.proofs.LayoutCode.{signed-bits}
-use Rattle.law.proofs.LinesCover.{Covered}
-use Rattle.law.proofs.LinesKeep.{tests, tests-get}
-use Rattle.law.proofs.ValuesInRange.{any}
-use Rattle.law.proofs.Inversion.{and-both}
-use Rattle.law.proofs.TypeTables.{Table}
+use Rattle.code.proofs.LayoutCode.{signed-bits}
+use Rattle.law_theorems.proofs.LinesCover.{Covered}
+use Rattle.law_theorems.proofs.LinesKeep.{tests, tests-get}
+use Rattle.law_theorems.proofs.ValuesInRange.{any}
+use Rattle.law_theorems.proofs.Inversion.{and-both}
+use Rattle.law_theorems.proofs.TypeTables.{Table}
 use Rattle.table_names.specs.Chain.{entries, nameAt}
 use Rattle.table_scope.specs.Descriptions.{infoOf, shapeNumber}
 use Rattle.table_scope.proofs.Telling.{shape-ordinal, low-told, high-told}

@@ -14,14 +14,14 @@ use Rattle.leaf_bytes.specs.declared.bytes.Class.{Class}
 use Rattle.leaf_bytes.specs.declared.bytes.Class.the-variants.{Feed, Space, Open, Close, Visible, Refused}
 use Rattle.leaf_bytes.specs.Bytes.{classOf}
 use Rattle.law.specs.Environment.{nothingDeclared}
-use Rattle.law.specs.LayoutSize.{sizeBodies, sizeSymbols, sizeTypes}
+use Rattle.code.specs.LayoutSize.{sizeBodies, sizeSymbols, sizeTypes}
 use Rattle.law.specs.Lines.{linesOf, refusedAt}
 use Rattle.law.specs.Verdict as Meaning
 use Rattle.law.specs.Verdict.{Fitting, Read, has, accepted, refused, opening, judge, judgeLines, strictly}
 use Rattle.law.specs.Whole.{verdictOf, workAfter}
-use Rattle.law.proofs.LayoutBodies.{no-bodies}
-use Rattle.law.proofs.LinesMeasured.{measured-start}
-use Rattle.law.proofs.TextRoom.{room-start}
+use Rattle.code.proofs.LayoutBodies.{no-bodies}
+use Rattle.code.proofs.LinesMeasured.{measured-start}
+use Rattle.code.proofs.TextRoom.{room-start}
 use Rattle.law_answers.specs.declared.Verdict.{Verdict}
 use Rattle.law_answers.specs.declared.Verdict.the-variants as verdict
 use Rattle.law_answers.specs.Verdicts.{toldVerdict}

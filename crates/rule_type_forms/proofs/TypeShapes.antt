@@ -24,7 +24,7 @@ use Rattle.text_heads.specs.declared.Maker.the-variants as MK
 use Rattle.text_heads.proofs.Heads.{maker-is}
 use Rattle.text_heads.proofs.Walks.{bind-cong, bind-assoc, bind-swap, one-then, two-then, headed-form, empty-form, headless-form}
 use Rattle.rule_faults.specs.declared.Fault.the-variants.{Form}
-use Rattle.law.specs.Stages.{wrong, staged}
+use Rattle.rule_stages.specs.Stages.{wrong, staged}
 use Rattle.rule_declarations.specs.Names.{GivesName}
 use Rattle.rule_declarations.specs.Lines.{lineOf, entryStaged, linedBy, GivesLine}
 use Rattle.rule_type_lines.specs.TypeLines.{typeIn, typeAfter, madeAfter, aliasAfter, GivesAlias, GivesMade}

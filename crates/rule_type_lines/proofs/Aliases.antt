@@ -12,17 +12,17 @@ use Rattle.leaf_bytes.specs.Bytes.{small}
 use Rattle.law.specs.Base.{Name, _>>=_, find, given}
 use Rattle.law.specs.Ceilings.{lineBounded, typeBounded}
 use Rattle.law.specs.Environment.{Declared, Environment, NameSort, aType, declareLine, extendTypes, declNames}
-use Rattle.law.specs.Layout.{lay}
-use Rattle.law.specs.LayoutSize.{symbolSize, sizeDecl}
+use Rattle.code.specs.Layout.{lay}
+use Rattle.code.specs.LayoutSize.{symbolSize, sizeDecl}
 use Rattle.law.specs.Names.{typeOf, isKnown, newNames, declOf, entryOf}
 use Rattle.law.specs.Rules.{keepsRules, keptDecl}
 use Rattle.law.specs.Script.{Entry, newType, Decl, alias}
-use Rattle.law.specs.Stages.{Staged, fits, ruled, staged, onFits}
+use Rattle.rule_stages.specs.Stages.{Staged, fits, ruled, staged, onFits}
 use Rattle.law.specs.Syntax as Syntax
 use Rattle.law.specs.Syntax.{LineForm, TypeName, typeLine}
 use Rattle.law.specs.Trees.{Trees, Run, first, wordAt, stackAt}
-use Rattle.law.proofs.LayoutRegions.{Same, lay-g, lay-l}
-use Rattle.law.proofs.LinesKeep.{AllFair, type, name, Keeps}
+use Rattle.code.proofs.LayoutRegions.{Same, lay-g, lay-l}
+use Rattle.law_theorems.proofs.LinesKeep.{AllFair, type, name, Keeps}
 use Rattle.table_list.specs.Laid.{Laid}
 use Rattle.table_names.specs.Keys.{keyed}
 use Rattle.table_scope.proofs.Cells.{keeps-cells}

@@ -13,17 +13,17 @@ use Rattle.leaf_bytes.specs.Bytes.{small}
 use Rattle.law.specs.Base.{Name, _>>=_, find}
 use Rattle.law.specs.Ceilings.{lineBounded, typeBounded}
 use Rattle.law.specs.Environment.{Declared, Environment, NameSort, aType, declareLine, extendTypes, declNames, typeInfoOf, copies, valueCount}
-use Rattle.law.specs.Layout.{lay}
-use Rattle.law.specs.LayoutSize.{symbolSize, sizeDecl}
+use Rattle.code.specs.Layout.{lay}
+use Rattle.code.specs.LayoutSize.{symbolSize, sizeDecl}
 use Rattle.law.specs.Names.{isKnown, entryOf}
 use Rattle.law.specs.Rules.{keepsRules}
 use Rattle.law.specs.Script.{Entry, newType, Decl}
-use Rattle.law.specs.Stages.{Staged, wrong, unnamed, unfit, fits, staged, onFits, unknown}
+use Rattle.rule_stages.specs.Stages.{Staged, wrong, unnamed, unfit, fits, staged, onFits, unknown}
 use Rattle.law.specs.Syntax.{LineForm, TypeForm, typeLine}
 use Rattle.law.specs.Trees.{end, first, later, wordAt, stackAt}
 use Rattle.law.specs.Types.{Types, TypeInfo, infoAt, sizeOf, cellsBy, cellsOf, isRecord}
-use Rattle.law.proofs.Inversion.{and-true, none-some}
-use Rattle.law.proofs.LayoutRegions.{Same, Room, Has, lay-g, lay-l}
+use Rattle.law_theorems.proofs.Inversion.{and-true, none-some}
+use Rattle.code.proofs.LayoutRegions.{Same, Room, Has, lay-g, lay-l}
 use Rattle.table_list.specs.Laid.{Laid}
 use Rattle.table_names.specs.Keys.{keyed}
 use Rattle.table_scope.proofs.Cells.{keeps-cells}

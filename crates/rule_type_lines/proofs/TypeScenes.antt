@@ -20,10 +20,10 @@ use Rattle.law.specs.Rules.{keepsRules}
 use Rattle.law.specs.Script.{Const, Decl, newType}
 use Rattle.law.specs.Syntax.{LineForm}
 use Rattle.law.specs.Types.{Types, TypeInfo, undeclared, infoAt, sizeOf}
-use Rattle.law.proofs.Inversion.{and-true}
-use Rattle.law.proofs.LayoutRegions.{Same}
-use Rattle.law.proofs.LinesKeep.{Keeps, line-keeps}
-use Rattle.law.proofs.TypeTables.{old, new}
+use Rattle.law_theorems.proofs.Inversion.{and-true}
+use Rattle.code.proofs.LayoutRegions.{Same}
+use Rattle.law_theorems.proofs.LinesKeep.{Keeps, line-keeps}
+use Rattle.law_theorems.proofs.TypeTables.{old, new}
 use Rattle.table_scope.specs.declared.Scope.{Scope}
 use Rattle.table_scope.specs.declared.Meaning.{Meaning}
 use Rattle.table_scope.specs.Descriptions.{infoOf, readInfo, Tells, EndsBelow}

@@ -11,10 +11,10 @@ use Rattle.law.specs.Base.{Name, _>>=_}
 use Rattle.law.specs.Ceilings.{typeBounded}
 use Rattle.law.specs.Environment.{Declared, typeInfoOf}
 use Rattle.law.specs.Forms.{typeForm}
-use Rattle.law.specs.Layout.{lay, bits}
+use Rattle.code.specs.Layout.{lay, bits}
 use Rattle.law.specs.Names.{isKnown}
 use Rattle.law.specs.Script.{Decl, newType, range, arrayOf, setOf, Const}
-use Rattle.law.specs.Stages.{Staged, fits}
+use Rattle.rule_stages.specs.Stages.{Staged, fits}
 use Rattle.law.specs.Syntax.{LineForm, TypeForm, typeLine, alias}
 use Rattle.law.specs.Trees.{Trees, end, Run, first, later, wordAt, stackAt}
 use Rattle.law.specs.Types.{TypeInfo, cellsBy}

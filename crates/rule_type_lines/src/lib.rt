@@ -19,7 +19,7 @@ use table_scope::TYPE_NUMBERS;
 use text_parts::End;
 use text_parts::end_at;
 ghost use mathlib.Core.Path.{_≡_};
-ghost use Rattle.law.specs.Layout.{lay as laid};
+ghost use Rattle.code.specs.Layout.{lay as laid};
 ghost use Rattle.table_list.specs.Laid.{Laid};
 ghost use Rattle.rule_type_lines.specs.TypeLines.{linesFit, typeEntry, infoNumbers, typeState, AddsAlias, GivesAlias, LaysType, AddsType, EndFault, GivesShaped};
 

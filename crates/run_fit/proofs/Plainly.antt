@@ -10,13 +10,13 @@ use lib.ListN.{getD}
 use Rattle.leaf_integers.specs.Integers.{inside}
 use Rattle.leaf_integers.proofs.Ranges.{inside-is}
 use Rattle.law.specs.Code as C
-use Rattle.law.specs.Readback.{allAtPlaces, atPlaces, bodyAtPlaces, casesAtPlaces}
-use Rattle.law.proofs.CodeCalls as Calls
-use Rattle.law.proofs.CodeCalls.{Calls, CallsAll, CallsCases, CallsBody}
-use Rattle.law.proofs.CodeReady as R
-use Rattle.law.proofs.CodeReady.{ReadyCode, ReadyPlace, ReadyCodes, ReadyAct, ReadyActs, ReadyCases, ReadyBody}
-use Rattle.law.proofs.CodeSized.{InSet}
-use Rattle.law.proofs.ValuesInRange.{wrong}
+use Rattle.code.specs.Readback.{allAtPlaces, atPlaces, bodyAtPlaces, casesAtPlaces}
+use Rattle.law_theorems.proofs.CodeCalls as Calls
+use Rattle.law_theorems.proofs.CodeCalls.{Calls, CallsAll, CallsCases, CallsBody}
+use Rattle.code.proofs.CodeReady as R
+use Rattle.code.proofs.CodeReady.{ReadyCode, ReadyPlace, ReadyCodes, ReadyAct, ReadyActs, ReadyCases, ReadyBody}
+use Rattle.law_theorems.proofs.CodeSized.{InSet}
+use Rattle.law_theorems.proofs.ValuesInRange.{wrong}
 use Rattle.run_nodes.specs.Emitted.{Plain, PlainCodes, PlainPlace, Small, SmallFor, baseOf}
 use Rattle.run_emit.specs.Plainly.{Callable, PlainAct, PlainActs, PlainBody, PlainCases, PlainWhole}
 

@@ -6,7 +6,7 @@ use Prim.Native.Nat.{ℕ, _+_, _*_, _<_, _≤_}
 use native.Mathlib.Omega.{arith}
 use lib.ListN.{length}
 use Rattle.law.specs.Code.{Acts, stop, _also_, BodyCode}
-use Rattle.law.proofs.Measure.{Measure, total}
+use Rattle.code.proofs.Measure.{Measure, total}
 use Rattle.run_nodes.specs.Emitted.{indicesIn, membersIn, spanCode, spanMembers, spanPlace}
 use Rattle.run_emit.specs.Spans.{spanAct, spanActs, spanBody, spanCases, spanLabels}
 use Rattle.run_fit.proofs.Sums.{sumOf}

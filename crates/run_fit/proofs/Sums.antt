@@ -5,8 +5,8 @@ use Prim.Native.Nat.{ℕ, zero, suc, _+_, _<_}
 use native.Mathlib.Omega.{arith}
 use lib.ListN.{getD, length}
 use Rattle.law.specs.Code.{BodyCode}
-use Rattle.law.specs.Readback.{readBody}
-use Rattle.law.proofs.ForLoops.{forsBodies}
+use Rattle.code.specs.Readback.{readBody}
+use Rattle.code.proofs.ForLoops.{forsBodies}
 use Rattle.run_linear.proofs.Bodies.{loops}
 use Rattle.run_emit.specs.Spans.{spanBody}
 use Rattle.run_emit.specs.Whole.{spanBodies}

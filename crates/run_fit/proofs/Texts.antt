@@ -6,15 +6,15 @@ use native.Mathlib.Nat.{zero-add}
 use native.Mathlib.Omega.{arith}
 use lib.ListN.{getD, length, length-map}
 use Rattle.law.specs.Code.{BodyCode}
-use Rattle.law.specs.Readback.{bodyAtPlaces, readBody}
+use Rattle.code.specs.Readback.{bodyAtPlaces, readBody}
 use Rattle.law.specs.Verdict.{Read, accepted}
 use Rattle.law.specs.Whole.{verdictOf}
-use Rattle.law.proofs.Bodies.{body-get}
-use Rattle.law.proofs.CodeCalls.{CallsBody}
-use Rattle.law.proofs.CodeReady.{ReadyBody, body-ready-at-places}
-use Rattle.law.proofs.Demand3.{any-room-at, body-count, code-calls, code-ready, for-room-at, room-enough}
-use Rattle.law.proofs.LayoutBodies.{Bodies, BodiesAt}
-use Rattle.law.proofs.ListMachineRuns.{size-within}
+use Rattle.law_theorems.proofs.Bodies.{body-get}
+use Rattle.law_theorems.proofs.CodeCalls.{CallsBody}
+use Rattle.code.proofs.CodeReady.{ReadyBody, body-ready-at-places}
+use Rattle.code.proofs.Texts.{any-room-at, body-count, code-calls, code-ready, for-room-at, room-enough}
+use Rattle.code.proofs.LayoutBodies.{Bodies, BodiesAt}
+use Rattle.code.proofs.ListMachineRuns.{size-within}
 use Rattle.run_linear.specs.Bodies.{noBody}
 use Rattle.run_linear.proofs.Bodies.{loops}
 use Rattle.run_emit.specs.Plainly.{Callable}

@@ -17,11 +17,11 @@ use Rattle.leaf_integers.proofs.Ranges.{inside-both, inside-is}
 use Rattle.leaf_sets.specs.Sets.{liesIn}
 use Rattle.law.specs.Store.{cellFits, storeFault}
 use Rattle.law.specs.Types.{Types, infoAt, ordinal?}
-use Rattle.law.proofs.BodiesInRange.{Passes, store-passes}
-use Rattle.law.proofs.Inversion.{and-true}
-use Rattle.law.proofs.LinesKeep.{tests, tests-get}
-use Rattle.law.proofs.TypeTables.{Table}
-use Rattle.law.proofs.ValuesInRange.{any}
+use Rattle.law_theorems.proofs.BodiesInRange.{Passes, store-passes}
+use Rattle.law_theorems.proofs.Inversion.{and-true}
+use Rattle.law_theorems.proofs.LinesKeep.{tests, tests-get}
+use Rattle.law_theorems.proofs.TypeTables.{Table}
+use Rattle.law_theorems.proofs.ValuesInRange.{any}
 use Rattle.code_calc.specs.Words.{InRange}
 use Rattle.code_calc.proofs.Ranging.{wide, low-range}
 use Rattle.code_store.specs.Answers.{Lent}

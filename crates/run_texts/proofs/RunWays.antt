@@ -9,17 +9,17 @@ use lib.IntN.{ℤ}
 use lib.ListN.{length, getD, take, drop, replicate}
 use lib.Seq.{take-at}
 use Rattle.rule_declarations.specs.State.{notes}
-use Rattle.law.specs.ListMachine.{called}
+use Rattle.code.specs.ListMachine.{called}
 use Rattle.law.specs.Machine.{Answer, State, state}
 use Rattle.law.specs.Store.{faultOf, storeFault}
 use Rattle.law.specs.Verdict as Meaning
 use Rattle.law.specs.Verdict.{Read, accepted, refused}
 use Rattle.law.specs.Whole as Whole
 use Rattle.law.specs.Whole.{refusal, ran, reported, report, fresh, lent, onStore, unless, runAll, runOf, verdictOf}
-use Rattle.law.proofs.Demand3 as Demand3
-use Rattle.law.proofs.StatementsNoted.{Notes}
-use Rattle.law.proofs.LinesCover.{text-covered}
-use Rattle.law.proofs.LinesMeasured.{text-measured}
+use Rattle.code.proofs.Texts as Demand3
+use Rattle.law_theorems.proofs.StatementsNoted.{Notes}
+use Rattle.law_theorems.proofs.LinesCover.{text-covered}
+use Rattle.code.proofs.LinesMeasured.{text-measured}
 use Rattle.law_answers.specs.declared.Answer.{Answer as Told}
 use Rattle.law_answers.specs.declared.Report.{Report}
 use Rattle.law_answers.specs.declared.Report.the-variants.{Refused, Ran}

@@ -9,7 +9,7 @@ use borrow.Author.Tests.{ne-eqb}
 use lib.Dec.{eqb}
 use lib.ListN.{getD}
 use Rattle.law.specs.Base.{given, pick}
-use Rattle.law.specs.Layout.{node1}
+use Rattle.code.specs.Layout.{node1}
 use Rattle.law.specs.Operators.{Fun, negate, notOf, abs, sqr, odd, ord, pred, succ, card, setmin, setmax, Operation1, intNegate, boolNot, intAbs, intSqr, intOdd, ordinalOf, predIn, succIn, setCard, setLeast, setGreatest, Rule1, rule1, functionRule}
 use Rattle.law.specs.Types.{Types, infoAt, ordinal?, set?, baseOf}
 use Rattle.table_kinds.specs.Kinds.{classAt, sideOf, Kinded, rowOf, classes, integerClass, booleanClass, ordinalClass, setClass}

@@ -6,8 +6,8 @@ use Prim.Native.Nat.{ℕ}
 use Rattle.law.specs.Types.{Types, infoAt, ordinal?, set?, baseOf}
 use Rattle.law.specs.Verdict.{Read, accepted}
 use Rattle.law.specs.Whole.{verdictOf}
-use Rattle.law.proofs.TypeTables.{Table, host-is}
-use Rattle.law.proofs.LinesKeep.{text-keeps}
+use Rattle.law_theorems.proofs.TypeTables.{Table, host-is}
+use Rattle.law_theorems.proofs.LinesKeep.{text-keeps}
 use Rattle.table_kinds.specs.Kinds.{Kinded}
 
 pub table-kinded : (Γ : Types) → Table Γ → Kinded Γ

@@ -9,10 +9,10 @@ use borrow.Author.Tests.{eqb-true, eq-eqb, ne-eqb}
 use lib.Dec.{eqb}
 use lib.ListN.{getD}
 use Rattle.law.specs.Base.{given, either, pick}
-use Rattle.law.specs.Layout.{both, operationNumber}
+use Rattle.code.specs.Layout.{both, operationNumber}
 use Rattle.law.specs.Operators.{Op, plus, minus, times, power, divide, modulo, equal, unequal, less, atMost, greater, atLeast, member, andBoth, orBoth, Operation, intAdd, intSub, intMul, intPower, intDiv, intMod, setUnion, setDifference, setIntersection, numEqual, numUnequal, numLess, numAtMost, numGreater, numAtLeast, setWithin, setHolds, memberOf, boolAnd, boolOr, Rule, rule, bothIntegers, bothBooleans, sameOrdinals, sameSets, operatorRule}
 use Rattle.law.specs.Types.{Types, Shape, ordinalShape, setShape, arrayShape, recordShape, infoAt, ordinal?, set?, baseOf, isOrdinal, isSet}
-use Rattle.law.proofs.ValuesInRange.{wrong}
+use Rattle.law_theorems.proofs.ValuesInRange.{wrong}
 use Rattle.table_kinds.specs.Kinds.{TwoSided, strict, lazy, rows, rowNumber, entryOf, toldOf, classBy, classAt, sideOf, Kinded, rowOf, classes, integerClass, booleanClass, ordinalClass, setClass, integers, booleans, ordinals, sets, operationOf, coded, opNumber, table, nodeAt, partnerOf, resultOf, numbered, ruling2, told}
 use Rattle.table_kinds.specs.declared.Class.{Class}
 use Rattle.table_kinds.specs.declared.Class.the-variants.{Integer, Boolean, Enum, Set, Whole}

@@ -6,7 +6,7 @@ use Prim.Native.Nat.{ℕ}
 use lib.Dec.{eqb}
 use lib.ListN.{getD}
 use Rattle.law.specs.Base.{pick}
-use Rattle.law.specs.Layout.{node1}
+use Rattle.code.specs.Layout.{node1}
 use Rattle.law.specs.Operators.{Fun, negate, notOf, abs, sqr, odd, ord, pred, succ, card, setmin, setmax, Operation1, Rule1}
 use Rattle.table_kinds.specs.Kinds.{rowOf, classes, integerClass, booleanClass, ordinalClass, setClass}
 use Rattle.table_kinds.specs.declared.Class.{Class}

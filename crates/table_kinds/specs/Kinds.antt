@@ -7,7 +7,7 @@ use Prim.Native.Nat.{ℕ, zero, suc, _+_}
 use lib.Dec.{eqb, ltb}
 use lib.ListN.{getD}
 use Rattle.law.specs.Base.{given, either, pick}
-use Rattle.law.specs.Layout.{both, operationNumber}
+use Rattle.code.specs.Layout.{both, operationNumber}
 use Rattle.law.specs.Operators.{Op, plus, minus, times, power, divide, modulo, equal, unequal, less, atMost, greater, atLeast, member, andBoth, orBoth, Operation, bothBooleans, operatorRule, intAdd, intSub, intMul, intPower, intDiv, intMod, setUnion, setDifference, setIntersection, numEqual, numUnequal, numLess, numAtMost, numGreater, numAtLeast, setWithin, setHolds, memberOf, boolAnd, boolOr, Rule}
 use Rattle.law.specs.Types.{Types, Shape, ordinalShape, setShape, arrayShape, recordShape, infoAt, ordinal?, set?, baseOf}
 use Rattle.table_kinds.specs.declared.Class.{Class}

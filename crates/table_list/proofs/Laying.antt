@@ -10,7 +10,7 @@ use borrow.Author.Tests.{le-leb, leb-true}
 use lib.Dec.{leb}
 use lib.ListN.{length, getD, set, take, length-set, drop-of-length-le, List·getD-eq-default}
 use lib.Seq as Seq
-use Rattle.law.specs.Layout.{room, out, lay}
+use Rattle.code.specs.Layout.{room, out, lay}
 use Rattle.law.specs.Whole.{workAfter}
 use Rattle.table_list.specs.Laid.{Laid, zeroed}
 

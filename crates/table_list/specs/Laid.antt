@@ -3,7 +3,7 @@ use mathlib.Core.Path.{_≡_}
 use mathlib.Core.List.{List, _++_}
 use Prim.Native.Nat.{ℕ}
 use lib.ListN.{drop, replicate}
-use Rattle.law.specs.Layout.{Out}
+use Rattle.code.specs.Layout.{Out}
 
 -- a free place and a list are those of a layout
 pub record Laid (o : Out) (top : ℕ) (l : List ℕ) : Type 0 where

@@ -12,8 +12,8 @@ use Rattle.leaf_bytes.specs.Bytes.{small, same}
 use Rattle.leaf_bytes.proofs.Same.{same-equal}
 use Rattle.law.specs.Base.{Name, find}
 use Rattle.law.specs.Trees.{wordAt}
-use Rattle.law.specs.Layout.{lay}
-use Rattle.law.proofs.LayoutRegions.{Same, Room, Has, lay-l}
+use Rattle.code.specs.Layout.{lay}
+use Rattle.code.proofs.LayoutRegions.{Same, Room, Has, lay-l}
 use Rattle.table_names.specs.Keys.{keyOf, keyed}
 use Rattle.table_names.specs.Chain.{entries, nameAt, keyAt, Called, placeIn}
 use Rattle.table_names.proofs.Keying.{keyed-offset, keyed-key}

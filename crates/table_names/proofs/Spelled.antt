@@ -16,7 +16,7 @@ use Rattle.leaf_bytes.specs.declared.bytes.Class.the-variants.{Feed, Space, Ope
 use Rattle.leaf_bytes.specs.Bytes.{classOf, small}
 use Rattle.leaf_bytes.proofs.Letters.{small-low, small-high, small-capital}
 use Rattle.law.specs.Trees.{wordAt}
-use Rattle.law.proofs.Reading.{none-word, word-word, space-word, open-word, close-word, feed-word, refused-word}
+use Rattle.law_theorems.proofs.Reading.{none-word, word-word, space-word, open-word, close-word, feed-word, refused-word}
 use Rattle.table_names.specs.Letters.{letterBy, letterOf, byteAt, meets}
 use Rattle.table_names.specs.declared.letters.Meeting.the-variants as meeting
 

@@ -12,7 +12,7 @@ ghost use mathlib.Core.Path.{_≡_};
 ghost use mathlib.Core.List.{[], _∷_, map};
 ghost use Rattle.leaf_bytes.specs.Bytes.{small, same};
 ghost use Rattle.law.specs.Trees.{wordAt};
-ghost use Rattle.law.specs.Layout.{lay as laid};
+ghost use Rattle.code.specs.Layout.{lay as laid};
 ghost use Rattle.table_list.specs.Laid.{Laid};
 ghost use Rattle.table_names.specs.Chain.{entries, placeIn, linkAt, Seeks};
 

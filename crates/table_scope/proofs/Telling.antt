@@ -11,7 +11,7 @@ use lib.ListN.{getD}
 use Rattle.leaf_bytes.specs.Bytes.{small, same}
 use Rattle.law.specs.Base.{Name, find}
 use Rattle.law.specs.Environment.{Environment}
-use Rattle.law.specs.Layout.{bits}
+use Rattle.code.specs.Layout.{bits}
 use Rattle.law.specs.Trees.{wordAt}
 use Rattle.law.specs.Types.{Shape, ordinalShape, setShape, arrayShape, recordShape, Field, infoAt, isOrdinal, isSet, isArray, isRecord, hostBy, fieldOf, hostOf, sizeOf, ordinal?, set?, array?, record?}
 use Rattle.table_kinds.specs.Kinds.{Kinded, ordinalBy, classBy, sideOf}

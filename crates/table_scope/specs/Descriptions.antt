@@ -9,7 +9,7 @@ use lib.Dec.{eqb}
 use lib.ListN.{length, getD}
 use Rattle.leaf_bytes.specs.Bytes.{small, same}
 use Rattle.law.specs.Base.{Name}
-use Rattle.law.specs.Layout.{bits}
+use Rattle.code.specs.Layout.{bits}
 use Rattle.law.specs.Trees.{wordAt}
 use Rattle.law.specs.Types.{Shape, ordinalShape, setShape, arrayShape, recordShape, Field, TypeInfo, cellsBy}
 use Rattle.table_scope.specs.declared.Info.{Info}

@@ -13,7 +13,7 @@ use Rattle.leaf_bytes.specs.Bytes.{classOf}
 use Rattle.law.specs.Base.{_>>=_, given}
 use Rattle.law.specs.Lines.{Line, line, inFront, linesOf}
 use Rattle.law.specs.Trees.{Tree, form, Trees, end, _then_, Run, Place, before, isAfter, past, balanced, Reading, reading, first, ended, withByte, readBytes, treesOf, single, formOf, wordAt, restAt, stackAt}
-use Rattle.law.proofs.Balance.{Reads, one, reads}
+use Rattle.law_theorems.proofs.Balance.{Reads, one, reads}
 use Rattle.text_lines.specs.Passes.{lineAt, afterLine, balancedFrom}
 
 -- ---- the lines from an offset on: its own, and those after it

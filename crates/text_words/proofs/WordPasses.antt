@@ -11,7 +11,7 @@ use Rattle.leaf_bytes.specs.declared.bytes.Class.the-variants.{Feed, Space, Ope
 use Rattle.leaf_bytes.specs.Bytes.{classOf}
 use Rattle.leaf_words.specs.Words.{wordOf}
 use Rattle.law.specs.Trees.{Tree, word, form, Trees, end, nodes, nodesIn, Run, first, later, push, wordAt, restAt, stackAt}
-use Rattle.law.proofs.Reading.{none-stack, space-stack, open-stack, close-stack, feed-stack, refused-stack, word-stack, word-word}
+use Rattle.law_theorems.proofs.Reading.{none-stack, space-stack, open-stack, close-stack, feed-stack, refused-stack, word-stack, word-word}
 use Rattle.text_words.specs.declared.sight.Seen.{Seen}
 use Rattle.text_words.specs.declared.lines.Hop.{Hop}
 use Rattle.text_words.specs.declared.lines.Hop.the-variants as hop

@@ -1,7 +1,7 @@
 -- `table_kinds::node_at` meets its contract. Written by hand: the constant is `table` by computation. Assumes nothing.
 use mathlib.Core.Path.{refl}
 use Rattle.law.specs.Base.{given, either}
-use Rattle.law.specs.Layout.{both, operationNumber}
+use Rattle.code.specs.Layout.{both, operationNumber}
 use Rattle.table_kinds.specs.Kinds.{rowOf, operationOf, coded, entryOf, table, nodeAt}
 use Rattle.table_kinds.proofs.Laws.{node-laws}
 use borrow.Author.Needs.{needs}

@@ -1,0 +1,15 @@
+pub mod LayoutRegions
+pub mod LayoutCode
+pub mod LayoutFits
+pub mod LayoutActs
+pub mod LayoutBodies
+pub mod Measure
+pub mod ForLoops
+pub mod MeasurePlaces
+pub mod CodeRoom
+pub mod TextRoom
+pub mod ListMachineRuns
+pub mod CodeReady
+pub mod LinesMeasured
+pub mod ElaboratedReady
+pub mod Texts

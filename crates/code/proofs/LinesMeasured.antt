@@ -1,0 +1,222 @@
+-- What accepted lines keep of the ceilings, and of the code of their bodies: its calls, the sizes of its numbers, and what an engine needs.
+use mathlib.Core.Path.{_≡_, refl, sym, ap, _∙_}
+use mathlib.Core.Bool.{Bool, true, false, not}
+use mathlib.Core.List.{List, [], _∷_, _++_, append-nil}
+use mathlib.Core.Option.{some}
+use Prim.Native.Nat.{ℕ, suc, _+_, _≤_}
+use native.Mathlib.Nat.{zero-add}
+use native.Mathlib.Omega.{arith}
+use borrow.Author.Tests.{leb-true}
+use lib.Dec.{leb}
+use lib.ListN.{length, length-append}
+use Rattle.law.specs.Base.{Name}
+use Rattle.law.specs.Ceilings.{lineBounded, typeBounded}
+use Rattle.law.specs.Code.{BodyCode}
+use Rattle.law.specs.Elaborate.{elabBody}
+use Rattle.law.specs.Environment.{Declared, PlacedBody, declareLine, nothingDeclared, withBody}
+use Rattle.law.specs.Forms.{Item, lineForm}
+use Rattle.law.specs.Lines.{Line, linesOf}
+use Rattle.law.specs.Names.{bodyOf, entryOf}
+use Rattle.law.specs.Rules.{keepsRules, keptBody, keptDecl}
+use Rattle.law.specs.Script.{Body, Decl, Entry, newMain, newProc, newType, newVar}
+use Rattle.law.specs.Syntax as S
+use Rattle.law.specs.Trees.{nodes}
+use Rattle.law.specs.Types.{sizeOf}
+use Rattle.law.specs.Verdict.{Read, accepted, good, has, judge, judgeLine, judgeLines, must, strictly}
+use Rattle.law.specs.Whole.{verdictOf}
+use Rattle.law_theorems.proofs.StatementNumbers as Counted
+use Rattle.law_theorems.proofs.Inversion.{some-inj, bind-some, given-some, and-true}
+use Rattle.law_theorems.proofs.TextsAgree.{accepted-inj, bad-good, good-inj, musted, onward-is, opening-is, stage}
+use Rattle.law_theorems.proofs.ValuesInRange.{wrong}
+use Rattle.law_theorems.proofs.TypeSizes.{SmallTypes, small-declared, small-start}
+use Rattle.law_theorems.proofs.LinesKeep.{Keeps, keeps-formed, keeps-start, line-keeps, tests, tests-length}
+use Rattle.law_theorems.proofs.StatementNumbers.{CountedBody, CountedLine, line-counts}
+use Rattle.law_theorems.proofs.TreeDepth.{Shallow, worded-shallow}
+use Rattle.law_theorems.proofs.Balance.{form-depth}
+use Rattle.law_theorems.proofs.Weights.{worded-nodes}
+use Rattle.law_theorems.proofs.ScriptNumbers.{WithinBody, body-within}
+use Rattle.law_theorems.proofs.CodeCalls.{CallsBody, body-calls}
+use Rattle.law_theorems.proofs.CodeSized.{Limits, SizedBody, body-sized, limits}
+use Rattle.code.proofs.CodeReady.{ReadyBody}
+use Rattle.code.proofs.ElaboratedReady.{body-ready}
+use Rattle.law_theorems.proofs.Bodies.{Bodies, none, bodies-last}
+
+-- ---- what the lines so far gave
+
+pub record Measured (k : Declared) (cs : List BodyCode) : Type 0 where
+  pub keeps : Keeps k
+  pub small : SmallTypes (k .env .types)
+  pub cells : length (k .cells) ≤ 2048
+  pub stmts : k .stmts ≤ k .nodes
+  pub nodes : k .nodes ≤ 4096
+  pub long : length cs ≡ length (k .bodies)
+  pub procs : k .ended ≡ false → length cs ≤ 32
+  pub most : length cs ≤ 33
+  pub main : k .ended ≡ true → 1 ≤ length cs
+  pub calls : Bodies CallsBody 0 cs
+  pub sized : Bodies (λ _. SizedBody) 0 cs
+  pub ready : Bodies (λ _. ReadyBody 31) 0 cs
+
+pub measured-start : Measured nothingDeclared []
+measured-start = record {
+  keeps = keeps-start;
+  small = small-start;
+  cells = omega arith;
+  stmts = omega arith;
+  nodes = omega arith;
+  long = refl;
+  procs = λ _. omega arith;
+  most = omega arith;
+  main = λ h. wrong h;
+  calls = none;
+  sized = none;
+  ready = none;
+}
+
+open? : (b : Bool) → not b ≡ true → b ≡ false
+open? true h = wrong h
+open? false h = refl
+
+must-good : (n : ℕ) (t : Bool) {u : Unit {0}} → must n t ≡ good u → t ≡ true
+unfolding must
+must-good n true h = refl
+must-good n false h = bad-good h
+
+-- the stages of a line that was judged good
+line-parts : {P : Type 0} (k : Declared) (l : Line) (p : Declared × List BodyCode) → judgeLine strictly k l ≡ good p
+    → ((v : Item) (f : S.LineForm × ℕ) (e : Entry) (n : ℕ) → Shallow 32 v → k .ended ≡ false → lineForm (k .stmts) v ≡ some f → entryOf (k .env) (f .0) ≡ some e → keepsRules (k .env .types) e ≡ true
+    → strictly (k .env) e ≡ some (p .1) → lineBounded k e ≡ true → n ≡ k .nodes + nodes v → n ≤ 4096 → declareLine k e (f .1) n ≡ p .0 → P) → P
+unfolding judgeLine
+line-parts k l p h c =
+    stage 4 h λ t h₄ h. stage 5 h λ v h₅ h. musted 6 (not (k .ended)) h λ h₆ _ h. stage 6 h λ f f₆ h. stage 7 h λ e h₇ h.
+    musted 8 (keepsRules (k .env .types) e) h λ h₈ _ h. stage 8 h λ cs f₈ h. musted 9 _ h λ h₉ _ h.
+    c v f e (k .nodes + nodes t) (worded-shallow (form-depth l t h₄) v h₅) (open? (k .ended) h₆) f₆ h₇ h₈ (f₈ ∙ ap (λ (q : Declared × List BodyCode). some (q .1)) (good-inj h)) (and-true (lineBounded k e) _ h₉ .0) (rw (worded-nodes t v h₅)) (leb-true _ _ (and-true (lineBounded k e) _ h₉ .1))
+    (ap (λ (q : Declared × List BodyCode). q .0) (good-inj h))
+
+-- ---- a line more
+
+-- the code of a line without a body
+no-code : (cs ds : List BodyCode) → some [] ≡ some ds → cs ++ ds ≡ cs
+no-code cs ds e = rw (← some-inj e) (append-nil cs)
+
+module _ (k : Declared) (cs : List BodyCode) (h : Measured k cs) (going : k .ended ≡ false) (s n : ℕ) (low : s ≤ n) (high : n ≤ 4096) where
+  type-measured : (w : Name) (d : Decl) → Keeps (declareLine k (newType w d) s n) → keptDecl (k .env .types) d ≡ true → typeBounded (k .env .types) d ≡ true → Measured (declareLine k (newType w d) s n) cs
+  unfolding declareLine
+  type-measured w d q p b = record {
+    keeps = q;
+    small = small-declared (k .env .types) d p b (h .small);
+    cells = h .cells;
+    stmts = low;
+    nodes = high;
+    long = h .long;
+    procs = λ _. h .procs going;
+    most = h .most;
+    main = λ e. wrong e;
+    calls = h .calls;
+    sized = h .sized;
+    ready = h .ready;
+  }
+
+  var-measured : (w : Name) (t : ℕ) → Keeps (declareLine k (newVar w t) s n) → length (k .cells) + sizeOf (k .env .types) t ≤ 2048 → Measured (declareLine k (newVar w t) s n) cs
+  unfolding declareLine
+  var-measured w t q b = record {
+    keeps = q;
+    small = h .small;
+    cells = rw length-append b;
+    stmts = low;
+    nodes = high;
+    long = h .long;
+    procs = λ _. h .procs going;
+    most = h .most;
+    main = λ e. wrong e;
+    calls = h .calls;
+    sized = h .sized;
+    ready = h .ready;
+  }
+
+  -- the code of a body on this line
+  module _ (b : S.Body) (x : Body) (names : bodyOf (k .env) b ≡ some x) (counted : CountedBody 4096 b) (kept : keptBody x ≡ true) (c : BodyCode) (coded : elabBody (k .env .types) (k .env .vars) x ≡ some c) where
+    within : WithinBody 4096 (length (k .bodies)) x
+    within = body-within (k .env) (h .keeps .names) counted x names
+
+    now-calls : Bodies CallsBody 0 (cs ++ (c ∷ []))
+    now-calls = bodies-last c (h .calls) (rw (zero-add, h .long) (body-calls (k .env .types) (k .env .vars) within c coded))
+
+    now-limits : Limits (k .env .types) (k .env .vars)
+    now-limits = limits (k .env .types) (k .env .vars) (tests (k .env .types) (k .cells)) (keeps-formed k (h .keeps)) (h .small) (rw (tests-length (k .env .types) (k .cells)) (h .cells))
+
+    now-sized : Bodies (λ _. SizedBody) 0 (cs ++ (c ∷ []))
+    now-sized = bodies-last c (h .sized) (body-sized (k .env .types) (k .env .vars) now-limits within kept c coded)
+
+    now-ready : Bodies (λ _. ReadyBody 31) 0 (cs ++ (c ∷ []))
+    now-ready = bodies-last c (h .ready) (body-ready (k .env) (tests (k .env .types) (k .cells)) (keeps-formed k (h .keeps)) now-limits counted x c names kept coded)
+
+    now-long : (d : PlacedBody) → length (cs ++ (c ∷ [])) ≡ length (k .bodies ++ (d ∷ []))
+    now-long d = rw (length-append, length-append, h .long)
+
+    proc-measured : (w : Name) → Keeps (declareLine k (newProc w x) s n) → suc (length (k .bodies)) ≤ 32 → Measured (declareLine k (newProc w x) s n) (cs ++ (c ∷ []))
+    unfolding declareLine
+    proc-measured w q l = record {
+      keeps = q;
+      small = h .small;
+      cells = h .cells;
+      stmts = low;
+      nodes = high;
+      long = now-long (withBody (k .env) x);
+      procs = λ _. rw length-append (omega (arith, h .long));
+      most = rw length-append (omega (arith, h .long));
+      main = λ e. wrong e;
+      calls = now-calls;
+      sized = now-sized;
+      ready = now-ready;
+    }
+
+    main-measured : Keeps (declareLine k (newMain x) s n) → Measured (declareLine k (newMain x) s n) (cs ++ (c ∷ []))
+    unfolding declareLine
+    main-measured q = record {
+      keeps = q;
+      small = h .small;
+      cells = h .cells;
+      stmts = low;
+      nodes = high;
+      long = now-long (withBody (k .env) x);
+      procs = λ e. wrong (sym e);
+      most = rw length-append (omega (arith, h .procs going));
+      main = λ _. rw length-append (omega arith);
+      calls = now-calls;
+      sized = now-sized;
+      ready = now-ready;
+    }
+
+  -- what is shown of a line
+  abbrev Measures : Entry → List BodyCode → Type 0
+  Measures e ds = keepsRules (k .env .types) e ≡ true → lineBounded k e ≡ true → strictly (k .env) e ≡ some ds → Keeps (declareLine k e s n) → Measured (declareLine k e s n) (cs ++ ds)
+
+  line-measured : {f : S.LineForm} → CountedLine 4096 f → (e : Entry) → entryOf (k .env) f ≡ some e → (ds : List BodyCode) → Measures e ds
+  unfolding entryOf keepsRules lineBounded strictly
+  line-measured (Counted.typeLine {w = w}) e p ds = bind-some p λ d hd v. rw (← some-inj v) λ r b c q.
+      rw (no-code cs ds c) (type-measured w d q r (and-true (leb (suc (k .typeLines)) 64) _ b .1))
+  line-measured (Counted.varLine {w = w}) e p ds = bind-some p λ t ht v. given-some v λ _ v. rw (← v) λ r b c q.
+      rw (no-code cs ds c) (var-measured w t q (leb-true _ 2048 (and-true (leb (suc (length (k .env .vars))) 128) _ b .1)))
+  line-measured (Counted.procLine {w = w} {b = f} u) e p ds = bind-some p λ x hx v. given-some v λ _ v. rw (← v) λ r b c q.
+      bind-some c λ d hd y. rw (← some-inj y) (proc-measured f x hx u r d hd w q (leb-true _ 32 b))
+  line-measured (Counted.mainLine {b = f} u) e p ds = bind-some p λ x hx v. rw (← some-inj v) λ r b c q.
+      bind-some c λ d hd y. rw (← some-inj y) (main-measured f x hx u r d hd q)
+
+pub measured-line : (k : Declared) (cs : List BodyCode) (l : Line) (q : Declared × List BodyCode) → judgeLine strictly k l ≡ good q → Measured k cs → Measured (q .0) (cs ++ q .1)
+measured-line k cs l q hq p = line-parts k l q hq λ v f e m flat going h₆ h₇ h₈ c b em lm d.
+    let i = line-counts (k .stmts) v f h₆ in
+    let low : f .1 ≤ m = omega (arith, i .most, p .stmts) in
+    rw (← d) (line-measured k cs p going (f .1) m low lm (i .each 4096 (omega arith) flat) e h₇ (q .1) h₈ b c (line-keeps k (p .keeps) (f .0) e h₇ h₈ b (f .1) m))
+
+-- ---- all lines
+
+pub lines-measured : (n : ℕ) (ls : List Line) (k : Declared) (cs : List BodyCode) (r : Read) → judgeLines strictly n ls (has k cs) ≡ accepted r → Measured k cs → Measured (r .known) (r .codes) × (r .known .ended ≡ true)
+unfolding judgeLines
+lines-measured n [] k cs r h p = onward-is n h λ u hu e. rw (← accepted-inj e) (p, must-good 6 (k .ended) hu)
+lines-measured n (l ∷ ls) k cs r h p = onward-is n h λ q hq h′. lines-measured (suc n) ls (q .0) (cs ++ q .1) r h′ (measured-line k cs l q hq p)
+
+-- an accepted text
+pub text-measured : (text : List ℕ) (work : ℕ) (r : Read) → verdictOf text work ≡ accepted r → Measured (r .known) (r .codes) × (r .known .ended ≡ true)
+unfolding verdictOf judge
+text-measured text work r h = opening-is _ _ _ _ _ h λ h′ _. lines-measured 1 (linesOf text) nothingDeclared [] r h′ measured-start

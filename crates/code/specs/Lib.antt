@@ -1,0 +1,4 @@
+pub mod Layout
+pub mod LayoutSize
+pub mod Readback
+pub mod ListMachine

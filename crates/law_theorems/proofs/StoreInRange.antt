@@ -1,0 +1,175 @@
+-- The code of an accepted script never sticks, and keeps each cell in its range.
+use mathlib.Core.Path.{_≡_, refl}
+use mathlib.Core.Bool.{Bool, true, false, cond, _&&_}
+use mathlib.Core.List.{List, [], _∷_}
+use mathlib.Core.Option.{some}
+use Prim.Native.Nat.{ℕ, zero, suc, _+_, _<_}
+use native.Mathlib.Omega.{arith}
+use lib.IntN.{ℤ, pos, sucℤ, _+ℤ_, _-ℤ_, +ℤ-idr, sucℤ-+ℤ, +ℤ-sucℤ}
+use lib.Signed.{leZ}
+use borrow.Author.Tests.{eqb-true}
+use Rattle.leaf_integers.specs.Integers.{inside, isZero}
+use Rattle.law.specs.Base.{pick}
+use Rattle.law.specs.Calculate.{Result, caseError, isTrue, natOf, systemError}
+use Rattle.law.specs.Chair.{condition, evalCode, matches, placeCode, runAct, runActs, runCases}
+use Rattle.law.specs.Code.{Act, Acts, Cases, Code, assignOrdinal, assignWhole}
+use Rattle.law.specs.Elaborate.{Located, elabArms, elabStmt, elabStmts, expects}
+use Rattle.law.specs.Machine.{Answer, Outcome, Procs, State, Store, andThen, answer, branch, continued, countUp, forRounds, noRound, normal, opened, outside, passOn, planned, procedureAt, raiseNumber, raised, raising, rounds, setControl, sole, spent, state, step, stepIf, storeOrdinal, storeWhole, whileRounds, withResult}
+use Rattle.law.specs.Script.{Arms, Expr, Stmt, Stmts, _next_, arm, assign, begin, call, case, done, elseArm, for, ifElse, noElse, raise, skip, while}
+use Rattle.law.specs.Types.{Types, Vars, cellsOf, hostOf, infoAt, ordinal?}
+use Rattle.law_theorems.proofs.Inversion.{and-true, some-inj, both-some, bind-some, given-some}
+use Rattle.law_theorems.proofs.Spans.{span-inside}
+use Rattle.law_theorems.proofs.ValuesInRange.{InInt, e-range, int-value, Good, value, failure, Test, Here, Formed, Sound, Fits, Value-of, good-e, good-t, stored-all, fits-cons, fits-none, ord-layout, own-host}
+
+e-system : InInt systemError
+unfolding inside
+e-system = record { ok = refl }
+
+e-case : InInt caseError
+unfolding inside
+e-case = record { ok = refl }
+
+pub data Moved : Outcome → Type 0 where
+  normally : Moved normal
+  outOfSteps : Moved spent
+  byException : {z : ℤ} {n : ℕ} → Moved (raised z n)
+
+pub record Fine (tests : List Test) (a : Answer) : Type 0 where
+  pub moved : Moved (a .outcome)
+  pub sound : Sound tests (a .state .store)
+
+-- from a sound store to a fine answer
+pub record Safely (tests : List Test) (f : State → Answer) : Type 0 where
+  pub at : (s : State) → Sound tests (s .store) → Fine tests (f s)
+
+module _ {tests : List Test} where
+  pub fine : {o : Outcome} {m : Store} {n : ℕ} → Moved o → Sound tests m → Fine tests (answer o (state m n))
+  fine h s = record { moved = h; sound = s }
+
+  due-s : {f : State → Answer} → Safely tests f → (n : ℕ) (s : State) → Sound tests (s .store) → Fine tests (stepIf n s f)
+  due-s h zero s g = fine outOfSteps g
+  due-s h (suc n) s g = h .at (state (s .store) n) g
+
+  step-s : {f : State → Answer} → Safely tests f → Safely tests (λ s. step s f)
+  step-s h = record { at = λ s g. due-s h (s .left) s g }
+
+  onto-s : {f : State → Answer} → Safely tests f → {o : Outcome} (s : State) → Moved o → Sound tests (s .store) → Fine tests (continued o s f)
+  onto-s h s normally g = h .at s g
+  onto-s h s outOfSteps g = fine outOfSteps g
+  onto-s h s byException g = fine byException g
+
+  pub then-s : {f g : State → Answer} → Safely tests f → Safely tests g → Safely tests (λ s. andThen (f s) g)
+  then-s {f} hf hg = record { at = λ s g. let a = hf .at s g in onto-s hg ((f s) .state) (a .moved) (a .sound) }
+
+  branch-s : (b : Bool) {f g : State → Answer} → (b ≡ true → Safely tests f) → (b ≡ false → Safely tests g) → Safely tests (branch b f g)
+  branch-s true hf hg = hf refl
+  branch-s false hf hg = hg refl
+
+  raising-s : {z : ℤ} → InInt z → (n : ℕ) → Safely tests (raising z n)
+  raising-s i n = record { at = λ s g. fine byException (record { long = g .long; enough = g .enough; each = g .each; number = i }) }
+
+  pub answer-s : {o : Outcome} → Moved o → Safely tests (answer o)
+  answer-s h = record { at = λ s g. fine h g }
+
+  after-s : {A : Type 0} (n : ℕ) {P : A → Type 0} {v : Store → Result A} {f : A → State → Answer}
+      → ((m : Store) → Sound tests m → Good P (v m)) → ((z : A) → P z → Safely tests (f z)) → Safely tests (λ s. withResult n s (v (s .store)) (λ z. f z s))
+  after-s n {P} {v} {f} hv h = record { at = λ s g. go s (hv (s .store) g) g }
+    where
+      go : (s : State) {w : Result _} → Good P w → Sound tests (s .store) → Fine tests (withResult n s w (λ z. f z s))
+      go s (value {a} p) g = (h a p) .at s g
+      go s (failure i) g = (raising-s i n) .at s g
+
+  passes-s : (n : ℕ) → Safely tests (passOn n)
+  unfolding passOn
+  passes-s n = record { at = λ s. (branch-s (isZero (s .store .latest)) (λ _. raising-s e-system n) (λ _. answer-s byException)) .at s }
+
+  raises-s : (n : ℕ) {z : ℤ} → InInt z → Safely tests (raiseNumber n z)
+  unfolding raiseNumber
+  raises-s n {z} i = branch-s (isZero z) (λ _. passes-s n) (λ _. raising-s i n)
+
+module _ (Γ : Types) (Δ : Vars) (tests : List Test) (𝓕 : Formed Γ Δ tests) where
+  -- the value of an expression that was expected to have a kind
+  pub expected : (e : Expr) (k : ℕ) (c : Code) → expects Γ Δ k e ≡ some c → (m : Store) → Sound tests m → Good (Value-of Γ Δ tests 𝓕 k) (evalCode c m)
+  unfolding expects
+  expected e k c h m s = bind-some h λ x hx e′. given-some e′ λ p v.
+      rw (← v, eqb-true k (x .kind) p) (good-e Γ Δ tests 𝓕 e x hx s)
+
+  check-s : (n : ℕ) (e : Expr) (c : Code) → expects Γ Δ 1 e ≡ some c → {f : Bool → State → Answer} → ((b : Bool) → Safely tests (f b)) → Safely tests (λ s. condition n c s (λ b. f b s))
+  unfolding condition
+  check-s n e c h k = after-s n (expected e 1 c h) λ x _. k (isTrue (sole x))
+
+  -- a value goes to a place of its type
+  copy-s : (n a : ℕ) (zs : List ℤ) (ts : List ℕ) → Here Γ tests a ts → Fits Γ Δ tests 𝓕 ts zs → Safely tests (storeWhole n a zs)
+  unfolding storeWhole
+  copy-s n a zs ts h f = record { at = λ s g. fine normally (stored-all Γ Δ tests 𝓕 ts zs a h f g) }
+
+  -- a cell that is an ordinal's
+  pub cell-fits : (t a : ℕ) → ordinal? Γ t ≡ true → Here Γ tests a (cellsOf Γ t) → (z : ℤ) → inside (infoAt Γ t .low) (infoAt Γ t .high) z ≡ true → Fits Γ Δ tests 𝓕 (cellsOf Γ t) (z ∷ [])
+  cell-fits t a o h z p = rw (ord-layout _ t _ o) (fits-cons Γ Δ tests 𝓕 (rw o p) (fits-none Γ Δ tests 𝓕))
+
+  keep-s : (n t a : ℕ) → ordinal? Γ t ≡ true → Here Γ tests a (cellsOf Γ t) → (z : ℤ) → Safely tests (storeOrdinal n a (infoAt Γ t .low) (infoAt Γ t .high) z)
+  unfolding storeOrdinal
+  keep-s n t a o h z = branch-s (inside (infoAt Γ t .low) (infoAt Γ t .high) z)
+      (λ p. record { at = λ s g. fine normally (stored-all Γ Δ tests 𝓕 (cellsOf Γ t) (z ∷ []) a h (cell-fits t a o h z p) g) }) (λ _. raising-s e-range n)
+
+  rounds-s : (n : ℕ) (e : Expr) (c : Code) → expects Γ Δ 1 e ≡ some c → {body : State → Answer} → Safely tests body → (f : ℕ) → Safely tests (whileRounds f (condition n c) body)
+  unfolding whileRounds
+  rounds-s n e c h g zero = check-s n e c h λ b. branch-s b (λ _. answer-s outOfSteps) (λ _. answer-s normally)
+  rounds-s n e c h g (suc f) = check-s n e c h λ b. branch-s b (λ _. step-s (then-s g (rounds-s n e c h g f))) (λ _. answer-s normally)
+
+  set-s : (t a : ℕ) → ordinal? Γ t ≡ true → Here Γ tests a (cellsOf Γ t) → (z : ℤ) → inside (infoAt Γ t .low) (infoAt Γ t .high) z ≡ true → {body : State → Answer} → Safely tests body → Safely tests (λ s. body (setControl a z s))
+  set-s t a o h z p b = record { at = λ s g. b .at (setControl a z s) (stored-all Γ Δ tests 𝓕 (cellsOf Γ t) (z ∷ []) a h (cell-fits t a o h z p) g) }
+
+  turns-s : (t a : ℕ) → ordinal? Γ t ≡ true → Here Γ tests a (cellsOf Γ t) → {body : State → Answer} → Safely tests body → (j : ℕ) (z : ℤ)
+      → ((i : ℕ) → i < j → inside (infoAt Γ t .low) (infoAt Γ t .high) (z +ℤ pos i) ≡ true) → Safely tests (forRounds j a body z)
+  unfolding forRounds
+  turns-s t a o h b zero z p = answer-s normally
+  turns-s t a o h b (suc j) z p = step-s (then-s (set-s t a o h z (rw +ℤ-idr at (p 0 (omega arith))) b)
+      (turns-s t a o h b j (sucℤ z) (λ i l. rw (sucℤ-+ℤ z (pos i), ← +ℤ-sucℤ z (pos i)) (p (suc i) (omega arith)))))
+
+  counting-s : (n t a : ℕ) → ordinal? Γ t ≡ true → Here Γ tests a (cellsOf Γ t) → (x y : ℤ) {body : State → Answer} → Safely tests body
+      → Safely tests (countUp n a (infoAt Γ t .low) (infoAt Γ t .high) x y body)
+  unfolding countUp planned opened pick
+  counting-s n t a o h x y {body} b = go (leZ x y) (inside (infoAt Γ t .low) (infoAt Γ t .high) x && inside (infoAt Γ t .low) (infoAt Γ t .high) y) refl
+    where
+      go : (p q : Bool) → (inside (infoAt Γ t .low) (infoAt Γ t .high) x && inside (infoAt Γ t .low) (infoAt Γ t .high) y) ≡ q
+          → Safely tests (opened (pick p (pick q (rounds (natOf (sucℤ (y -ℤ x)))) outside) noRound) n a x body)
+      go false q e = answer-s normally
+      go true false e = raising-s e-range n
+      go true true e = let w = and-true _ _ e in then-s (turns-s t a o h b _ x (λ i l. span-inside _ _ x y i (w .0) (w .1) l)) (answer-s normally)
+
+  module _ (ps : Procs) (hp : (p : ℕ) → Safely tests (procedureAt ps p)) where
+    putting-s : (b : Bool) (n : ℕ) (w : Located) → ordinal? Γ (w .type) ≡ b → (e : Expr) (c : Code) → expects Γ Δ (hostOf Γ (w .type)) e ≡ some c
+        → ((m : Store) → Sound tests m → Good (λ a. Here Γ tests a (cellsOf Γ (w .type))) (placeCode (w .place) m))
+        → Safely tests (runAct ps (cond b (assignOrdinal n (w .place) (infoAt Γ (w .type) .low) (infoAt Γ (w .type) .high) c) (assignWhole n (w .place) c)))
+    unfolding runAct
+    putting-s true n w o e c h g = step-s (after-s n (expected e _ c h) λ zs _. after-s n g λ a p. keep-s n (w .type) a o p (sole zs))
+    putting-s false n w o e c h g = step-s (after-s n (expected e _ c h) λ zs f. after-s n g λ a p. copy-s n a zs (cellsOf Γ (w .type)) p ((rw (own-host _ (w .type) _ o) at f) .fits o))
+
+    mutual
+      unfolding elabStmt runAct
+
+      pub run-s : (s : Stmt) (c : Act) → elabStmt Γ Δ s ≡ some c → Safely tests (runAct ps c)
+      run-s (assign n g e) c h = bind-some h λ w hw h′. bind-some h′ λ d hd e′. rw (← some-inj e′) (putting-s _ n w refl e d hd (λ m s. good-t Γ Δ tests 𝓕 g w hw s))
+      run-s (begin n ss) c h = bind-some h λ bs hbs e. rw (← some-inj e) (step-s (runs-s ss bs hbs))
+      run-s (ifElse n e a b) c h = both-some h λ d x hd hx h′. bind-some h′ λ y hy e′.
+          rw (← some-inj e′) (step-s (check-s n e d hd λ q. branch-s q (λ _. run-s a x hx) (λ _. run-s b y hy)))
+      run-s (while n e a) c h = both-some h λ d x hd hx e′.
+          rw (← some-inj e′) (step-s (record { at = λ s. (rounds-s n e d hd (run-s a x hx) (s .left)) .at s }))
+      run-s (for n i a b s) c h = bind-some h λ q hq g. both-some g λ x y hx hy h′. bind-some h′ λ z hz e′. given-some e′ λ p v.
+          rw (← v) (step-s (after-s n (expected a _ x hx) λ u _. after-s n (expected b _ y hy) λ w _. counting-s n (q .type) (q .base) p (𝓕 .vars i q hq) (sole u) (sole w) (run-s s z hz)))
+      run-s (case n e bs) c h = bind-some h λ x hx h′. bind-some h′ λ cs hcs e′. given-some e′ λ p v.
+          rw (← v) (step-s (after-s n (λ m s. good-e Γ Δ tests 𝓕 e x hx s) λ zs _. picks-s bs (x .kind) cs hcs n (sole zs)))
+      run-s (call n p) c h = rw (← some-inj h) (step-s (hp p))
+      run-s (raise n e) c h = bind-some h λ d hd e′. rw (← some-inj e′) (step-s (after-s n (expected e 0 d hd) λ x i. raises-s n (int-value Γ Δ tests 𝓕 i)))
+      run-s skip c h = rw (← some-inj h) (answer-s normally)
+
+      pub runs-s : (ss : Stmts) (c : Acts) → elabStmts Γ Δ ss ≡ some c → Safely tests (runActs ps c)
+      runs-s done c h = rw (← some-inj h) (answer-s normally)
+      runs-s (a next bs) c h = both-some h λ x y hx hy e. rw (← some-inj e) (then-s (run-s a x hx) (runs-s bs y hy))
+
+      pub picks-s : (bs : Arms) (k : ℕ) (c : Cases) → elabArms Γ Δ k bs ≡ some c → (n : ℕ) (z : ℤ) → Safely tests (runCases ps n z c)
+      picks-s (elseArm a) k c h n z = bind-some h λ x hx e. rw (← some-inj e) (run-s a x hx)
+      picks-s noElse k c h n z = rw (← some-inj h) (raising-s e-case n)
+      picks-s (arm ls a bs) k c h n z = both-some h λ zs x hzs hx h′. bind-some h′ λ y hy e.
+          rw (← some-inj e) (branch-s (matches z zs) (λ _. run-s a x hx) (λ _. picks-s bs k y hy n z))

@@ -1,0 +1,4 @@
+pub mod Staging
+pub mod OnePassExprs
+pub mod OnePassStmts
+pub mod OnePassLines
