@@ -18,14 +18,15 @@ use Rattle.law.specs.Script as X
 use Rattle.law.specs.Syntax as S
 use Rattle.law.specs.Types.{Types, Vars, array?, baseOf, hostOf, infoAt, ordinal?, sizeOf}
 use Rattle.law_theorems.proofs.Inversion.{none-some, and-true, some-inj, both-some, bind-some, given-some}
-use Rattle.law_theorems.proofs.ValuesInRange.{Formed, Test, ord-layout, own-host}
+use Rattle.law_theorems.proofs.ValuesInRange.{ord-layout, own-host}
+use Rattle.law_theorems.specs.ValuesInRange.{Formed, Test}
 use Rattle.law_theorems.proofs.CodeSized.{Limits, for-cell, int-between, labels-sized, operation-sized, pick-int}
 use Rattle.law_theorems.proofs.ElaboratedSafe.{One, argument, one-boolean, one-integer, one-ordinal, one-set, operands, single-cells}
 use Rattle.law_theorems.proofs.Depths as Deep
 use Rattle.law_theorems.proofs.Depths.{DeepE, DeepEs, DeepT}
 use Rattle.law_theorems.proofs.StatementNumbers as Counted
 use Rattle.law_theorems.proofs.StatementNumbers.{Counted, CountedAll, CountedArms, CountedBody}
-use Rattle.code.proofs.CodeReady.{Element, ReadyCode, literal, variable, at, lastNumber, makeSet, calculate, shortCut, calculate1, ReadyPlace, cell, index, shift, ReadyCodes, noCodes, _with_, ReadyAct, assignOrdinal, assignSet, copyCells, sequence, branchOn, whileLoop, forLoop, caseOf, callTo, raiseWith, noAct, ReadyActs, stop, _also_, ReadyCases, elseCase, noCase, oneCase, ReadyBody}
+use Rattle.code.specs.CodeReady.{Element, ReadyCode, literal, variable, at, lastNumber, makeSet, calculate, shortCut, calculate1, ReadyPlace, cell, index, shift, ReadyCodes, noCodes, _with_, ReadyAct, assignOrdinal, assignSet, copyCells, sequence, branchOn, whileLoop, forLoop, caseOf, callTo, raiseWith, noAct, ReadyActs, stop, _also_, ReadyCases, elseCase, noCase, oneCase, ReadyBody}
 
 module _ (σ : Environment) (xs : List Test) (𝓕 : Formed (σ .types) (σ .vars) xs) (𝓛 : Limits (σ .types) (σ .vars)) where
   abbrev Γ : Types

@@ -6,28 +6,7 @@ use native.Mathlib.Omega.{arith}
 use lib.ListN.{length}
 use Rattle.law.specs.Code.{Act, assignOrdinal, assignWhole, sequence, branchOn, whileLoop, forLoop, caseOf, callTo, raiseWith, noAct, Acts, stop, _also_, Cases, elseCase, noCase, oneCase, BodyCode}
 use Rattle.code.proofs.Measure.{Measure, total}
-
-unfoldable mutual
-  pub forsAct : Act → ℕ
-  forsAct (assignOrdinal n p lo hi c) = 0
-  forsAct (assignWhole n p c) = 0
-  forsAct (sequence n bs) = forsActs bs
-  forsAct (branchOn n c a b) = forsAct a + forsAct b
-  forsAct (whileLoop n c a) = forsAct a
-  forsAct (forLoop n i lo hi x y a) = suc (forsAct a)
-  forsAct (caseOf n c cs) = forsCases cs
-  forsAct (callTo n p) = 0
-  forsAct (raiseWith n c) = 0
-  forsAct noAct = 0
-
-  pub forsActs : Acts → ℕ
-  forsActs stop = 0
-  forsActs (a also bs) = forsAct a + forsActs bs
-
-  pub forsCases : Cases → ℕ
-  forsCases (elseCase a) = forsAct a
-  forsCases noCase = 0
-  forsCases (oneCase ls a cs) = forsAct a + forsCases cs
+use Rattle.code.specs.ForLoops.{forsAct, forsActs, forsCases}
 
 -- of all bodies
 unfoldable pub forsBodies : List BodyCode → ℕ

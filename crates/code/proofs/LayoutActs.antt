@@ -15,6 +15,7 @@ use Rattle.code.specs.Readback.{actOp, actOpUnless, actOpAt, integerAt, 
 use Rattle.code.specs.LayoutSize.{sizeLabels, sizeAct, sizeActs, sizeCases, sizeBody, LabelsFit, label-fits, ActFits, ordinal-fits, whole-fits, sequence-fits, branch-fits, while-fits, for-fits, case-fits, call-fits, raise-fits, ActsFit, also-fit, CasesFit, else-fits, one-case-fits, BodyFits}
 use Rattle.code.proofs.LayoutRegions.{Lays, Chains, Has, Linked, lay-pos, lay-l, none-l, end-c, map-l, map-c, _next_, slot-l, link-c}
 use Rattle.code.proofs.LayoutCode.{signed-bits, first, CodeAt, PlaceAt, laid-code, laid-place}
+use Rattle.code.specs.LayoutActs.{Begins}
 
 unfoldable reading : Unit {0}
 unfolding actOp actOpUnless actOpAt integerAt labelsFrom readLabels actFrom actsFrom armFrom casesFrom readAct atPlaces sizeLabels sizeAct
@@ -50,10 +51,6 @@ laid-labels (z ∷ zs) s t l =
 act-op : (n : ℕ) (ns : List ℕ) (p : ℕ) (l : List ℕ) → Has (n ∷ ns) p l → actOpAt l p ≡ actOp n
 unfolding actOpAt actOpUnless
 act-op n ns p l h = rw (ne-eqb p 0 (omega (arith, h .later)), first n ns p l h)
-
--- the bodies laid so far are the first of all
-pub record Begins (bodies places : List ℕ) : Type 0 where
-  pub at : (k : ℕ) → k < length bodies → getD bodies k 0 ≡ getD places k 0
 
 module _ (bodies : List ℕ) where
   -- the list holds the statement a at p: if its numbers can hold it, the statement is read back, with places for the bodies that it calls

@@ -12,8 +12,11 @@ use Rattle.law.specs.Code.{BodyCode}
 use Rattle.code.specs.Layout.{layBody}
 use Rattle.code.specs.Readback.{readBody, bodyAtPlaces}
 use Rattle.code.specs.LayoutSize.{sizeBody, BodyFits}
-use Rattle.code.proofs.LayoutRegions.{Same, Room, Lays}
-use Rattle.code.proofs.LayoutActs.{Begins, BodyAt, laid-body}
+use Rattle.code.proofs.LayoutRegions.{Lays}
+use Rattle.code.specs.LayoutRegions.{Same, Room}
+use Rattle.code.proofs.LayoutActs.{BodyAt, laid-body}
+use Rattle.code.specs.LayoutActs.{Begins}
+use Rattle.code.specs.LayoutBodies.{Bodies, BodiesAt}
 
 -- what holds at each index of a list, and of one more element at the next, holds at each index of the longer list
 pub one-more : {A : Type 0} (xs : List A) (y z : A) (P : ℕ → A → Type 0) → ((k : ℕ) → k < length xs → P k (getD xs k z)) → P (length xs) y
@@ -32,23 +35,8 @@ begun places p all N = record {
   at = λ k h. sym (List·getD-append places (p ∷ []) 0 k h) ∙ N .at k (omega (arith, length-append places (p ∷ [])));
 }
 
--- a body of which nothing is known: the place past the last has it
 module _ (other : BodyCode) where
-  -- the list holds these bodies at these places; the places of all, also of later ones, are `all`
-  pub record BodiesAt (l places : List ℕ) (bs : List BodyCode) : Type 0 where
-    pub later : (k : ℕ) → k < length places → 1 ≤ getD places k 0
-    pub inside : (k : ℕ) → k < length places → getD places k 0 < length l
-    -- a body's node begins with its number
-    pub number : (k : ℕ) → k < length places → getD l (getD places k 0) 0 ≡ k
-    pub read : (all : List ℕ) → Begins places all → (k : ℕ) → k < length bs → (d : ℕ) → sizeBody (getD bs k other) ≤ d
-        → readBody d l (getD places k 0) ≡ bodyAtPlaces all (getD bs k other)
-
-  -- so does every list that agrees with l from a to t
-  pub record Bodies (a t : ℕ) (l places : List ℕ) (bs : List BodyCode) : Type 0 where
-    pub count : length places ≡ length bs
-    pub held : (l′ : List ℕ) → Same a t l′ l → BodiesAt l′ places bs
-
-  pub no-bodies : (a t : ℕ) (l : List ℕ) → Bodies a t l [] []
+  pub no-bodies : (a t : ℕ) (l : List ℕ) → Bodies other a t l [] []
   no-bodies a t l = record {
     count = refl;
     held = λ l′ e. record {
@@ -61,8 +49,8 @@ module _ (other : BodyCode) where
 
   -- the next body is laid at the free place
   pub body-next : (a t : ℕ) (l places : List ℕ) (bs : List BodyCode) (b : BodyCode) → a ≤ t → Room (sizeBody b) t l → BodyFits (length places) b
-      → Bodies a t l places bs
-      → Bodies a (layBody places (length places) b t l .top) (layBody places (length places) b t l .list) (places ++ layBody places (length places) b t l .pos ∷ [])
+      → Bodies other a t l places bs
+      → Bodies other a (layBody places (length places) b t l .top) (layBody places (length places) b t l .list) (places ++ layBody places (length places) b t l .pos ∷ [])
       (bs ++ b ∷ [])
   body-next a t l places bs b i r f B =
       let o = layBody places (length places) b t l in
@@ -70,7 +58,7 @@ module _ (other : BodyCode) where
       record {
         count = omega (arith, length-append places (o .pos ∷ []), length-append bs (b ∷ []), B .count);
         held = λ l′ e.
-            let old : BodiesAt l′ places bs = B .held l′ (record { at = λ j h k. e .at j h (omega (arith, L .grows .up)) ∙ L .grows .below j k }) in
+            let old : BodiesAt other l′ places bs = B .held l′ (record { at = λ j h k. e .at j h (omega (arith, L .grows .up)) ∙ L .grows .below j k }) in
             let new : BodyAt places (length places) l′ (o .pos) b = L .held r l′ (record { at = λ j h k. e .at j (omega arith) k }) in
             record {
               later = one-more places (o .pos) 0 (λ _ q. 1 ≤ q) (old .later) (new .later);

@@ -13,14 +13,15 @@ use Rattle.law.specs.Code.{BodyCode}
 use Rattle.law.specs.Operators.{Operation1}
 use Rattle.code.specs.Layout.{layBody, layBodies}
 use Rattle.code.specs.LayoutSize.{IsInteger, Fits1, negate-fits, not-fits, abs-fits, sqr-fits, odd-fits, ord-fits, card-fits, least-fits, greatest-fits, pred-fits, succ-fits, CodeFits, literal-fits, load-fits, last-fits, set-fits, calculate-fits, short-fits, calculate1-fits, PlaceFits, cell-fits, index-fits, shift-fits, CodesFit, none-fit, with-fit, LabelsFit, no-labels-fit, label-fits, ActFits, ordinal-fits, whole-fits, sequence-fits, branch-fits, while-fits, for-fits, case-fits, call-fits, raise-fits, no-act-fits, ActsFit, stop-fits, also-fit, CasesFit, else-fits, no-case-fits, one-case-fits, BodyFits, sizeBody, sizeBodies}
-use Rattle.law_theorems.proofs.Bodies as Numbered
-use Rattle.law_theorems.proofs.CodeCalls as Calls
-use Rattle.law_theorems.proofs.CodeCalls.{CallsBody}
-use Rattle.law_theorems.proofs.CodeSized as Sized
-use Rattle.law_theorems.proofs.CodeSized.{InSet, SizedBody}
-use Rattle.code.proofs.LayoutRegions.{Room}
+use Rattle.law_theorems.specs.Bodies as Numbered
+use Rattle.law_theorems.specs.CodeCalls as Calls
+use Rattle.law_theorems.specs.CodeCalls.{CallsBody}
+use Rattle.law_theorems.specs.CodeSized as Sized
+use Rattle.law_theorems.specs.CodeSized.{InSet, SizedBody}
+use Rattle.code.specs.LayoutRegions.{Room}
 use Rattle.code.proofs.LayoutActs.{laid-body}
-use Rattle.code.proofs.LayoutBodies.{Bodies, body-next}
+use Rattle.code.proofs.LayoutBodies.{body-next}
+use Rattle.code.specs.LayoutBodies.{Bodies}
 
 -- an ordinal of a set is an integer
 member-integer : {z : ℤ} → InSet z → IsInteger z

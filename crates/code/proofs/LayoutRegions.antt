@@ -10,6 +10,7 @@ use lib.ListN.{length, getD, set, length-set, length-append, List·getD-append}
 use lib.Seq as Seq
 use lib.Seq.{getD-set-same, getD-set-other, getD-append-seam, length-sets}
 use Rattle.code.specs.Layout.{room, Out, out, lay, link}
+use Rattle.code.specs.LayoutRegions.{Room, Same}
 
 -- ---- numbers written in a row
 
@@ -102,16 +103,6 @@ link-g {s} {t} {l} {x} ms a b =
     }
 
 -- ---- what holds where there is room
-
--- two lists agree from t to u
-pub record Same (t u : ℕ) (a b : List ℕ) : Type 0 where
-  pub at : (i : ℕ) → t ≤ i → i < u → getD a i 0 ≡ getD b i 0
-
--- n numbers are laid from t on
-pub record Room (n t : ℕ) (l : List ℕ) : Type 0 where
-  pub start : 1 ≤ t
-  pub fits : t + n ≤ room
-  pub long : room ≤ length l
 
 -- laying from t on gives o; if there is room for n numbers, it takes so many, and Q holds of every list that agrees with it on them
 pub record Lays (n t : ℕ) (l : List ℕ) (o : Out) (Q : List ℕ → Type 0) : Type 0 where

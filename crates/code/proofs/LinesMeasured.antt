@@ -28,34 +28,26 @@ use Rattle.law_theorems.proofs.StatementNumbers as Counted
 use Rattle.law_theorems.proofs.Inversion.{some-inj, bind-some, given-some, and-true}
 use Rattle.law_theorems.proofs.TextsAgree.{accepted-inj, bad-good, good-inj, musted, onward-is, opening-is, stage}
 use Rattle.law_theorems.proofs.ValuesInRange.{wrong}
-use Rattle.law_theorems.proofs.TypeSizes.{SmallTypes, small-declared, small-start}
-use Rattle.law_theorems.proofs.LinesKeep.{Keeps, keeps-formed, keeps-start, line-keeps, tests, tests-length}
+use Rattle.law_theorems.proofs.TypeSizes.{small-declared, small-start}
+use Rattle.law_theorems.specs.TypeSizes.{SmallTypes}
+use Rattle.law_theorems.proofs.LinesKeep.{keeps-formed, keeps-start, line-keeps, tests-length}
+use Rattle.law_theorems.specs.LinesKeep.{Keeps, tests}
 use Rattle.law_theorems.proofs.StatementNumbers.{CountedBody, CountedLine, line-counts}
 use Rattle.law_theorems.proofs.TreeDepth.{Shallow, worded-shallow}
 use Rattle.law_theorems.proofs.Balance.{form-depth}
 use Rattle.law_theorems.proofs.Weights.{worded-nodes}
 use Rattle.law_theorems.proofs.ScriptNumbers.{WithinBody, body-within}
-use Rattle.law_theorems.proofs.CodeCalls.{CallsBody, body-calls}
-use Rattle.law_theorems.proofs.CodeSized.{Limits, SizedBody, body-sized, limits}
-use Rattle.code.proofs.CodeReady.{ReadyBody}
+use Rattle.law_theorems.proofs.CodeCalls.{body-calls}
+use Rattle.law_theorems.specs.CodeCalls.{CallsBody}
+use Rattle.law_theorems.proofs.CodeSized.{Limits, body-sized, limits}
+use Rattle.law_theorems.specs.CodeSized.{SizedBody}
+use Rattle.code.specs.CodeReady.{ReadyBody}
 use Rattle.code.proofs.ElaboratedReady.{body-ready}
-use Rattle.law_theorems.proofs.Bodies.{Bodies, none, bodies-last}
+use Rattle.law_theorems.proofs.Bodies.{bodies-last}
+use Rattle.law_theorems.specs.Bodies.{Bodies, none}
+use Rattle.code.specs.LinesMeasured.{Measured}
 
 -- ---- what the lines so far gave
-
-pub record Measured (k : Declared) (cs : List BodyCode) : Type 0 where
-  pub keeps : Keeps k
-  pub small : SmallTypes (k .env .types)
-  pub cells : length (k .cells) ≤ 2048
-  pub stmts : k .stmts ≤ k .nodes
-  pub nodes : k .nodes ≤ 4096
-  pub long : length cs ≡ length (k .bodies)
-  pub procs : k .ended ≡ false → length cs ≤ 32
-  pub most : length cs ≤ 33
-  pub main : k .ended ≡ true → 1 ≤ length cs
-  pub calls : Bodies CallsBody 0 cs
-  pub sized : Bodies (λ _. SizedBody) 0 cs
-  pub ready : Bodies (λ _. ReadyBody 31) 0 cs
 
 pub measured-start : Measured nothingDeclared []
 measured-start = record {

@@ -28,6 +28,7 @@ use Rattle.law_theorems.proofs.TextsAgree.{bad-good, accepted-inj, good-inj, mu
 use Rattle.law_theorems.proofs.Weights.{line-weighs, weightD, weightL, worded-nodes}
 use Rattle.code.proofs.Measure.{Measure, total}
 use Rattle.code.proofs.CodeRoom.{body-room, body-takes}
+use Rattle.code.specs.TextRoom.{Room, spare}
 
 -- ---- rows 7 and 8: what a line takes
 
@@ -146,20 +147,9 @@ line-room k l p h c = line-weight k l p h λ f e s n h₇ h₈ hp w hn. c e s n 
 
 -- ---- lines and texts
 
--- what the last line leaves over
-abbrev spare : Bool → ℕ
-spare true = 2
-spare false = 0
-
 spare-few : (b : Bool) → spare b ≤ 2
 spare-few true = omega arith
 spare-few false = omega arith
-
--- what is declared and the code of the bodies, within 4 numbers for each bracket and word; these within their ceiling
-pub record Room (k : Declared) (cs : List BodyCode) : Type 0 where
-  pub two : 2 ≤ length (k .env .types)
-  pub within : sizeSymbols (k .env) + sizeBodies cs + spare (k .ended) ≤ 4 * k .nodes
-  pub bounded : k .nodes ≤ 4096
 
 pub room-line : {k : Declared} {cs : List BodyCode} → Room k cs → (l : Line) (p : Declared × List BodyCode) → judgeLine strictly k l ≡ good p → Room (p .0) (cs ++ p .1)
 room-line {k} {cs} R l p h = line-room k l p h λ e s n hp hr hn. rw (← hp) record {

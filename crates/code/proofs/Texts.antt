@@ -18,24 +18,27 @@ use Rattle.law.specs.Verdict.{Read, accepted}
 use Rattle.law.specs.Whole.{fresh, runAll, verdictOf}
 use Rattle.code.specs.ListMachine.{called}
 use Rattle.law_theorems.proofs.TextsAgree.{Paired, empty, more, judged-agree}
-use Rattle.law_theorems.proofs.ValuesInRange.{Sound, Test}
-use Rattle.law_theorems.proofs.LinesKeep.{AllFormed, body as formed, tests, text-keeps}
+use Rattle.law_theorems.proofs.ValuesInRange.{Sound}
+use Rattle.law_theorems.specs.ValuesInRange.{Test}
+use Rattle.law_theorems.proofs.LinesKeep.{text-keeps}
+use Rattle.law_theorems.specs.LinesKeep.{AllFormed, body as formed, tests}
 use Rattle.law_theorems.proofs.BodiesInRange.{store-sound}
 use Rattle.law_theorems.proofs.Programs.{no-procs}
-use Rattle.law_theorems.proofs.StatementsNoted.{Notes, all-n, answer-n}
-use Rattle.law_theorems.proofs.Bodies as Numbered
-use Rattle.law_theorems.proofs.Bodies.{Bodies}
+use Rattle.law_theorems.proofs.StatementsNoted.{all-n, answer-n}
+use Rattle.law_theorems.specs.StatementsNoted.{Notes}
+use Rattle.law_theorems.specs.Bodies as Numbered
+use Rattle.law_theorems.specs.Bodies.{Bodies}
 use Rattle.law_theorems.proofs.CodeSafe.{SafeBody}
-use Rattle.law_theorems.proofs.CodeCalls.{CallsBody}
-use Rattle.law_theorems.proofs.CodeSized.{SizedBody}
-use Rattle.code.proofs.CodeReady.{ReadyBody}
+use Rattle.law_theorems.specs.CodeCalls.{CallsBody}
+use Rattle.law_theorems.specs.CodeSized.{SizedBody}
+use Rattle.code.specs.CodeReady.{ReadyBody}
 use Rattle.law_theorems.proofs.ElaboratedSafe.{body-safe}
 use Rattle.code.proofs.LinesMeasured.{text-measured}
 use Rattle.code.proofs.TextRoom.{text-within, text-room, total-room}
 use Rattle.code.proofs.Measure.{Measure, total}
 use Rattle.code.proofs.MeasurePlaces.{throughPlaces, total-places}
 use Rattle.code.proofs.ForLoops.{forsBodies, ofFors, total-fors}
-use Rattle.code.proofs.LayoutBodies as Held
+use Rattle.code.specs.LayoutBodies as Held
 use Rattle.code.proofs.LayoutBodies.{no-bodies}
 use Rattle.code.proofs.LayoutFits.{all-laid, bodies-fit}
 use Rattle.code.proofs.ListMachineRuns.{bodies-run}

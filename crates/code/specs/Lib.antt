@@ -2,3 +2,10 @@ pub mod Layout
 pub mod LayoutSize
 pub mod Readback
 pub mod ListMachine
+pub mod ForLoops
+pub mod CodeReady
+pub mod TextRoom
+pub mod LinesMeasured
+pub mod LayoutBodies
+pub mod LayoutRegions
+pub mod LayoutActs

@@ -8,12 +8,9 @@ use native.Mathlib.Omega.{arith}
 use lib.ListN.{getD, getElem?, length}
 use Rattle.law.specs.Code.{BodyCode}
 use Rattle.law_theorems.proofs.Inversion.{none-some, some-inj}
+use Rattle.law_theorems.specs.Bodies.{Bodies, body, none}
 
 -- bodies from number k on
-
-pub data Bodies (P : ℕ → BodyCode → Type 0) : ℕ → List BodyCode → Type 0 where
-  none : {k : ℕ} → Bodies P k []
-  body : {k : ℕ} {b : BodyCode} {bs : List BodyCode} → P k b → Bodies P (suc k) bs → Bodies P k (b ∷ bs)
 
 module _ {P : ℕ → BodyCode → Type 0} where
   -- body number k + i

@@ -24,9 +24,11 @@ use Rattle.law.specs.Whole.{filled, fresh, runAll, runBody, verdictOf}
 use Rattle.law_theorems.proofs.Inversion.{some-inj, both-some, and-true, and-both}
 use Rattle.law_theorems.proofs.TextsAgree.{Paired, empty, more, judged-agree}
 use Rattle.law_theorems.proofs.Programs.{calling-all, no-procs}
-use Rattle.law_theorems.proofs.ValuesInRange.{none-some, InInt, Test, any, okBy, Sound, Formed}
+use Rattle.law_theorems.proofs.ValuesInRange.{none-some, okBy, Sound}
+use Rattle.law_theorems.specs.ValuesInRange.{InInt, Test, any, Formed}
 use Rattle.law_theorems.proofs.StoreInRange.{Moved, normally, outOfSteps, byException, Fine, fine, Safely, runs-s, answer-s}
-use Rattle.law_theorems.proofs.LinesKeep.{tests, tests-length, AllFormed, body, text-keeps}
+use Rattle.law_theorems.proofs.LinesKeep.{tests-length, text-keeps}
+use Rattle.law_theorems.specs.LinesKeep.{tests, AllFormed, body}
 
 -- ---- bodies and scripts never stick, and keep each cell in its range
 

@@ -16,7 +16,8 @@ use Rattle.law.specs.Chair.{evalCode, placeCode, runAct, runActs}
 use Rattle.law.specs.Machine.{Procs, Store, procedureAt, sole, stored}
 use Rattle.law.specs.Operators as O
 use Rattle.law.specs.Operators.{Operation, Operation1}
-use Rattle.law_theorems.proofs.ValuesInRange.{InInt, Good, value, failure, Test, Sound}
+use Rattle.law_theorems.proofs.ValuesInRange.{Good, value, failure, Sound}
+use Rattle.law_theorems.specs.ValuesInRange.{InInt, Test}
 use Rattle.law_theorems.proofs.StoreInRange.{Safely, normally, answer-s, then-s}
 use Rattle.law_theorems.proofs.BodiesInRange.{handled-s}
 use Rattle.law_theorems.proofs.Inversion.{and-true}

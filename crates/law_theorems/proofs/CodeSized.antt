@@ -21,80 +21,14 @@ use Rattle.law.specs.Rules.{allPlain, differ, keptArms, keptBody, keptStmt, kep
 use Rattle.law.specs.Script as X
 use Rattle.law.specs.Types.{Field, Types, Var, Vars, fieldOf, infoAt, ordinal?, set?, sizeOf, variable}
 use Rattle.law_theorems.proofs.Inversion.{and-true, some-inj, both-some, bind-some, given-some}
-use Rattle.law_theorems.proofs.ValuesInRange.{InInt, Test, Formed, ends-in, ord-layout}
-use Rattle.law_theorems.proofs.TypeSizes.{SmallTypes, small-size}
-use Rattle.law_theorems.proofs.StatementNumbers.{Number}
+use Rattle.law_theorems.proofs.ValuesInRange.{ends-in, ord-layout}
+use Rattle.law_theorems.specs.ValuesInRange.{InInt, Test, Formed}
+use Rattle.law_theorems.proofs.TypeSizes.{small-size}
+use Rattle.law_theorems.specs.TypeSizes.{SmallTypes}
+use Rattle.law_theorems.specs.StatementNumbers.{Number}
 use Rattle.law_theorems.proofs.ScriptNumbers as Within
 use Rattle.law_theorems.proofs.ScriptNumbers.{Within, WithinAll, WithinArms, WithinBody}
-
--- an ordinal of a set
-pub record InSet (z : ℤ) : Type 0 where
-  pub ok : inside (pos 0) (pos 31) z ≡ true
-
-pub data SizedOperation : Operation1 → Type 0 where
-  intNegate : SizedOperation O.intNegate
-  boolNot : SizedOperation O.boolNot
-  intAbs : SizedOperation O.intAbs
-  intSqr : SizedOperation O.intSqr
-  intOdd : SizedOperation O.intOdd
-  ordinalOf : SizedOperation O.ordinalOf
-  predIn : {lo hi : ℤ} → InInt lo → InInt hi → SizedOperation (O.predIn lo hi)
-  succIn : {lo hi : ℤ} → InInt lo → InInt hi → SizedOperation (O.succIn lo hi)
-  setCard : SizedOperation O.setCard
-  setLeast : SizedOperation O.setLeast
-  setGreatest : SizedOperation O.setGreatest
-
-mutual
-  pub data SizedCode : C.Code → Type 0 where
-    literal : {z : ℤ} → InInt z → SizedCode (C.literal z)
-    load : {p : C.Place} {n : ℕ} → SizedPlace p n → SizedCode (C.load p n)
-    lastNumber : SizedCode C.lastNumber
-    makeSet : {lo hi : ℤ} {cs : C.Codes} → InSet lo → InSet hi → SizedCodes cs → SizedCode (C.makeSet lo hi cs)
-    calculate : {o : Operation} {a b : C.Code} → SizedCode a → SizedCode b → SizedCode (C.calculate o a b)
-    shortCut : {q : Bool} {a b : C.Code} → SizedCode a → SizedCode b → SizedCode (C.shortCut q a b)
-    calculate1 : {o : Operation1} {a : C.Code} → SizedOperation o → SizedCode a → SizedCode (C.calculate1 o a)
-
-  -- a place of n cells: a variable's, those of an array's element, those of a field among the record's s
-  pub data SizedPlace : C.Place → ℕ → Type 0 where
-    cell : {a n : ℕ} → a + n ≤ 2048 → SizedPlace (C.cell a) n
-    index : {p : C.Place} {c : C.Code} {lo hi : ℤ} {s n : ℕ} → SizedPlace p s → SizedCode c → InInt lo → InInt hi → n ≤ 2048 → SizedPlace (C.index p c lo hi n) n
-    shift : {p : C.Place} {s k n : ℕ} → SizedPlace p s → s ≤ 2048 → k + n ≤ s → SizedPlace (C.shift p k) n
-
-  pub data SizedCodes : C.Codes → Type 0 where
-    noCodes : SizedCodes C.noCodes
-    _with_ : {c : C.Code} {cs : C.Codes} → SizedCode c → SizedCodes cs → SizedCodes (C._with_ c cs)
-
-infixr 40 _with_
-pub data SizedLabels : List ℤ → Type 0 where
-  noLabels : SizedLabels []
-  label : {z : ℤ} {zs : List ℤ} → InInt z → SizedLabels zs → SizedLabels (z ∷ zs)
-
-mutual
-  pub data SizedAct : C.Act → Type 0 where
-    assignOrdinal : {n : ℕ} {p : C.Place} {lo hi : ℤ} {c : C.Code} → Number 4096 n → SizedPlace p 1 → InInt lo → InInt hi → SizedCode c → SizedAct (C.assignOrdinal n p lo hi c)
-    assignWhole : {n s : ℕ} {p : C.Place} {c : C.Code} → Number 4096 n → SizedPlace p s → SizedCode c → SizedAct (C.assignWhole n p c)
-    sequence : {n : ℕ} {bs : C.Acts} → Number 4096 n → SizedActs bs → SizedAct (C.sequence n bs)
-    branchOn : {n : ℕ} {c : C.Code} {a b : C.Act} → Number 4096 n → SizedCode c → SizedAct a → SizedAct b → SizedAct (C.branchOn n c a b)
-    whileLoop : {n : ℕ} {c : C.Code} {a : C.Act} → Number 4096 n → SizedCode c → SizedAct a → SizedAct (C.whileLoop n c a)
-    forLoop : {n i : ℕ} {lo hi : ℤ} {x y : C.Code} {a : C.Act} → Number 4096 n → i < 2048 → InInt lo → InInt hi → SizedCode x → SizedCode y → SizedAct a → SizedAct (C.forLoop n i lo hi x y a)
-    caseOf : {n : ℕ} {c : C.Code} {bs : C.Cases} → Number 4096 n → SizedCode c → SizedCases bs → SizedAct (C.caseOf n c bs)
-    callTo : {n p : ℕ} → Number 4096 n → SizedAct (C.callTo n p)
-    raiseWith : {n : ℕ} {c : C.Code} → Number 4096 n → SizedCode c → SizedAct (C.raiseWith n c)
-    noAct : SizedAct C.noAct
-
-  pub data SizedActs : C.Acts → Type 0 where
-    stop : SizedActs C.stop
-    _also_ : {a : C.Act} {bs : C.Acts} → SizedAct a → SizedActs bs → SizedActs (C._also_ a bs)
-
-  pub data SizedCases : C.Cases → Type 0 where
-    elseCase : {a : C.Act} → SizedAct a → SizedCases (C.elseCase a)
-    noCase : SizedCases C.noCase
-    oneCase : {ls : List ℤ} {a : C.Act} {bs : C.Cases} → SizedLabels ls → SizedAct a → SizedCases bs → SizedCases (C.oneCase ls a bs)
-
-infixr 40 _also_
-pub record SizedBody (b : C.BodyCode) : Type 0 where
-  pub acts : SizedActs (b .acts)
-  pub handler : SizedActs (b .handler)
+use Rattle.law_theorems.specs.CodeSized.{InSet, SizedAct, SizedActs, SizedBody, SizedCases, SizedCode, SizedCodes, SizedLabels, SizedOperation, SizedPlace, _also_, _with_, assignOrdinal, assignWhole, boolNot, branchOn, calculate, calculate1, callTo, caseOf, cell, elseCase, forLoop, index, intAbs, intNegate, intOdd, intSqr, label, lastNumber, literal, load, makeSet, noAct, noCase, noCodes, noLabels, oneCase, ordinalOf, predIn, raiseWith, sequence, setCard, setGreatest, setLeast, shift, shortCut, stop, succIn, whileLoop}
 
 -- a place's cells are at most 2,048
 pub place-cells : {p : C.Place} {n : ℕ} → SizedPlace p n → n ≤ 2048

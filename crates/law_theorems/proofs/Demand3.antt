@@ -13,7 +13,7 @@ use Rattle.law.specs.Demands as Demands
 use Rattle.law.specs.Demands.{faultIn}
 use Rattle.law_theorems.proofs.TextsAgree as Texts
 use Rattle.law_theorems.proofs.StoreInRange.{Fine}
-use Rattle.law_theorems.proofs.LinesKeep.{tests}
+use Rattle.law_theorems.specs.LinesKeep.{tests}
 use Rattle.law_theorems.proofs.BodiesInRange.{store-passes, store-sound, sound-store, text-safely}
 use Rattle.law_theorems.proofs.Reports.{ended, moved-on, at-most, all-spent, next-taken, same-report, spent-report, goes-on}
 

@@ -17,7 +17,8 @@ use Rattle.law.specs.Operators.{Fun, Op, Operation, Operation1, Rule, Rule1, ab
 use Rattle.law.specs.Elaborate.{Elaborated, Located, elabArms, elabBody, elabExpr, elabMembers, elabStmt, elabStmts, elabTarget, elaborated, expects}
 use Rattle.law.specs.Script.{Arms, Body, Expr, Exprs, Stmt, Stmts, Target, _and_, _next_, arm, assign, at, begin, binary, call, case, const, done, dot, elseArm, endOf, errorNumber, for, ifElse, members, nil, noElse, raise, read, shortCircuit, skip, unary, var, while}
 use Rattle.law.specs.Types.{Shape, Types, Var, Vars, variable, array?, arrayShape, baseOf, cellsBy, cellsOf, hostBy, hostOf, sizeOf, infoAt, isOrdinal, isSet, ordinal?, ordinalShape, recordShape, setShape, set?}
-use Rattle.law_theorems.proofs.ValuesInRange.{wrong, Test, Formed, Value-of, inside-wide, set-value, own-host, ord-layout, weaken, good-e, good-t, Here, stored-all, no-ordinal}
+use Rattle.law_theorems.proofs.ValuesInRange.{wrong, Value-of, inside-wide, set-value, own-host, ord-layout, weaken, good-e, good-t, stored-all, no-ordinal}
+use Rattle.law_theorems.specs.ValuesInRange.{Test, Formed, Here}
 use Rattle.law_theorems.proofs.StoreInRange.{cell-fits, run-s}
 use Rattle.law_theorems.proofs.CodeSafe.{Kind, ordinals, sets, integers, booleans, Works, intAdd, intSub, intMul, intPower, intDiv, intMod, setUnion, setDifference, setIntersection, numEqual, numUnequal, numLess, numAtMost, numGreater, numAtLeast, setWithin, setHolds, memberOf, boolAnd, boolOr, Works1, intNegate, boolNot, intAbs, intSqr, intOdd, ordinalOf, predIn, succIn, setCard, setLeast, setGreatest, Has, ordinal, set, Gives, Reaches, Leaves, Controls, SafeCode, literal, load, lastNumber, makeSet, calculate, shortCut, calculate1, SafePlace, cell, index, shift, SafeCodes, noCodes, _with_, SafeAct, assignOrdinal, assignSet, copyCells, sequence, branchOn, whileLoop, forLoop, caseOf, callTo, raiseWith, noAct, SafeActs, stop, _also_, SafeCases, elseCase, noCase, oneCase, SafeBody}
 use Rattle.law_theorems.proofs.Inversion.{and-true, some-inj, both-some, bind-some, given-some, either-some}

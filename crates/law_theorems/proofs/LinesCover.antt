@@ -25,28 +25,13 @@ use Rattle.law.specs.Whole.{verdictOf}
 use Rattle.law_theorems.proofs.TextsAgree.{accepted-inj, onward-is, opening-is, line-good}
 use Rattle.law_theorems.proofs.Inversion.{some-inj, bind-some, given-some, and-true}
 use Rattle.law_theorems.proofs.ValuesInRange.{wrong, none-some}
-use Rattle.law_theorems.proofs.TypeTables.{All, Valid, old, new}
-use Rattle.law_theorems.proofs.LinesKeep.{Extends, declared-more, same-cells, decl-valid, Keeps, keeps-start, line-keeps}
+use Rattle.law_theorems.proofs.TypeTables.{Valid, old, new}
+use Rattle.law_theorems.specs.TypeTables.{All}
+use Rattle.law_theorems.proofs.LinesKeep.{declared-more, same-cells, decl-valid, keeps-start, line-keeps}
+use Rattle.law_theorems.specs.LinesKeep.{Extends, Keeps}
+use Rattle.law_theorems.specs.LinesCover.{Built, BuiltTypes, Covered, Owns, owns-none, owns-proc, owns-type, owns-value, owns-var}
 
 -- ---- types
-
--- an array's cells
-pub record Copied (Γ : Types) (t : ℕ) (j : TypeInfo) : Type 0 where
-  pub count : ℕ
-  pub cells-are : j .cells ≡ copies count (cellsOf Γ (j .element))
-  pub earlier : j .element < t
-
--- a record's cells and fields
-pub record Joined (Γ : Types) (t : ℕ) (j : TypeInfo) : Type 0 where
-  pub parts : List (Name × ℕ)
-  pub cells-are : j .cells ≡ fieldCells Γ parts
-  pub fields-are : j .fields ≡ layFields Γ 0 parts
-  pub earlier : All (λ u. u < t) parts
-
--- entry t of a table; it uses only types of smaller numbers
-pub record Built (Γ : Types) (t : ℕ) (j : TypeInfo) : Type 0 where
-  pub array : isArray (j .shape) ≡ true → Copied Γ t j
-  pub fielded : isRecord (j .shape) ≡ true → Joined Γ t j
 
 all-below : (t n : ℕ) (fs : List (Name × ℕ)) → t ≤ n → All (λ u. u < t) fs → All (λ u. u < n) fs
 all-below t n [] h a = tt
@@ -82,9 +67,6 @@ built-none : (Γ : Types) (t : ℕ) → Built Γ t undeclared
 unfolding fieldCells layFields
 built-none Γ t = record { array = λ p. wrong p; fielded = λ p. record { parts = []; cells-are = refl; fields-are = refl; earlier = tt } }
 
-abbrev pub BuiltTypes : Types → Type 0
-BuiltTypes Γ = (t : ℕ) → Built Γ t (infoAt Γ t)
-
 -- one entry more
 built-last : (Γ : Types) (i : TypeInfo) → Extends Γ (Γ ++ (i ∷ [])) → BuiltTypes Γ → Built Γ (length Γ) i → BuiltTypes (Γ ++ (i ∷ []))
 built-last Γ i x B b t = go (decLt t (length Γ)) (ℕ-discrete t (length Γ))
@@ -111,14 +93,6 @@ built-declared Γ (recordOf fs) v x B = built-last Γ _ x B (record { array = λ
 built-declared Γ (setOf b) v x B = built-last Γ _ x B (record { array = λ p. wrong p; fielded = λ p. wrong p })
 
 -- ---- cells: the names, the newest first, own the first so many cells; os holds each cell's variable
-
-pub data Owns (Γ : Types) (Δ : Vars) (os : List Name) : List (Name × NameSort) → ℕ → Type 0 where
-  owns-none : Owns Γ Δ os [] 0
-  owns-type : {w : Name} {t n : ℕ} {ns : List (Name × NameSort)} → Owns Γ Δ os ns n → Owns Γ Δ os ((w, aType t) ∷ ns) n
-  owns-proc : {w : Name} {q n : ℕ} {ns : List (Name × NameSort)} → Owns Γ Δ os ns n → Owns Γ Δ os ((w, aProc q) ∷ ns) n
-  owns-value : {w : Name} {c : Const} {n : ℕ} {ns : List (Name × NameSort)} → Owns Γ Δ os ns n → Owns Γ Δ os ((w, aValue c) ∷ ns) n
-  owns-var : {w : Name} {i n m : ℕ} {ns : List (Name × NameSort)} (v : Var) → variable Δ i ≡ some v → v .base ≡ n → m ≡ n + sizeOf Γ (v .type)
-      → ((j : ℕ) → j < sizeOf Γ (v .type) → getD os (n + j) [] ≡ w) → Owns Γ Δ os ns n → Owns Γ Δ os ((w, aVar i) ∷ ns) m
 
 -- more types
 owns-types : {Γ Γ′ : Types} {Δ : Vars} {os : List Name} {ns : List (Name × NameSort)} {n : ℕ} → Extends Γ Γ′
@@ -171,11 +145,6 @@ replicate-get (suc n) zero w d h = refl
 replicate-get (suc n) (suc j) w d h = replicate-get n j w d (omega arith)
 
 -- ---- what the lines keep
-
-pub record Covered (k : Declared) : Type 0 where
-  pub built : BuiltTypes (k .env .types)
-  pub owned : Owns (k .env .types) (k .env .vars) (k .owners) (k .env .names) (length (k .cells))
-  pub as-many : length (k .owners) ≡ length (k .cells)
 
 pub covered-start : Covered nothingDeclared
 covered-start = record { built = built-start; owned = owns-none; as-many = refl }

@@ -34,14 +34,13 @@ use Rattle.law_theorems.proofs.TextsAgree.{accepted-inj, onward-is, ope
 use Rattle.law_theorems.proofs.Inversion.{some-inj, bind-some, given-some, and-true}
 use borrow.Author.Tests.{le-leb, leb-true}
 use Rattle.law_theorems.proofs.Inversion.{and-both}
-use Rattle.law_theorems.proofs.ValuesInRange.{none-some, Test, any, Here, Formed}
-use Rattle.law_theorems.proofs.TypeTables.{All, AllIn, empty, more, all-append, all-more, all-get, Table, Valid, declared as table-declared, started, Laid, formed, old, new}
+use Rattle.law_theorems.proofs.ValuesInRange.{none-some}
+use Rattle.law_theorems.specs.ValuesInRange.{Test, any, Here, Formed}
+use Rattle.law_theorems.proofs.TypeTables.{all-append, all-more, all-get, Valid, declared as table-declared, started, formed, old, new}
+use Rattle.law_theorems.specs.TypeTables.{All, AllIn, empty, more, Table, Laid}
+use Rattle.law_theorems.specs.LinesKeep.{AllFair, AllFormed, Extends, Fair, Keeps, body, name, no-bodies, no-names, proc, tests, type, value, var}
 
 -- ---- the tests of cells of given types
-
-unfoldable pub tests : Types → List ℕ → List Test
-tests Γ [] = []
-tests Γ (t ∷ ts) = (λ z. cellFits Γ t z) ∷ tests Γ ts
 
 pub tests-length : (Γ : Types) (ts : List ℕ) → length (tests Γ ts) ≡ length ts
 unfolding tests
@@ -92,10 +91,6 @@ formed-more ys f = record {
 
 -- ---- a table that has another's entries
 
-pub record Extends (Γ Γ′ : Types) : Type 0 where
-  pub keeps : (t : ℕ) → t < length Γ → infoAt Γ′ t ≡ infoAt Γ t
-  pub longer : length Γ ≤ length Γ′
-
 one-more : (Γ : Types) (i : TypeInfo) → Extends Γ (Γ ++ (i ∷ []))
 one-more Γ i = record { keeps = old Γ i; longer = rw length-append (omega arith) }
 
@@ -124,16 +119,6 @@ module _ {Γ Γ′ : Types} (x : Extends Γ Γ′) where
   here-same {ts} k h = record { short = h .short; each = λ j l z. h .each j l z ∙ sym (same-fits (getD ts j 0) (all-get k j l) z) }
 
 -- ---- names that lead into the table, or to one of k bodies
-
-pub data Fair (Γ : Types) (k : ℕ) : NameSort → Type 0 where
-  type : {t : ℕ} → t < length Γ → Fair Γ k (aType t)
-  var : {i : ℕ} → Fair Γ k (aVar i)
-  proc : {p : ℕ} → p < k → Fair Γ k (aProc p)
-  value : {c : Const} → c .kind < length Γ → inKind Γ c ≡ true → Fair Γ k (aValue c)
-
-pub data AllFair (Γ : Types) (k : ℕ) : List (Name × NameSort) → Type 0 where
-  no-names : AllFair Γ k []
-  name : {w : Name} {m : NameSort} {ns : List (Name × NameSort)} → Fair Γ k m → AllFair Γ k ns → AllFair Γ k ((w, m) ∷ ns)
 
 fair-append : {Γ : Types} {k : ℕ} {xs ys : List (Name × NameSort)} → AllFair Γ k xs → AllFair Γ k ys → AllFair Γ k (xs ++ ys)
 fair-append no-names b = b
@@ -275,10 +260,6 @@ decl-fair σ 𝓣 ns w (Syntax.setOf b) d h = bind-some h λ x hx q. given-some 
 
 -- ---- what the lines keep
 
-pub data AllFormed (xs : List Test) : List PlacedBody → Type 0 where
-  no-bodies : AllFormed xs []
-  body : {b : PlacedBody} {bs : List PlacedBody} → Formed (b .types) (b .vars) xs → AllFormed xs bs → AllFormed xs (b ∷ bs)
-
 bodies-more : {xs : List Test} {bs : List PlacedBody} (ys : List Test) → AllFormed xs bs → AllFormed (xs ++ ys) bs
 bodies-more ys no-bodies = no-bodies
 bodies-more ys (body f a) = body (formed-more ys f) (bodies-more ys a)
@@ -286,14 +267,6 @@ bodies-more ys (body f a) = body (formed-more ys f) (bodies-more ys a)
 bodies-last : {xs : List Test} {bs : List PlacedBody} (b : PlacedBody) → Formed (b .types) (b .vars) xs → AllFormed xs bs → AllFormed xs (bs ++ (b ∷ []))
 bodies-last b f no-bodies = body f no-bodies
 bodies-last b f (body g a) = body g (bodies-last b f a)
-
-pub record Keeps (k : Declared) : Type 0 where
-  pub table : Table (k .env .types)
-  pub laid : Laid (k .env .types) (k .env .vars) (tests (k .env .types) (k .cells))
-  pub cells : AllIn (length (k .env .types)) (k .cells)
-  pub typed : (i : ℕ) (v : Var) → variable (k .env .vars) i ≡ some v → v .type < length (k .env .types)
-  pub names : AllFair (k .env .types) (length (k .bodies)) (k .env .names)
-  pub bodies : AllFormed (tests (k .env .types) (k .cells)) (k .bodies)
 
 pub keeps-formed : (k : Declared) → Keeps k → Formed (k .env .types) (k .env .vars) (tests (k .env .types) (k .cells))
 keeps-formed k h = formed (k .env .types) (k .env .vars) (tests (k .env .types) (k .cells)) (h .table) (h .laid)

@@ -9,9 +9,11 @@ use Rattle.law.specs.Names.{armsOf, bodyOf, stmtOf, stmtsOf}
 use Rattle.law.specs.Script as X
 use Rattle.law.specs.Syntax as S
 use Rattle.law_theorems.proofs.Inversion.{some-inj, bind-some}
-use Rattle.law_theorems.proofs.LinesKeep.{AllFair, proc-in}
+use Rattle.law_theorems.proofs.LinesKeep.{proc-in}
+use Rattle.law_theorems.specs.LinesKeep.{AllFair}
 use Rattle.law_theorems.proofs.StatementNumbers as Counted
-use Rattle.law_theorems.proofs.StatementNumbers.{Number, Counted, CountedAll, CountedArms, CountedBody}
+use Rattle.law_theorems.proofs.StatementNumbers.{Counted, CountedAll, CountedArms, CountedBody}
+use Rattle.law_theorems.specs.StatementNumbers.{Number}
 
 mutual
   pub data Within (l k : ℕ) : X.Stmt → Type 0 where

@@ -13,12 +13,9 @@ use Rattle.law.specs.Words.{Word}
 use Rattle.law_theorems.proofs.Inversion.{none-some, some-inj, bind-some, given-some}
 use Rattle.law_theorems.proofs.TreeDepth.{Shallow, Shallows, first, rest, ending-shallow, handler-shallow, headed-shallow, one-shallow, two-shallow}
 use Rattle.law_theorems.proofs.Depths.{DeepE, DeepT, expr-deep, target-deep}
+use Rattle.law_theorems.specs.StatementNumbers.{Number}
 
 -- ---- every statement number is from 1 to l; expressions are at most 32 brackets deep
-
-pub record Number (l n : ℕ) : Type 0 where
-  pub from : 1 ≤ n
-  pub to : n ≤ l
 
 mutual
   pub data Counted (l : ℕ) : S.Stmt → Type 0 where

@@ -10,16 +10,13 @@ use Rattle.law.specs.Code as C
 use Rattle.law.specs.Code.{BodyCode}
 use Rattle.law.specs.Machine.{Answer, Outcome, Plan, Procs, State, andThen, answer, branch, caught, continued, countUp, forRounds, handled, noRound, normal, opened, outside, passOn, planned, procedureAt, raiseNumber, raised, raising, rounds, setControl, sole, spent, state, step, stepIf, sticks, storeOrdinal, storeWhole, whileRounds, withResult}
 use Rattle.law.specs.Whole.{runAll, runBody}
-use Rattle.law_theorems.proofs.Bodies as Numbered
-use Rattle.law_theorems.proofs.Bodies.{Bodies}
-use Rattle.law_theorems.proofs.CodeSized as Sized
-use Rattle.law_theorems.proofs.CodeSized.{SizedAct, SizedActs, SizedBody, SizedCases}
+use Rattle.law_theorems.specs.Bodies as Numbered
+use Rattle.law_theorems.specs.Bodies.{Bodies}
+use Rattle.law_theorems.specs.CodeSized as Sized
+use Rattle.law_theorems.specs.CodeSized.{SizedAct, SizedActs, SizedBody, SizedCases}
 use Rattle.law_theorems.proofs.Programs.{calling-all}
-use Rattle.law_theorems.proofs.StatementNumbers.{Number}
-
--- the statement that is noted stays at most 4,096
-pub record Notes (f : State → Answer) : Type 0 where
-  pub at : (s : State) → s .store .place ≤ 4096 → f s .state .store .place ≤ 4096
+use Rattle.law_theorems.specs.StatementNumbers.{Number}
+use Rattle.law_theorems.specs.StatementsNoted.{Notes}
 
 pub answer-n : (o : Outcome) → Notes (answer o)
 answer-n o = record { at = λ s g. g }

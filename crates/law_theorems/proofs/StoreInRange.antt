@@ -19,7 +19,8 @@ use Rattle.law.specs.Script.{Arms, Expr, Stmt, Stmts, _next_, arm, assign, begi
 use Rattle.law.specs.Types.{Types, Vars, cellsOf, hostOf, infoAt, ordinal?}
 use Rattle.law_theorems.proofs.Inversion.{and-true, some-inj, both-some, bind-some, given-some}
 use Rattle.law_theorems.proofs.Spans.{span-inside}
-use Rattle.law_theorems.proofs.ValuesInRange.{InInt, e-range, int-value, Good, value, failure, Test, Here, Formed, Sound, Fits, Value-of, good-e, good-t, stored-all, fits-cons, fits-none, ord-layout, own-host}
+use Rattle.law_theorems.proofs.ValuesInRange.{e-range, int-value, Good, value, failure, Sound, Fits, Value-of, good-e, good-t, stored-all, fits-cons, fits-none, ord-layout, own-host}
+use Rattle.law_theorems.specs.ValuesInRange.{InInt, Test, Here, Formed}
 
 e-system : InInt systemError
 unfolding inside

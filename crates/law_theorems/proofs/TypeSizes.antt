@@ -18,16 +18,9 @@ use Rattle.law.specs.Rules.{keptDecl, plain}
 use Rattle.law.specs.Script.{Decl, alias, arrayOf, enum, range, recordOf, setOf}
 use Rattle.law.specs.Types.{Shape, TypeInfo, Types, arrayShape, cellsBy, cellsOf, infoAt, isSet, ordinalShape, recordShape, setShape, sizeOf, undeclared}
 use Rattle.law_theorems.proofs.Inversion.{and-true}
-use Rattle.law_theorems.proofs.ValuesInRange.{wrong, InInt, int-pos}
-
-pub record Small (j : TypeInfo) : Type 0 where
-  pub low : InInt (j .low)
-  pub high : InInt (j .high)
-  pub base : isSet (j .shape) ≡ true → (leZ (pos 0) (j .low) ≡ true) × (leZ (j .high) (pos 31) ≡ true)
-  pub cells : length (j .cells) ≤ 2048
-
-abbrev pub SmallTypes : Types → Type 0
-SmallTypes Γ = (t : ℕ) → Small (infoAt Γ t)
+use Rattle.law_theorems.proofs.ValuesInRange.{wrong, int-pos}
+use Rattle.law_theorems.specs.ValuesInRange.{InInt}
+use Rattle.law_theorems.specs.TypeSizes.{Small, SmallTypes}
 
 small-none : Small undeclared
 small-none = record { low = int-pos 0 (omega arith); high = int-pos 0 (omega arith); base = λ h. wrong h; cells = omega arith }

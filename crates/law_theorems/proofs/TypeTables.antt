@@ -21,17 +21,10 @@ use Rattle.law.specs.Types.{Field, Shape, TypeInfo, Types, Var, Vars, arrayShap
 use Rattle.law_theorems.proofs.Spans.{inside-span}
 use Rattle.leaf_integers.proofs.Order.{leZ-refl}
 use borrow.Author.Tests.{le-leb}
-use Rattle.law_theorems.proofs.ValuesInRange.{wrong, At, at-trans, Test, Here, Formed, none-some}
+use Rattle.law_theorems.proofs.ValuesInRange.{wrong, at-trans, none-some}
+use Rattle.law_theorems.specs.ValuesInRange.{At, Test, Here, Formed}
 use Rattle.law_theorems.proofs.Inversion.{some-inj}
-
-abbrev pub All : (ℕ → Type 0) → List (Name × ℕ) → Type 0
-All P [] = Unit {0}
-All P (f ∷ fs) = P (f .1) × All P fs
-
--- types that a table of n entries has
-pub data AllIn (n : ℕ) : List ℕ → Type 0 where
-  empty : AllIn n []
-  more : {t : ℕ} {ts : List ℕ} → t < n → AllIn n ts → AllIn n (t ∷ ts)
+use Rattle.law_theorems.specs.TypeTables.{All, AllIn, Laid, Sane, Table, empty, more}
 
 pub all-append : {n : ℕ} {xs ys : List ℕ} → AllIn n xs → AllIn n ys → AllIn n (xs ++ ys)
 all-append empty b = b
@@ -101,29 +94,6 @@ placed-type P Γ (g ∷ fs) a n f h ps = go (same (g .0) n) refl (λ k. placed-t
     go false e k = k (rw (e, fieldOf) at h)
 
 -- ---- what holds of each entry of a table; references lead to types of the table
-
-pub record Sane (Γ : Types) (t : ℕ) (j : TypeInfo) : Type 0 where
-  pub element : isArray (j .shape) ≡ true → j .element < length Γ
-  pub index : isArray (j .shape) ≡ true → (j .index < length Γ) × (ordinal? Γ (j .index) ≡ true)
-  pub base : isSet (j .shape) ≡ true → (j .element < length Γ) × (ordinal? Γ (j .element) ≡ true)
-  pub host : isOrdinal (j .shape) ≡ true → (j .host < length Γ) × (ordinal? Γ (j .host) ≡ true)
-  pub bounds : isSet (j .shape) ≡ true → (j .low ≡ infoAt Γ (j .element) .low) × (j .high ≡ infoAt Γ (j .element) .high)
-  pub lowest : isSet (j .shape) ≡ true → leZ (pos 0) (j .low) ≡ true
-  pub wider : isOrdinal (j .shape) ≡ true → (leZ (infoAt Γ (j .host) .low) (j .low) ≡ true) × (leZ (j .high) (infoAt Γ (j .host) .high) ≡ true)
-  pub small : isOrdinal (j .shape) ≡ true → (leZ least (j .low) ≡ true) × (leZ (j .high) most ≡ true)
-  pub filled : isOrdinal (j .shape) ≡ true → leZ (j .low) (j .high) ≡ true
-  pub nonempty : isArray (j .shape) ≡ true → leZ (j .low) (j .high) ≡ true
-  pub inner : t < length Γ → AllIn (length Γ) (cellsBy (j .shape) t (j .cells))
-  pub fieldTypes : (n : Name) (f : Field) → fieldOf (j .fields) n ≡ some f → f .type < length Γ
-  pub elements : isArray (j .shape) ≡ true → (z : ℤ) → inside (j .low) (j .high) z ≡ true
-      → At (cellsBy (j .shape) t (j .cells)) (natOf (z -ℤ j .low) * sizeOf Γ (j .element)) (cellsOf Γ (j .element))
-  pub places : (n : Name) (f : Field) → fieldOf (j .fields) n ≡ some f → At (cellsBy (j .shape) t (j .cells)) (f .offset) (cellsOf Γ (f .type))
-
-pub record Table (Γ : Types) : Type 0 where
-  pub each : (t : ℕ) → Sane Γ t (infoAt Γ t)
-  pub integers : (ordinal? Γ 0 ≡ true) × (infoAt Γ 0 .low ≡ least) × (infoAt Γ 0 .high ≡ most)
-  pub booleans : (ordinal? Γ 1 ≡ true) × (infoAt Γ 1 .low ≡ pos 0) × (infoAt Γ 1 .high ≡ pos 1)
-  pub two : 2 ≤ length Γ
 
 no-field : {X : Type 0} (n : Name) (f : Field) → fieldOf [] n ≡ some f → X
 unfolding fieldOf
@@ -332,9 +302,6 @@ started = record { each = go; integers = (refl, refl, refl); booleans = (refl, r
     go (suc (suc t)) = none-entry builtIn (suc (suc t))
 
 -- ---- variables: each takes the next cells
-
-pub record Laid (Γ : Types) (Δ : Vars) (tests : List Test) : Type 0 where
-  pub found : (i : ℕ) (v : Var) → variable Δ i ≡ some v → Here Γ tests (v .base) (cellsOf Γ (v .type))
 
 -- ---- a table and its variables are formed
 

@@ -42,6 +42,7 @@ use Rattle.law.specs.Types.{Field, Shape, Types, Var, Vars, array?, arrayShape,
 use borrow.Author.Tests.{le-leb}
 use Rattle.leaf_integers.proofs.Order.{leZ-trans}
 use Rattle.law_theorems.proofs.Inversion.{and-both, and-true, some-inj, both-some, bind-some, given-some, either-some}
+use Rattle.law_theorems.specs.ValuesInRange.{At, Formed, Here, InInt, Test, any}
 
 pub none-some : {A : Type 0} {a : A} → O.none ≡ some a → ⊥
 none-some {a} h = let z : _≡_ {A = ℕ} 0 1 = cc in omega arith
@@ -57,10 +58,6 @@ no-ordinal arrayShape h = refl
 no-ordinal recordShape h = refl
 
 -- ---- a value with a property, or an exception: never stuck
-
--- an integer of the language
-pub record InInt (z : ℤ) : Type 0 where
-  pub ok : inside least most z ≡ true
 
 -- the numbers of the exceptions are
 e-numeric : InInt numericError
@@ -166,27 +163,11 @@ joined-lies lo hi z s i h = with-lies lo hi s h z i
 
 -- ---- lists of cells: ys stands in xs from a on
 
-pub record At (xs : List ℕ) (a : ℕ) (ys : List ℕ) : Type 0 where
-  pub short : a + length ys ≤ length xs
-  pub each : (j : ℕ) → j < length ys → getD xs (a + j) 0 ≡ getD ys j 0
-
 pub at-trans : {xs ys zs : List ℕ} {a b : ℕ} → At xs a ys → At ys b zs → At xs (a + b) zs
 at-trans {a} {b} h g = record {
   short = omega (arith, h .short, g .short);
   each = λ j l. rw add-assoc (h .each (b + j) (omega (arith, g .short)) ∙ g .each j l);
 }
-
--- the tests of a store's cells: what a defined one may hold. Bodies of different lines share them, though their tables differ
-abbrev pub Test : Type 0
-Test = ℤ → Bool
-
-abbrev pub any : Test
-any z = true
-
--- cells of the types ts stand among the tests from a on
-pub record Here (Γ : Types) (tests : List Test) (a : ℕ) (ts : List ℕ) : Type 0 where
-  pub short : a + length ts ≤ length tests
-  pub each : (j : ℕ) → j < length ts → (z : ℤ) → getD tests (a + j) any z ≡ cellFits Γ (getD ts j 0) z
 
 pub here-trans : {Γ : Types} {tests : List Test} {ys zs : List ℕ} {a b : ℕ} → Here Γ tests a ys → At ys b zs → Here Γ tests (a + b) zs
 here-trans {Γ} {a} {b} h g = record {
@@ -203,24 +184,6 @@ pub record Sound (tests : List Test) (m : Store) : Type 0 where
   pub enough : length tests ≤ length (m .values)
   pub each : (i : ℕ) → okBy (getD tests i any) (getD (m .values) i (pos 0)) (getD (m .marks) i 0) ≡ true
   pub number : InInt (m .latest)
-
--- what is asked of the tables; proved once, where they are built
-pub record Formed (Γ : Types) (Δ : Vars) (tests : List Test) : Type 0 where
-  pub vars : (i : ℕ) (v : Var) → variable Δ i ≡ some v → Here Γ tests (v .base) (cellsOf Γ (v .type))
-  pub elements : (t : ℕ) → array? Γ t ≡ true → (z : ℤ) → inside (infoAt Γ t .low) (infoAt Γ t .high) z ≡ true
-      → At (cellsOf Γ t) (natOf (z -ℤ infoAt Γ t .low) * sizeOf Γ (infoAt Γ t .element)) (cellsOf Γ (infoAt Γ t .element))
-  pub indexes : (t : ℕ) → array? Γ t ≡ true → ordinal? Γ (infoAt Γ t .index) ≡ true
-  pub fields : (t : ℕ) (n : Name) (f : Field) → fieldOf (infoAt Γ t .fields) n ≡ some f → At (cellsOf Γ t) (f .offset) (cellsOf Γ (f .type))
-  pub hosts : (t : ℕ) → ordinal? Γ t ≡ true → ordinal? Γ (hostOf Γ t) ≡ true
-  pub wider : (t : ℕ) → ordinal? Γ t ≡ true → (leZ (infoAt Γ (hostOf Γ t) .low) (infoAt Γ t .low) ≡ true) × (leZ (infoAt Γ t .high) (infoAt Γ (hostOf Γ t) .high) ≡ true)
-  pub small : (t : ℕ) → ordinal? Γ t ≡ true → (leZ least (infoAt Γ t .low) ≡ true) × (leZ (infoAt Γ t .high) most ≡ true)
-  pub filled : (t : ℕ) → ordinal? Γ t ≡ true → leZ (infoAt Γ t .low) (infoAt Γ t .high) ≡ true
-  pub nonempty : (t : ℕ) → array? Γ t ≡ true → leZ (infoAt Γ t .low) (infoAt Γ t .high) ≡ true
-  pub integers : (ordinal? Γ 0 ≡ true) × (infoAt Γ 0 .low ≡ least) × (infoAt Γ 0 .high ≡ most)
-  pub booleans : (ordinal? Γ 1 ≡ true) × (infoAt Γ 1 .low ≡ pos 0) × (infoAt Γ 1 .high ≡ pos 1)
-  pub bases : (t : ℕ) → set? Γ t ≡ true → ordinal? Γ (infoAt Γ t .element) ≡ true
-  pub bounds : (t : ℕ) → set? Γ t ≡ true → (infoAt Γ t .low ≡ infoAt Γ (infoAt Γ t .element) .low) × (infoAt Γ t .high ≡ infoAt Γ (infoAt Γ t .element) .high)
-  pub lowest : (t : ℕ) → set? Γ t ≡ true → leZ (pos 0) (infoAt Γ t .low) ≡ true
 
 -- what the sorts say
 pub ord-layout : (s : Shape) (t : ℕ) (cs : List ℕ) → isOrdinal s ≡ true → cellsBy s t cs ≡ t ∷ []

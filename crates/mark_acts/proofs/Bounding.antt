@@ -49,7 +49,8 @@ use Rattle.table_scope.proofs.Telling.{meant, host-in}
 use Rattle.mark_values.specs.declared.values.Carried.{Carried}
 use Rattle.mark_values.specs.declared.places.Reached.{Reached}
 use Rattle.mark_values.specs.Values.{Carries, Reaches, Known}
-use Rattle.mark_values.proofs.Carrying.{Broken, by-stuck, broken-bind, carried-broken, carried-value}
+use Rattle.mark_values.proofs.Carrying.{broken-bind, carried-broken, carried-value}
+use Rattle.mark_values.specs.Carrying.{Broken, by-stuck}
 use Rattle.mark_values.proofs.Settling.{low-signed, high-signed, ordinal-yes, ordinal-no}
 use Rattle.mark_expressions.specs.Marks.{MarksExpr, MarksTarget}
 use Rattle.mark_acts.specs.declared.bounds.Span.{Span}

@@ -22,7 +22,7 @@ use Rattle.mark_steps.specs.Ends.{leftIn, toldBy, faultIn, Raises}
 use Rattle.mark_steps.specs.Stands.{Stands, Ends}
 use Rattle.mark_cells.proofs.Ending.{left-most, left-of, raised-fewer, raised-low, normal-ends, raising-ends}
 use Rattle.mark_values.specs.Values.{MarkRanged}
-use Rattle.mark_values.proofs.Carrying.{Broken, by-fault, by-stuck}
+use Rattle.mark_values.specs.Carrying.{Broken, by-fault, by-stuck}
 use Rattle.mark_acts.specs.Ends.{markTold, stuckWord, MarkEnds, Halts}
 
 -- ---- the word where it sticks

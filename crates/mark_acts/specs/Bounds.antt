@@ -19,7 +19,7 @@ use Rattle.text_heads.specs.Parts.{rest, exprIn, nameIn}
 use Rattle.mark_values.specs.declared.values.Carried.{Carried}
 use Rattle.mark_values.specs.declared.places.Reached.{Reached}
 use Rattle.mark_values.specs.Values.{Carries, Reaches, Known}
-use Rattle.mark_values.proofs.Carrying.{Broken}
+use Rattle.mark_values.specs.Carrying.{Broken}
 use Rattle.mark_acts.specs.declared.bounds.Span.{Span}
 use Rattle.mark_acts.specs.declared.bounds.Span.the-variants as span
 use Rattle.table_scope.specs.declared.Scope.{Scope}

@@ -36,7 +36,8 @@ use Rattle.rule_expressions.specs.Members.{many}
 use Rattle.mark_values.specs.declared.values.Carried.{Carried}
 use Rattle.mark_values.specs.Values.{MarkMeans, Known}
 use Rattle.mark_values.specs.Steps.{admitted, Admits}
-use Rattle.mark_values.proofs.Carrying.{Broken, broken-bind, broken-means, view-broken, view-value, means-value}
+use Rattle.mark_values.proofs.Carrying.{broken-bind, broken-means, view-broken, view-value, means-value}
+use Rattle.mark_values.specs.Carrying.{Broken}
 use Rattle.mark_expressions.specs.Marks.{MarksExpr, MarksMembers}
 use Rattle.mark_expressions.proofs.Inverting.{past-expr}
 use Rattle.table_scope.specs.declared.Scope.{Scope}

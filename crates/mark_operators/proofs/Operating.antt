@@ -41,7 +41,8 @@ use Rattle.table_scope.proofs.Telling.{kinded, side-in, low-told, high-told}
 use Rattle.mark_values.specs.declared.values.Carried.{Carried}
 use Rattle.mark_values.specs.Values.{carriedOf, MarkRanged, MarkMeans, simple?, Carries}
 use Rattle.mark_values.specs.Steps.{Wants}
-use Rattle.mark_values.proofs.Carrying.{is-inj, broken-bind, carries-broken, by-fault, by-stuck, view-broken, view-value, means-marks, carries-value, carries-cell, carries-one, carries-stuck, carried-broken, carried-value}
+use Rattle.mark_values.proofs.Carrying.{is-inj, broken-bind, carries-broken, view-broken, view-value, means-marks, carries-value, carries-cell, carries-one, carries-stuck, carried-broken, carried-value}
+use Rattle.mark_values.specs.Carrying.{by-fault, by-stuck}
 use Rattle.mark_values.proofs.Ruling.{operation-back, rule-simple, Comes, plainly, by-pred, by-succ, rule-comes}
 use Rattle.mark_operators.specs.Operations.{ruledWord, nodeWord, ruledWord1, operated, applied, Operates, Applies, Shorts}
 

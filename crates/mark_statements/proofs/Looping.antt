@@ -32,7 +32,7 @@ use Rattle.mark_steps.specs.Turns.{Increments}
 use Rattle.mark_cells.specs.Cells.{Puts}
 use Rattle.mark_cells.proofs.Ending.{left-most, left-of, raised-fewer, step-spent, step-taken, step-fewer, step-stands}
 use Rattle.mark_cells.proofs.Stored.{put-stands}
-use Rattle.mark_values.proofs.Carrying.{Broken}
+use Rattle.mark_values.specs.Carrying.{Broken}
 use Rattle.mark_acts.specs.declared.bounds.Span.{Span}
 use Rattle.mark_acts.specs.declared.bounds.Span.the-variants as span
 use Rattle.mark_acts.specs.Acts.{Conditions}

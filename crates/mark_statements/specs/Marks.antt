@@ -18,7 +18,7 @@ use Rattle.law.specs.Script as Script
 use Rattle.law.specs.Syntax.{Expr, Stmt, Stmts, Body}
 use Rattle.law.specs.Trees.{form, Trees, end, _then_, Run, first, stackAt}
 use Rattle.law.specs.Whole.{markBody}
-use Rattle.law_theorems.proofs.TypeSizes.{SmallTypes}
+use Rattle.law_theorems.specs.TypeSizes.{SmallTypes}
 use Rattle.code_calc.specs.Words.{InRange}
 use Rattle.text_heads.specs.declared.Verb.{Verb}
 use Rattle.text_heads.specs.Parts.{exprIn, stmtIn, stmtsIn, elseIn, bodyIn}

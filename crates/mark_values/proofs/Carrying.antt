@@ -21,6 +21,7 @@ use Rattle.code_calc.proofs.Ranging.{range-value, above-fault}
 use Rattle.mark_values.specs.declared.values.Carried.{Carried}
 use Rattle.mark_values.specs.Values.{carriedOf, reachedOf, MarkRanged, MarkMeans, simple?, Carries, Reaches}
 use Rattle.mark_values.specs.Steps.{Wants}
+use Rattle.mark_values.specs.Carrying.{Broken, by-fault, by-stuck}
 
 -- ---- results
 
@@ -32,11 +33,6 @@ fails-is {A} h = let z : _≡_ {A = ℕ} 0 1 = cc in omega arith
 
 stuck-is : {A : Type 0} {a : A} → stuck ≡ is a → ⊥
 stuck-is {A} h = let z : _≡_ {A = ℕ} 0 1 = cc in omega arith
-
--- v is no value, and w is its word
-pub data Broken {A : Type 0} (w : ℤ) : Result A → Type 0 where
-  by-fault : (e : ℤ) → w ≡ e +ℤ faultBase → MarkRanged (fails e) → Broken w (fails e)
-  by-stuck : w ≡ noResult → Broken w stuck
 
 -- what follows is not done
 pub broken-bind : {A B : Type 0} {w : ℤ} {v : Result A} (f : A → Result B) → Broken w v → Broken w (v >>= f)

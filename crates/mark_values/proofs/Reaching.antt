@@ -24,7 +24,7 @@ use Rattle.law.specs.Machine.{Store, readCell, readCells, sole}
 use Rattle.law.specs.Marking.{TypedValue, TypedPlace, typedValue, typedPlace, typedAs, placedAs, orStuck}
 use Rattle.law.specs.Trees.{wordAt}
 use Rattle.law.specs.Types.{Types, Shape, ordinalShape, setShape, arrayShape, recordShape, Field, infoAt, isOrdinal, isSet, hostBy, cellsBy, hostOf, sizeOf, ordinal?, set?, array?, fieldOf}
-use Rattle.law_theorems.proofs.TypeTables.{Table}
+use Rattle.law_theorems.specs.TypeTables.{Table}
 use Rattle.code_calc.specs.Words.{noResult, greatest, rangeWord, wordOf, resultOf, placeWord, cellOf, storeWord, cellsWord, cellsAt, distanceWord, elementWord, shiftedWord, InRange, Ranged, Means, Holds, first, Exceptional}
 use Rattle.code_calc.proofs.Combining.{value-again}
 use Rattle.code_calc.proofs.Ranging.{range-value, low-range}
@@ -38,7 +38,8 @@ use Rattle.mark_values.specs.declared.values.Carried.{Carried}
 use Rattle.mark_values.specs.declared.places.Reached.{Reached}
 use Rattle.mark_values.specs.Values.{carriedOf, reachedOf, firstCell, MarkRanged, simple?, Carries, Reaches, Known}
 use Rattle.mark_values.specs.Steps.{loaded, elementPlace, indexed, selected, Loads, Indexes, Selects}
-use Rattle.mark_values.proofs.Carrying.{is-inj, Broken, by-fault, broken-bind, view-broken, view-value, carries-broken, reaches-broken, reaches-stuck, means-marks, carries-value, carried-broken, carried-value}
+use Rattle.mark_values.proofs.Carrying.{is-inj, broken-bind, view-broken, view-value, carries-broken, reaches-broken, reaches-stuck, means-marks, carries-value, carried-broken, carried-value}
+use Rattle.mark_values.specs.Carrying.{Broken, by-fault}
 use Rattle.mark_values.proofs.Settling.{low-small, high-small, low-signed, high-signed, host-ordinal}
 
 -- ---- places

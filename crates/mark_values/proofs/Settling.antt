@@ -27,7 +27,7 @@ use Rattle.law.specs.Machine.{sole}
 use Rattle.law.specs.Marking.{typedValue, wanted}
 use Rattle.law.specs.Types.{Types, Shape, ordinalShape, setShape, arrayShape, recordShape, infoAt, isOrdinal, hostBy, hostOf, ordinal?}
 use Rattle.code.proofs.LayoutCode.{signed-bits}
-use Rattle.law_theorems.proofs.TypeTables.{Table}
+use Rattle.law_theorems.specs.TypeTables.{Table}
 use Rattle.code_calc.specs.Words.{noResult, greatest, faultBase, wordOf, testedWord, latestIn, InRange, Exceptional}
 use Rattle.code_calc.proofs.Combining.{value-again, fault-again}
 use Rattle.code_calc.proofs.Ranging.{wide}

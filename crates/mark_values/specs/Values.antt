@@ -11,7 +11,7 @@ use Rattle.law.specs.Environment.{Environment}
 use Rattle.law.specs.Machine.{Store, readCells, sole}
 use Rattle.law.specs.Marking.{TypedValue, TypedPlace}
 use Rattle.law.specs.Types.{Types, ordinal?, set?, sizeOf}
-use Rattle.law_theorems.proofs.TypeSizes.{SmallTypes}
+use Rattle.law_theorems.specs.TypeSizes.{SmallTypes}
 use Rattle.code_calc.specs.Words.{greatest, wordOf, InRange, Exceptional}
 use Rattle.table_scope.specs.declared.Scope.{Scope}
 use Rattle.table_scope.specs.Scene.{Scene}

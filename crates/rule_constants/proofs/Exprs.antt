@@ -33,8 +33,9 @@ use Rattle.law.specs.Trees.{word, form, Trees, end, _then_, Run, list}
 use Rattle.law.specs.Types.{infoAt, ordinal?}
 use Rattle.law.specs.Words.{Word, wordedAll}
 use Rattle.law_theorems.proofs.Inversion.{none-some, some-inj, bind-some, and-true}
-use Rattle.law_theorems.proofs.LinesKeep.{Fair, value, AllFair, find-fair}
-use Rattle.law_theorems.proofs.TypeTables.{Table}
+use Rattle.law_theorems.proofs.LinesKeep.{find-fair}
+use Rattle.law_theorems.specs.LinesKeep.{Fair, value, AllFair}
+use Rattle.law_theorems.specs.TypeTables.{Table}
 use Rattle.table_kinds.specs.Functions.{functions}
 use Rattle.table_kinds.specs.Kinds.{operators}
 use Rattle.text_heads.specs.declared.Atom.{Atom}

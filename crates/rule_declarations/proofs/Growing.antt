@@ -10,10 +10,12 @@ use Rattle.law.specs.Environment.{Environment, NameSort, environment}
 use Rattle.code.specs.Layout.{lay}
 use Rattle.law.specs.Trees.{wordAt}
 use Rattle.law.specs.Types.{variable}
-use Rattle.code.proofs.LayoutRegions.{Same, Room, lay-g}
+use Rattle.code.proofs.LayoutRegions.{lay-g}
+use Rattle.code.specs.LayoutRegions.{Same, Room}
 use Rattle.table_names.specs.Keys.{keyed}
 use Rattle.table_names.specs.Chain.{entries}
-use Rattle.table_names.proofs.Chained.{Names, no-names, one-name, Below, Added, added, entries-kept, names-kept, below-kept, below-higher}
+use Rattle.table_names.proofs.Chained.{Added, added, entries-kept, names-kept, below-kept, below-higher}
+use Rattle.table_names.specs.Chained.{Names, no-names, one-name, Below}
 use Rattle.table_scope.specs.declared.Scope.{Scope}
 use Rattle.table_scope.specs.declared.Meaning.{Meaning}
 use Rattle.rule_declarations.specs.State.{scoped}

@@ -10,10 +10,11 @@ use Rattle.law.specs.Environment.{builtIn, nothingDeclared}
 use Rattle.code.specs.Layout.{bits}
 use Rattle.law.specs.Types.{infoAt, sizeOf}
 use Rattle.law_theorems.proofs.Inversion.{none-some}
-use Rattle.law_theorems.proofs.LinesKeep.{keeps-start, no-names as none-fair}
+use Rattle.law_theorems.proofs.LinesKeep.{keeps-start}
+use Rattle.law_theorems.specs.LinesKeep.{no-names as none-fair}
 use Rattle.law_theorems.proofs.TypeTables.{started}
 use Rattle.table_names.specs.Chain.{entries}
-use Rattle.table_names.proofs.Chained.{no-names, no-entry}
+use Rattle.table_names.specs.Chained.{no-names, no-entry}
 use Rattle.table_scope.specs.Descriptions.{shapeNumber, integerInfo, booleanInfo, noInfo, infoOf, fieldsAt, Tells, EndsBelow}
 use Rattle.rule_declarations.specs.State.{notes, scoped, Holds, startState}
 

@@ -26,8 +26,10 @@ use Rattle.law.specs.Trees.{Trees, end, _then_, Run, first, wordAt, stackAt, li
 use Rattle.law.specs.Types.{Var, Vars, variable, sizeOf}
 use Rattle.law.specs.Words.{Word, wordedAll}
 use Rattle.law_theorems.proofs.Inversion.{none-some, some-inj, and-true}
-use Rattle.code.proofs.LayoutRegions.{Same, Room, lay-g, lay-l}
-use Rattle.law_theorems.proofs.LinesKeep.{Keeps, line-keeps}
+use Rattle.code.proofs.LayoutRegions.{lay-g, lay-l}
+use Rattle.code.specs.LayoutRegions.{Same, Room}
+use Rattle.law_theorems.proofs.LinesKeep.{line-keeps}
+use Rattle.law_theorems.specs.LinesKeep.{Keeps}
 use Rattle.table_list.specs.Laid.{Laid}
 use Rattle.table_names.specs.Keys.{keyed}
 use Rattle.table_scope.proofs.Cells.{keeps-cells}

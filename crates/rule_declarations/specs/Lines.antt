@@ -16,7 +16,7 @@ use Rattle.rule_stages.specs.Stages.{Staged, fits, staged, onFits, unknown}
 use Rattle.law.specs.Syntax.{LineForm}
 use Rattle.law.specs.Trees.{Trees, Run, list}
 use Rattle.law.specs.Words.{wordedAll}
-use Rattle.code.proofs.LayoutRegions.{Same}
+use Rattle.code.specs.LayoutRegions.{Same}
 use Rattle.rule_faults.specs.declared.Fault.{Fault}
 use Rattle.rule_faults.specs.Got.{faultOf}
 use Rattle.rule_declarations.specs.State.{Holds}

@@ -5,7 +5,7 @@ use Prim.Native.Nat.{ℕ, _+_, _*_, _%_, _≤_}
 use lib.ListN.{length}
 use Rattle.law.specs.Environment.{Declared}
 use Rattle.law.specs.Types.{sizeOf}
-use Rattle.law_theorems.proofs.LinesKeep.{Keeps}
+use Rattle.law_theorems.specs.LinesKeep.{Keeps}
 use Rattle.table_scope.specs.declared.Scope.{Scope}
 use Rattle.table_scope.specs.Scene.{Scene}
 use Rattle.rule_declarations.specs.declared.State.{State}

@@ -25,7 +25,8 @@ use Rattle.law.specs.Syntax.{LineForm, TypeForm, typeLine}
 use Rattle.law.specs.Trees.{Trees, Run, first, later, wordAt, stackAt}
 use Rattle.law.specs.Types.{Types, infoAt, cellsBy, isRecord}
 use Rattle.law_theorems.proofs.Inversion.{and-true}
-use Rattle.code.proofs.LayoutRegions.{Same, Room, Has, lay-g, lay-l}
+use Rattle.code.proofs.LayoutRegions.{Has, lay-g, lay-l}
+use Rattle.code.specs.LayoutRegions.{Same, Room}
 use Rattle.table_names.specs.Keys.{keyed}
 use Rattle.table_names.proofs.Chained.{called-keyed}
 use Rattle.table_scope.proofs.Cells.{keeps-cells}

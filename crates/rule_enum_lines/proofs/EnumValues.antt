@@ -20,12 +20,15 @@ use Rattle.law.specs.Script.{Const}
 use Rattle.law.specs.Trees.{first, wordAt, stackAt}
 use Rattle.law.specs.Types.{Types}
 use Rattle.law_theorems.proofs.Inversion.{some-inj, bind-some}
-use Rattle.code.proofs.LayoutRegions.{Same, Room, Has, lay-g, lay-l}
-use Rattle.law_theorems.proofs.LinesKeep.{AllFair, Fair, value, find-fair}
+use Rattle.code.proofs.LayoutRegions.{Has, lay-g, lay-l}
+use Rattle.code.specs.LayoutRegions.{Same, Room}
+use Rattle.law_theorems.proofs.LinesKeep.{find-fair}
+use Rattle.law_theorems.specs.LinesKeep.{AllFair, Fair, value}
 use Rattle.table_list.specs.Laid.{Laid}
 use Rattle.table_names.specs.Keys.{keyed}
 use Rattle.table_names.specs.Chain.{entries, Called}
-use Rattle.table_names.proofs.Chained.{one-name, one-entry, called-keyed}
+use Rattle.table_names.proofs.Chained.{called-keyed}
+use Rattle.table_names.specs.Chained.{one-name, one-entry}
 use Rattle.table_scope.specs.declared.Scope.{Scope}
 use Rattle.rule_faults.specs.declared.Fault.{Fault}
 use Rattle.rule_faults.specs.declared.Fault.the-variants as fault

@@ -10,7 +10,7 @@ use lib.ListN.{length, getD, set}
 use Rattle.law.specs.Base.{Name}
 use Rattle.code.specs.Layout.{Out, lay}
 use Rattle.law.specs.Trees.{first, stackAt}
-use Rattle.code.proofs.LayoutRegions.{Same, Room}
+use Rattle.code.specs.LayoutRegions.{Same, Room}
 use Rattle.table_names.specs.Keys.{keyed}
 use Rattle.table_names.specs.Chain.{Called}
 use Rattle.rule_faults.specs.declared.Fault.{Fault}

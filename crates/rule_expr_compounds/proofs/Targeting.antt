@@ -9,7 +9,8 @@ use lib.Dec.{eqb}
 use lib.ListN.{getD}
 use Rattle.law.specs.Base as Base
 use Rattle.code.specs.Layout.{lay}
-use Rattle.code.proofs.LayoutRegions.{Same, lay-g}
+use Rattle.code.proofs.LayoutRegions.{lay-g}
+use Rattle.code.specs.LayoutRegions.{Same}
 use Rattle.rule_faults.specs.declared.Fault.{Fault}
 use Rattle.rule_faults.specs.declared.Fault.the-variants.{Clear, Kind, Name, Form}
 use Rattle.table_scope.specs.declared.Info.{Info}

@@ -7,7 +7,7 @@ use lib.Dec.{eqb}
 use lib.ListN.{getD}
 use Rattle.law.specs.Base as Base
 use Rattle.code.specs.Layout.{lay}
-use Rattle.code.proofs.LayoutRegions.{Same}
+use Rattle.code.specs.LayoutRegions.{Same}
 use Rattle.rule_faults.specs.declared.Fault.the-variants.{Kind, Name}
 use Rattle.table_scope.specs.declared.Info.{Info}
 use Rattle.table_scope.specs.Descriptions.{infoOf, fieldPlace}

@@ -22,7 +22,8 @@ use Rattle.law.specs.Trees.{Tree, Trees, end, _then_, Run, first, later, stackA
 use Rattle.law.specs.Types.{Types, infoAt, set?, baseOf, hostOf}
 use Rattle.law.specs.Words.{worded}
 use Rattle.law_theorems.proofs.Inversion.{none-some, some-inj}
-use Rattle.code.proofs.LayoutRegions.{Same, lay-g}
+use Rattle.code.proofs.LayoutRegions.{lay-g}
+use Rattle.code.specs.LayoutRegions.{Same}
 use Rattle.rule_stages.proofs.OnePassExprs.{member-staged, members-staged, members-unknown}
 use Rattle.table_list.specs.Laid.{Laid}
 use Rattle.text_heads.specs.Parts.{rest, exprIn, exprsIn, partOf, typeNameIn}

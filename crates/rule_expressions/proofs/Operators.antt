@@ -22,7 +22,7 @@ use Rattle.law.specs.Trees.{Trees, Run, first, stackAt, list}
 use Rattle.law.specs.Types.{Types, infoAt, ordinal?, set?}
 use Rattle.law.specs.Words.{wordedAll}
 use Rattle.law.specs.Elaborate.{elabExpr}
-use Rattle.code.proofs.LayoutRegions.{Same}
+use Rattle.code.specs.LayoutRegions.{Same}
 use Rattle.law_theorems.proofs.Inversion.{none-some, some-inj}
 use Rattle.rule_stages.proofs.OnePassExprs.{binary-staged, short-staged, unary-staged}
 use Rattle.table_kinds.specs.Kinds.{TwoSided, strict, lazy, rowNumber, opNumber, operators, told, toldOf}

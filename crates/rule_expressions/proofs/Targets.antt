@@ -24,7 +24,7 @@ use Rattle.law.specs.Syntax as Syntax
 use Rattle.law.specs.Trees.{Trees, end, Run, first, wordAt, stackAt}
 use Rattle.law.specs.Types.{Types, Field, infoAt, hostOf, sizeOf, array?, record?, fieldOf}
 use Rattle.law_theorems.proofs.Inversion.{none-some, some-inj, bind-some, both-some, given-some}
-use Rattle.code.proofs.LayoutRegions.{Same}
+use Rattle.code.specs.LayoutRegions.{Same}
 use Rattle.rule_stages.proofs.OnePassExprs.{at-staged, dot-staged, read-staged, fits-type}
 use Rattle.text_heads.specs.declared.ExprHead.{ExprHead}
 use Rattle.text_heads.specs.declared.ExprHead.the-variants as EH

@@ -34,7 +34,8 @@ use Rattle.law.specs.Syntax as Syntax
 use Rattle.law.specs.Trees.{Trees, Run, first, later, wordAt, stackAt}
 use Rattle.law.specs.Types.{Var, variable, infoAt, hostOf, sizeOf, ordinal?}
 use Rattle.law_theorems.proofs.Inversion.{none-some, some-inj, and-true}
-use Rattle.law_theorems.proofs.LinesKeep.{Fair, value, find-fair}
+use Rattle.law_theorems.proofs.LinesKeep.{find-fair}
+use Rattle.law_theorems.specs.LinesKeep.{Fair, value}
 use Rattle.text_heads.specs.Heads.{atomOf, atomExpr, atomTarget}
 use Rattle.text_heads.specs.Parts.{rest, closed, typeNameIn}
 use Rattle.text_heads.specs.declared.Atom.{Atom}

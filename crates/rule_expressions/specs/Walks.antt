@@ -18,7 +18,7 @@ use Rattle.law.specs.Elaborate.{Elaborated, Located}
 use Rattle.code.specs.Layout.{Out, layCode, layPlace}
 use Rattle.law.specs.Names.{Reached, targetOf}
 use Rattle.rule_stages.specs.Stages.{exprStaged, targetStaged}
-use Rattle.code.proofs.LayoutRegions.{Same}
+use Rattle.code.specs.LayoutRegions.{Same}
 use Rattle.text_heads.specs.declared.ExprHead.{ExprHead}
 use Rattle.text_heads.specs.Heads.{exprHeadMeant, atomExpr, atomTarget, atomOf}
 use Rattle.text_heads.specs.Parts.{exprIn, targetIn, targetBy}

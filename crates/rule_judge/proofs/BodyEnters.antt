@@ -32,10 +32,12 @@ use Rattle.law.specs.Trees.{nodesIn, first, wordAt, stackAt}
 use Rattle.law.specs.Verdict.{Read}
 use Rattle.law_theorems.proofs.Bodies.{body-at}
 use Rattle.code.proofs.LayoutActs.{laid-body}
-use Rattle.code.proofs.LayoutBodies.{Bodies, body-next}
+use Rattle.code.proofs.LayoutBodies.{body-next}
+use Rattle.code.specs.LayoutBodies.{Bodies}
 use Rattle.code.proofs.LayoutFits.{bodies-fit}
-use Rattle.code.proofs.LayoutRegions.{Room, Lays, lay-l}
-use Rattle.code.proofs.LinesMeasured.{Measured}
+use Rattle.code.proofs.LayoutRegions.{Lays, lay-l}
+use Rattle.code.specs.LayoutRegions.{Room}
+use Rattle.code.specs.LinesMeasured.{Measured}
 use Rattle.rule_faults.specs.declared.Got.{Got}
 use Rattle.rule_faults.specs.Got.{lowest, faultOf}
 use Rattle.text_parts.specs.Parts.{LeafAt}

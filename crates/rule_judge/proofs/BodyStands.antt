@@ -15,11 +15,12 @@ use Rattle.code.specs.Layout.{lay}
 use Rattle.law.specs.Script.{Body, Const, newMain, newProc}
 use Rattle.law.specs.Trees.{wordAt}
 use Rattle.law.specs.Types.{Types, Vars, variable}
-use Rattle.code.proofs.LayoutRegions.{Same, lay-g, lay-l}
-use Rattle.law_theorems.proofs.LinesKeep.{Keeps, Fair, AllFair, type, var, proc, value, no-names as none-fair, name as one-fair}
+use Rattle.code.proofs.LayoutRegions.{lay-g, lay-l}
+use Rattle.code.specs.LayoutRegions.{Same}
+use Rattle.law_theorems.specs.LinesKeep.{Keeps, Fair, AllFair, type, var, proc, value, no-names as none-fair, name as one-fair}
 use Rattle.table_names.specs.Keys.{keyed}
 use Rattle.table_names.specs.Chain.{entries}
-use Rattle.table_names.proofs.Chained.{Names, no-names, one-name}
+use Rattle.table_names.specs.Chained.{Names, no-names, one-name}
 use Rattle.table_scope.specs.declared.Scope.{Scope}
 use Rattle.table_scope.specs.declared.Meaning.{Meaning}
 use Rattle.table_scope.specs.declared.Meaning.the-variants as meaning

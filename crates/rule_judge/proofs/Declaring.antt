@@ -21,9 +21,9 @@ use Rattle.law.specs.Trees.{Trees, Run, list, first, stackAt, nodesIn}
 use Rattle.law.specs.Verdict.{Read, strictly}
 use Rattle.law.specs.Words.{Word, wordedAll}
 use Rattle.law_theorems.proofs.Inversion.{none-some, some-inj, bind-some, given-some}
-use Rattle.code.proofs.LayoutBodies.{Bodies}
-use Rattle.code.proofs.LinesMeasured.{Measured}
-use Rattle.code.proofs.LayoutRegions.{Same}
+use Rattle.code.specs.LayoutBodies.{Bodies}
+use Rattle.code.specs.LinesMeasured.{Measured}
+use Rattle.code.specs.LayoutRegions.{Same}
 use Rattle.rule_faults.specs.Got.{faultOf}
 use Rattle.text_heads.specs.declared.LineHead.{LineHead}
 use Rattle.text_heads.specs.declared.LineHead.the-variants as LH

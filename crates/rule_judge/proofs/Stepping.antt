@@ -27,7 +27,8 @@ use Rattle.law_theorems.proofs.Inversion.{bind-some, some-inj, and-true}
 use Rattle.rule_stages.proofs.OnePassLines.{judgedBy}
 use Rattle.code.proofs.LinesMeasured.{measured-line}
 use Rattle.law_theorems.proofs.StatementNumbers.{line-counts}
-use Rattle.code.proofs.TextRoom.{Room, room-line, entry-room, line-symbols, bodies-append}
+use Rattle.code.proofs.TextRoom.{room-line, entry-room, line-symbols, bodies-append}
+use Rattle.code.specs.TextRoom.{Room}
 use Rattle.law_theorems.proofs.Weights.{line-weighs, worded-nodes}
 use Rattle.rule_faults.specs.declared.Fault.the-variants.{Clear, Kind, Name, Form}
 use Rattle.rule_faults.specs.Got.{faultOf}

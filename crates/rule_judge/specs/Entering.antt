@@ -16,8 +16,8 @@ use Rattle.rule_stages.specs.Stages.{fits}
 use Rattle.law.specs.Syntax.{LineForm}
 use Rattle.law.specs.Trees.{nodesIn, first, stackAt}
 use Rattle.law.specs.Verdict.{Read}
-use Rattle.code.proofs.LayoutBodies.{Bodies}
-use Rattle.code.proofs.LinesMeasured.{Measured}
+use Rattle.code.specs.LayoutBodies.{Bodies}
+use Rattle.code.specs.LinesMeasured.{Measured}
 use Rattle.code.specs.Layout.{lay}
 use Rattle.table_names.specs.Keys.{keyed}
 use Rattle.table_scope.specs.Scene.{meaningHere}

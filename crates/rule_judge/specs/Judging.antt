@@ -8,9 +8,9 @@ use Rattle.law.specs.Code.{BodyCode}
 use Rattle.law.specs.Environment.{Declared}
 use Rattle.code.specs.LayoutSize.{sizeSymbols, sizeBodies}
 use Rattle.law.specs.Verdict.{Judged, good, bad, Read, has, strictly, judgeLine}
-use Rattle.code.proofs.LayoutBodies.{Bodies}
-use Rattle.code.proofs.LinesMeasured.{Measured}
-use Rattle.code.proofs.TextRoom.{Room}
+use Rattle.code.specs.LayoutBodies.{Bodies}
+use Rattle.code.specs.LinesMeasured.{Measured}
+use Rattle.code.specs.TextRoom.{Room}
 use Rattle.text_lines.specs.Passes.{lineAt}
 use Rattle.rule_declarations.specs.State.{Holds}
 use Rattle.rule_known.specs.declared.Known.{Known}

@@ -18,8 +18,9 @@ use Rattle.law.specs.Names.{bodyOf, newNames}
 use Rattle.law.specs.Script.{Body, Entry, newProc, newMain}
 use Rattle.law.specs.Syntax as Syntax
 use Rattle.law.specs.Trees.{nodesIn, first, wordAt, stackAt}
-use Rattle.code.proofs.LayoutRegions.{Same, lay-l}
-use Rattle.law_theorems.proofs.LinesKeep.{Keeps}
+use Rattle.code.proofs.LayoutRegions.{lay-l}
+use Rattle.code.specs.LayoutRegions.{Same}
+use Rattle.law_theorems.specs.LinesKeep.{Keeps}
 use Rattle.table_names.specs.Keys.{keyed}
 use Rattle.table_scope.specs.Scene.{meaningHere}
 use Rattle.rule_faults.specs.declared.Fault.{Fault}

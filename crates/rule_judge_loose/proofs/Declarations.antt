@@ -14,7 +14,8 @@ use Rattle.rule_stages.specs.Stages.{fits, staged}
 use Rattle.law.specs.Syntax.{LineForm}
 use Rattle.law.specs.Trees.{first, stackAt}
 use Rattle.law_theorems.proofs.Inversion.{bind-some, given-some, some-inj}
-use Rattle.law_theorems.proofs.LinesKeep.{Extends, declared-more}
+use Rattle.law_theorems.proofs.LinesKeep.{declared-more}
+use Rattle.law_theorems.specs.LinesKeep.{Extends}
 use Rattle.rule_statements.specs.Walks.{bare}
 use Rattle.rule_declarations.specs.declared.Lined.{Lined}
 use Rattle.rule_declarations.specs.Lines.{lineOf, entryStaged, GivesLine}

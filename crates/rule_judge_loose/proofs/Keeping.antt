@@ -10,8 +10,8 @@ use Rattle.leaf_integers.proofs.Order.{le-or-lt}
 use Rattle.law.specs.Environment.{Environment, PlacedBody}
 use Rattle.code.specs.Layout.{bits}
 use Rattle.law.specs.Types.{Types, infoAt, undeclared}
-use Rattle.code.proofs.LayoutRegions.{Same}
-use Rattle.law_theorems.proofs.LinesKeep.{Extends}
+use Rattle.code.specs.LayoutRegions.{Same}
+use Rattle.law_theorems.specs.LinesKeep.{Extends}
 use Rattle.table_scope.specs.declared.Scope.{Scope}
 use Rattle.table_scope.specs.Descriptions.{shapeNumber, noInfo, infoOf, fieldsAt, Tells, EndsBelow}
 use Rattle.table_scope.specs.Scene.{Scene}

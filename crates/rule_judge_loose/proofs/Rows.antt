@@ -24,12 +24,14 @@ use Rattle.law.specs.Trees.{Tree, Run, nodes, formOf}
 use Rattle.law.specs.Verdict.{Judged, good, bad, _>>=_, orBad, must, loosely, strictly, judgeLine}
 use Rattle.law.specs.Words.{Word, worded}
 use Rattle.law_theorems.proofs.Inversion.{bind-some, given-some, some-inj, and-true}
-use Rattle.law_theorems.proofs.LinesKeep.{Keeps, line-keeps}
+use Rattle.law_theorems.proofs.LinesKeep.{line-keeps}
+use Rattle.law_theorems.specs.LinesKeep.{Keeps}
 use Rattle.rule_stages.proofs.OnePassLines.{judgedBy}
 use Rattle.law_theorems.proofs.StatementNumbers.{line-counts}
 use Rattle.code.proofs.TextRoom.{entry-room, line-symbols, line-types}
 use Rattle.law_theorems.proofs.TextsAgree.{stage-on, line-good}
-use Rattle.law_theorems.proofs.TypeSizes.{SmallTypes, small-declared}
+use Rattle.law_theorems.proofs.TypeSizes.{small-declared}
+use Rattle.law_theorems.specs.TypeSizes.{SmallTypes}
 use Rattle.law_theorems.proofs.Weights.{line-weighs, weightL, worded-nodes}
 use Rattle.rule_faults.specs.Got.{faultOf}
 use Rattle.rule_expressions.proofs.Joining.{wrong-fits, unnamed-fits, unfit-fits, fits-inj}

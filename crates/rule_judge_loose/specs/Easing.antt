@@ -12,7 +12,7 @@ use Rattle.law.specs.Script.{Body}
 use Rattle.rule_stages.specs.Stages.{Staged, staged}
 use Rattle.law.specs.Syntax as Syntax
 use Rattle.law.specs.Trees.{first, stackAt, nodesIn}
-use Rattle.code.proofs.LayoutRegions.{Same}
+use Rattle.code.specs.LayoutRegions.{Same}
 use Rattle.text_heads.specs.Parts.{bodyIn}
 use Rattle.rule_faults.specs.declared.Fault.{Fault}
 use Rattle.rule_faults.specs.declared.Fault.the-variants.{Clear, Kind, Name, Form}

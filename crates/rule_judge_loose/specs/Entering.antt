@@ -16,7 +16,7 @@ use Rattle.law.specs.Script.{Entry}
 use Rattle.rule_stages.specs.Stages.{fits}
 use Rattle.law.specs.Syntax.{LineForm, procLine}
 use Rattle.law.specs.Trees.{first, stackAt, nodesIn, wordAt}
-use Rattle.law_theorems.proofs.LinesKeep.{Keeps}
+use Rattle.law_theorems.specs.LinesKeep.{Keeps}
 use Rattle.text_heads.specs.declared.LineHead.{LineHead}
 use Rattle.text_heads.specs.Heads.{lineHeadMeant}
 use Rattle.text_heads.specs.Parts.{bodyIn}

@@ -8,8 +8,8 @@ use lib.ListN.{length, getD}
 use Rattle.law.specs.Environment.{Declared, PlacedBody}
 use Rattle.code.specs.LayoutSize.{sizeSymbols}
 use Rattle.law.specs.Types.{Types}
-use Rattle.law_theorems.proofs.LinesKeep.{Extends}
-use Rattle.law_theorems.proofs.TypeSizes.{SmallTypes}
+use Rattle.law_theorems.specs.LinesKeep.{Extends}
+use Rattle.law_theorems.specs.TypeSizes.{SmallTypes}
 use Rattle.rule_declarations.specs.State.{Holds}
 use Rattle.table_bodies.specs.Table.{upTo, typesOf, BodyStands}
 use Rattle.rule_known.specs.declared.Known.{Known}

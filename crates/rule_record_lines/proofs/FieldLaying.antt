@@ -21,7 +21,8 @@ use Rattle.law.specs.Syntax.{TypeName}
 use Rattle.law.specs.Trees.{first, wordAt, stackAt}
 use Rattle.law.specs.Types.{sizeOf}
 use Rattle.law_theorems.proofs.Inversion.{none-some, some-inj, bind-some}
-use Rattle.code.proofs.LayoutRegions.{Same, Room, Has, lay-g, lay-l}
+use Rattle.code.proofs.LayoutRegions.{Has, lay-g, lay-l}
+use Rattle.code.specs.LayoutRegions.{Same, Room}
 use Rattle.table_list.specs.Laid.{Laid}
 use Rattle.table_names.specs.Keys.{keyed}
 use Rattle.table_scope.specs.declared.Scope.{Scope}

@@ -27,7 +27,8 @@ use Rattle.law.specs.Trees.{Trees, Run, end, list, first, later, wordAt, stackA
 use Rattle.law.specs.Types.{Types, infoAt, cellsBy, isRecord, sizeOf, cellsOf}
 use Rattle.law.specs.Words.{Word, wordedAll}
 use Rattle.law_theorems.proofs.Inversion.{and-true}
-use Rattle.code.proofs.LayoutRegions.{Same, Room, Has, lay-g, lay-l}
+use Rattle.code.proofs.LayoutRegions.{Has, lay-g, lay-l}
+use Rattle.code.specs.LayoutRegions.{Same, Room}
 use Rattle.table_names.specs.Keys.{keyed}
 use Rattle.table_scope.proofs.Cells.{keeps-cells}
 use Rattle.table_scope.proofs.Kept.{scene-kept}

@@ -14,7 +14,7 @@ use Rattle.code.specs.Layout.{Out, lay}
 use Rattle.law.specs.Syntax.{TypeName, TypeForm}
 use Rattle.law.specs.Trees.{list, Trees, Run, first, stackAt}
 use Rattle.law.specs.Words.{wordedAll}
-use Rattle.code.proofs.LayoutRegions.{Same, Room}
+use Rattle.code.specs.LayoutRegions.{Same, Room}
 use Rattle.table_names.specs.Keys.{keyed}
 use Rattle.table_scope.specs.declared.Scope.{Scope}
 use Rattle.rule_faults.specs.declared.Fault.the-variants as fault

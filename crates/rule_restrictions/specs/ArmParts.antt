@@ -11,8 +11,8 @@ use Rattle.law.specs.Rules.{allPlain}
 use Rattle.law.specs.Script.{Const}
 use Rattle.law.specs.Syntax.{Constant, Stmt}
 use Rattle.law.specs.Trees.{Tree, Trees, end, _then_, Run, first, stackAt}
-use Rattle.law_theorems.proofs.LinesKeep.{AllFair}
-use Rattle.law_theorems.proofs.TypeTables.{Table}
+use Rattle.law_theorems.specs.LinesKeep.{AllFair}
+use Rattle.law_theorems.specs.TypeTables.{Table}
 use Rattle.text_heads.specs.Parts.{stmtIn}
 use Rattle.rule_constants.specs.Plain.{plainTree, plainFirst}
 use Rattle.rule_statements.specs.Cases.{armFrom}

@@ -19,7 +19,8 @@ use Rattle.rule_stages.specs.Stages.{Staged, wrong, fits, staged, named, ruled,
 use Rattle.law.specs.Syntax as Syntax
 use Rattle.law.specs.Trees.{Tree, word, form, Trees, end, _then_, Run, first, later, stackAt, nodes, nodesIn}
 use Rattle.law_theorems.proofs.Inversion.{none-some, some-inj, bind-some}
-use Rattle.code.proofs.LayoutRegions.{Same, lay-g}
+use Rattle.code.proofs.LayoutRegions.{lay-g}
+use Rattle.code.specs.LayoutRegions.{Same}
 use Rattle.rule_stages.proofs.OnePassStmts.{body-staged}
 use Rattle.text_heads.specs.Heads.{isException}
 use Rattle.text_heads.specs.Parts.{stmtIn, stmtsIn, bodyIn, handlerIn, handlerLast, handling}

@@ -27,7 +27,8 @@ use Rattle.law.specs.Syntax.{Constant, Stmt}
 use Rattle.law.specs.Trees.{Tree, Trees, end, _then_, Run, first, stackAt, nodes, nodesIn}
 use Rattle.law.specs.Words.{worded}
 use Rattle.law_theorems.proofs.Inversion.{none-some, some-inj}
-use Rattle.code.proofs.LayoutRegions.{Same, lay-g}
+use Rattle.code.proofs.LayoutRegions.{lay-g}
+use Rattle.code.specs.LayoutRegions.{Same}
 use Rattle.rule_stages.proofs.Staging.{staged-two}
 use Rattle.text_heads.specs.Parts.{partOf, rest, closed, constantIn, stmtIn, armIn}
 use Rattle.table_scope.specs.declared.Scope.{Scope}

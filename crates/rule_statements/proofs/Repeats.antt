@@ -18,7 +18,8 @@ use Rattle.law.specs.Syntax as Syntax
 use Rattle.law.specs.Trees.{word, _then_, first, later, wordAt, stackAt, nodes, nodesIn}
 use Rattle.law.specs.Types.{Var, hostOf}
 use Rattle.law_theorems.proofs.Inversion.{none-some, some-inj, bind-some}
-use Rattle.code.proofs.LayoutRegions.{Same, lay-g}
+use Rattle.code.proofs.LayoutRegions.{lay-g}
+use Rattle.code.specs.LayoutRegions.{Same}
 use Rattle.rule_stages.proofs.OnePassStmts.{begin-staged}
 use Rattle.text_heads.specs.declared.Verb.the-variants as VB
 use Rattle.text_heads.specs.Heads.{atomOf, atomName}

@@ -29,7 +29,8 @@ use Rattle.rule_faults.specs.declared.Fault.the-variants.{Form}
 use Rattle.table_scope.specs.declared.Loops.{Loops}
 use Rattle.table_scope.specs.declared.Meaning.{Meaning}
 use Rattle.table_scope.specs.declared.Meaning.the-variants as meaning
-use Rattle.code.proofs.LayoutRegions.{Same, lay-g}
+use Rattle.code.proofs.LayoutRegions.{lay-g}
+use Rattle.code.specs.LayoutRegions.{Same}
 use Rattle.rule_statements.proofs.Chains.{none-of}
 use Rattle.table_scope.specs.Scene.{meaningHere}
 use Rattle.table_scope.proofs.Kept.{scene-kept}

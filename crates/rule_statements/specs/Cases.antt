@@ -15,7 +15,7 @@ use Rattle.rule_stages.specs.Stages.{fits, labelsStaged, armsStaged}
 use Rattle.law.specs.Syntax.{Constant, Stmt, Arms}
 use Rattle.law.specs.Trees.{word, form, Trees, end, _then_, Run, first, later, stackAt, nodesIn}
 use Rattle.law.specs.Words.{worded}
-use Rattle.code.proofs.LayoutRegions.{Same}
+use Rattle.code.specs.LayoutRegions.{Same}
 use Rattle.text_heads.specs.Parts.{rest, closed, stmtIn, armIn, armsIn, armHeadIn}
 use Rattle.table_scope.specs.declared.Scope.{Scope}
 use Rattle.rule_faults.specs.declared.Fault.{Fault}

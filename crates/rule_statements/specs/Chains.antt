@@ -10,7 +10,7 @@ use Rattle.code.specs.Layout.{layActs}
 use Rattle.rule_stages.specs.Stages.{fits, stmtsStaged}
 use Rattle.law.specs.Syntax.{Stmts}
 use Rattle.law.specs.Trees.{Trees, end, _then_, Run, first, later, stackAt, nodesIn}
-use Rattle.code.proofs.LayoutRegions.{Same}
+use Rattle.code.specs.LayoutRegions.{Same}
 use Rattle.text_heads.specs.Parts.{stmtsIn}
 use Rattle.table_scope.specs.declared.Scope.{Scope}
 use Rattle.rule_faults.specs.declared.Fault.{Fault}

@@ -11,7 +11,7 @@ use Rattle.code.specs.Layout.{Out, out, lay, layActs, flag}
 use Rattle.rule_stages.specs.Stages.{fits, bodyStaged}
 use Rattle.law.specs.Syntax.{Body}
 use Rattle.law.specs.Trees.{first, later, stackAt, nodesIn}
-use Rattle.code.proofs.LayoutRegions.{Same}
+use Rattle.code.specs.LayoutRegions.{Same}
 use Rattle.text_heads.specs.Parts.{bodyIn}
 use Rattle.table_scope.specs.declared.Scope.{Scope}
 use Rattle.rule_faults.specs.declared.Fault.{Fault}

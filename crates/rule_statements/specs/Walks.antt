@@ -18,7 +18,7 @@ use Rattle.rule_stages.specs.Stages.{fits, wantedStaged, assignedStaged, stmtSt
 use Rattle.law.specs.Syntax.{Expr, Target, Stmt, Stmts, Body, ifElse, for, call}
 use Rattle.law.specs.Trees.{form, Trees, end, _then_, Run, first, later, wordAt, stackAt, nodesIn, list}
 use Rattle.law.specs.Words.{wordedAll}
-use Rattle.code.proofs.LayoutRegions.{Same}
+use Rattle.code.specs.LayoutRegions.{Same}
 use Rattle.leaf_bytes.specs.Bytes.{small}
 use Rattle.text_heads.specs.declared.Verb.{Verb}
 use Rattle.text_heads.specs.declared.Verb.the-variants.{Assign, Raise, Call}

@@ -14,9 +14,9 @@ use Rattle.law.specs.Environment.{Environment, NameSort, aType, aVar, aProc, aV
 use Rattle.law.specs.Script.{Const}
 use Rattle.law.specs.Types.{Types, Var, Vars, sizeOf, variable}
 use Rattle.law_theorems.proofs.Inversion.{some-inj}
-use Rattle.law_theorems.proofs.LinesCover.{Owns, owns-none, owns-type, owns-proc, owns-value, owns-var}
+use Rattle.law_theorems.specs.LinesCover.{Owns, owns-none, owns-type, owns-proc, owns-value, owns-var}
 use Rattle.table_names.specs.Chain.{nameAt}
-use Rattle.table_names.proofs.Chained.{Names, no-names, one-name}
+use Rattle.table_names.specs.Chained.{Names, no-names, one-name}
 use Rattle.table_scope.specs.Scene.{meaningBy, meaningAt, Means, a-type, a-var, a-proc, a-value, Meant}
 use Rattle.table_scope.specs.declared.Meaning.{Meaning}
 use Rattle.table_scope.specs.declared.Meaning.the-variants as meaning

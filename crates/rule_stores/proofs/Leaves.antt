@@ -13,8 +13,8 @@ use lib.Seq.{getD-append-add}
 use Rattle.law.specs.Base.{Name}
 use Rattle.law.specs.Environment.{Environment, copies, fieldCells, layFields}
 use Rattle.law.specs.Types.{Field, Shape, Types, arrayShape, cellsBy, cellsOf, infoAt, isArray, isRecord, ordinalShape, recordShape, setShape, sizeOf}
-use Rattle.law_theorems.proofs.TypeTables.{All}
-use Rattle.law_theorems.proofs.LinesCover.{Copied, Joined, BuiltTypes}
+use Rattle.law_theorems.specs.TypeTables.{All}
+use Rattle.law_theorems.specs.LinesCover.{Copied, Joined, BuiltTypes}
 use Rattle.table_scope.specs.Descriptions.{infoOf, fieldsAt, shapeNumber}
 use Rattle.table_scope.specs.declared.Scope.{Scope}
 use Rattle.table_scope.specs.Scene.{Scene}

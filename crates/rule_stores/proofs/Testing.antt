@@ -25,11 +25,12 @@ use Rattle.law.specs.Store.{cellFits, cellOk, cellsOk, faultOf, storeFault}
 use Rattle.law.specs.Trees.{wordAt}
 use Rattle.law.specs.Types.{Shape, Types, arrayShape, infoAt, isOrdinal, isSet, ordinalShape, recordShape, setShape, sizeOf}
 use Rattle.code.proofs.LayoutCode.{signed-bits}
-use Rattle.law_theorems.proofs.LinesCover.{Covered}
-use Rattle.law_theorems.proofs.LinesKeep.{tests, tests-get}
-use Rattle.law_theorems.proofs.ValuesInRange.{any}
+use Rattle.law_theorems.specs.LinesCover.{Covered}
+use Rattle.law_theorems.proofs.LinesKeep.{tests-get}
+use Rattle.law_theorems.specs.LinesKeep.{tests}
+use Rattle.law_theorems.specs.ValuesInRange.{any}
 use Rattle.law_theorems.proofs.Inversion.{and-both}
-use Rattle.law_theorems.proofs.TypeTables.{Table}
+use Rattle.law_theorems.specs.TypeTables.{Table}
 use Rattle.table_names.specs.Chain.{entries, nameAt}
 use Rattle.table_scope.specs.Descriptions.{infoOf, shapeNumber}
 use Rattle.table_scope.proofs.Telling.{shape-ordinal, low-told, high-told}

@@ -15,7 +15,7 @@ use Rattle.law.specs.Environment.{Declared}
 use Rattle.law.specs.Machine.{defined, isDefined}
 use Rattle.law.specs.Store.{storeFault}
 use Rattle.law.specs.Trees.{wordAt}
-use Rattle.law_theorems.proofs.LinesCover.{Covered}
+use Rattle.law_theorems.specs.LinesCover.{Covered}
 use Rattle.table_scope.specs.Descriptions.{infoOf}
 use Rattle.table_scope.specs.declared.Info.{Info}
 use Rattle.rule_declarations.specs.State.{Holds}

@@ -21,8 +21,9 @@ use Rattle.rule_stages.specs.Stages.{Staged, fits, ruled, staged, onFits}
 use Rattle.law.specs.Syntax as Syntax
 use Rattle.law.specs.Syntax.{LineForm, TypeName, typeLine}
 use Rattle.law.specs.Trees.{Trees, Run, first, wordAt, stackAt}
-use Rattle.code.proofs.LayoutRegions.{Same, lay-g, lay-l}
-use Rattle.law_theorems.proofs.LinesKeep.{AllFair, type, name, Keeps}
+use Rattle.code.proofs.LayoutRegions.{lay-g, lay-l}
+use Rattle.code.specs.LayoutRegions.{Same}
+use Rattle.law_theorems.specs.LinesKeep.{AllFair, type, name, Keeps}
 use Rattle.table_list.specs.Laid.{Laid}
 use Rattle.table_names.specs.Keys.{keyed}
 use Rattle.table_scope.proofs.Cells.{keeps-cells}

@@ -23,7 +23,8 @@ use Rattle.law.specs.Syntax.{LineForm, TypeForm, typeLine}
 use Rattle.law.specs.Trees.{end, first, later, wordAt, stackAt}
 use Rattle.law.specs.Types.{Types, TypeInfo, infoAt, sizeOf, cellsBy, cellsOf, isRecord}
 use Rattle.law_theorems.proofs.Inversion.{and-true, none-some}
-use Rattle.code.proofs.LayoutRegions.{Same, Room, Has, lay-g, lay-l}
+use Rattle.code.proofs.LayoutRegions.{Has, lay-g, lay-l}
+use Rattle.code.specs.LayoutRegions.{Same, Room}
 use Rattle.table_list.specs.Laid.{Laid}
 use Rattle.table_names.specs.Keys.{keyed}
 use Rattle.table_scope.proofs.Cells.{keeps-cells}
@@ -35,7 +36,7 @@ use Rattle.table_scope.specs.declared.Meaning.{Meaning}
 use Rattle.table_scope.specs.Descriptions.{infoOf, readInfo, fieldsAt, Tells, EndsBelow}
 use Rattle.table_scope.specs.declared.Meaning.the-variants as meaning
 use Rattle.table_names.specs.Chain.{entries}
-use Rattle.table_names.proofs.Chained.{Names}
+use Rattle.table_names.specs.Chained.{Names}
 use Rattle.table_scope.specs.Scene.{Scene, Told, Meant, meaningHere}
 use Rattle.table_scope.proofs.Telling.{meant}
 use Rattle.rule_faults.specs.Got.{isForm, isClear, lowest, faultOf}

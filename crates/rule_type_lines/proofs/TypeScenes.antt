@@ -21,8 +21,9 @@ use Rattle.law.specs.Script.{Const, Decl, newType}
 use Rattle.law.specs.Syntax.{LineForm}
 use Rattle.law.specs.Types.{Types, TypeInfo, undeclared, infoAt, sizeOf}
 use Rattle.law_theorems.proofs.Inversion.{and-true}
-use Rattle.code.proofs.LayoutRegions.{Same}
-use Rattle.law_theorems.proofs.LinesKeep.{Keeps, line-keeps}
+use Rattle.code.specs.LayoutRegions.{Same}
+use Rattle.law_theorems.proofs.LinesKeep.{line-keeps}
+use Rattle.law_theorems.specs.LinesKeep.{Keeps}
 use Rattle.law_theorems.proofs.TypeTables.{old, new}
 use Rattle.table_scope.specs.declared.Scope.{Scope}
 use Rattle.table_scope.specs.declared.Meaning.{Meaning}

@@ -11,11 +11,11 @@ use Rattle.leaf_integers.specs.Integers.{inside}
 use Rattle.leaf_integers.proofs.Ranges.{inside-is}
 use Rattle.law.specs.Code as C
 use Rattle.code.specs.Readback.{allAtPlaces, atPlaces, bodyAtPlaces, casesAtPlaces}
-use Rattle.law_theorems.proofs.CodeCalls as Calls
-use Rattle.law_theorems.proofs.CodeCalls.{Calls, CallsAll, CallsCases, CallsBody}
-use Rattle.code.proofs.CodeReady as R
-use Rattle.code.proofs.CodeReady.{ReadyCode, ReadyPlace, ReadyCodes, ReadyAct, ReadyActs, ReadyCases, ReadyBody}
-use Rattle.law_theorems.proofs.CodeSized.{InSet}
+use Rattle.law_theorems.specs.CodeCalls as Calls
+use Rattle.law_theorems.specs.CodeCalls.{Calls, CallsAll, CallsCases, CallsBody}
+use Rattle.code.specs.CodeReady as R
+use Rattle.code.specs.CodeReady.{ReadyCode, ReadyPlace, ReadyCodes, ReadyAct, ReadyActs, ReadyCases, ReadyBody}
+use Rattle.law_theorems.specs.CodeSized.{InSet}
 use Rattle.law_theorems.proofs.ValuesInRange.{wrong}
 use Rattle.run_nodes.specs.Emitted.{Plain, PlainCodes, PlainPlace, Small, SmallFor, baseOf}
 use Rattle.run_emit.specs.Plainly.{Callable, PlainAct, PlainActs, PlainBody, PlainCases, PlainWhole}

@@ -7,7 +7,7 @@ use lib.ListN.{getD, length}
 use Rattle.law.specs.Code.{BodyCode}
 use Rattle.code.specs.Readback.{readBody}
 use Rattle.code.proofs.ForLoops.{forsBodies}
-use Rattle.run_linear.proofs.Bodies.{loops}
+use Rattle.run_linear.specs.BodyLoops.{loops}
 use Rattle.run_emit.specs.Spans.{spanBody}
 use Rattle.run_emit.specs.Whole.{spanBodies}
 use Rattle.run_fit.specs.Fit.{loopsIn}

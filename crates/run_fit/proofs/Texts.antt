@@ -10,13 +10,14 @@ use Rattle.code.specs.Readback.{bodyAtPlaces, readBody}
 use Rattle.law.specs.Verdict.{Read, accepted}
 use Rattle.law.specs.Whole.{verdictOf}
 use Rattle.law_theorems.proofs.Bodies.{body-get}
-use Rattle.law_theorems.proofs.CodeCalls.{CallsBody}
-use Rattle.code.proofs.CodeReady.{ReadyBody, body-ready-at-places}
+use Rattle.law_theorems.specs.CodeCalls.{CallsBody}
+use Rattle.code.proofs.CodeReady.{body-ready-at-places}
+use Rattle.code.specs.CodeReady.{ReadyBody}
 use Rattle.code.proofs.Texts.{any-room-at, body-count, code-calls, code-ready, for-room-at, room-enough}
-use Rattle.code.proofs.LayoutBodies.{Bodies, BodiesAt}
+use Rattle.code.specs.LayoutBodies.{Bodies, BodiesAt}
 use Rattle.code.proofs.ListMachineRuns.{size-within}
 use Rattle.run_linear.specs.Bodies.{noBody}
-use Rattle.run_linear.proofs.Bodies.{loops}
+use Rattle.run_linear.specs.BodyLoops.{loops}
 use Rattle.run_emit.specs.Plainly.{Callable}
 use Rattle.run_emit.specs.Spans.{spanBody}
 use Rattle.run_emit.specs.Whole.{spanBodies}

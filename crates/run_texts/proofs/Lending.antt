@@ -19,9 +19,10 @@ use Rattle.law.specs.Store.{cellFits, storeFault}
 use Rattle.law.specs.Types.{Types, infoAt, ordinal?}
 use Rattle.law_theorems.proofs.BodiesInRange.{Passes, store-passes}
 use Rattle.law_theorems.proofs.Inversion.{and-true}
-use Rattle.law_theorems.proofs.LinesKeep.{tests, tests-get}
-use Rattle.law_theorems.proofs.TypeTables.{Table}
-use Rattle.law_theorems.proofs.ValuesInRange.{any}
+use Rattle.law_theorems.proofs.LinesKeep.{tests-get}
+use Rattle.law_theorems.specs.LinesKeep.{tests}
+use Rattle.law_theorems.specs.TypeTables.{Table}
+use Rattle.law_theorems.specs.ValuesInRange.{any}
 use Rattle.code_calc.specs.Words.{InRange}
 use Rattle.code_calc.proofs.Ranging.{wide, low-range}
 use Rattle.code_store.specs.Answers.{Lent}

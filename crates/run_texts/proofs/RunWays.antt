@@ -17,7 +17,7 @@ use Rattle.law.specs.Verdict.{Read, accepted, refused}
 use Rattle.law.specs.Whole as Whole
 use Rattle.law.specs.Whole.{refusal, ran, reported, report, fresh, lent, onStore, unless, runAll, runOf, verdictOf}
 use Rattle.code.proofs.Texts as Demand3
-use Rattle.law_theorems.proofs.StatementsNoted.{Notes}
+use Rattle.law_theorems.specs.StatementsNoted.{Notes}
 use Rattle.law_theorems.proofs.LinesCover.{text-covered}
 use Rattle.code.proofs.LinesMeasured.{text-measured}
 use Rattle.law_answers.specs.declared.Answer.{Answer as Told}

@@ -10,7 +10,7 @@ use Rattle.law.specs.Environment.{Environment, PlacedBody}
 use Rattle.law.specs.Names.{bodyOf}
 use Rattle.law.specs.Syntax as Syntax
 use Rattle.law.specs.Trees.{first, stackAt}
-use Rattle.law_theorems.proofs.TypeSizes.{SmallTypes}
+use Rattle.law_theorems.specs.TypeSizes.{SmallTypes}
 use Rattle.text_heads.specs.Parts.{bodyIn}
 use Rattle.table_scope.specs.declared.Scope.{Scope}
 use Rattle.table_scope.specs.Scene.{Scene}

@@ -6,7 +6,8 @@ use Prim.Native.Nat.{ℕ}
 use Rattle.law.specs.Types.{Types, infoAt, ordinal?, set?, baseOf}
 use Rattle.law.specs.Verdict.{Read, accepted}
 use Rattle.law.specs.Whole.{verdictOf}
-use Rattle.law_theorems.proofs.TypeTables.{Table, host-is}
+use Rattle.law_theorems.proofs.TypeTables.{host-is}
+use Rattle.law_theorems.specs.TypeTables.{Table}
 use Rattle.law_theorems.proofs.LinesKeep.{text-keeps}
 use Rattle.table_kinds.specs.Kinds.{Kinded}
 

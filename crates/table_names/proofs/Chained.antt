@@ -13,15 +13,12 @@ use Rattle.leaf_bytes.proofs.Same.{same-equal}
 use Rattle.law.specs.Base.{Name, find}
 use Rattle.law.specs.Trees.{wordAt}
 use Rattle.code.specs.Layout.{lay}
-use Rattle.code.proofs.LayoutRegions.{Same, Room, Has, lay-l}
+use Rattle.code.proofs.LayoutRegions.{Has, lay-l}
+use Rattle.code.specs.LayoutRegions.{Same, Room}
 use Rattle.table_names.specs.Keys.{keyOf, keyed}
 use Rattle.table_names.specs.Chain.{entries, nameAt, keyAt, Called, placeIn}
 use Rattle.table_names.proofs.Keying.{keyed-offset, keyed-key}
-
--- entries and names in the same order; R says what an entry tells of the meaning of its name
-pub data Names {A : Type 0} (s l : List ℕ) (R : ℕ → A → Type 0) : List ℕ → List (Name × A) → Type 0 where
-  no-names : Names s l R [] []
-  one-name : {p : ℕ} {ps : List ℕ} {w : Name} {a : A} {ns : List (Name × A)} → 1 ≤ p → Called s l p w → R p a → Names s l R ps ns → Names s l R (p ∷ ps) ((w, a) ∷ ns)
+use Rattle.table_names.specs.Chained.{Below, Names, no-entry, no-names, one-entry, one-name}
 
 -- what is found under a name
 pub data Found {A : Type 0} (R : ℕ → A → Type 0) (w : Name) (ns : List (Name × A)) (p : ℕ) : Type 0 where
@@ -47,11 +44,6 @@ found {A} {s} {l} {R} (one-name {p} {ps} {w = v} {a} {ns} h e r N) w = rw (calle
     go false g (entry x k q f) = entry x k q (rw (find, g) f)
 
 -- ---- what is laid later leaves a chain as it is
-
--- each of n entries from p on is below t
-pub data Below (l : List ℕ) (t : ℕ) : ℕ → ℕ → Type 0 where
-  no-entry : {p : ℕ} → Below l t 0 p
-  one-entry : {n p : ℕ} → p + 4 ≤ t → Below l t n (getD l (p + 3) 0) → Below l t (suc n) p
 
 module _ {l l′ : List ℕ} {t : ℕ} (E : Same 0 t l′ l) where
   pub entries-kept : {n p : ℕ} → Below l t n p → entries n l′ p ≡ entries n l p

@@ -1,3 +1,4 @@
 pub mod Letters
 pub mod Keys
 pub mod Chain
+pub mod Chained

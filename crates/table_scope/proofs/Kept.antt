@@ -8,7 +8,7 @@ use lib.Dec.{eqb}
 use lib.ListN.{getD}
 use Rattle.law.specs.Environment.{Environment, NameSort}
 use Rattle.law.specs.Types.{TypeInfo, infoAt}
-use Rattle.code.proofs.LayoutRegions.{Same}
+use Rattle.code.specs.LayoutRegions.{Same}
 use Rattle.table_names.proofs.Chained.{entries-kept, names-kept, below-kept, below-higher}
 use Rattle.table_scope.specs.Descriptions.{integerInfo, booleanInfo, noInfo, readInfo, infoOf, fieldsAt, Tells, EndsBelow}
 use Rattle.table_scope.specs.declared.Scope.{Scope}

@@ -13,10 +13,10 @@ use Rattle.law.specs.Environment.{Environment, NameSort, aType, aVar, aProc, aV
 use Rattle.law.specs.Script.{Const}
 use Rattle.law.specs.Trees.{wordAt}
 use Rattle.law.specs.Types.{infoAt, record?, sizeOf, Var, variable}
-use Rattle.law_theorems.proofs.TypeTables.{Table}
-use Rattle.law_theorems.proofs.LinesKeep.{AllFair}
+use Rattle.law_theorems.specs.TypeTables.{Table}
+use Rattle.law_theorems.specs.LinesKeep.{AllFair}
 use Rattle.table_names.specs.Chain.{entries, placeIn}
-use Rattle.table_names.proofs.Chained.{Names, Below}
+use Rattle.table_names.specs.Chained.{Names, Below}
 use Rattle.table_scope.specs.Descriptions.{infoOf, Tells, EndsBelow}
 use Rattle.table_scope.specs.declared.Meaning.{Meaning}
 use Rattle.table_scope.specs.declared.Meaning.the-variants as meaning

@@ -1,0 +1,10 @@
+pub mod CodeSized
+pub mod ValuesInRange
+pub mod TypeSizes
+pub mod Bodies
+pub mod StatementNumbers
+pub mod LinesKeep
+pub mod TypeTables
+pub mod CodeCalls
+pub mod StatementsNoted
+pub mod LinesCover
