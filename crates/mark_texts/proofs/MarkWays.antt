@@ -30,8 +30,8 @@ use Rattle.rule_judge_loose.specs.Standing.{LooseStanding}
 use Rattle.rule_judge_loose.specs.Texts.{AdmittedBy, Admits}
 use Rattle.rule_judge_loose.proofs.Keeping.{all-stand}
 use Rattle.mark_machine.specs.Answers.{MarkAnswers, MarksLent}
-use Rattle.run_texts.proofs.Lending.{lent-store}
-use Rattle.run_texts.proofs.RunWays.{no-row}
+use Rattle.code_store.proofs.Lending.{lent-store}
+use Rattle.rule_stores.proofs.Rows.{no-row}
 use Rattle.rule_texts.proofs.Texts.{after-same, judged-same, part-long, zeros}
 use Rattle.mark_texts.specs.Reports.{MarksLoaded, MarksChecked}
 

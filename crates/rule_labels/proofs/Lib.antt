@@ -4,3 +4,5 @@ pub mod Telling
 pub mod Hopping
 pub mod Differing
 pub mod Finding
+pub mod Keying
+pub mod Comparing

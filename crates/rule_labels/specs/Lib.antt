@@ -2,3 +2,5 @@ pub mod Marks
 pub mod Repeating
 pub mod Hops
 pub mod Blocks
+pub mod Keys
+pub mod Differ

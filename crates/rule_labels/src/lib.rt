@@ -1,4 +1,6 @@
 // Whether the labels of a `case` differ: their values are compared block by block, since the working list may be too short for the labels of a faulty line.
+pub mod loose;
+
 use leaf_words::words::Word;
 use rule_atoms::minus_form;
 use rule_faults::Fault;

@@ -23,7 +23,7 @@ use Rattle.rule_constants.specs.Plain.{plainFirst}
 use Rattle.table_scope.specs.declared.Scope.{Scope}
 use Rattle.table_scope.specs.declared.Loops.{Loops}
 use Rattle.rule_labels.proofs.Finding.{arms-plain}
-use Rattle.rule_labels_loose.specs.Differ.{Differs}
+use Rattle.rule_labels.specs.Differ.{Differs}
 use Rattle.rule_statements.specs.declared.arms.NextArm.{NextArm}
 use Rattle.rule_statements.specs.declared.arms.NextArm.the-variants as next-arm
 use Rattle.rule_statements.specs.Cases.{ArmFormAt, ArmComes}

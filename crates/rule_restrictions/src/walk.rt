@@ -5,7 +5,7 @@ use crate::control::Start;
 use crate::control::assign_kept;
 use crate::control::start_at;
 use rule_constants::plain_part;
-use rule_labels_loose::labels_differ;
+use rule_labels::loose::labels_differ;
 use rule_statements::arms::NextArm;
 use rule_statements::arms::arm_at;
 use table_scope::Loops;

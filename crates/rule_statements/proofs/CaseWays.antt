@@ -36,7 +36,7 @@ use Rattle.rule_faults.specs.Got.{lowest, isForm, isClear, faultOf}
 use Rattle.rule_expr_nodes.specs.Nodes.{Makes}
 use Rattle.rule_expressions.specs.Walks.{Moves, Leaves, ExprTold, GivesExpr}
 use Rattle.rule_expressions.proofs.Joining.{wrong-fits, unnamed-fits, unfit-fits, fits-inj}
-use Rattle.rule_stmt_base.specs.Nodes.{nodeIf}
+use Rattle.rule_stmt_nodes.specs.BaseNodes.{nodeIf}
 use Rattle.rule_statements.specs.Walks.{bare, ActTold, Around, GivesVerb}
 use Rattle.rule_labels.specs.Repeating.{labelsDiffer, Repeating}
 use Rattle.rule_statements.specs.Cases.{ArmsTold, GivesArms, selectedKind, cased, FirstArm, an-arm, no-arm, caseMade, CaseEnds, case-ends, CaseBy, case-parts}

@@ -29,7 +29,7 @@ use Rattle.text_heads.specs.Parts.{rest, closed}
 use Rattle.rule_expr_nodes.specs.Nodes.{Made, Makes, nodeMade, ifClear}
 use Rattle.rule_expressions.specs.Walks.{Moves, Leaves, ExprTold}
 use Rattle.rule_expressions.proofs.Joining.{wrong-fits, unnamed-fits, unfit-fits, fits-inj}
-use Rattle.rule_stmt_base.specs.Nodes.{nodeIf, withFault}
+use Rattle.rule_stmt_nodes.specs.BaseNodes.{nodeIf, withFault}
 use Rattle.rule_stmt_nodes.specs.Nodes.{wantedGot}
 use Rattle.rule_statements.specs.Walks.{bare, ActTold, WantTold}
 

@@ -56,7 +56,7 @@ use Rattle.rule_expr_nodes.specs.Bracket.{Closes}
 use Rattle.rule_expr_nodes.specs.Nodes.{Makes, failedMade, nodeMade, ifClear}
 use Rattle.rule_expressions.specs.Walks.{Moves, Leaves, ExprTold, GivesExpr, GivesTarget}
 use Rattle.rule_expressions.proofs.Joining.{wrong-fits, unnamed-fits, unfit-fits}
-use Rattle.rule_stmt_base.specs.Nodes.{withFault, steered}
+use Rattle.rule_stmt_nodes.specs.BaseNodes.{withFault, steered}
 use Rattle.rule_stmt_nodes.specs.Nodes.{stored, assigned}
 use Rattle.rule_statements.specs.Walks.{StoreTold, ActTold, Around, GivesVerb, GivesAssign, GivesStore}
 use Rattle.rule_statements.proofs.Faults.{lowest-clear, form-is, form-left, form-right, form-none, closes-leaves, same-refl, then-leaves, expr-closed}

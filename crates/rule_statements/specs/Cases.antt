@@ -33,7 +33,7 @@ use Rattle.rule_atoms.specs.declared.Valued.{Valued}
 use Rattle.rule_labels.specs.Repeating.{Repeating}
 use Rattle.rule_expr_nodes.specs.Nodes.{IsBits, Made, Makes}
 use Rattle.rule_expr_nodes.specs.Members.{memberFault}
-use Rattle.rule_stmt_base.specs.Nodes.{nodeIf}
+use Rattle.rule_stmt_nodes.specs.BaseNodes.{nodeIf}
 use Rattle.rule_stmt_nodes.specs.Nodes.{linked}
 use Rattle.rule_statements.specs.Walks.{bare, Around, GivesStmt}
 use Rattle.rule_statements.specs.declared.arms.NextArm.{NextArm}

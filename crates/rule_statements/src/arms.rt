@@ -4,7 +4,7 @@ use rule_faults::Got;
 use rule_faults::is_clear;
 use rule_faults::lowest;
 use rule_labels::repeat_fault;
-use rule_stmt_base::node_if;
+use rule_stmt_nodes::base::node_if;
 use table_list::lay;
 use table_list::put;
 use table_scope::Info;

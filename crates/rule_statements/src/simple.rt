@@ -6,7 +6,7 @@ use rule_faults::Fault;
 use rule_faults::Got;
 use rule_faults::failed;
 use rule_faults::is_form;
-use rule_stmt_base::steer;
+use rule_stmt_nodes::base::steer;
 use rule_stmt_nodes::nodes::assign_node;
 use rule_stmt_nodes::nodes::call_node;
 use rule_stmt_nodes::nodes::is_named;

@@ -21,7 +21,7 @@ use Rattle.text_parts.specs.Parts.{LeafAt, FormAt, ShutAt, Stands}
 use Rattle.rule_expr_nodes.specs.Nodes.{Makes}
 use Rattle.rule_stmt_nodes.specs.declared.last.Next.{Next}
 use Rattle.rule_stmt_nodes.specs.declared.last.Next.the-variants as following
-use Rattle.rule_stmt_base.specs.Nodes.{nodeIf}
+use Rattle.rule_stmt_nodes.specs.BaseNodes.{nodeIf}
 use Rattle.rule_stmt_nodes.specs.Nodes.{plainMade, handledMade}
 use Rattle.rule_stmt_nodes.specs.Handlers.{HandlerAt, PlainAt, HeadAt, HandlerIn, Comes}
 

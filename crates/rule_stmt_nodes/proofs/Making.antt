@@ -21,7 +21,7 @@ use Rattle.rule_faults.specs.Got.{lowest, isClear, failedGot}
 use Rattle.table_list.specs.Laid.{Laid}
 use Rattle.rule_expr_nodes.specs.Nodes.{Makes, nodeMade}
 use Rattle.rule_expr_nodes.proofs.Making.{if-clear, if-fault}
-use Rattle.rule_stmt_base.specs.Nodes.{withFault, nodeIf}
+use Rattle.rule_stmt_nodes.specs.BaseNodes.{withFault, nodeIf}
 use Rattle.rule_stmt_nodes.specs.declared.nodes.Control.{Control}
 use Rattle.rule_stmt_nodes.specs.Nodes.{nextNumber, wantedGot, raised, looped, branched, called, stored, assigned, controlIs, controlBy, controlFault, repeated, repeatedBy, linked, sequenced, joinedGot}
 

@@ -17,7 +17,7 @@ use Rattle.table_scope.specs.Sides.{hostIn}
 use Rattle.rule_faults.specs.declared.Got.{Got}
 use Rattle.rule_faults.specs.Got.{lowest, failedGot}
 use Rattle.rule_expr_nodes.specs.Nodes.{Made, failedMade, nodeMade, ifClear}
-use Rattle.rule_stmt_base.specs.Nodes.{withFault, nodeIf}
+use Rattle.rule_stmt_nodes.specs.BaseNodes.{withFault, nodeIf}
 use Rattle.text_heads.specs.declared.Atom.{Atom}
 use Rattle.text_heads.specs.declared.Atom.the-variants as AT
 use Rattle.rule_stmt_nodes.specs.declared.nodes.Control.{Control}

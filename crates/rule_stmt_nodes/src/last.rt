@@ -1,7 +1,7 @@
 // A body's parts: what comes next, and the node of a body.
+use crate::base::node_if;
 use rule_faults::Got;
 use rule_faults::lowest;
-use rule_stmt_base::node_if;
 use table_list::slot;
 use text_heads::is_exception;
 use text_parts::Part;

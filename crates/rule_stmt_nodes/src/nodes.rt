@@ -1,4 +1,6 @@
 // The nodes of statements, from the answers for their parts.
+use crate::base::node_if;
+use crate::base::with_fault;
 use leaf_words::words::Word;
 use rule_expr_nodes::nodes::node;
 use rule_faults::Fault;
@@ -6,8 +8,6 @@ use rule_faults::Got;
 use rule_faults::failed;
 use rule_faults::is_clear;
 use rule_faults::lowest;
-use rule_stmt_base::node_if;
-use rule_stmt_base::with_fault;
 use table_list::lay;
 use table_list::put;
 use table_scope::Info;

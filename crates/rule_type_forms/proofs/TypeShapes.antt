@@ -28,7 +28,7 @@ use Rattle.rule_stages.specs.Stages.{wrong, staged}
 use Rattle.rule_declarations.specs.Names.{GivesName}
 use Rattle.rule_declarations.specs.Lines.{lineOf, entryStaged, linedBy, GivesLine}
 use Rattle.rule_type_lines.specs.TypeLines.{typeIn, typeAfter, madeAfter, aliasAfter, GivesAlias, GivesMade}
-use Rattle.rule_simple_lines.specs.Simple.{setIn, arrayIn, rangeIn}
+use Rattle.rule_type_lines.specs.Simple.{setIn, arrayIn, rangeIn}
 use Rattle.rule_enum_lines.specs.Enums.{enumIn}
 use Rattle.rule_record_lines.specs.Records.{recordIn}
 use Rattle.rule_type_forms.specs.Shapes.{makerBy, GivesAfter, GivesForm}

@@ -10,7 +10,7 @@ use Rattle.text_parts.specs.Parts.{FormAt}
 use Rattle.text_heads.specs.declared.Maker.{Maker}
 use Rattle.text_heads.specs.declared.Maker.the-variants as MK
 use Rattle.rule_declarations.specs.Lines.{GivesLine}
-use Rattle.rule_simple_lines.specs.Simple.{setIn, arrayIn, rangeIn}
+use Rattle.rule_type_lines.specs.Simple.{setIn, arrayIn, rangeIn}
 use Rattle.rule_type_lines.specs.TypeLines.{typeAfter}
 use Rattle.rule_enum_lines.specs.Enums.{enumIn}
 use Rattle.rule_record_lines.specs.Records.{recordIn}

@@ -1,1 +1,3 @@
 pub mod TypeLines
+pub mod Simple
+pub mod Ranges

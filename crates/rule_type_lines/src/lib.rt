@@ -1,4 +1,8 @@
 // Lines that declare types: the name's entry, the description and its place, and the counts then.
+pub mod made;
+pub mod ranges;
+pub mod simple;
+
 use rule_declarations::Lined;
 use rule_declarations::MOST_TYPE_LINES;
 use rule_declarations::State;

@@ -33,14 +33,9 @@ use Rattle.run_chair.specs.Answers.{Running}
 use Rattle.rule_texts.specs.declared.Checked.{Checked}
 use Rattle.rule_texts.specs.Answers.{CheckedBy, Checks}
 use Rattle.run_texts.specs.Running.{RunsLoaded, RunsChecked}
-use Rattle.run_texts.proofs.Lending.{lent-store}
+use Rattle.code_store.proofs.Lending.{lent-store}
+use Rattle.rule_stores.proofs.Rows.{no-row}
 use Rattle.rule_texts.proofs.Texts.{verdict-same, part-long, zeros}
-
-pub no-row : (b c : Bool) → faultOf b c ≡ some 0 → ⊥
-unfolding faultOf
-no-row false c h = let e : _≡_ {A = ℕ} 10 0 = cc in omega arith
-no-row true false h = let e : _≡_ {A = ℕ} 11 0 = cc in omega arith
-no-row true true h = let e : _≡_ {A = ℕ} 0 1 = cc in omega arith
 
 module _ (l ts : List ℕ) (kn : Known) (vs : List ℤ) (ms : List ℕ) (budget f : ℕ) (F : StoreFault l ts (kn .state) vs ms f) where
   pub loaded-refused : (r : Report) → ((f ≡ 0) → ⊥) → r ≡ Refused f 0 → RunsLoaded l ts kn vs ms budget r vs ms

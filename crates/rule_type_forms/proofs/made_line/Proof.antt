@@ -5,9 +5,9 @@ use Rattle.rule_type_forms.proofs.made_line.Tie as tie
 use Rattle.rule_type_forms.proofs.made_line.Reads as reads
 use Rattle.rule_type_forms.proofs.made_line.Lts as lts
 use Rattle.rule_declarations.proofs.answered.Reads as answered-reads
-use Rattle.rule_simple_lines.proofs.made.array_line.Reads as array-line-reads
-use Rattle.rule_simple_lines.proofs.made.range_line.Reads as range-line-reads
-use Rattle.rule_simple_lines.proofs.made.set_line.Reads as set-line-reads
+use Rattle.rule_type_lines.proofs.made.array_line.Reads as array-line-reads
+use Rattle.rule_type_lines.proofs.made.range_line.Reads as range-line-reads
+use Rattle.rule_type_lines.proofs.made.set_line.Reads as set-line-reads
 use Rattle.rule_record_lines.proofs.records.record_line.Reads as record-line-reads
 use Rattle.rule_enum_lines.proofs.values.enum_line.Reads as enum-line-reads
 

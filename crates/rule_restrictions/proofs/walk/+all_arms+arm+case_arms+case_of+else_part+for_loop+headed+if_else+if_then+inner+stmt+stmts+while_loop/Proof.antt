@@ -47,7 +47,7 @@ use Rattle.rule_restrictions.proofs.walk.+all_arms+arm+case_arms+case_o
 use Rattle.rule_restrictions.proofs.walk.while_loop.Reads as while-loop
 use Rattle.rule_restrictions.proofs.walk.while_loop.Kinds as while-loop-kinds
 use Rattle.rule_restrictions.proofs.walk.+all_arms+arm+case_arms+case_of+else_part+for_loop+headed+if_else+if_then+inner+stmt+stmts+while_loop.Lts-while_loop as while-loop-lts
-use Rattle.rule_labels_loose.proofs.labels_differ.Reads as labels-differ-reads
+use Rattle.rule_labels.proofs.loose.labels_differ.Reads as labels-differ-reads
 use Rattle.rule_restrictions.proofs.arm_parts.after_labels.Reads as after-labels-reads
 use Rattle.rule_restrictions.proofs.control.assign_kept.Reads as assign-kept-reads
 use Rattle.rule_restrictions.proofs.control.start_at.Reads as start-at-reads

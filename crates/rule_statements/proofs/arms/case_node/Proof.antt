@@ -6,7 +6,7 @@ use Rattle.rule_statements.proofs.arms.case_node.Reads as reads
 use Rattle.rule_statements.proofs.arms.case_node.Lts as lts
 use Rattle.rule_faults.proofs.lowest.Reads as lowest-reads
 use Rattle.rule_statements.proofs.arms.ordinal_fault.Reads as ordinal-fault-reads
-use Rattle.rule_stmt_base.proofs.node_if.Reads as node-if-reads
+use Rattle.rule_stmt_nodes.proofs.base.node_if.Reads as node-if-reads
 
 -- src/arms.rt:128:37
 lowest-requires : tie.Need-lowest-requires

@@ -7,7 +7,7 @@ use Rattle.rule_statements.proofs.simple.store_at.Lts as lts
 use Rattle.rule_expressions.proofs.walk.target.Reads as target-reads
 use Rattle.rule_faults.proofs.failed.Reads as failed-reads
 use Rattle.text_parts.proofs.part_at.Reads as part-at-reads
-use Rattle.rule_stmt_base.proofs.steer.Reads as steer-reads
+use Rattle.rule_stmt_nodes.proofs.base.steer.Reads as steer-reads
 use Rattle.table_scope.proofs.meaning_of.Reads as meaning-of-reads
 
 -- src/simple.rt:27:9

@@ -4,7 +4,7 @@ use Rattle.rule_stmt_nodes.proofs.last.plain_node.Statement.{statement}
 use Rattle.rule_stmt_nodes.proofs.last.plain_node.Tie as tie
 use Rattle.rule_stmt_nodes.proofs.last.plain_node.Reads as reads
 use Rattle.rule_stmt_nodes.proofs.last.plain_node.Lts as lts
-use Rattle.rule_stmt_base.proofs.node_if.Reads as node-if-reads
+use Rattle.rule_stmt_nodes.proofs.base.node_if.Reads as node-if-reads
 use Rattle.table_list.proofs.slot.Reads as slot-reads
 
 -- src/last.rt:53:9

@@ -5,7 +5,7 @@ use Rattle.rule_stmt_nodes.proofs.nodes.for_parts.Tie as tie
 use Rattle.rule_stmt_nodes.proofs.nodes.for_parts.Reads as reads
 use Rattle.rule_stmt_nodes.proofs.nodes.for_parts.Lts as lts
 use Rattle.rule_faults.proofs.lowest.Reads as lowest-reads
-use Rattle.rule_stmt_base.proofs.node_if.Reads as node-if-reads
+use Rattle.rule_stmt_nodes.proofs.base.node_if.Reads as node-if-reads
 
 -- src/nodes.rt:208:37
 lowest-requires : tie.Need-lowest-requires

@@ -4,7 +4,7 @@ use Rattle.rule_stmt_nodes.proofs.nodes.raise_node.Statement.{statement
 use Rattle.rule_stmt_nodes.proofs.nodes.raise_node.Tie as tie
 use Rattle.rule_stmt_nodes.proofs.nodes.raise_node.Reads as reads
 use Rattle.rule_stmt_nodes.proofs.nodes.raise_node.Lts as lts
-use Rattle.rule_stmt_base.proofs.node_if.Reads as node-if-reads
+use Rattle.rule_stmt_nodes.proofs.base.node_if.Reads as node-if-reads
 
 -- src/nodes.rt:75:40
 slice-aggregate-node-if : tie.Need-slice-aggregate-node-if

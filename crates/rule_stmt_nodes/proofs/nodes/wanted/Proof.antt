@@ -5,7 +5,7 @@ use Rattle.rule_stmt_nodes.proofs.nodes.wanted.Tie as tie
 use Rattle.rule_stmt_nodes.proofs.nodes.wanted.Reads as reads
 use Rattle.rule_stmt_nodes.proofs.nodes.wanted.Lts as lts
 use Rattle.rule_faults.proofs.lowest.Reads as lowest-reads
-use Rattle.rule_stmt_base.proofs.with_fault.Reads as with-fault-reads
+use Rattle.rule_stmt_nodes.proofs.base.with_fault.Reads as with-fault-reads
 
 -- src/nodes.rt:63:9
 returns : tie.Need-returns

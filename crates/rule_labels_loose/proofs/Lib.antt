@@ -1,2 +1,0 @@
-pub mod Keying
-pub mod Comparing
