@@ -7,7 +7,7 @@ use Rattle.law_answers.specs.declared.Report.{Report}
 use Rattle.law_answers.specs.declared.MarkReport.{MarkReport}
 use Rattle.law_answers.specs.RunReports.{Reports}
 use Rattle.law_answers.specs.MarkingReports.{MarkReports}
-use Rattle.host_writing.specs.Written.{Puts, namesAt}
+use Rattle.law_answers.specs.Written.{Puts, namesAt}
 use Rattle.host_telling.specs.Told.{reportRows}
 use Rattle.host_telling.specs.MarkTold.{markRows}
 use Rattle.host_telling.proofs.Telling.{script-shown}

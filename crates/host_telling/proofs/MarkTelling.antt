@@ -16,7 +16,7 @@ use Rattle.law_answers.specs.declared.Marked.{Marked}
 use Rattle.law_answers.specs.declared.MarkReport.{MarkReport}
 use Rattle.law_answers.specs.declared.MarkReport.the-variants.{Refused, Ran}
 use Rattle.law_answers.specs.MarkingReports.{markOutcome, markEnding, MarkReports}
-use Rattle.host_writing.specs.Written.{Puts, namesAt}
+use Rattle.law_answers.specs.Written.{Puts, namesAt}
 use Rattle.host_writing.proofs.Writing.{puts-then}
 use Rattle.host_telling.specs.MarkTold.{markedRow, markRows}
 

@@ -9,7 +9,7 @@ use mir.Facts.{toZ-ofZ}
 use Rattle.leaf_integers.proofs.Machine.{wire}
 use Rattle.leaf_bytes.specs.Bytes.{bytes}
 use Rattle.law.specs.Print.{decimalOf, signedOf, row, outcome, cells, show}
-use Rattle.host_writing.specs.Written.{Puts, namesAt}
+use Rattle.law_answers.specs.Written.{Puts, namesAt}
 use Rattle.law.specs.Whole as Whole
 use Rattle.law_answers.specs.declared.Outcome.{Outcome}
 use Rattle.law_answers.specs.declared.Outcome.the-variants.{Normal, Raised, Spent}

@@ -8,7 +8,7 @@ use Rattle.law_answers.specs.declared.Marked.{Marked}
 use Rattle.law_answers.specs.declared.MarkReport.{MarkReport}
 use Rattle.law_answers.specs.declared.MarkReport.the-variants.{Refused, Ran}
 use Rattle.law_answers.specs.MarkingReports.{markOutcome}
-use Rattle.host_writing.specs.Written.{namesAt}
+use Rattle.law_answers.specs.Written.{namesAt}
 
 -- the row of an answer
 unfoldable pub markedRow : Marked → List ℕ

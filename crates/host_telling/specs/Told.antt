@@ -8,7 +8,7 @@ use Rattle.law_answers.specs.declared.Answer.{Answer}
 use Rattle.law_answers.specs.declared.Report.{Report}
 use Rattle.law_answers.specs.declared.Report.the-variants.{Refused, Ran}
 use Rattle.law_answers.specs.RunReports.{outcomeOf}
-use Rattle.host_writing.specs.Written.{namesAt}
+use Rattle.law_answers.specs.Written.{namesAt}
 
 -- the row of an answer
 unfoldable pub answerRow : Answer → List ℕ

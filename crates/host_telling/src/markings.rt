@@ -8,7 +8,7 @@ use host_writing::rows::stuck;
 use law_answers::Ending;
 use law_answers::MarkReport;
 use law_answers::Marked;
-ghost use Rattle.host_writing.specs.Written.{Puts};
+ghost use Rattle.law_answers.specs.Written.{Puts};
 ghost use Rattle.host_telling.specs.MarkTold.{markedRow, markRows};
 
 // The row of an outcome.

@@ -7,7 +7,7 @@ use host_writing::rows::spent;
 use law_answers::Answer;
 use law_answers::Outcome;
 use law_answers::Report;
-ghost use Rattle.host_writing.specs.Written.{Puts};
+ghost use Rattle.law_answers.specs.Written.{Puts};
 ghost use Rattle.host_telling.specs.Told.{answerRow, reportRows};
 
 // The row of an outcome.

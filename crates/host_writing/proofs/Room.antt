@@ -8,7 +8,7 @@ use native.Mathlib.Omega.{arith}
 use borrow.Author.Tests.{lt-ltb}
 use lib.ListN.{length, getD, set, take, length-set}
 use lib.Seq.{take-suc, take-set-le, getD-set-same}
-use Rattle.host_writing.specs.Written.{Out, outOf, putOne, putAll, Puts}
+use Rattle.law_answers.specs.Written.{Out, outOf, putOne, putAll, Puts}
 
 -- what stands after bs were written into l from p on
 pub record Stand (bs l : List ℕ) (p : ℕ) (o : Out) : Type 0 where

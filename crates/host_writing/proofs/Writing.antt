@@ -21,7 +21,8 @@ use Rattle.law_theorems.proofs.Reading.{none-word}
 use Rattle.text_words.specs.Sights.{Ends}
 use Rattle.law.specs.Print.{decimalOf, signedOf, row, cellValue, cells}
 use Rattle.law.specs.Print.{decimal as decimalBy}
-use Rattle.host_writing.specs.Written.{Out, outOf, putOne, putAll, Puts, nameAt, namesAt, naturalOf, turnOf}
+use Rattle.host_writing.specs.Written.{naturalOf, turnOf}
+use Rattle.law_answers.specs.Written.{Out, outOf, putOne, putAll, Puts, nameAt, namesAt}
 
 -- ---- one after another
 

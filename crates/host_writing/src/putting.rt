@@ -6,7 +6,8 @@ ghost use Prim.Native.Nat.{_+_, _%_};
 ghost use Rattle.leaf_bytes.specs.Bytes.{small};
 ghost use Rattle.law.specs.Print.{decimalOf, signedOf};
 ghost use Rattle.law.specs.Print.{decimal as decimalBy};
-ghost use Rattle.host_writing.specs.Written.{Puts, naturalOf, turnOf};
+ghost use Rattle.host_writing.specs.Written.{naturalOf, turnOf};
+ghost use Rattle.law_answers.specs.Written.{Puts};
 
 // A byte.
 pub fn put(out: &mut [u8], at: usize, b: u8) -> usize

@@ -12,7 +12,7 @@ ghost use lib.IntN.{pos};
 ghost use lib.ListN.{length, getD};
 ghost use Rattle.leaf_bytes.specs.Bytes.{bytes};
 ghost use Rattle.law.specs.Print.{decimalOf, signedOf, row, cellValue, cells};
-ghost use Rattle.host_writing.specs.Written.{Puts, nameAt, namesAt};
+ghost use Rattle.law_answers.specs.Written.{Puts, nameAt, namesAt};
 
 // A number and a space.
 fn spaced(out: &mut [u8], at: usize, n: u64) -> usize

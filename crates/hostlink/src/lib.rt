@@ -15,7 +15,7 @@ ghost use lib.ListN.{length};
 ghost use Rattle.law.specs.Verdict.{judge, loosely};
 ghost use Rattle.law.specs.Whole.{verdictOf, runOf, markOf, workAfter};
 ghost use Rattle.law_answers.specs.Verdicts.{toldVerdict, cellsTold};
-ghost use Rattle.rule_cells.specs.Cells.{Owners};
+ghost use Rattle.law_answers.specs.Owners.{Owners};
 ghost use Rattle.host_replies.specs.Replies.{verdictReply, countReply, Replies};
 
 // The verdict on a text.

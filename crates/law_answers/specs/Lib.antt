@@ -1,3 +1,5 @@
 pub mod Verdicts
 pub mod RunReports
 pub mod MarkingReports
+pub mod Written
+pub mod Owners

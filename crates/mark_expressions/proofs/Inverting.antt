@@ -14,8 +14,10 @@ use Rattle.law.specs.Operators.{Op, Fun, negate, minus}
 use Rattle.law.specs.Syntax as Syntax
 use Rattle.law.specs.Trees.{Tree, Trees, end, _then_, Run, first, stackAt}
 use Rattle.law_theorems.proofs.Inversion.{none-some, some-inj, bind-some}
-use Rattle.table_kinds.specs.Kinds.{operators, opNumber}
-use Rattle.table_kinds.specs.Functions.{functions, funNumber}
+use Rattle.table_kinds.specs.Kinds.{opNumber}
+use Rattle.code_ops.specs.Operators.{operators}
+use Rattle.table_kinds.specs.Functions.{funNumber}
+use Rattle.code_ops.specs.Functions.{functions}
 use Rattle.text_heads.specs.declared.ExprHead.the-variants as EH
 use Rattle.text_heads.specs.Heads.{exprHeadMeant}
 use Rattle.text_heads.specs.Parts.{partOf, rest, closed, exprIn, targetIn, nameIn, numberIn, typeNameIn, exprsIn, targetBy}

@@ -14,7 +14,8 @@ use Rattle.law_answers.specs.Verdicts.{cellsTold}
 use Rattle.table_bodies.specs.Table.{upTo}
 use Rattle.rule_texts.specs.declared.Checked.{Checked}
 use Rattle.rule_judge_loose.specs.Texts.{AdmittedBy, Admits}
-use Rattle.rule_cells.specs.Cells.{countedBy, NamesBy, Owners, OwnedBy}
+use Rattle.rule_cells.specs.Cells.{countedBy, NamesBy}
+use Rattle.law_answers.specs.Owners.{Owners, OwnedBy}
 use Rattle.rule_texts.proofs.Texts.{part-long}
 use Rattle.mark_texts.proofs.MarkWays.{judged-here}
 

@@ -12,7 +12,7 @@ ghost use lib.ListN.{length};
 ghost use Rattle.law.specs.Verdict.{judge, loosely};
 ghost use Rattle.law.specs.Whole.{workAfter};
 ghost use Rattle.law_answers.specs.Verdicts.{cellsTold};
-ghost use Rattle.rule_cells.specs.Cells.{Owners};
+ghost use Rattle.law_answers.specs.Owners.{Owners};
 
 // How many cells a text has; names[i] becomes the offset of the name of cell i's variable, for each cell that there is room for. The rest of
 // `names`, and all of it on a refusal, stays as lent.

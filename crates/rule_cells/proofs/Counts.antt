@@ -20,7 +20,8 @@ use Rattle.rule_declarations.specs.declared.State.{State}
 use Rattle.rule_stores.specs.Stores.{Owner}
 use Rattle.rule_texts.specs.declared.Checked.{Checked}
 use Rattle.rule_texts.specs.Answers.{CheckedBy, Checks}
-use Rattle.rule_cells.specs.Cells.{countedBy, Named, Names, NamesBy, Owners, OwnedBy}
+use Rattle.rule_cells.specs.Cells.{countedBy, Named, Names, NamesBy}
+use Rattle.law_answers.specs.Owners.{Owners, OwnedBy}
 use Rattle.rule_texts.proofs.Texts.{verdict-same, part-long, zeros}
 
 pub counted-no : (c : Checked) (r : Counted) → c .refusal ≡ 0 → r ≡ told.Cells (c .known .state .cells) → r ≡ countedBy c

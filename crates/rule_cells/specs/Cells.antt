@@ -1,14 +1,11 @@
 -- How many cells an accepted text has, and the variable of each (law, Environment: `cells`, `owners`).
 use mathlib.Core.Bool.{cond}
-use mathlib.Core.List.{List, [], map}
+use mathlib.Core.List.{List}
 use mathlib.Core.Path.{_≡_}
 use Prim.Native.Nat.{ℕ, _<_}
 use lib.Dec.{eqb}
 use lib.ListN.{length, drop, getD}
-use Rattle.leaf_bytes.specs.Bytes.{small}
-use Rattle.law.specs.Trees.{wordAt}
 use Rattle.law.specs.Verdict as Meaning
-use Rattle.law.specs.Verdict.{Read, accepted, refused}
 use Rattle.law_answers.specs.declared.Counted.{Counted}
 use Rattle.law_answers.specs.declared.Counted.the-variants.{Refused, Cells}
 use Rattle.rule_declarations.specs.declared.State.{State}
@@ -34,12 +31,3 @@ pub record Names (l ts : List ℕ) (st : State) (old names : List ℕ) : Type 0 
 pub record NamesBy (l ts : List ℕ) (c : Checked) (old names : List ℕ) : Type 0 where
   pub kept : ((c .refusal ≡ 0) → ⊥) → names ≡ old
   pub named : c .refusal ≡ 0 → Names l ts (c .known .state) old names
-
--- and in the words of document 01: the name in small letters is that of the cell's variable; past the cells, and on a refusal, names is as lent
-abbrev pub OwnedBy : List ℕ → Meaning.Verdict Read → List ℕ → List ℕ → Type 0
-OwnedBy s (refused m n) old names = names ≡ old
-OwnedBy s (accepted q) old names = (length names ≡ length old) × (drop (length (q .known .cells)) names ≡ drop (length (q .known .cells)) old)
-    × ((j : ℕ) → j < length names → j < length (q .known .cells) → map small (wordAt s (getD names j 0)) ≡ getD (q .known .owners) j [])
-
-pub record Owners (s : List ℕ) (v : Meaning.Verdict Read) (old names : List ℕ) : Type 0 where
-  pub says : OwnedBy s v old names

@@ -11,7 +11,8 @@ ghost use mathlib.Core.Path.{_≡_};
 ghost use lib.ListN.{length};
 ghost use Rattle.law.specs.Whole.{verdictOf, workAfter};
 ghost use Rattle.law_answers.specs.Verdicts.{cellsTold};
-ghost use Rattle.rule_cells.specs.Cells.{countedBy, Names, NamesBy, Owners};
+ghost use Rattle.rule_cells.specs.Cells.{countedBy, Names, NamesBy};
+ghost use Rattle.law_answers.specs.Owners.{Owners};
 
 // How many cells by the answer for a text.
 pub fn count_of(c: Checked) -> Counted

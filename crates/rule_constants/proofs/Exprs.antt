@@ -36,8 +36,8 @@ use Rattle.law_theorems.proofs.Inversion.{none-some, some-inj, bind-some, and-t
 use Rattle.law_theorems.proofs.LinesKeep.{find-fair}
 use Rattle.law_theorems.specs.LinesKeep.{Fair, value, AllFair}
 use Rattle.law_theorems.specs.TypeTables.{Table}
-use Rattle.table_kinds.specs.Functions.{functions}
-use Rattle.table_kinds.specs.Kinds.{operators}
+use Rattle.code_ops.specs.Functions.{functions}
+use Rattle.code_ops.specs.Operators.{operators}
 use Rattle.text_heads.specs.declared.Atom.{Atom}
 use Rattle.text_heads.specs.declared.Atom.the-variants as AT
 use Rattle.text_heads.specs.declared.ExprHead.{ExprHead}

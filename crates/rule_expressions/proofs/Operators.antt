@@ -25,8 +25,10 @@ use Rattle.law.specs.Elaborate.{elabExpr}
 use Rattle.code.specs.LayoutRegions.{Same}
 use Rattle.law_theorems.proofs.Inversion.{none-some, some-inj}
 use Rattle.rule_stages.proofs.OnePassExprs.{binary-staged, short-staged, unary-staged}
-use Rattle.table_kinds.specs.Kinds.{TwoSided, strict, lazy, rowNumber, opNumber, operators, told, toldOf}
-use Rattle.table_kinds.specs.Functions.{functions, funNumber, told1, nodeOf}
+use Rattle.table_kinds.specs.Kinds.{TwoSided, strict, lazy, rowNumber, opNumber, told, toldOf}
+use Rattle.code_ops.specs.Operators.{operators}
+use Rattle.table_kinds.specs.Functions.{funNumber, told1, nodeOf}
+use Rattle.code_ops.specs.Functions.{functions}
 use Rattle.table_kinds.proofs.TwoSided.{two-sided-rule}
 use Rattle.table_kinds.proofs.OneSided.{one-sided-rule}
 use Rattle.table_kinds.specs.declared.Ruling.{Ruling}

@@ -10,7 +10,8 @@ use lib.ListN.{getD, length, List·getD-eq-default}
 use Rattle.law.specs.Base.{pick}
 use Rattle.law.specs.Operators.{Fun}
 use Rattle.table_kinds.specs.Kinds.{TwoSided, rows, entryOf, rowOf, classes, table, nodeAt, partnerOf, resultOf, numbered, ruling2}
-use Rattle.table_kinds.specs.Functions.{functions, takes, funNode, table1, nodeAt1, resultOf1, ruling1}
+use Rattle.table_kinds.specs.Functions.{takes, funNode, table1, nodeAt1, resultOf1, ruling1}
+use Rattle.code_ops.specs.Functions.{functions}
 use Rattle.table_kinds.specs.declared.Class.{Class}
 use Rattle.table_kinds.specs.declared.Class.the-variants.{Integer, Boolean, Enum, Set, Whole}
 use Rattle.table_kinds.specs.declared.Side.{Side}

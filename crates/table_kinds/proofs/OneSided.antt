@@ -13,7 +13,8 @@ use Rattle.code.specs.Layout.{node1}
 use Rattle.law.specs.Operators.{Fun, negate, notOf, abs, sqr, odd, ord, pred, succ, card, setmin, setmax, Operation1, intNegate, boolNot, intAbs, intSqr, intOdd, ordinalOf, predIn, succIn, setCard, setLeast, setGreatest, Rule1, rule1, functionRule}
 use Rattle.law.specs.Types.{Types, infoAt, ordinal?, set?, baseOf}
 use Rattle.table_kinds.specs.Kinds.{classAt, sideOf, Kinded, rowOf, classes, integerClass, booleanClass, ordinalClass, setClass}
-use Rattle.table_kinds.specs.Functions.{nodeOf, takes, funNode, funNumber, functions, table1, nodeAt1, resultOf1, ruling1, told1}
+use Rattle.table_kinds.specs.Functions.{nodeOf, takes, funNode, funNumber, table1, nodeAt1, resultOf1, ruling1, told1}
+use Rattle.code_ops.specs.Functions.{functions}
 use Rattle.table_kinds.specs.declared.Class.{Class}
 use Rattle.table_kinds.specs.declared.Ruling.{Ruling}
 use Rattle.table_kinds.specs.declared.Ruling.the-variants.{Misfit, Fits}

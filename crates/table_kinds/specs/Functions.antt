@@ -1,6 +1,6 @@
 -- The table of function by class, and what a one-sided operator or function comes to at its side.
 use mathlib.Core.Bool.{Bool, cond}
-use mathlib.Core.List.{List, [], _∷_, map}
+use mathlib.Core.List.{List, [], map}
 use mathlib.Core.Option.{Option, none, some}
 use Prim.Native.Nat.{ℕ}
 use lib.Dec.{eqb}
@@ -13,6 +13,7 @@ use Rattle.table_kinds.specs.declared.Class.{Class}
 use Rattle.table_kinds.specs.declared.Side.{Side}
 use Rattle.table_kinds.specs.declared.Ruling.{Ruling}
 use Rattle.table_kinds.specs.declared.Ruling.the-variants.{Misfit, Fits}
+use Rattle.code_ops.specs.Functions.{functions}
 
 -- the number of a node of one part, as it is laid
 abbrev pub nodeOf : Operation1 → ℕ
@@ -59,10 +60,6 @@ funNumber succ = 7
 funNumber card = 8
 funNumber setmin = 9
 funNumber setmax = 10
-
--- the functions in that order
-abbrev pub functions : List Fun
-functions = negate ∷ notOf ∷ abs ∷ sqr ∷ odd ∷ ord ∷ pred ∷ succ ∷ card ∷ setmin ∷ setmax ∷ []
 
 -- by function and class
 unfoldable pub table1 : List (List ℕ)

@@ -15,6 +15,7 @@ use Rattle.table_kinds.specs.declared.Class.the-variants.{Integer, Boole
 use Rattle.table_kinds.specs.declared.Side.{Side}
 use Rattle.table_kinds.specs.declared.Ruling.{Ruling}
 use Rattle.table_kinds.specs.declared.Ruling.the-variants.{Misfit, Fits}
+use Rattle.code_ops.specs.Operators.{operators}
 
 -- ---- a kind's class
 
@@ -113,10 +114,6 @@ operationOf orBoth a b = given (booleans a b) boolOr
 unfoldable pub coded : Option Operation → ℕ
 coded none = 0
 coded (some o) = 9 + operationNumber o
-
--- the operators in order
-abbrev pub operators : List Op
-operators = plus ∷ minus ∷ times ∷ power ∷ divide ∷ modulo ∷ equal ∷ unequal ∷ less ∷ atMost ∷ greater ∷ atLeast ∷ member ∷ andBoth ∷ orBoth ∷ []
 
 -- the place of an operator in that order
 unfoldable pub opNumber : Op → ℕ

@@ -8,8 +8,8 @@ use lib.IntN.{ℤ}
 use lib.ListN.{getD}
 use Rattle.leaf_words.specs.declared.words.Word as Kind
 use Rattle.leaf_words.specs.declared.words.Word.the-variants as W
-use Rattle.table_kinds.specs.Functions.{functions}
-use Rattle.table_kinds.specs.Kinds.{operators}
+use Rattle.code_ops.specs.Functions.{functions}
+use Rattle.code_ops.specs.Operators.{operators}
 use Rattle.law.specs.Base.{Name}
 use Rattle.law.specs.Forms as Forms
 use Rattle.law.specs.Forms.{Head, hAt, hDot, hMembers, hMinus, hBound, hLazy, hOp, hFun, vAssign, vBegin, vIf, vWhile, vFor, vCase, vCall, vRaise, isArm, isElse, mEnum, mRange, mArray, mRecord, mSet, isType, isVar, isProc, isMain}

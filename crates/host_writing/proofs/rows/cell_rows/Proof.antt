@@ -2,7 +2,7 @@ use Prim.Native.Nat.{ℕ, _<_, _≤_, _-_}
 use native.Mathlib.Omega.{arith}
 use lib.ListN.{length}
 use Rattle.law.specs.Print.{cells}
-use Rattle.host_writing.specs.Written.{namesAt}
+use Rattle.law_answers.specs.Written.{namesAt}
 use Rattle.host_writing.proofs.Writing.{Still, cellsFrom}
 use borrow.Author.Needs.{needs}
 use Rattle.host_writing.proofs.Writing.{rows-laws, still-long, still-start}
