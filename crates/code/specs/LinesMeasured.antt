@@ -1,4 +1,4 @@
--- What is said of this subject in contracts and laws; the laws are in proofs/LinesMeasured.
+-- What accepted lines keep of the ceilings, and of the code of their bodies. The laws are in proofs/.
 use mathlib.Core.Path.{_≡_}
 use mathlib.Core.Bool.{true, false}
 use mathlib.Core.List.{List}

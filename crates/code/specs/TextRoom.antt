@@ -1,4 +1,4 @@
--- What is said of this subject in contracts and laws; the laws are in proofs/TextRoom.
+-- What is declared and the code of the bodies take at most 4 numbers for each bracket and word. The laws are in proofs/.
 use mathlib.Core.Bool.{Bool, true, false}
 use mathlib.Core.List.{List}
 use Prim.Native.Nat.{ℕ, _+_, _*_, _≤_}

@@ -12,7 +12,7 @@ use Rattle.host_telling.specs.Told.{reportRows}
 use Rattle.host_telling.specs.MarkTold.{markRows}
 use Rattle.host_telling.proofs.Telling.{script-shown}
 use Rattle.host_telling.proofs.MarkTelling.{script-marked}
-use Rattle.host_printing.specs.Shown.{Shows}
+use Rattle.law_answers.specs.Shown.{Shows}
 
 module _ (s ns : List ℕ) (q : Whole.Report) (vs : List ℤ) (ms l : List ℕ) (r : ℕ) (m : List ℕ) where
   pub run-shows : (x : Report) → Reports q x vs ms → Puts (reportRows s ns vs ms x) l 0 r m → Shows (namesAt s ns) q l r m vs ms

@@ -5,7 +5,7 @@ ghost use mathlib.Core.Path.{_≡_};
 ghost use lib.ListN.{length};
 ghost use Rattle.law.specs.Whole.{markOf, workAfter};
 ghost use Rattle.law_answers.specs.Written.{namesAt};
-ghost use Rattle.host_printing.specs.Shown.{Shows};
+ghost use Rattle.law_answers.specs.Shown.{Shows};
 
 // A text run by the marking machine on a lent store, and its report; store and working list are left as by `mark`.
 pub fn mark_scripted(

@@ -5,7 +5,7 @@ ghost use mathlib.Core.Path.{_≡_};
 ghost use lib.ListN.{length};
 ghost use Rattle.law.specs.Whole.{runOf, workAfter};
 ghost use Rattle.law_answers.specs.Written.{namesAt};
-ghost use Rattle.host_printing.specs.Shown.{Shows};
+ghost use Rattle.law_answers.specs.Shown.{Shows};
 
 // A text run on a lent store, and its report: what document 01 has `runscript` print; store and working list are left as by `run`.
 pub fn scripted(

@@ -1,4 +1,4 @@
--- Bytes written into a list from a place on, and the numbers that are printed.
+-- The numbers that are printed.
 use Prim.Native.Nat.{ℕ}
 use lib.IntN.{ℤ, pos, negsuc}
 

@@ -3,3 +3,4 @@ pub mod RunReports
 pub mod MarkingReports
 pub mod Written
 pub mod Owners
+pub mod Shown

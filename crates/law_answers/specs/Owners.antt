@@ -8,7 +8,7 @@ use Rattle.law.specs.Trees.{wordAt}
 use Rattle.law.specs.Verdict as Meaning
 use Rattle.law.specs.Verdict.{Read, accepted, refused}
 
--- and in the words of document 01: the name in small letters is that of the cell's variable; past the cells, and on a refusal, names is as lent
+-- the name in small letters is that of the cell's variable; past the cells, and on a refusal, names is as lent
 abbrev pub OwnedBy : List ℕ → Meaning.Verdict Read → List ℕ → List ℕ → Type 0
 OwnedBy s (refused m n) old names = names ≡ old
 OwnedBy s (accepted q) old names = (length names ≡ length old) × (drop (length (q .known .cells)) names ≡ drop (length (q .known .cells)) old)

@@ -1,4 +1,4 @@
--- What is said of this subject in contracts and laws; the laws are in proofs/Bodies.
+-- A property of each body of a script by its number: procedures from 0 on in their order, main last. The laws are in proofs/.
 use mathlib.Core.List.{List, [], _∷_}
 use Prim.Native.Nat.{ℕ, suc}
 use Rattle.law.specs.Code.{BodyCode}

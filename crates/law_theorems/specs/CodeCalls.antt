@@ -1,4 +1,4 @@
--- What is said of this subject in contracts and laws; the laws are in proofs/CodeCalls.
+-- Code that calls only procedures with numbers below k. The laws are in proofs/.
 use mathlib.Core.List.{List}
 use Prim.Native.Nat.{ℕ, _<_}
 use lib.IntN.{ℤ}

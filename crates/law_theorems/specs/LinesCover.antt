@@ -1,4 +1,4 @@
--- What is said of this subject in contracts and laws; the laws are in proofs/LinesCover.
+-- What the lines of a text keep of its cells: whose they are, and how they are laid. The laws are in proofs/.
 use mathlib.Core.Path.{_≡_}
 use mathlib.Core.Bool.{true}
 use mathlib.Core.List.{List, [], _∷_}

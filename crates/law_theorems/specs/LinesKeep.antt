@@ -1,4 +1,4 @@
--- What is said of this subject in contracts and laws; the laws are in proofs/LinesKeep.
+-- What the lines of a text keep: sane tables, laid variables, names that lead into the tables, bodies with formed tables. The laws are in proofs/.
 use mathlib.Core.Path.{_≡_}
 use mathlib.Core.Bool.{true}
 use mathlib.Core.List.{List, [], _∷_}

@@ -1,4 +1,4 @@
--- What is said of this subject in contracts and laws; the laws are in proofs/StatementNumbers.
+-- The numbers of a line's statements. The laws are in proofs/.
 use Prim.Native.Nat.{ℕ, _≤_}
 
 pub record Number (l n : ℕ) : Type 0 where

@@ -1,4 +1,4 @@
--- What is said of this subject in contracts and laws; the laws are in proofs/StatementsNoted.
+-- A run that notes a statement of the script with an exception. The laws are in proofs/.
 use Prim.Native.Nat.{_≤_}
 use Rattle.law.specs.Machine.{Answer, State, state}
 

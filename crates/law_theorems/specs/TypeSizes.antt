@@ -1,4 +1,4 @@
--- What is said of this subject in contracts and laws; the laws are in proofs/TypeSizes.
+-- The ceilings of types as the tables keep them: bounds are integers, a set's are 0 to 31, a type has at most 2,048 cells. The laws are in proofs/.
 use mathlib.Core.Path.{_≡_}
 use mathlib.Core.Bool.{true}
 use Prim.Native.Nat.{ℕ, _≤_}

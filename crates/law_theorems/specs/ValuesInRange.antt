@@ -1,4 +1,4 @@
--- What is said of this subject in contracts and laws; the laws are in proofs/ValuesInRange.
+-- What a cell may hold, as a test for each cell; tables and tests that belong together. The laws are in proofs/.
 use mathlib.Core.Path.{_≡_}
 use mathlib.Core.Bool.{Bool, true}
 use mathlib.Core.List.{List}

@@ -1,4 +1,4 @@
--- What is said of this subject in contracts and laws; the laws are in proofs/Carrying.
+-- A result that is a fault or none. The laws are in proofs/.
 use mathlib.Core.Path.{_≡_}
 use lib.IntN.{ℤ, _+ℤ_}
 use Rattle.law.specs.Calculate.{Result, fails, stuck}

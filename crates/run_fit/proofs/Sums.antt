@@ -1,4 +1,4 @@
--- Sums over bodies: by number, as the engine's specs have them, and over a list, as semantics has them.
+-- Sums over bodies: by number, as the engine's specs have them, and over a list, as `code` has them.
 use mathlib.Core.Path.{_≡_, refl, _∙_}
 use mathlib.Core.List.{List, [], _∷_, map}
 use Prim.Native.Nat.{ℕ, zero, suc, _+_, _<_}

@@ -1,4 +1,4 @@
--- What is said of this subject in contracts and laws; the laws are in proofs/Chained.
+-- A chain of entries stands for the names of an environment. The laws are in proofs/.
 use mathlib.Core.List.{List, [], _∷_}
 use Prim.Native.Nat.{ℕ, suc, _+_, _≤_}
 use lib.ListN.{getD}
