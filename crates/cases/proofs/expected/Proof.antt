@@ -7,21 +7,11 @@ use Rattle.cases.proofs.expected.Lts as lts
 use Rattle.cases.proofs.headings.least.Reads as least-reads
 use Rattle.cases.proofs.same.Reads as same-reads
 
--- src/main.rt:66:9
-least-requires : tie.Need-least-requires
-least-requires c κs = search needs
-
--- src/main.rt:67:10
-slice-aggregate-same : tie.Need-slice-aggregate-same
-slice-aggregate-same c = search (part-long, needs)
-
--- src/main.rt:67:5
-same-requires : tie.Need-same-requires
-same-requires c κs = search needs
-
--- src/main.rt:65:1
-returns : tie.Need-returns
-returns c = search needs
-
 pub expected-spec : {M : Type 1} → statement M
-expected-spec = tie.close (tie.spec least-requires slice-aggregate-same same-requires returns)
+expected-spec =
+    tie.close
+    (tie.spec
+    (λ c κs. search needs)  -- least-requires src/main.rt:66:9
+    (λ c. search (part-long, needs))  -- slice-aggregate-same src/main.rt:67:10
+    (λ c κs. search needs)  -- same-requires src/main.rt:67:5
+    (λ c. search needs))  -- returns src/main.rt:65:1

@@ -16,54 +16,18 @@ Inv-loop store marks₀ n i₀ marks i = SavesMarks store marks₀ i marks
 abbrev μ-loop : tie.MeasureT-loop
 μ-loop store marks₀ n i₀ marks i = n - i
 
--- src/lib.rt:109:5
-loop-holds : tie.Need-loop-holds Inv-loop μ-loop
-loop-holds c = search marks-start
-
--- src/lib.rt:110:28
-word-requires : tie.Need-word-requires Inv-loop μ-loop
-word-requires c κs = search needs
-
--- src/lib.rt:110:20
-mark-in-requires : tie.Need-mark-in-requires Inv-loop μ-loop
-mark-in-requires c κs = search needs
-
--- src/lib.rt:110:9
-slice-write-marks : tie.Need-slice-write-marks Inv-loop μ-loop
-slice-write-marks c = search needs
-
--- src/lib.rt:111:9
-add-i : tie.Need-add-i Inv-loop μ-loop
-add-i c = search needs
-
--- src/lib.rt:109:5
-loop-less : tie.Need-loop-less Inv-loop μ-loop
-loop-less c = search needs
-
--- src/lib.rt:109:5
-loop-again : tie.Need-loop-again Inv-loop μ-loop
-loop-again c = search (marks-step, sfits-of)
-
--- src/lib.rt:104:1
-same-length : tie.Need-same-length Inv-loop μ-loop
-same-length c = search needs
-
--- src/lib.rt:104:1
-returns : tie.Need-returns Inv-loop μ-loop
-returns c = search marks-end
-
 pub save-marks-spec : {M : Type 1} → statement M
 save-marks-spec =
     tie.close
     (tie.spec
     Inv-loop
     μ-loop
-    loop-holds
-    word-requires
-    mark-in-requires
-    slice-write-marks
-    add-i
-    loop-less
-    loop-again
-    same-length
-    returns)
+    (λ c. search marks-start)  -- loop-holds src/lib.rt:109:5
+    (λ c κs. search needs)  -- word-requires src/lib.rt:110:28
+    (λ c κs. search needs)  -- mark-in-requires src/lib.rt:110:20
+    (λ c. search needs)  -- slice-write-marks src/lib.rt:110:9
+    (λ c. search needs)  -- add-i src/lib.rt:111:9
+    (λ c. search needs)  -- loop-less src/lib.rt:109:5
+    (λ c. search (marks-step, sfits-of))  -- loop-again src/lib.rt:109:5
+    (λ c. search needs)  -- same-length src/lib.rt:104:1
+    (λ c. search marks-end))  -- returns src/lib.rt:104:1

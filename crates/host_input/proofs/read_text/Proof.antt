@@ -16,99 +16,27 @@ Inv-loop text₀ n₀ text n = (n ≤ length text) × (length text ≡ length te
 abbrev μ-loop : tie.MeasureT-loop
 μ-loop text₀ n₀ text n = length text - n
 
--- src/lib.rt:17:5
-loop-holds : tie.Need-loop-holds Inv-loop μ-loop
-loop-holds c = search needs
-
--- src/lib.rt:18:44
-sub-read : tie.Need-sub-read Inv-loop μ-loop
-sub-read c = search needs
-
--- src/lib.rt:18:44
-part-read-start : tie.Need-part-read-start Inv-loop μ-loop
-part-read-start c = search needs
-
--- src/lib.rt:18:44
-part-read-end : tie.Need-part-read-end Inv-loop μ-loop
-part-read-end c = search needs
-
--- src/lib.rt:18:13
-read-requires : tie.Need-read-requires Inv-loop μ-loop
-read-requires c κs = search needs
-
--- src/lib.rt:20:13
-same-length : tie.Need-same-length Inv-loop μ-loop
-same-length c = search needs
-
--- src/lib.rt:20:13
-returns : tie.Need-returns Inv-loop μ-loop
-returns c = search needs
-
--- src/lib.rt:22:32
-sub-count : tie.Need-sub-count Inv-loop μ-loop
-sub-count c = search needs
-
--- src/lib.rt:22:32
-part-count-start : tie.Need-part-count-start Inv-loop μ-loop
-part-count-start c = search needs
-
--- src/lib.rt:22:32
-part-count-end : tie.Need-part-count-end Inv-loop μ-loop
-part-count-end c = search needs
-
--- src/lib.rt:22:13
-count-requires : tie.Need-count-requires Inv-loop μ-loop
-count-requires c κs = search needs
-
--- src/lib.rt:24:13
-same-length-2 : tie.Need-same-length-2 Inv-loop μ-loop
-same-length-2 c = search needs
-
--- src/lib.rt:24:13
-returns-2 : tie.Need-returns-2 Inv-loop μ-loop
-returns-2 c = search needs
-
--- src/lib.rt:26:9
-add-n : tie.Need-add-n Inv-loop μ-loop
-add-n c = search needs
-
--- src/lib.rt:17:5
-loop-less : tie.Need-loop-less Inv-loop μ-loop
-loop-less c = search needs
-
--- src/lib.rt:17:5
-loop-again : tie.Need-loop-again Inv-loop μ-loop
-loop-again c = search needs
-
--- src/lib.rt:13:1
-same-length-3 : tie.Need-same-length-3 Inv-loop μ-loop
-same-length-3 c = search needs
-
--- src/lib.rt:13:1
-returns-3 : tie.Need-returns-3 Inv-loop μ-loop
-returns-3 c = search needs
-
 pub read-text-spec : {M : Type 1} → statement M
 read-text-spec =
     tie.close
     (tie.spec
     Inv-loop
     μ-loop
-    loop-holds
-    sub-read
-    part-read-start
-    part-read-end
-    read-requires
-    same-length
-    returns
-    sub-count
-    part-count-start
-    part-count-end
-    count-requires
-    same-length-2
-    returns-2
-    add-n
-    loop-less
-    loop-again
-    same-length-3
-    returns-3)
+    (λ c. search needs)  -- loop-holds src/lib.rt:17:5
+    (λ c. search needs)  -- sub-read src/lib.rt:18:44
+    (λ c. search needs)  -- part-read-start src/lib.rt:18:44
+    (λ c. search needs)  -- part-read-end src/lib.rt:18:44
+    (λ c κs. search needs)  -- read-requires src/lib.rt:18:13
+    (λ c. search needs)  -- same-length src/lib.rt:20:13
+    (λ c. search needs)  -- returns src/lib.rt:20:13
+    (λ c. search needs)  -- sub-count src/lib.rt:22:32
+    (λ c. search needs)  -- part-count-start src/lib.rt:22:32
+    (λ c. search needs)  -- part-count-end src/lib.rt:22:32
+    (λ c κs. search needs)  -- count-requires src/lib.rt:22:13
+    (λ c. search needs)  -- same-length-2 src/lib.rt:24:13
+    (λ c. search needs)  -- returns-2 src/lib.rt:24:13
+    (λ c. search needs)  -- add-n src/lib.rt:26:9
+    (λ c. search needs)  -- loop-less src/lib.rt:17:5
+    (λ c. search needs)  -- loop-again src/lib.rt:17:5
+    (λ c. search needs)  -- same-length-3 src/lib.rt:13:1
+    (λ c. search needs))  -- returns-3 src/lib.rt:13:1

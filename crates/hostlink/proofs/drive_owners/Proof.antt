@@ -7,26 +7,16 @@ use Rattle.hostlink.proofs.drive_owners.Lts as lts
 use Rattle.rule_cells.proofs.owners.Reads as owners-reads
 use Rattle.host_replies.proofs.counted.Reads as counted-reads
 
--- src/lib.rt:46:9
-owners-requires : tie.Need-owners-requires
-owners-requires c κs = search needs
-
--- src/lib.rt:47:5
-counted-requires : tie.Need-counted-requires
-counted-requires c κs = search needs
-
--- src/lib.rt:42:1
-same-length : tie.Need-same-length
-same-length c = search needs
-
--- src/lib.rt:42:1
-same-length-2 : tie.Need-same-length-2
-same-length-2 c = search needs
-
 -- src/lib.rt:42:1
 returns : tie.Need-returns
 returns c = (search count-told, search needs, search needs)
 
 pub drive-owners-spec : {M : Type 1} → statement M
 drive-owners-spec =
-    tie.close (tie.spec owners-requires counted-requires same-length same-length-2 returns)
+    tie.close
+    (tie.spec
+    (λ c κs. search needs)  -- owners-requires src/lib.rt:46:9
+    (λ c κs. search needs)  -- counted-requires src/lib.rt:47:5
+    (λ c. search needs)  -- same-length src/lib.rt:42:1
+    (λ c. search needs)  -- same-length-2 src/lib.rt:42:1
+    returns)

@@ -23,54 +23,6 @@ abbrev μ-loop : tie.MeasureT-loop
 loop-holds : tie.Need-loop-holds Inv-loop μ-loop
 loop-holds c = choose-start _ _ _ _ _ _ _
 
--- src/lib.rt:216:13
-turn-at-requires : tie.Need-turn-at-requires Inv-loop μ-loop
-turn-at-requires c κs = search needs
-
--- src/lib.rt:218:25
-enum-known-t : tie.Need-enum-known-t Inv-loop μ-loop
-enum-known-t c = search needs
-
--- src/lib.rt:219:17
-returns : tie.Need-returns Inv-loop μ-loop
-returns c = search choose-laws
-
--- src/lib.rt:222:17
-enum-told : tie.Need-enum-told Inv-loop μ-loop
-enum-told c = search needs
-
--- src/lib.rt:222:17
-returns-2 : tie.Need-returns-2 Inv-loop μ-loop
-returns-2 c = search choose-laws
-
--- src/lib.rt:225:17
-enum-told-2 : tie.Need-enum-told-2 Inv-loop μ-loop
-enum-told-2 c = search needs
-
--- src/lib.rt:225:17
-returns-3 : tie.Need-returns-3 Inv-loop μ-loop
-returns-3 c = search choose-laws
-
--- src/lib.rt:227:22
-enum-known-t-2 : tie.Need-enum-known-t-2 Inv-loop μ-loop
-enum-known-t-2 c = search needs
-
--- src/lib.rt:228:30
-count-statements-requires : tie.Need-count-statements-requires Inv-loop μ-loop
-count-statements-requires c κs = search needs
-
--- src/lib.rt:228:17
-later-requires : tie.Need-later-requires Inv-loop μ-loop
-later-requires c κs = search needs
-
--- src/lib.rt:215:5
-loop-less : tie.Need-loop-less Inv-loop μ-loop
-loop-less c = search choose-falls
-
--- src/lib.rt:215:5
-loop-again : tie.Need-loop-again Inv-loop μ-loop
-loop-again c = search choose-laws
-
 pub choose-arm-spec : {M : Type 1} → statement M
 choose-arm-spec =
     tie.close
@@ -78,15 +30,15 @@ choose-arm-spec =
     Inv-loop
     μ-loop
     loop-holds
-    turn-at-requires
-    enum-known-t
-    returns
-    enum-told
-    returns-2
-    enum-told-2
-    returns-3
-    enum-known-t-2
-    count-statements-requires
-    later-requires
-    loop-less
-    loop-again)
+    (λ c κs. search needs)  -- turn-at-requires src/lib.rt:216:13
+    (λ c. search needs)  -- enum-known-t src/lib.rt:218:25
+    (λ c. search choose-laws)  -- returns src/lib.rt:219:17
+    (λ c. search needs)  -- enum-told src/lib.rt:222:17
+    (λ c. search choose-laws)  -- returns-2 src/lib.rt:222:17
+    (λ c. search needs)  -- enum-told-2 src/lib.rt:225:17
+    (λ c. search choose-laws)  -- returns-3 src/lib.rt:225:17
+    (λ c. search needs)  -- enum-known-t-2 src/lib.rt:227:22
+    (λ c κs. search needs)  -- count-statements-requires src/lib.rt:228:30
+    (λ c κs. search needs)  -- later-requires src/lib.rt:228:17
+    (λ c. search choose-falls)  -- loop-less src/lib.rt:215:5
+    (λ c. search choose-laws))  -- loop-again src/lib.rt:215:5

@@ -23,42 +23,6 @@ abbrev μ-loop : tie.MeasureT-loop
 loop-holds : tie.Need-loop-holds Inv-loop μ-loop
 loop-holds c = meet-start _ _ _ _ _ _
 
--- src/lib.rt:100:13
-spot-at-requires : tie.Need-spot-at-requires Inv-loop μ-loop
-spot-at-requires c κs = search needs
-
--- src/lib.rt:102:26
-enum-known-x : tie.Need-enum-known-x Inv-loop μ-loop
-enum-known-x c = search needs
-
--- src/lib.rt:103:21
-label-at-requires : tie.Need-label-at-requires Inv-loop μ-loop
-label-at-requires c κs = search needs
-
--- src/lib.rt:105:21
-returns : tie.Need-returns Inv-loop μ-loop
-returns c = search meet-laws
-
--- src/lib.rt:108:21
-returns-2 : tie.Need-returns-2 Inv-loop μ-loop
-returns-2 c = search meet-laws
-
--- src/lib.rt:99:5
-loop-less : tie.Need-loop-less Inv-loop μ-loop
-loop-less c = search part-falls
-
--- src/lib.rt:99:5
-loop-again : tie.Need-loop-again Inv-loop μ-loop
-loop-again c = search meet-laws
-
--- src/lib.rt:113:17
-enum-told : tie.Need-enum-told Inv-loop μ-loop
-enum-told c = search needs
-
--- src/lib.rt:113:17
-returns-3 : tie.Need-returns-3 Inv-loop μ-loop
-returns-3 c = search meet-laws
-
 pub fit-at-spec : {M : Type 1} → statement M
 fit-at-spec =
     tie.close
@@ -66,12 +30,12 @@ fit-at-spec =
     Inv-loop
     μ-loop
     loop-holds
-    spot-at-requires
-    enum-known-x
-    label-at-requires
-    returns
-    returns-2
-    loop-less
-    loop-again
-    enum-told
-    returns-3)
+    (λ c κs. search needs)  -- spot-at-requires src/lib.rt:100:13
+    (λ c. search needs)  -- enum-known-x src/lib.rt:102:26
+    (λ c κs. search needs)  -- label-at-requires src/lib.rt:103:21
+    (λ c. search meet-laws)  -- returns src/lib.rt:105:21
+    (λ c. search meet-laws)  -- returns-2 src/lib.rt:108:21
+    (λ c. search part-falls)  -- loop-less src/lib.rt:99:5
+    (λ c. search meet-laws)  -- loop-again src/lib.rt:99:5
+    (λ c. search needs)  -- enum-told src/lib.rt:113:17
+    (λ c. search meet-laws))  -- returns-3 src/lib.rt:113:17

@@ -7,21 +7,11 @@ use Rattle.mark_arms.proofs.label_at.Lts as lts
 use Rattle.rule_atoms.proofs.constant.Reads as constant-reads
 use Rattle.rule_faults.proofs.is_clear.Reads as is-clear-reads
 
--- src/lib.rt:61:9
-constant-requires : tie.Need-constant-requires
-constant-requires c κs = search needs
-
--- src/lib.rt:63:8
-is-clear-requires : tie.Need-is-clear-requires
-is-clear-requires c κs = search needs
-
--- src/lib.rt:64:9
-returns : tie.Need-returns
-returns c = search label-laws
-
--- src/lib.rt:58:1
-returns-2 : tie.Need-returns-2
-returns-2 c = search label-laws
-
 pub label-at-spec : {M : Type 1} → statement M
-label-at-spec = tie.close (tie.spec constant-requires is-clear-requires returns returns-2)
+label-at-spec =
+    tie.close
+    (tie.spec
+    (λ c κs. search needs)  -- constant-requires src/lib.rt:61:9
+    (λ c κs. search needs)  -- is-clear-requires src/lib.rt:63:8
+    (λ c. search label-laws)  -- returns src/lib.rt:64:9
+    (λ c. search label-laws))  -- returns-2 src/lib.rt:58:1

@@ -19,30 +19,6 @@ abbrev μ-loop : tie.MeasureT-loop
 loop-holds : tie.Need-loop-holds Inv-loop μ-loop
 loop-holds c = pass-start _ _
 
--- src/lib.rt:132:13
-spot-at-requires : tie.Need-spot-at-requires Inv-loop μ-loop
-spot-at-requires c κs = search needs
-
--- src/lib.rt:134:26
-enum-known-x : tie.Need-enum-known-x Inv-loop μ-loop
-enum-known-x c = search needs
-
--- src/lib.rt:131:5
-loop-less : tie.Need-loop-less Inv-loop μ-loop
-loop-less c = search part-falls
-
--- src/lib.rt:131:5
-loop-again : tie.Need-loop-again Inv-loop μ-loop
-loop-again c = search pass-laws
-
--- src/lib.rt:138:17
-enum-told : tie.Need-enum-told Inv-loop μ-loop
-enum-told c = search needs
-
--- src/lib.rt:138:17
-returns : tie.Need-returns Inv-loop μ-loop
-returns c = search pass-laws
-
 pub last-part-spec : {M : Type 1} → statement M
 last-part-spec =
     tie.close
@@ -50,9 +26,9 @@ last-part-spec =
     Inv-loop
     μ-loop
     loop-holds
-    spot-at-requires
-    enum-known-x
-    loop-less
-    loop-again
-    enum-told
-    returns)
+    (λ c κs. search needs)  -- spot-at-requires src/lib.rt:132:13
+    (λ c. search needs)  -- enum-known-x src/lib.rt:134:26
+    (λ c. search part-falls)  -- loop-less src/lib.rt:131:5
+    (λ c. search pass-laws)  -- loop-again src/lib.rt:131:5
+    (λ c. search needs)  -- enum-told src/lib.rt:138:17
+    (λ c. search pass-laws))  -- returns src/lib.rt:138:17

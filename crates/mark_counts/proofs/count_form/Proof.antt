@@ -17,49 +17,17 @@ Inv-loop text at p₀ m₀ n₀ p m n = Counting text at p m n
 abbrev μ-loop : tie.MeasureT-loop
 μ-loop text at p₀ m₀ n₀ p m n = 2 * nodesAll (stackAt text p) + m
 
--- src/lib.rt:75:9
-head-at-requires : tie.Need-head-at-requires Inv-loop μ-loop
-head-at-requires c κs = search needs
-
--- src/lib.rt:76:5
-loop-holds : tie.Need-loop-holds Inv-loop μ-loop
-loop-holds c = search count-start
-
--- src/lib.rt:77:13
-step-requires : tie.Need-step-requires Inv-loop μ-loop
-step-requires c κs = search (count-room, needs)
-
--- src/lib.rt:79:22
-enum-known-s : tie.Need-enum-known-s Inv-loop μ-loop
-enum-known-s c = search needs
-
--- src/lib.rt:76:5
-loop-less : tie.Need-loop-less Inv-loop μ-loop
-loop-less c = search count-falls
-
--- src/lib.rt:76:5
-loop-again : tie.Need-loop-again Inv-loop μ-loop
-loop-again c = search count-laws
-
--- src/lib.rt:85:17
-enum-told : tie.Need-enum-told Inv-loop μ-loop
-enum-told c = search needs
-
--- src/lib.rt:85:17
-returns : tie.Need-returns Inv-loop μ-loop
-returns c = search count-laws
-
 pub count-form-spec : {M : Type 1} → statement M
 count-form-spec =
     tie.close
     (tie.spec
     Inv-loop
     μ-loop
-    head-at-requires
-    loop-holds
-    step-requires
-    enum-known-s
-    loop-less
-    loop-again
-    enum-told
-    returns)
+    (λ c κs. search needs)  -- head-at-requires src/lib.rt:75:9
+    (λ c. search count-start)  -- loop-holds src/lib.rt:76:5
+    (λ c κs. search (count-room, needs))  -- step-requires src/lib.rt:77:13
+    (λ c. search needs)  -- enum-known-s src/lib.rt:79:22
+    (λ c. search count-falls)  -- loop-less src/lib.rt:76:5
+    (λ c. search count-laws)  -- loop-again src/lib.rt:76:5
+    (λ c. search needs)  -- enum-told src/lib.rt:85:17
+    (λ c. search count-laws))  -- returns src/lib.rt:85:17

@@ -6,21 +6,11 @@ use Rattle.mark_machine.proofs.mark_lent.Reads as reads
 use Rattle.mark_machine.proofs.mark_lent.Lts as lts
 use Rattle.mark_machine.proofs.mark_with.Reads as mark-with-reads
 
--- src/lib.rt:81:5
-mark-with-requires : tie.Need-mark-with-requires
-mark-with-requires c κs = search needs
-
--- src/lib.rt:68:1
-same-length : tie.Need-same-length
-same-length c = search needs
-
--- src/lib.rt:68:1
-same-length-2 : tie.Need-same-length-2
-same-length-2 c = search needs
-
--- src/lib.rt:68:1
-returns : tie.Need-returns
-returns c = search (mark-all, needs)
-
 pub mark-lent-spec : {M : Type 1} → statement M
-mark-lent-spec = tie.close (tie.spec mark-with-requires same-length same-length-2 returns)
+mark-lent-spec =
+    tie.close
+    (tie.spec
+    (λ c κs. search needs)  -- mark-with-requires src/lib.rt:81:5
+    (λ c. search needs)  -- same-length src/lib.rt:68:1
+    (λ c. search needs)  -- same-length-2 src/lib.rt:68:1
+    (λ c. search (mark-all, needs)))  -- returns src/lib.rt:68:1

@@ -11,62 +11,18 @@ use Rattle.code_store.proofs.load_words.Reads as load-words-reads
 use Rattle.code_store.proofs.save_cells.Reads as save-cells-reads
 use Rattle.mark_steps.proofs.ends.left_in.Reads as left-in-reads
 
--- src/lib.rt:46:5
-load-words-requires : tie.Need-load-words-requires
-load-words-requires c κs = search needs
-
--- src/lib.rt:47:5
-begin-requires : tie.Need-begin-requires
-begin-requires c κs = search needs
-
--- src/lib.rt:48:9
-mark-body-requires : tie.Need-mark-body-requires
-mark-body-requires c κs = search needs
-
--- src/lib.rt:49:5
-save-cells-requires : tie.Need-save-cells-requires
-save-cells-requires c κs = search needs
-
--- src/lib.rt:51:25
-left-in-requires : tie.Need-left-in-requires
-left-in-requires c κs = search needs
-
--- src/lib.rt:51:25
-cast-t28 : tie.Need-cast-t28
-cast-t28 c = search needs
-
--- src/lib.rt:51:16
-sub-t29 : tie.Need-sub-t29
-sub-t29 c = search needs
-
--- src/lib.rt:52:17
-told-requires : tie.Need-told-requires
-told-requires c κs = search needs
-
--- src/lib.rt:33:1
-same-length : tie.Need-same-length
-same-length c = search needs
-
--- src/lib.rt:33:1
-same-length-2 : tie.Need-same-length-2
-same-length-2 c = search needs
-
--- src/lib.rt:33:1
-returns : tie.Need-returns
-returns c = search (mark-is, needs)
-
 pub mark-with-spec : {M : Type 1} → statement M
 mark-with-spec =
     tie.close
     (tie.spec
-    load-words-requires
-    begin-requires
-    mark-body-requires
-    save-cells-requires
-    left-in-requires
-    cast-t28
-    sub-t29
-    told-requires
-    same-length
-    same-length-2
-    returns)
+    (λ c κs. search needs)  -- load-words-requires src/lib.rt:46:5
+    (λ c κs. search needs)  -- begin-requires src/lib.rt:47:5
+    (λ c κs. search needs)  -- mark-body-requires src/lib.rt:48:9
+    (λ c κs. search needs)  -- save-cells-requires src/lib.rt:49:5
+    (λ c κs. search needs)  -- left-in-requires src/lib.rt:51:25
+    (λ c. search needs)  -- cast-t28 src/lib.rt:51:25
+    (λ c. search needs)  -- sub-t29 src/lib.rt:51:16
+    (λ c κs. search needs)  -- told-requires src/lib.rt:52:17
+    (λ c. search needs)  -- same-length src/lib.rt:33:1
+    (λ c. search needs)  -- same-length-2 src/lib.rt:33:1
+    (λ c. search (mark-is, needs)))  -- returns src/lib.rt:33:1

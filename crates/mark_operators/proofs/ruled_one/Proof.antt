@@ -7,42 +7,14 @@ use Rattle.mark_operators.proofs.ruled_one.Lts as lts
 use Rattle.mark_operators.proofs.at_node.Reads as at-node-reads
 use Rattle.mark_values.proofs.values.value.Reads as value-reads
 
--- src/lib.rt:65:27
-enum-told : tie.Need-enum-told
-enum-told c = search needs
-
--- src/lib.rt:65:27
-value-requires : tie.Need-value-requires
-value-requires c κs = search needs
-
--- src/lib.rt:66:22
-enum-known-r : tie.Need-enum-known-r
-enum-known-r c = search needs
-
--- src/lib.rt:66:46
-at-node-requires : tie.Need-at-node-requires
-at-node-requires c κs = search needs
-
--- src/lib.rt:66:34
-value-requires-2 : tie.Need-value-requires-2
-value-requires-2 c κs = search needs
-
--- src/lib.rt:61:1
-returns : tie.Need-returns
-returns c = search ruled-one-laws
-
--- src/lib.rt:61:1
-returns-2 : tie.Need-returns-2
-returns-2 c = search ruled-one-laws
-
 pub ruled-one-spec : {M : Type 1} → statement M
 ruled-one-spec =
     tie.close
     (tie.spec
-    enum-told
-    value-requires
-    enum-known-r
-    at-node-requires
-    value-requires-2
-    returns
-    returns-2)
+    (λ c. search needs)  -- enum-told src/lib.rt:65:27
+    (λ c κs. search needs)  -- value-requires src/lib.rt:65:27
+    (λ c. search needs)  -- enum-known-r src/lib.rt:66:22
+    (λ c κs. search needs)  -- at-node-requires src/lib.rt:66:46
+    (λ c κs. search needs)  -- value-requires-2 src/lib.rt:66:34
+    (λ c. search ruled-one-laws)  -- returns src/lib.rt:61:1
+    (λ c. search ruled-one-laws))  -- returns-2 src/lib.rt:61:1

@@ -10,92 +10,24 @@ use Rattle.rule_atoms.proofs.no_value.Reads as no-value-reads
 use Rattle.rule_atoms.proofs.num_valued.Reads as num-valued-reads
 use Rattle.rule_atoms.proofs.wide.Reads as wide-reads
 
--- src/lib.rt:143:38
-enum-told : tie.Need-enum-told
-enum-told c = search needs
-
--- src/lib.rt:143:29
-no-value-requires : tie.Need-no-value-requires
-no-value-requires c κs = search needs
-
--- src/lib.rt:144:38
-enum-told-2 : tie.Need-enum-told-2
-enum-told-2 c = search needs
-
--- src/lib.rt:144:29
-no-value-requires-2 : tie.Need-no-value-requires-2
-no-value-requires-2 c κs = search needs
-
--- src/lib.rt:145:43
-enum-told-3 : tie.Need-enum-told-3
-enum-told-3 c = search needs
-
--- src/lib.rt:145:34
-no-value-requires-3 : tie.Need-no-value-requires-3
-no-value-requires-3 c κs = search needs
-
--- src/lib.rt:146:38
-enum-told-4 : tie.Need-enum-told-4
-enum-told-4 c = search needs
-
--- src/lib.rt:146:29
-no-value-requires-4 : tie.Need-no-value-requires-4
-no-value-requires-4 c κs = search needs
-
--- src/lib.rt:147:24
-enum-known-m : tie.Need-enum-known-m
-enum-known-m c = search needs
-
--- src/lib.rt:147:51
-wide-requires : tie.Need-wide-requires
-wide-requires c κs = search needs
-
--- src/lib.rt:147:47
-fit-requires : tie.Need-fit-requires
-fit-requires c κs = search needs
-
--- src/lib.rt:147:33
-num-valued-requires : tie.Need-num-valued-requires
-num-valued-requires c κs = search needs
-
--- src/lib.rt:139:1
-returns : tie.Need-returns
-returns c = search (value-meant-laws, sfits-of)
-
--- src/lib.rt:139:1
-returns-2 : tie.Need-returns-2
-returns-2 c = search (value-meant-laws, sfits-of)
-
--- src/lib.rt:139:1
-returns-3 : tie.Need-returns-3
-returns-3 c = search (value-meant-laws, sfits-of)
-
--- src/lib.rt:139:1
-returns-4 : tie.Need-returns-4
-returns-4 c = search (value-meant-laws, sfits-of)
-
--- src/lib.rt:139:1
-returns-5 : tie.Need-returns-5
-returns-5 c = search (value-meant-laws, sfits-of)
-
 pub value-meant-spec : {M : Type 1} → statement M
 value-meant-spec =
     tie.close
     (tie.spec
-    enum-told
-    no-value-requires
-    enum-told-2
-    no-value-requires-2
-    enum-told-3
-    no-value-requires-3
-    enum-told-4
-    no-value-requires-4
-    enum-known-m
-    wide-requires
-    fit-requires
-    num-valued-requires
-    returns
-    returns-2
-    returns-3
-    returns-4
-    returns-5)
+    (λ c. search needs)  -- enum-told src/lib.rt:143:38
+    (λ c κs. search needs)  -- no-value-requires src/lib.rt:143:29
+    (λ c. search needs)  -- enum-told-2 src/lib.rt:144:38
+    (λ c κs. search needs)  -- no-value-requires-2 src/lib.rt:144:29
+    (λ c. search needs)  -- enum-told-3 src/lib.rt:145:43
+    (λ c κs. search needs)  -- no-value-requires-3 src/lib.rt:145:34
+    (λ c. search needs)  -- enum-told-4 src/lib.rt:146:38
+    (λ c κs. search needs)  -- no-value-requires-4 src/lib.rt:146:29
+    (λ c. search needs)  -- enum-known-m src/lib.rt:147:24
+    (λ c κs. search needs)  -- wide-requires src/lib.rt:147:51
+    (λ c κs. search needs)  -- fit-requires src/lib.rt:147:47
+    (λ c κs. search needs)  -- num-valued-requires src/lib.rt:147:33
+    (λ c. search (value-meant-laws, sfits-of))  -- returns src/lib.rt:139:1
+    (λ c. search (value-meant-laws, sfits-of))  -- returns-2 src/lib.rt:139:1
+    (λ c. search (value-meant-laws, sfits-of))  -- returns-3 src/lib.rt:139:1
+    (λ c. search (value-meant-laws, sfits-of))  -- returns-4 src/lib.rt:139:1
+    (λ c. search (value-meant-laws, sfits-of)))  -- returns-5 src/lib.rt:139:1

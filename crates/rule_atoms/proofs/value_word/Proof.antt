@@ -14,117 +14,29 @@ use Rattle.rule_atoms.proofs.value_meant.Reads as value-meant-reads
 use Rattle.text_heads.proofs.atom_of.Reads as atom-of-reads
 use Rattle.table_scope.proofs.meaning_of.Reads as meaning-of-reads
 
--- src/lib.rt:155:9
-atom-of-requires : tie.Need-atom-of-requires
-atom-of-requires c κs = search needs
-
--- src/lib.rt:157:22
-enum-known-a : tie.Need-enum-known-a
-enum-known-a c = search needs
-
--- src/lib.rt:157:42
-fit-requires : tie.Need-fit-requires
-fit-requires c κs = search needs
-
--- src/lib.rt:157:28
-num-valued-requires : tie.Need-num-valued-requires
-num-valued-requires c κs = search needs
-
--- src/lib.rt:158:36
-enum-told : tie.Need-enum-told
-enum-told c = search needs
-
--- src/lib.rt:158:36
-meaning-of-requires : tie.Need-meaning-of-requires
-meaning-of-requires c κs = search needs
-
--- src/lib.rt:158:24
-value-meant-requires : tie.Need-value-meant-requires
-value-meant-requires c κs = search needs
-
--- src/lib.rt:159:21
-enum-known-a-2 : tie.Need-enum-known-a-2
-enum-known-a-2 c = search needs
-
--- src/lib.rt:159:57
-truth-requires : tie.Need-truth-requires
-truth-requires c κs = search needs
-
--- src/lib.rt:159:27
-value-answer-requires : tie.Need-value-answer-requires
-value-answer-requires c κs = search needs
-
--- src/lib.rt:160:39
-enum-told-2 : tie.Need-enum-told-2
-enum-told-2 c = search needs
-
--- src/lib.rt:160:30
-no-value-requires : tie.Need-no-value-requires
-no-value-requires c κs = search needs
-
--- src/lib.rt:161:35
-enum-told-3 : tie.Need-enum-told-3
-enum-told-3 c = search needs
-
--- src/lib.rt:161:26
-no-value-requires-2 : tie.Need-no-value-requires-2
-no-value-requires-2 c κs = search needs
-
--- src/lib.rt:162:35
-enum-told-4 : tie.Need-enum-told-4
-enum-told-4 c = search needs
-
--- src/lib.rt:162:26
-no-value-requires-3 : tie.Need-no-value-requires-3
-no-value-requires-3 c κs = search needs
-
--- src/lib.rt:152:1
-returns : tie.Need-returns
-returns c = search (value-word-laws, sfits-of)
-
--- src/lib.rt:152:1
-returns-2 : tie.Need-returns-2
-returns-2 c = search (value-word-laws, sfits-of)
-
--- src/lib.rt:152:1
-returns-3 : tie.Need-returns-3
-returns-3 c = search (value-word-laws, sfits-of)
-
--- src/lib.rt:152:1
-returns-4 : tie.Need-returns-4
-returns-4 c = search (value-word-laws, sfits-of)
-
--- src/lib.rt:152:1
-returns-5 : tie.Need-returns-5
-returns-5 c = search (value-word-laws, sfits-of)
-
--- src/lib.rt:152:1
-returns-6 : tie.Need-returns-6
-returns-6 c = search (value-word-laws, sfits-of)
-
 pub value-word-spec : {M : Type 1} → statement M
 value-word-spec =
     tie.close
     (tie.spec
-    atom-of-requires
-    enum-known-a
-    fit-requires
-    num-valued-requires
-    enum-told
-    meaning-of-requires
-    value-meant-requires
-    enum-known-a-2
-    truth-requires
-    value-answer-requires
-    enum-told-2
-    no-value-requires
-    enum-told-3
-    no-value-requires-2
-    enum-told-4
-    no-value-requires-3
-    returns
-    returns-2
-    returns-3
-    returns-4
-    returns-5
-    returns-6)
+    (λ c κs. search needs)  -- atom-of-requires src/lib.rt:155:9
+    (λ c. search needs)  -- enum-known-a src/lib.rt:157:22
+    (λ c κs. search needs)  -- fit-requires src/lib.rt:157:42
+    (λ c κs. search needs)  -- num-valued-requires src/lib.rt:157:28
+    (λ c. search needs)  -- enum-told src/lib.rt:158:36
+    (λ c κs. search needs)  -- meaning-of-requires src/lib.rt:158:36
+    (λ c κs. search needs)  -- value-meant-requires src/lib.rt:158:24
+    (λ c. search needs)  -- enum-known-a-2 src/lib.rt:159:21
+    (λ c κs. search needs)  -- truth-requires src/lib.rt:159:57
+    (λ c κs. search needs)  -- value-answer-requires src/lib.rt:159:27
+    (λ c. search needs)  -- enum-told-2 src/lib.rt:160:39
+    (λ c κs. search needs)  -- no-value-requires src/lib.rt:160:30
+    (λ c. search needs)  -- enum-told-3 src/lib.rt:161:35
+    (λ c κs. search needs)  -- no-value-requires-2 src/lib.rt:161:26
+    (λ c. search needs)  -- enum-told-4 src/lib.rt:162:35
+    (λ c κs. search needs)  -- no-value-requires-3 src/lib.rt:162:26
+    (λ c. search (value-word-laws, sfits-of))  -- returns src/lib.rt:152:1
+    (λ c. search (value-word-laws, sfits-of))  -- returns-2 src/lib.rt:152:1
+    (λ c. search (value-word-laws, sfits-of))  -- returns-3 src/lib.rt:152:1
+    (λ c. search (value-word-laws, sfits-of))  -- returns-4 src/lib.rt:152:1
+    (λ c. search (value-word-laws, sfits-of))  -- returns-5 src/lib.rt:152:1
+    (λ c. search (value-word-laws, sfits-of)))  -- returns-6 src/lib.rt:152:1

@@ -20,49 +20,9 @@ abbrev μ-loop : tie.MeasureT-loop
 loop-holds : tie.Need-loop-holds Inv-loop μ-loop
 loop-holds c = (refl, search named-start)
 
--- src/lib.rt:34:17
-cast-if1 : tie.Need-cast-if1 Inv-loop μ-loop
-cast-if1 c = search needs
-
--- src/lib.rt:35:13
-same-length : tie.Need-same-length Inv-loop μ-loop
-same-length c = search needs
-
--- src/lib.rt:35:13
-returns : tie.Need-returns Inv-loop μ-loop
-returns c = search names-laws
-
--- src/lib.rt:37:20
-owner-requires : tie.Need-owner-requires Inv-loop μ-loop
-owner-requires c κs = search needs
-
--- src/lib.rt:37:9
-mul-names : tie.Need-mul-names Inv-loop μ-loop
-mul-names c = search needs
-
--- src/lib.rt:37:9
-slice-write-names : tie.Need-slice-write-names Inv-loop μ-loop
-slice-write-names c = search needs
-
--- src/lib.rt:38:9
-add-i : tie.Need-add-i Inv-loop μ-loop
-add-i c = search needs
-
--- src/lib.rt:33:5
-loop-less : tie.Need-loop-less Inv-loop μ-loop
-loop-less c = search names-less
-
 -- src/lib.rt:33:5
 loop-again : tie.Need-loop-again Inv-loop μ-loop
 loop-again c = (search needs, search named-next)
-
--- src/lib.rt:29:1
-same-length-2 : tie.Need-same-length-2 Inv-loop μ-loop
-same-length-2 c = search needs
-
--- src/lib.rt:29:1
-returns-2 : tie.Need-returns-2 Inv-loop μ-loop
-returns-2 c = search names-laws
 
 pub name-cells-spec : {M : Type 1} → statement M
 name-cells-spec =
@@ -71,14 +31,14 @@ name-cells-spec =
     Inv-loop
     μ-loop
     loop-holds
-    cast-if1
-    same-length
-    returns
-    owner-requires
-    mul-names
-    slice-write-names
-    add-i
-    loop-less
+    (λ c. search needs)  -- cast-if1 src/lib.rt:34:17
+    (λ c. search needs)  -- same-length src/lib.rt:35:13
+    (λ c. search names-laws)  -- returns src/lib.rt:35:13
+    (λ c κs. search needs)  -- owner-requires src/lib.rt:37:20
+    (λ c. search needs)  -- mul-names src/lib.rt:37:9
+    (λ c. search needs)  -- slice-write-names src/lib.rt:37:9
+    (λ c. search needs)  -- add-i src/lib.rt:38:9
+    (λ c. search names-less)  -- loop-less src/lib.rt:33:5
     loop-again
-    same-length-2
-    returns-2)
+    (λ c. search needs)  -- same-length-2 src/lib.rt:29:1
+    (λ c. search names-laws))  -- returns-2 src/lib.rt:29:1

@@ -6,21 +6,11 @@ use Rattle.rule_constants.proofs.open_form.Reads as reads
 use Rattle.rule_constants.proofs.open_form.Lts as lts
 use Rattle.rule_constants.proofs.past_integers.Reads as past-integers-reads
 
--- src/lib.rt:50:8
-past-integers-requires : tie.Need-past-integers-requires
-past-integers-requires c κs = search needs
-
--- src/lib.rt:51:9
-returns : tie.Need-returns
-returns c = search open-laws
-
--- src/lib.rt:53:19
-add-t5 : tie.Need-add-t5
-add-t5 c = search needs
-
--- src/lib.rt:46:1
-returns-2 : tie.Need-returns-2
-returns-2 c = search open-laws
-
 pub open-form-spec : {M : Type 1} → statement M
-open-form-spec = tie.close (tie.spec past-integers-requires returns add-t5 returns-2)
+open-form-spec =
+    tie.close
+    (tie.spec
+    (λ c κs. search needs)  -- past-integers-requires src/lib.rt:50:8
+    (λ c. search open-laws)  -- returns src/lib.rt:51:9
+    (λ c. search needs)  -- add-t5 src/lib.rt:53:19
+    (λ c. search open-laws))  -- returns-2 src/lib.rt:46:1

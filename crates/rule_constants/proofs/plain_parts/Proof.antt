@@ -20,38 +20,6 @@ abbrev μ-loop : tie.MeasureT-loop
 loop-holds : tie.Need-loop-holds Inv-loop μ-loop
 loop-holds c = scan-start _ _
 
--- src/lib.rt:86:13
-stride-at-requires : tie.Need-stride-at-requires Inv-loop μ-loop
-stride-at-requires c κs = search (scan-few, needs)
-
--- src/lib.rt:88:24
-enum-known-s : tie.Need-enum-known-s Inv-loop μ-loop
-enum-known-s c = search needs
-
--- src/lib.rt:85:5
-loop-less : tie.Need-loop-less Inv-loop μ-loop
-loop-less c = search scan-falls
-
--- src/lib.rt:85:5
-loop-again : tie.Need-loop-again Inv-loop μ-loop
-loop-again c = search scan-laws
-
--- src/lib.rt:93:17
-enum-told : tie.Need-enum-told Inv-loop μ-loop
-enum-told c = search needs
-
--- src/lib.rt:93:17
-returns : tie.Need-returns Inv-loop μ-loop
-returns c = search scan-laws
-
--- src/lib.rt:96:17
-enum-told-2 : tie.Need-enum-told-2 Inv-loop μ-loop
-enum-told-2 c = search needs
-
--- src/lib.rt:96:17
-returns-2 : tie.Need-returns-2 Inv-loop μ-loop
-returns-2 c = search scan-laws
-
 pub plain-parts-spec : {M : Type 1} → statement M
 plain-parts-spec =
     tie.close
@@ -59,11 +27,11 @@ plain-parts-spec =
     Inv-loop
     μ-loop
     loop-holds
-    stride-at-requires
-    enum-known-s
-    loop-less
-    loop-again
-    enum-told
-    returns
-    enum-told-2
-    returns-2)
+    (λ c κs. search (scan-few, needs))  -- stride-at-requires src/lib.rt:86:13
+    (λ c. search needs)  -- enum-known-s src/lib.rt:88:24
+    (λ c. search scan-falls)  -- loop-less src/lib.rt:85:5
+    (λ c. search scan-laws)  -- loop-again src/lib.rt:85:5
+    (λ c. search needs)  -- enum-told src/lib.rt:93:17
+    (λ c. search scan-laws)  -- returns src/lib.rt:93:17
+    (λ c. search needs)  -- enum-told-2 src/lib.rt:96:17
+    (λ c. search scan-laws))  -- returns-2 src/lib.rt:96:17

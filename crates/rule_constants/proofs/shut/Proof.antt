@@ -5,17 +5,10 @@ use Rattle.rule_constants.proofs.shut.Tie as tie
 use Rattle.rule_constants.proofs.shut.Reads as reads
 use Rattle.rule_constants.proofs.shut.Lts as lts
 
--- src/lib.rt:61:9
-returns : tie.Need-returns
-returns c = search shut-laws
-
--- src/lib.rt:63:19
-sub-t4 : tie.Need-sub-t4
-sub-t4 c = search needs
-
--- src/lib.rt:57:1
-returns-2 : tie.Need-returns-2
-returns-2 c = search shut-laws
-
 pub shut-spec : {M : Type 1} → statement M
-shut-spec = tie.close (tie.spec returns sub-t4 returns-2)
+shut-spec =
+    tie.close
+    (tie.spec
+    (λ c. search shut-laws)  -- returns src/lib.rt:61:9
+    (λ c. search needs)  -- sub-t4 src/lib.rt:63:19
+    (λ c. search shut-laws))  -- returns-2 src/lib.rt:57:1

@@ -9,57 +9,17 @@ use Rattle.rule_constants.proofs.shut.Reads as shut-reads
 use Rattle.text_words.proofs.sight.look.Reads as look-reads
 use Rattle.text_words.proofs.sight.word_end.Reads as word-end-reads
 
--- src/lib.rt:71:9
-look-requires : tie.Need-look-requires
-look-requires c κs = search needs
-
--- src/lib.rt:73:21
-enum-known-s : tie.Need-enum-known-s
-enum-known-s c = search needs
-
--- src/lib.rt:73:27
-open-form-requires : tie.Need-open-form-requires
-open-form-requires c κs = search (stride-room, needs)
-
--- src/lib.rt:74:21
-enum-known-s-2 : tie.Need-enum-known-s-2
-enum-known-s-2 c = search needs
-
--- src/lib.rt:74:38
-word-end-requires : tie.Need-word-end-requires
-word-end-requires c κs = search needs
-
--- src/lib.rt:75:21
-enum-known-s-3 : tie.Need-enum-known-s-3
-enum-known-s-3 c = search needs
-
--- src/lib.rt:75:27
-shut-requires : tie.Need-shut-requires
-shut-requires c κs = search needs
-
--- src/lib.rt:67:1
-returns : tie.Need-returns
-returns c = search stride-laws
-
--- src/lib.rt:67:1
-returns-2 : tie.Need-returns-2
-returns-2 c = search stride-laws
-
--- src/lib.rt:67:1
-returns-3 : tie.Need-returns-3
-returns-3 c = search stride-laws
-
 pub stride-at-spec : {M : Type 1} → statement M
 stride-at-spec =
     tie.close
     (tie.spec
-    look-requires
-    enum-known-s
-    open-form-requires
-    enum-known-s-2
-    word-end-requires
-    enum-known-s-3
-    shut-requires
-    returns
-    returns-2
-    returns-3)
+    (λ c κs. search needs)  -- look-requires src/lib.rt:71:9
+    (λ c. search needs)  -- enum-known-s src/lib.rt:73:21
+    (λ c κs. search (stride-room, needs))  -- open-form-requires src/lib.rt:73:27
+    (λ c. search needs)  -- enum-known-s-2 src/lib.rt:74:21
+    (λ c κs. search needs)  -- word-end-requires src/lib.rt:74:38
+    (λ c. search needs)  -- enum-known-s-3 src/lib.rt:75:21
+    (λ c κs. search needs)  -- shut-requires src/lib.rt:75:27
+    (λ c. search stride-laws)  -- returns src/lib.rt:67:1
+    (λ c. search stride-laws)  -- returns-2 src/lib.rt:67:1
+    (λ c. search stride-laws))  -- returns-3 src/lib.rt:67:1

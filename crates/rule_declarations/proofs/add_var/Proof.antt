@@ -10,57 +10,17 @@ use Rattle.rule_declarations.proofs.var_fits.Reads as var-fits-reads
 use Rattle.rule_declarations.proofs.var_state.Reads as var-state-reads
 use Rattle.table_scope.proofs.describe.Reads as describe-reads
 
--- src/lib.rt:264:9
-describe-requires : tie.Need-describe-requires
-describe-requires c κs = search needs
-
--- src/lib.rt:265:8
-var-fits-requires : tie.Need-var-fits-requires
-var-fits-requires c κs = search needs
-
--- src/lib.rt:266:13
-lay-var-requires : tie.Need-lay-var-requires
-lay-var-requires c κs = search needs
-
--- src/lib.rt:267:13
-var-state-requires : tie.Need-var-state-requires
-var-state-requires c κs = search needs
-
--- src/lib.rt:268:9
-answered-requires : tie.Need-answered-requires
-answered-requires c κs = search needs
-
--- src/lib.rt:268:9
-same-length : tie.Need-same-length
-same-length c = search needs
-
--- src/lib.rt:268:9
-returns : tie.Need-returns
-returns c = search adds-laws
-
--- src/lib.rt:270:5
-answered-requires-2 : tie.Need-answered-requires-2
-answered-requires-2 c κs = search needs
-
--- src/lib.rt:261:1
-same-length-2 : tie.Need-same-length-2
-same-length-2 c = search needs
-
--- src/lib.rt:261:1
-returns-2 : tie.Need-returns-2
-returns-2 c = search adds-laws
-
 pub add-var-spec : {M : Type 1} → statement M
 add-var-spec =
     tie.close
     (tie.spec
-    describe-requires
-    var-fits-requires
-    lay-var-requires
-    var-state-requires
-    answered-requires
-    same-length
-    returns
-    answered-requires-2
-    same-length-2
-    returns-2)
+    (λ c κs. search needs)  -- describe-requires src/lib.rt:264:9
+    (λ c κs. search needs)  -- var-fits-requires src/lib.rt:265:8
+    (λ c κs. search needs)  -- lay-var-requires src/lib.rt:266:13
+    (λ c κs. search needs)  -- var-state-requires src/lib.rt:267:13
+    (λ c κs. search needs)  -- answered-requires src/lib.rt:268:9
+    (λ c. search needs)  -- same-length src/lib.rt:268:9
+    (λ c. search adds-laws)  -- returns src/lib.rt:268:9
+    (λ c κs. search needs)  -- answered-requires-2 src/lib.rt:270:5
+    (λ c. search needs)  -- same-length-2 src/lib.rt:261:1
+    (λ c. search adds-laws))  -- returns-2 src/lib.rt:261:1

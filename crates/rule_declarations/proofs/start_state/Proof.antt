@@ -4,9 +4,8 @@ use Rattle.rule_declarations.proofs.start_state.Tie as tie
 use Rattle.rule_declarations.proofs.start_state.Reads as reads
 use Rattle.rule_declarations.proofs.start_state.Lts as lts
 
--- src/lib.rt:225:1
-returns : tie.Need-returns
-returns c = search start-is
-
 pub start-state-spec : {M : Type 1} → statement M
-start-state-spec = tie.close (tie.spec returns)
+start-state-spec =
+    tie.close
+    (tie.spec
+    (λ c. search start-is))  -- returns src/lib.rt:225:1

@@ -8,47 +8,15 @@ use Rattle.rule_declarations.proofs.answered.Reads as answered-reads
 use Rattle.rule_declarations.proofs.name_at.Reads as name-at-reads
 use Rattle.rule_declarations.proofs.var_after.Reads as var-after-reads
 
--- src/lib.rt:222:9
-name-at-requires : tie.Need-name-at-requires
-name-at-requires c κs = search needs
-
--- src/lib.rt:224:24
-enum-known-n : tie.Need-enum-known-n
-enum-known-n c = search needs
-
--- src/lib.rt:224:33
-var-after-requires : tie.Need-var-after-requires
-var-after-requires c κs = search needs
-
--- src/lib.rt:225:37
-enum-told : tie.Need-enum-told
-enum-told c = search needs
-
--- src/lib.rt:225:28
-answered-requires : tie.Need-answered-requires
-answered-requires c κs = search needs
-
--- src/lib.rt:219:1
-same-length : tie.Need-same-length
-same-length c = search needs
-
--- src/lib.rt:219:1
-returns : tie.Need-returns
-returns c = search var-line-laws
-
--- src/lib.rt:219:1
-returns-2 : tie.Need-returns-2
-returns-2 c = search var-line-laws
-
 pub var-line-spec : {M : Type 1} → statement M
 var-line-spec =
     tie.close
     (tie.spec
-    name-at-requires
-    enum-known-n
-    var-after-requires
-    enum-told
-    answered-requires
-    same-length
-    returns
-    returns-2)
+    (λ c κs. search needs)  -- name-at-requires src/lib.rt:222:9
+    (λ c. search needs)  -- enum-known-n src/lib.rt:224:24
+    (λ c κs. search needs)  -- var-after-requires src/lib.rt:224:33
+    (λ c. search needs)  -- enum-told src/lib.rt:225:37
+    (λ c κs. search needs)  -- answered-requires src/lib.rt:225:28
+    (λ c. search needs)  -- same-length src/lib.rt:219:1
+    (λ c. search var-line-laws)  -- returns src/lib.rt:219:1
+    (λ c. search var-line-laws))  -- returns-2 src/lib.rt:219:1

@@ -21,38 +21,6 @@ abbrev μ-loop : tie.MeasureT-loop
 loop-holds : tie.Need-loop-holds Inv-loop μ-loop
 loop-holds c = compare-start _ _ _ _ _
 
--- src/lib.rt:329:13
-next-value-requires : tie.Need-next-value-requires Inv-loop μ-loop
-next-value-requires c κs = search needs
-
--- src/lib.rt:331:30
-enum-known-x : tie.Need-enum-known-x Inv-loop μ-loop
-enum-known-x c = search needs
-
--- src/lib.rt:332:20
-holds-requires : tie.Need-holds-requires Inv-loop μ-loop
-holds-requires c κs = search needs
-
--- src/lib.rt:333:21
-returns : tie.Need-returns Inv-loop μ-loop
-returns c = search (compare-laws, sfits-of)
-
--- src/lib.rt:328:5
-loop-less : tie.Need-loop-less Inv-loop μ-loop
-loop-less c = search value-falls
-
--- src/lib.rt:328:5
-loop-again : tie.Need-loop-again Inv-loop μ-loop
-loop-again c = search (compare-laws, sfits-of)
-
--- src/lib.rt:338:17
-enum-told : tie.Need-enum-told Inv-loop μ-loop
-enum-told c = search needs
-
--- src/lib.rt:338:17
-returns-2 : tie.Need-returns-2 Inv-loop μ-loop
-returns-2 c = search (compare-laws, sfits-of)
-
 pub comes-again-spec : {M : Type 1} → statement M
 comes-again-spec =
     tie.close
@@ -60,11 +28,11 @@ comes-again-spec =
     Inv-loop
     μ-loop
     loop-holds
-    next-value-requires
-    enum-known-x
-    holds-requires
-    returns
-    loop-less
-    loop-again
-    enum-told
-    returns-2)
+    (λ c κs. search needs)  -- next-value-requires src/lib.rt:329:13
+    (λ c. search needs)  -- enum-known-x src/lib.rt:331:30
+    (λ c κs. search needs)  -- holds-requires src/lib.rt:332:20
+    (λ c. search (compare-laws, sfits-of))  -- returns src/lib.rt:333:21
+    (λ c. search value-falls)  -- loop-less src/lib.rt:328:5
+    (λ c. search (compare-laws, sfits-of))  -- loop-again src/lib.rt:328:5
+    (λ c. search needs)  -- enum-told src/lib.rt:338:17
+    (λ c. search (compare-laws, sfits-of)))  -- returns-2 src/lib.rt:338:17

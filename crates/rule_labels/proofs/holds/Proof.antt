@@ -24,26 +24,6 @@ abbrev μ-loop : tie.MeasureT-loop
 loop-holds : tie.Need-loop-holds Inv-loop μ-loop
 loop-holds c = hold-start _ _
 
--- src/lib.rt:285:42
-mul-same-number : tie.Need-mul-same-number Inv-loop μ-loop
-mul-same-number c = search needs
-
--- src/lib.rt:285:42
-shared-slice-copy-out-same-number : tie.Need-shared-slice-copy-out-same-number Inv-loop μ-loop
-shared-slice-copy-out-same-number c = search needs
-
--- src/lib.rt:285:27
-same-number-requires : tie.Need-same-number-requires Inv-loop μ-loop
-same-number-requires c κs = search needs
-
--- src/lib.rt:285:9
-either-requires : tie.Need-either-requires Inv-loop μ-loop
-either-requires c κs = search needs
-
--- src/lib.rt:286:9
-add-i : tie.Need-add-i Inv-loop μ-loop
-add-i c = search needs
-
 -- src/lib.rt:284:5
 loop-less : tie.Need-loop-less Inv-loop μ-loop
 loop-less c = omega arith
@@ -52,10 +32,6 @@ loop-less c = omega arith
 loop-again : tie.Need-loop-again Inv-loop μ-loop
 loop-again c = hold-on _ _ _ _ (c .before .before .before .before .before .fits .z) (c .before .before .before .before .loop .inv) (c .before .before .before .loop-test .taken) _ (search sfits-of) (c .before .same-number .ensures) _ (c .either .ensures)
 
--- src/lib.rt:279:1
-returns : tie.Need-returns Inv-loop μ-loop
-returns c = search hold-laws
-
 pub holds-spec : {M : Type 1} → statement M
 holds-spec =
     tie.close
@@ -63,11 +39,11 @@ holds-spec =
     Inv-loop
     μ-loop
     loop-holds
-    mul-same-number
-    shared-slice-copy-out-same-number
-    same-number-requires
-    either-requires
-    add-i
+    (λ c. search needs)  -- mul-same-number src/lib.rt:285:42
+    (λ c. search needs)  -- shared-slice-copy-out-same-number src/lib.rt:285:42
+    (λ c κs. search needs)  -- same-number-requires src/lib.rt:285:27
+    (λ c κs. search needs)  -- either-requires src/lib.rt:285:9
+    (λ c. search needs)  -- add-i src/lib.rt:286:9
     loop-less
     loop-again
-    returns)
+    (λ c. search hold-laws))  -- returns src/lib.rt:279:1

@@ -19,38 +19,6 @@ abbrev μ-loop : tie.MeasureT-loop
 loop-holds : tie.Need-loop-holds Inv-loop μ-loop
 loop-holds c = seek-start _ _
 
--- src/lib.rt:189:13
-hop-at-requires : tie.Need-hop-at-requires Inv-loop μ-loop
-hop-at-requires c κs = search needs
-
--- src/lib.rt:191:24
-enum-known-h : tie.Need-enum-known-h Inv-loop μ-loop
-enum-known-h c = search needs
-
--- src/lib.rt:192:17
-returns : tie.Need-returns Inv-loop μ-loop
-returns c = search seek-laws
-
--- src/lib.rt:194:23
-enum-known-h-2 : tie.Need-enum-known-h-2 Inv-loop μ-loop
-enum-known-h-2 c = search needs
-
--- src/lib.rt:188:5
-loop-less : tie.Need-loop-less Inv-loop μ-loop
-loop-less c = search seek-falls
-
--- src/lib.rt:188:5
-loop-again : tie.Need-loop-again Inv-loop μ-loop
-loop-again c = search seek-laws
-
--- src/lib.rt:198:17
-enum-told : tie.Need-enum-told Inv-loop μ-loop
-enum-told c = search needs
-
--- src/lib.rt:198:17
-returns-2 : tie.Need-returns-2 Inv-loop μ-loop
-returns-2 c = search seek-laws
-
 pub next-label-spec : {M : Type 1} → statement M
 next-label-spec =
     tie.close
@@ -58,11 +26,11 @@ next-label-spec =
     Inv-loop
     μ-loop
     loop-holds
-    hop-at-requires
-    enum-known-h
-    returns
-    enum-known-h-2
-    loop-less
-    loop-again
-    enum-told
-    returns-2)
+    (λ c κs. search needs)  -- hop-at-requires src/lib.rt:189:13
+    (λ c. search needs)  -- enum-known-h src/lib.rt:191:24
+    (λ c. search seek-laws)  -- returns src/lib.rt:192:17
+    (λ c. search needs)  -- enum-known-h-2 src/lib.rt:194:23
+    (λ c. search seek-falls)  -- loop-less src/lib.rt:188:5
+    (λ c. search seek-laws)  -- loop-again src/lib.rt:188:5
+    (λ c. search needs)  -- enum-told src/lib.rt:198:17
+    (λ c. search seek-laws))  -- returns-2 src/lib.rt:198:17

@@ -7,21 +7,11 @@ use Rattle.rule_labels.proofs.recurs.Lts as lts
 use Rattle.rule_labels.proofs.comes_again.Reads as comes-again-reads
 use Rattle.rule_labels.proofs.repeated.Reads as repeated-reads
 
--- src/lib.rt:348:8
-repeated-requires : tie.Need-repeated-requires
-repeated-requires c κs = search needs
-
--- src/lib.rt:349:9
-returns : tie.Need-returns
-returns c = search block-laws
-
--- src/lib.rt:351:5
-comes-again-requires : tie.Need-comes-again-requires
-comes-again-requires c κs = search needs
-
--- src/lib.rt:345:1
-returns-2 : tie.Need-returns-2
-returns-2 c = search block-laws
-
 pub recurs-spec : {M : Type 1} → statement M
-recurs-spec = tie.close (tie.spec repeated-requires returns comes-again-requires returns-2)
+recurs-spec =
+    tie.close
+    (tie.spec
+    (λ c κs. search needs)  -- repeated-requires src/lib.rt:348:8
+    (λ c. search block-laws)  -- returns src/lib.rt:349:9
+    (λ c κs. search needs)  -- comes-again-requires src/lib.rt:351:5
+    (λ c. search block-laws))  -- returns-2 src/lib.rt:345:1

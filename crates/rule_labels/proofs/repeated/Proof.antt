@@ -21,57 +21,9 @@ abbrev μ-loop : tie.MeasureT-loop
 loop-holds : tie.Need-loop-holds Inv-loop μ-loop
 loop-holds c = differ-start _
 
--- src/lib.rt:286:25
-add-holds : tie.Need-add-holds Inv-loop μ-loop
-add-holds c = search needs
-
--- src/lib.rt:286:18
-mul-holds : tie.Need-mul-holds Inv-loop μ-loop
-mul-holds c = search needs
-
--- src/lib.rt:286:18
-sub-holds : tie.Need-sub-holds Inv-loop μ-loop
-sub-holds c = search needs
-
--- src/lib.rt:286:18
-part-holds-start : tie.Need-part-holds-start Inv-loop μ-loop
-part-holds-start c = search needs
-
--- src/lib.rt:286:18
-part-holds-end : tie.Need-part-holds-end Inv-loop μ-loop
-part-holds-end c = search needs
-
--- src/lib.rt:286:35
-mul-holds-2 : tie.Need-mul-holds-2 Inv-loop μ-loop
-mul-holds-2 c = search needs
-
--- src/lib.rt:286:35
-shared-slice-copy-out-holds : tie.Need-shared-slice-copy-out-holds Inv-loop μ-loop
-shared-slice-copy-out-holds c = search needs
-
--- src/lib.rt:286:12
-holds-requires : tie.Need-holds-requires Inv-loop μ-loop
-holds-requires c κs = search needs
-
--- src/lib.rt:287:13
-returns : tie.Need-returns Inv-loop μ-loop
-returns c = search (differ-laws, sfits-of)
-
--- src/lib.rt:289:9
-add-i : tie.Need-add-i Inv-loop μ-loop
-add-i c = search needs
-
 -- src/lib.rt:285:5
 loop-less : tie.Need-loop-less Inv-loop μ-loop
 loop-less c = omega arith
-
--- src/lib.rt:285:5
-loop-again : tie.Need-loop-again Inv-loop μ-loop
-loop-again c = search (differ-laws, sfits-of)
-
--- src/lib.rt:281:1
-returns-2 : tie.Need-returns-2 Inv-loop μ-loop
-returns-2 c = search (differ-laws, sfits-of)
 
 pub repeated-spec : {M : Type 1} → statement M
 repeated-spec =
@@ -80,16 +32,16 @@ repeated-spec =
     Inv-loop
     μ-loop
     loop-holds
-    add-holds
-    mul-holds
-    sub-holds
-    part-holds-start
-    part-holds-end
-    mul-holds-2
-    shared-slice-copy-out-holds
-    holds-requires
-    returns
-    add-i
+    (λ c. search needs)  -- add-holds src/lib.rt:286:25
+    (λ c. search needs)  -- mul-holds src/lib.rt:286:18
+    (λ c. search needs)  -- sub-holds src/lib.rt:286:18
+    (λ c. search needs)  -- part-holds-start src/lib.rt:286:18
+    (λ c. search needs)  -- part-holds-end src/lib.rt:286:18
+    (λ c. search needs)  -- mul-holds-2 src/lib.rt:286:35
+    (λ c. search needs)  -- shared-slice-copy-out-holds src/lib.rt:286:35
+    (λ c κs. search needs)  -- holds-requires src/lib.rt:286:12
+    (λ c. search (differ-laws, sfits-of))  -- returns src/lib.rt:287:13
+    (λ c. search needs)  -- add-i src/lib.rt:289:9
     loop-less
-    loop-again
-    returns-2)
+    (λ c. search (differ-laws, sfits-of))  -- loop-again src/lib.rt:285:5
+    (λ c. search (differ-laws, sfits-of)))  -- returns-2 src/lib.rt:281:1

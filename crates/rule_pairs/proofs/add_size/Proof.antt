@@ -5,21 +5,11 @@ use Rattle.rule_pairs.proofs.add_size.Tie as tie
 use Rattle.rule_pairs.proofs.add_size.Reads as reads
 use Rattle.rule_pairs.proofs.add_size.Lts as lts
 
--- src/lib.rt:121:20
-add-result : tie.Need-add-result
-add-result c = search needs
-
--- src/lib.rt:121:13
-returns : tie.Need-returns
-returns c = search size-laws
-
--- src/lib.rt:123:9
-returns-2 : tie.Need-returns-2
-returns-2 c = search size-laws
-
--- src/lib.rt:116:1
-returns-3 : tie.Need-returns-3
-returns-3 c = search size-laws
-
 pub add-size-spec : {M : Type 1} → statement M
-add-size-spec = tie.close (tie.spec add-result returns returns-2 returns-3)
+add-size-spec =
+    tie.close
+    (tie.spec
+    (λ c. search needs)  -- add-result src/lib.rt:121:20
+    (λ c. search size-laws)  -- returns src/lib.rt:121:13
+    (λ c. search size-laws)  -- returns-2 src/lib.rt:123:9
+    (λ c. search size-laws))  -- returns-3 src/lib.rt:116:1

@@ -25,46 +25,6 @@ abbrev μ-loop : tie.MeasureT-loop
 loop-holds : tie.Need-loop-holds Inv-loop μ-loop
 loop-holds c = walk-start _ _ _ _ _
 
--- src/lib.rt:157:13
-pair-at-requires : tie.Need-pair-at-requires Inv-loop μ-loop
-pair-at-requires c κs = search (walk-n, walk-size, needs)
-
--- src/lib.rt:159:12
-is-form-requires : tie.Need-is-form-requires Inv-loop μ-loop
-is-form-requires c κs = search (walk-n, walk-size, needs)
-
--- src/lib.rt:160:13
-pairs-end-requires : tie.Need-pairs-end-requires Inv-loop μ-loop
-pairs-end-requires c κs = search (walk-n, walk-size, needs)
-
--- src/lib.rt:160:13
-returns : tie.Need-returns Inv-loop μ-loop
-returns c = search (walk-laws, needs)
-
--- src/lib.rt:162:9
-add-type-size-requires : tie.Need-add-type-size-requires Inv-loop μ-loop
-add-type-size-requires c κs = search (walk-n, walk-size, needs)
-
--- src/lib.rt:163:23
-is-clear-requires : tie.Need-is-clear-requires Inv-loop μ-loop
-is-clear-requires c κs = search (walk-n, walk-size, needs)
-
--- src/lib.rt:163:9
-both-requires : tie.Need-both-requires Inv-loop μ-loop
-both-requires c κs = search (walk-n, walk-size, needs)
-
--- src/lib.rt:164:9
-one-more-requires : tie.Need-one-more-requires Inv-loop μ-loop
-one-more-requires c κs = search (walk-n, walk-size, needs)
-
--- src/lib.rt:156:5
-loop-less : tie.Need-loop-less Inv-loop μ-loop
-loop-less c = search pairs-fewer
-
--- src/lib.rt:156:5
-loop-again : tie.Need-loop-again Inv-loop μ-loop
-loop-again c = search (walk-laws, needs)
-
 pub pairs-from-spec : {M : Type 1} → statement M
 pairs-from-spec =
     tie.close
@@ -72,13 +32,13 @@ pairs-from-spec =
     Inv-loop
     μ-loop
     loop-holds
-    pair-at-requires
-    is-form-requires
-    pairs-end-requires
-    returns
-    add-type-size-requires
-    is-clear-requires
-    both-requires
-    one-more-requires
-    loop-less
-    loop-again)
+    (λ c κs. search (walk-n, walk-size, needs))  -- pair-at-requires src/lib.rt:157:13
+    (λ c κs. search (walk-n, walk-size, needs))  -- is-form-requires src/lib.rt:159:12
+    (λ c κs. search (walk-n, walk-size, needs))  -- pairs-end-requires src/lib.rt:160:13
+    (λ c. search (walk-laws, needs))  -- returns src/lib.rt:160:13
+    (λ c κs. search (walk-n, walk-size, needs))  -- add-type-size-requires src/lib.rt:162:9
+    (λ c κs. search (walk-n, walk-size, needs))  -- is-clear-requires src/lib.rt:163:23
+    (λ c κs. search (walk-n, walk-size, needs))  -- both-requires src/lib.rt:163:9
+    (λ c κs. search (walk-n, walk-size, needs))  -- one-more-requires src/lib.rt:164:9
+    (λ c. search pairs-fewer)  -- loop-less src/lib.rt:156:5
+    (λ c. search (walk-laws, needs)))  -- loop-again src/lib.rt:156:5

@@ -21,83 +21,6 @@ abbrev leaf-type-below : ℕ → In 2 leaf-type-kinds.ps
 leaf-type-below t =
     and 2 leaf-type-kinds.ps (falls 2 leaf-type-kinds.ps _<_ μ-leaf-type t) leaf-type.Pre
 
--- src/lib.rt:77:9
-leaf-type-returns : (t : ℕ) → leaf-type-lts.Need-returns (
-  describe-reads.Asked,
-  describe-reads.Learnt,
-  inner-cell-reads.Asked,
-  inner-cell-reads.Learnt,
-  leaf-type-below t,
-  leaf-type.Post,
-) (leaf-type-at t) leaf-type.Post
-leaf-type-returns t c = search leaf-laws
-
--- src/lib.rt:79:9
-leaf-type-describe-requires : (t : ℕ) → leaf-type-lts.Need-describe-requires (
-  describe-reads.Asked,
-  describe-reads.Learnt,
-  inner-cell-reads.Asked,
-  inner-cell-reads.Learnt,
-  leaf-type-below t,
-  leaf-type.Post,
-) (leaf-type-at t) leaf-type.Post
-leaf-type-describe-requires t c κs = search needs
-
--- src/lib.rt:81:9
-leaf-type-returns-2 : (t : ℕ) → leaf-type-lts.Need-returns-2 (
-  describe-reads.Asked,
-  describe-reads.Learnt,
-  inner-cell-reads.Asked,
-  inner-cell-reads.Learnt,
-  leaf-type-below t,
-  leaf-type.Post,
-) (leaf-type-at t) leaf-type.Post
-leaf-type-returns-2 t c = search leaf-laws
-
--- src/lib.rt:83:9
-leaf-type-inner-cell-requires : (t : ℕ) → leaf-type-lts.Need-inner-cell-requires (
-  describe-reads.Asked,
-  describe-reads.Learnt,
-  inner-cell-reads.Asked,
-  inner-cell-reads.Learnt,
-  leaf-type-below t,
-  leaf-type.Post,
-) (leaf-type-at t) leaf-type.Post
-leaf-type-inner-cell-requires t c κs = search needs
-
--- src/lib.rt:84:45
-leaf-type-sub-leaf-type : (t : ℕ) → leaf-type-lts.Need-sub-leaf-type (
-  describe-reads.Asked,
-  describe-reads.Learnt,
-  inner-cell-reads.Asked,
-  inner-cell-reads.Learnt,
-  leaf-type-below t,
-  leaf-type.Post,
-) (leaf-type-at t) leaf-type.Post
-leaf-type-sub-leaf-type t c = search needs
-
--- src/lib.rt:84:5
-leaf-type-leaf-type-requires : (t : ℕ) → leaf-type-lts.Need-leaf-type-requires (
-  describe-reads.Asked,
-  describe-reads.Learnt,
-  inner-cell-reads.Asked,
-  inner-cell-reads.Learnt,
-  leaf-type-below t,
-  leaf-type.Post,
-) (leaf-type-at t) leaf-type.Post
-leaf-type-leaf-type-requires t c κs = search needs
-
--- src/lib.rt:73:1
-leaf-type-returns-3 : (t : ℕ) → leaf-type-lts.Need-returns-3 (
-  describe-reads.Asked,
-  describe-reads.Learnt,
-  inner-cell-reads.Asked,
-  inner-cell-reads.Learnt,
-  leaf-type-below t,
-  leaf-type.Post,
-) (leaf-type-at t) leaf-type.Post
-leaf-type-returns-3 t c = search leaf-laws
-
 pub +leaf-type-spec : {M : Type 1} → statement M
 +leaf-type-spec = close μ-leaf-type λ t. leaf-type-lts.spec (
   describe-reads.Asked,
@@ -109,10 +32,10 @@ pub +leaf-type-spec : {M : Type 1} → statement M
 )
     (leaf-type-at t)
     leaf-type.Post
-    (leaf-type-returns t)
-    (leaf-type-describe-requires t)
-    (leaf-type-returns-2 t)
-    (leaf-type-inner-cell-requires t)
-    (leaf-type-sub-leaf-type t)
-    (leaf-type-leaf-type-requires t)
-    (leaf-type-returns-3 t)
+    (λ c. search leaf-laws)  -- leaf-type-returns src/lib.rt:77:9
+    (λ c κs. search needs)  -- leaf-type-describe-requires src/lib.rt:79:9
+    (λ c. search leaf-laws)  -- leaf-type-returns-2 src/lib.rt:81:9
+    (λ c κs. search needs)  -- leaf-type-inner-cell-requires src/lib.rt:83:9
+    (λ c. search needs)  -- leaf-type-sub-leaf-type src/lib.rt:84:45
+    (λ c κs. search needs)  -- leaf-type-leaf-type-requires src/lib.rt:84:5
+    (λ c. search leaf-laws)  -- leaf-type-returns-3 src/lib.rt:73:1

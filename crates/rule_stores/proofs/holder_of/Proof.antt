@@ -19,41 +19,9 @@ abbrev μ-loop : tie.MeasureT-loop
 loop-holds : tie.Need-loop-holds Inv-loop μ-loop
 loop-holds c = seek-start _ _ _ _ (search needs)
 
--- src/lib.rt:113:12
-begins-at-requires : tie.Need-begins-at-requires Inv-loop μ-loop
-begins-at-requires c κs = search needs
-
--- src/lib.rt:114:13
-returns : tie.Need-returns Inv-loop μ-loop
-returns c = search seek-laws
-
--- src/lib.rt:116:22
-cast-at : tie.Need-cast-at Inv-loop μ-loop
-cast-at c = search (seek-small, needs)
-
--- src/lib.rt:116:22
-add-at : tie.Need-add-at Inv-loop μ-loop
-add-at c = search (seek-small, needs)
-
--- src/lib.rt:116:9
-at-requires : tie.Need-at-requires Inv-loop μ-loop
-at-requires c κs = search needs
-
--- src/lib.rt:117:9
-sub-n : tie.Need-sub-n Inv-loop μ-loop
-sub-n c = search needs
-
 -- src/lib.rt:112:5
 loop-less : tie.Need-loop-less Inv-loop μ-loop
 loop-less c = omega arith
-
--- src/lib.rt:112:5
-loop-again : tie.Need-loop-again Inv-loop μ-loop
-loop-again c = search seek-laws
-
--- src/lib.rt:107:1
-returns-2 : tie.Need-returns-2 Inv-loop μ-loop
-returns-2 c = search seek-laws
 
 pub holder-of-spec : {M : Type 1} → statement M
 holder-of-spec =
@@ -62,12 +30,12 @@ holder-of-spec =
     Inv-loop
     μ-loop
     loop-holds
-    begins-at-requires
-    returns
-    cast-at
-    add-at
-    at-requires
-    sub-n
+    (λ c κs. search needs)  -- begins-at-requires src/lib.rt:113:12
+    (λ c. search seek-laws)  -- returns src/lib.rt:114:13
+    (λ c. search (seek-small, needs))  -- cast-at src/lib.rt:116:22
+    (λ c. search (seek-small, needs))  -- add-at src/lib.rt:116:22
+    (λ c κs. search needs)  -- at-requires src/lib.rt:116:9
+    (λ c. search needs)  -- sub-n src/lib.rt:117:9
     loop-less
-    loop-again
-    returns-2)
+    (λ c. search seek-laws)  -- loop-again src/lib.rt:112:5
+    (λ c. search seek-laws))  -- returns-2 src/lib.rt:107:1

@@ -7,25 +7,12 @@ use Rattle.rule_stores.proofs.owner.Lts as lts
 use Rattle.rule_stores.proofs.holder_of.Reads as holder-of-reads
 use Rattle.table_list.proofs.at.Reads as at-reads
 
--- src/lib.rt:217:13
-holder-of-requires : tie.Need-holder-of-requires
-holder-of-requires c κs = search needs
-
--- src/lib.rt:217:13
-cast-p : tie.Need-cast-p
-cast-p c = search needs
-
--- src/lib.rt:218:6
-at-requires : tie.Need-at-requires
-at-requires c κs = search needs
-
--- src/lib.rt:218:5
-cast-result : tie.Need-cast-result
-cast-result c = search needs
-
--- src/lib.rt:214:1
-returns : tie.Need-returns
-returns c = search owner-found
-
 pub owner-spec : {M : Type 1} → statement M
-owner-spec = tie.close (tie.spec holder-of-requires cast-p at-requires cast-result returns)
+owner-spec =
+    tie.close
+    (tie.spec
+    (λ c κs. search needs)  -- holder-of-requires src/lib.rt:217:13
+    (λ c. search needs)  -- cast-p src/lib.rt:217:13
+    (λ c κs. search needs)  -- at-requires src/lib.rt:218:6
+    (λ c. search needs)  -- cast-result src/lib.rt:218:5
+    (λ c. search owner-found))  -- returns src/lib.rt:214:1

@@ -9,67 +9,19 @@ use Rattle.rule_texts.proofs.nothing_known.Reads as nothing-known-reads
 use Rattle.rule_texts.proofs.refusal.Reads as refusal-reads
 use Rattle.text_lines.proofs.lines.refused_line.Reads as refused-line-reads
 
--- src/lib.rt:108:9
-refusal-requires : tie.Need-refusal-requires
-refusal-requires c κs = search needs
-
--- src/lib.rt:108:9
-returns : tie.Need-returns
-returns c = search check-laws
-
--- src/lib.rt:111:9
-refusal-requires-2 : tie.Need-refusal-requires-2
-refusal-requires-2 c κs = search needs
-
--- src/lib.rt:111:9
-returns-2 : tie.Need-returns-2
-returns-2 c = search check-laws
-
--- src/lib.rt:113:9
-refused-line-requires : tie.Need-refused-line-requires
-refused-line-requires c κs = search needs
-
--- src/lib.rt:115:9
-refusal-requires-3 : tie.Need-refusal-requires-3
-refusal-requires-3 c κs = search needs
-
--- src/lib.rt:115:9
-returns-3 : tie.Need-returns-3
-returns-3 c = search check-laws
-
--- src/lib.rt:117:36
-nothing-known-requires : tie.Need-nothing-known-requires
-nothing-known-requires c κs = search needs
-
--- src/lib.rt:117:5
-check-lines-requires : tie.Need-check-lines-requires
-check-lines-requires c κs = search needs
-
--- src/lib.rt:104:1
-same-length : tie.Need-same-length
-same-length c = search needs
-
--- src/lib.rt:104:1
-same-length-2 : tie.Need-same-length-2
-same-length-2 c = search needs
-
--- src/lib.rt:104:1
-returns-4 : tie.Need-returns-4
-returns-4 c = search check-laws
-
 pub check-spec : {M : Type 1} → statement M
 check-spec =
     tie.close
     (tie.spec
-    refusal-requires
-    returns
-    refusal-requires-2
-    returns-2
-    refused-line-requires
-    refusal-requires-3
-    returns-3
-    nothing-known-requires
-    check-lines-requires
-    same-length
-    same-length-2
-    returns-4)
+    (λ c κs. search needs)  -- refusal-requires src/lib.rt:108:9
+    (λ c. search check-laws)  -- returns src/lib.rt:108:9
+    (λ c κs. search needs)  -- refusal-requires-2 src/lib.rt:111:9
+    (λ c. search check-laws)  -- returns-2 src/lib.rt:111:9
+    (λ c κs. search needs)  -- refused-line-requires src/lib.rt:113:9
+    (λ c κs. search needs)  -- refusal-requires-3 src/lib.rt:115:9
+    (λ c. search check-laws)  -- returns-3 src/lib.rt:115:9
+    (λ c κs. search needs)  -- nothing-known-requires src/lib.rt:117:36
+    (λ c κs. search needs)  -- check-lines-requires src/lib.rt:117:5
+    (λ c. search needs)  -- same-length src/lib.rt:104:1
+    (λ c. search needs)  -- same-length-2 src/lib.rt:104:1
+    (λ c. search check-laws))  -- returns-4 src/lib.rt:104:1

@@ -21,54 +21,6 @@ abbrev μ-loop : tie.MeasureT-loop
 loop-holds : tie.Need-loop-holds Inv-loop μ-loop
 loop-holds c = going-start _ _ _ _
 
--- src/lib.rt:88:13
-line-requires : tie.Need-line-requires Inv-loop μ-loop
-line-requires c κs = search needs
-
--- src/lib.rt:91:13
-same-length : tie.Need-same-length Inv-loop μ-loop
-same-length c = search needs
-
--- src/lib.rt:91:13
-same-length-2 : tie.Need-same-length-2 Inv-loop μ-loop
-same-length-2 c = search needs
-
--- src/lib.rt:91:13
-returns : tie.Need-returns Inv-loop μ-loop
-returns c = search drive-laws
-
--- src/lib.rt:97:9
-next-line-requires : tie.Need-next-line-requires Inv-loop μ-loop
-next-line-requires c κs = search needs
-
--- src/lib.rt:98:9
-add-n : tie.Need-add-n Inv-loop μ-loop
-add-n c = search (going-room, needs)
-
--- src/lib.rt:87:5
-loop-less : tie.Need-loop-less Inv-loop μ-loop
-loop-less c = search next-less
-
--- src/lib.rt:87:5
-loop-again : tie.Need-loop-again Inv-loop μ-loop
-loop-again c = search drive-laws
-
--- src/lib.rt:100:5
-at-end-requires : tie.Need-at-end-requires Inv-loop μ-loop
-at-end-requires c κs = search needs
-
--- src/lib.rt:80:1
-same-length-3 : tie.Need-same-length-3 Inv-loop μ-loop
-same-length-3 c = search needs
-
--- src/lib.rt:80:1
-same-length-4 : tie.Need-same-length-4 Inv-loop μ-loop
-same-length-4 c = search needs
-
--- src/lib.rt:80:1
-returns-2 : tie.Need-returns-2 Inv-loop μ-loop
-returns-2 c = search drive-laws
-
 pub check-lines-spec : {M : Type 1} → statement M
 check-lines-spec =
     tie.close
@@ -76,15 +28,15 @@ check-lines-spec =
     Inv-loop
     μ-loop
     loop-holds
-    line-requires
-    same-length
-    same-length-2
-    returns
-    next-line-requires
-    add-n
-    loop-less
-    loop-again
-    at-end-requires
-    same-length-3
-    same-length-4
-    returns-2)
+    (λ c κs. search needs)  -- line-requires src/lib.rt:88:13
+    (λ c. search needs)  -- same-length src/lib.rt:91:13
+    (λ c. search needs)  -- same-length-2 src/lib.rt:91:13
+    (λ c. search drive-laws)  -- returns src/lib.rt:91:13
+    (λ c κs. search needs)  -- next-line-requires src/lib.rt:97:9
+    (λ c. search (going-room, needs))  -- add-n src/lib.rt:98:9
+    (λ c. search next-less)  -- loop-less src/lib.rt:87:5
+    (λ c. search drive-laws)  -- loop-again src/lib.rt:87:5
+    (λ c κs. search needs)  -- at-end-requires src/lib.rt:100:5
+    (λ c. search needs)  -- same-length-3 src/lib.rt:80:1
+    (λ c. search needs)  -- same-length-4 src/lib.rt:80:1
+    (λ c. search drive-laws))  -- returns-2 src/lib.rt:80:1

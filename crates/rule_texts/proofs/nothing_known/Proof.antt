@@ -6,13 +6,9 @@ use Rattle.rule_texts.proofs.nothing_known.Reads as reads
 use Rattle.rule_texts.proofs.nothing_known.Lts as lts
 use Rattle.rule_declarations.proofs.start_state.Reads as start-state-reads
 
--- src/lib.rt:28:9
-start-state-requires : tie.Need-start-state-requires
-start-state-requires c κs = search needs
-
--- src/lib.rt:25:1
-returns : tie.Need-returns
-returns c = search start-is
-
 pub nothing-known-spec : {M : Type 1} → statement M
-nothing-known-spec = tie.close (tie.spec start-state-requires returns)
+nothing-known-spec =
+    tie.close
+    (tie.spec
+    (λ c κs. search needs)  -- start-state-requires src/lib.rt:28:9
+    (λ c. search start-is))  -- returns src/lib.rt:25:1

@@ -11,147 +11,35 @@ use Rattle.rule_type_lines.proofs.made.set_line.Reads as set-line-reads
 use Rattle.rule_record_lines.proofs.records.record_line.Reads as record-line-reads
 use Rattle.rule_enum_lines.proofs.values.enum_line.Reads as enum-line-reads
 
--- src/lib.rt:37:40
-enum-told : tie.Need-enum-told
-enum-told c = search needs
-
--- src/lib.rt:37:24
-enum-line-requires : tie.Need-enum-line-requires
-enum-line-requires c κs = search needs
-
--- src/lib.rt:38:42
-enum-told-2 : tie.Need-enum-told-2
-enum-told-2 c = search needs
-
--- src/lib.rt:38:25
-range-line-requires : tie.Need-range-line-requires
-range-line-requires c κs = search needs
-
--- src/lib.rt:39:42
-enum-told-3 : tie.Need-enum-told-3
-enum-told-3 c = search needs
-
--- src/lib.rt:39:25
-array-line-requires : tie.Need-array-line-requires
-array-line-requires c κs = search needs
-
--- src/lib.rt:40:44
-enum-told-4 : tie.Need-enum-told-4
-enum-told-4 c = search needs
-
--- src/lib.rt:40:26
-record-line-requires : tie.Need-record-line-requires
-record-line-requires c κs = search needs
-
--- src/lib.rt:41:38
-enum-told-5 : tie.Need-enum-told-5
-enum-told-5 c = search needs
-
--- src/lib.rt:41:23
-set-line-requires : tie.Need-set-line-requires
-set-line-requires c κs = search needs
-
--- src/lib.rt:42:36
-enum-told-6 : tie.Need-enum-told-6
-enum-told-6 c = search needs
-
--- src/lib.rt:42:27
-answered-requires : tie.Need-answered-requires
-answered-requires c κs = search needs
-
--- src/lib.rt:25:1
-same-length : tie.Need-same-length
-same-length c = search needs
-
--- src/lib.rt:25:1
-same-length-2 : tie.Need-same-length-2
-same-length-2 c = search needs
-
--- src/lib.rt:25:1
-returns : tie.Need-returns
-returns c = search made-laws
-
--- src/lib.rt:25:1
-same-length-3 : tie.Need-same-length-3
-same-length-3 c = search needs
-
--- src/lib.rt:25:1
-same-length-4 : tie.Need-same-length-4
-same-length-4 c = search needs
-
--- src/lib.rt:25:1
-returns-2 : tie.Need-returns-2
-returns-2 c = search made-laws
-
--- src/lib.rt:25:1
-same-length-5 : tie.Need-same-length-5
-same-length-5 c = search needs
-
--- src/lib.rt:25:1
-same-length-6 : tie.Need-same-length-6
-same-length-6 c = search needs
-
--- src/lib.rt:25:1
-returns-3 : tie.Need-returns-3
-returns-3 c = search made-laws
-
--- src/lib.rt:25:1
-same-length-7 : tie.Need-same-length-7
-same-length-7 c = search needs
-
--- src/lib.rt:25:1
-same-length-8 : tie.Need-same-length-8
-same-length-8 c = search needs
-
--- src/lib.rt:25:1
-returns-4 : tie.Need-returns-4
-returns-4 c = search made-laws
-
--- src/lib.rt:25:1
-same-length-9 : tie.Need-same-length-9
-same-length-9 c = search needs
-
--- src/lib.rt:25:1
-same-length-10 : tie.Need-same-length-10
-same-length-10 c = search needs
-
--- src/lib.rt:25:1
-returns-5 : tie.Need-returns-5
-returns-5 c = search made-laws
-
--- src/lib.rt:25:1
-returns-6 : tie.Need-returns-6
-returns-6 c = search made-laws
-
 pub made-line-spec : {M : Type 1} → statement M
 made-line-spec =
     tie.close
     (tie.spec
-    enum-told
-    enum-line-requires
-    enum-told-2
-    range-line-requires
-    enum-told-3
-    array-line-requires
-    enum-told-4
-    record-line-requires
-    enum-told-5
-    set-line-requires
-    enum-told-6
-    answered-requires
-    same-length
-    same-length-2
-    returns
-    same-length-3
-    same-length-4
-    returns-2
-    same-length-5
-    same-length-6
-    returns-3
-    same-length-7
-    same-length-8
-    returns-4
-    same-length-9
-    same-length-10
-    returns-5
-    returns-6)
+    (λ c. search needs)  -- enum-told src/lib.rt:37:40
+    (λ c κs. search needs)  -- enum-line-requires src/lib.rt:37:24
+    (λ c. search needs)  -- enum-told-2 src/lib.rt:38:42
+    (λ c κs. search needs)  -- range-line-requires src/lib.rt:38:25
+    (λ c. search needs)  -- enum-told-3 src/lib.rt:39:42
+    (λ c κs. search needs)  -- array-line-requires src/lib.rt:39:25
+    (λ c. search needs)  -- enum-told-4 src/lib.rt:40:44
+    (λ c κs. search needs)  -- record-line-requires src/lib.rt:40:26
+    (λ c. search needs)  -- enum-told-5 src/lib.rt:41:38
+    (λ c κs. search needs)  -- set-line-requires src/lib.rt:41:23
+    (λ c. search needs)  -- enum-told-6 src/lib.rt:42:36
+    (λ c κs. search needs)  -- answered-requires src/lib.rt:42:27
+    (λ c. search needs)  -- same-length src/lib.rt:25:1
+    (λ c. search needs)  -- same-length-2 src/lib.rt:25:1
+    (λ c. search made-laws)  -- returns src/lib.rt:25:1
+    (λ c. search needs)  -- same-length-3 src/lib.rt:25:1
+    (λ c. search needs)  -- same-length-4 src/lib.rt:25:1
+    (λ c. search made-laws)  -- returns-2 src/lib.rt:25:1
+    (λ c. search needs)  -- same-length-5 src/lib.rt:25:1
+    (λ c. search needs)  -- same-length-6 src/lib.rt:25:1
+    (λ c. search made-laws)  -- returns-3 src/lib.rt:25:1
+    (λ c. search needs)  -- same-length-7 src/lib.rt:25:1
+    (λ c. search needs)  -- same-length-8 src/lib.rt:25:1
+    (λ c. search made-laws)  -- returns-4 src/lib.rt:25:1
+    (λ c. search needs)  -- same-length-9 src/lib.rt:25:1
+    (λ c. search needs)  -- same-length-10 src/lib.rt:25:1
+    (λ c. search made-laws)  -- returns-5 src/lib.rt:25:1
+    (λ c. search made-laws))  -- returns-6 src/lib.rt:25:1

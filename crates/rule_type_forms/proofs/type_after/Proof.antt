@@ -9,72 +9,20 @@ use Rattle.rule_type_forms.proofs.form_line.Reads as form-line-reads
 use Rattle.rule_type_lines.proofs.alias_line.Reads as alias-line-reads
 use Rattle.text_parts.proofs.part_at.Reads as part-at-reads
 
--- src/lib.rt:76:9
-part-at-requires : tie.Need-part-at-requires
-part-at-requires c κs = search needs
-
--- src/lib.rt:78:49
-enum-told : tie.Need-enum-told
-enum-told c = search needs
-
--- src/lib.rt:78:32
-alias-line-requires : tie.Need-alias-line-requires
-alias-line-requires c κs = search needs
-
--- src/lib.rt:79:20
-enum-known-part : tie.Need-enum-known-part
-enum-known-part c = search needs
-
--- src/lib.rt:79:26
-form-line-requires : tie.Need-form-line-requires
-form-line-requires c κs = search needs
-
--- src/lib.rt:80:35
-enum-told-2 : tie.Need-enum-told-2
-enum-told-2 c = search needs
-
--- src/lib.rt:80:26
-answered-requires : tie.Need-answered-requires
-answered-requires c κs = search needs
-
--- src/lib.rt:66:1
-same-length : tie.Need-same-length
-same-length c = search needs
-
--- src/lib.rt:66:1
-returns : tie.Need-returns
-returns c = search after-laws
-
--- src/lib.rt:66:1
-same-length-2 : tie.Need-same-length-2
-same-length-2 c = search needs
-
--- src/lib.rt:66:1
-same-length-3 : tie.Need-same-length-3
-same-length-3 c = search needs
-
--- src/lib.rt:66:1
-returns-2 : tie.Need-returns-2
-returns-2 c = search after-laws
-
--- src/lib.rt:66:1
-returns-3 : tie.Need-returns-3
-returns-3 c = search after-laws
-
 pub type-after-spec : {M : Type 1} → statement M
 type-after-spec =
     tie.close
     (tie.spec
-    part-at-requires
-    enum-told
-    alias-line-requires
-    enum-known-part
-    form-line-requires
-    enum-told-2
-    answered-requires
-    same-length
-    returns
-    same-length-2
-    same-length-3
-    returns-2
-    returns-3)
+    (λ c κs. search needs)  -- part-at-requires src/lib.rt:76:9
+    (λ c. search needs)  -- enum-told src/lib.rt:78:49
+    (λ c κs. search needs)  -- alias-line-requires src/lib.rt:78:32
+    (λ c. search needs)  -- enum-known-part src/lib.rt:79:20
+    (λ c κs. search needs)  -- form-line-requires src/lib.rt:79:26
+    (λ c. search needs)  -- enum-told-2 src/lib.rt:80:35
+    (λ c κs. search needs)  -- answered-requires src/lib.rt:80:26
+    (λ c. search needs)  -- same-length src/lib.rt:66:1
+    (λ c. search after-laws)  -- returns src/lib.rt:66:1
+    (λ c. search needs)  -- same-length-2 src/lib.rt:66:1
+    (λ c. search needs)  -- same-length-3 src/lib.rt:66:1
+    (λ c. search after-laws)  -- returns-2 src/lib.rt:66:1
+    (λ c. search after-laws))  -- returns-3 src/lib.rt:66:1

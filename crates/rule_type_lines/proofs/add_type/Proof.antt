@@ -9,47 +9,15 @@ use Rattle.rule_type_lines.proofs.lay_type.Reads as lay-type-reads
 use Rattle.rule_type_lines.proofs.type_state.Reads as type-state-reads
 use Rattle.table_list.proofs.put.Reads as put-reads
 
--- src/lib.rt:130:9
-lay-type-requires : tie.Need-lay-type-requires
-lay-type-requires c κs = search needs
-
--- src/lib.rt:131:16
-cast-put : tie.Need-cast-put
-cast-put c = search needs
-
--- src/lib.rt:131:5
-put-requires : tie.Need-put-requires
-put-requires c κs = search needs
-
--- src/lib.rt:132:9
-type-state-requires : tie.Need-type-state-requires
-type-state-requires c κs = search needs
-
--- src/lib.rt:133:5
-answered-requires : tie.Need-answered-requires
-answered-requires c κs = search needs
-
--- src/lib.rt:127:1
-same-length : tie.Need-same-length
-same-length c = search needs
-
--- src/lib.rt:127:1
-same-length-2 : tie.Need-same-length-2
-same-length-2 c = search needs
-
--- src/lib.rt:127:1
-returns : tie.Need-returns
-returns c = search add-type-is
-
 pub add-type-spec : {M : Type 1} → statement M
 add-type-spec =
     tie.close
     (tie.spec
-    lay-type-requires
-    cast-put
-    put-requires
-    type-state-requires
-    answered-requires
-    same-length
-    same-length-2
-    returns)
+    (λ c κs. search needs)  -- lay-type-requires src/lib.rt:130:9
+    (λ c. search needs)  -- cast-put src/lib.rt:131:16
+    (λ c κs. search needs)  -- put-requires src/lib.rt:131:5
+    (λ c κs. search needs)  -- type-state-requires src/lib.rt:132:9
+    (λ c κs. search needs)  -- answered-requires src/lib.rt:133:5
+    (λ c. search needs)  -- same-length src/lib.rt:127:1
+    (λ c. search needs)  -- same-length-2 src/lib.rt:127:1
+    (λ c. search add-type-is))  -- returns src/lib.rt:127:1

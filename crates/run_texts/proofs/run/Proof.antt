@@ -10,58 +10,6 @@ use Rattle.run_texts.proofs.run_checked.Reads as run-checked-reads
 use Rattle.rule_texts.proofs.working.Reads as working-reads
 use Rattle.table_list.proofs.clear.Reads as clear-reads
 
--- src/running.rt:50:9
-working-requires : tie.Need-working-requires
-working-requires c κs = search needs
-
--- src/running.rt:51:25
-slice-relend-prefix-check : tie.Need-slice-relend-prefix-check
-slice-relend-prefix-check c = search needs
-
--- src/running.rt:51:25
-slice-aggregate-check : tie.Need-slice-aggregate-check
-slice-aggregate-check c = search part-laws
-
--- src/running.rt:51:41
-slice-aggregate-check-2 : tie.Need-slice-aggregate-check-2
-slice-aggregate-check-2 c = search needs
-
--- src/running.rt:51:9
-check-requires : tie.Need-check-requires
-check-requires c κs = search needs
-
--- src/running.rt:52:25
-slice-reshare-prefix-run-checked : tie.Need-slice-reshare-prefix-run-checked
-slice-reshare-prefix-run-checked c = search needs
-
--- src/running.rt:52:25
-slice-aggregate-run-checked : tie.Need-slice-aggregate-run-checked
-slice-aggregate-run-checked c = search part-laws
-
--- src/running.rt:52:37
-slice-aggregate-run-checked-2 : tie.Need-slice-aggregate-run-checked-2
-slice-aggregate-run-checked-2 c = search needs
-
--- src/running.rt:52:9
-run-checked-requires : tie.Need-run-checked-requires
-run-checked-requires c κs = search needs
-
--- src/running.rt:53:5
-clear-requires : tie.Need-clear-requires
-clear-requires c κs = search needs
-
--- src/running.rt:46:1
-same-length : tie.Need-same-length
-same-length c = search needs
-
--- src/running.rt:46:1
-same-length-2 : tie.Need-same-length-2
-same-length-2 c = search needs
-
--- src/running.rt:46:1
-same-length-3 : tie.Need-same-length-3
-same-length-3 c = search needs
-
 -- src/running.rt:46:1
 returns : tie.Need-returns
 returns c = (search run-told, search verdict-clears)
@@ -70,17 +18,17 @@ pub run-spec : {M : Type 1} → statement M
 run-spec =
     tie.close
     (tie.spec
-    working-requires
-    slice-relend-prefix-check
-    slice-aggregate-check
-    slice-aggregate-check-2
-    check-requires
-    slice-reshare-prefix-run-checked
-    slice-aggregate-run-checked
-    slice-aggregate-run-checked-2
-    run-checked-requires
-    clear-requires
-    same-length
-    same-length-2
-    same-length-3
+    (λ c κs. search needs)  -- working-requires src/running.rt:50:9
+    (λ c. search needs)  -- slice-relend-prefix-check src/running.rt:51:25
+    (λ c. search part-laws)  -- slice-aggregate-check src/running.rt:51:25
+    (λ c. search needs)  -- slice-aggregate-check-2 src/running.rt:51:41
+    (λ c κs. search needs)  -- check-requires src/running.rt:51:9
+    (λ c. search needs)  -- slice-reshare-prefix-run-checked src/running.rt:52:25
+    (λ c. search part-laws)  -- slice-aggregate-run-checked src/running.rt:52:25
+    (λ c. search needs)  -- slice-aggregate-run-checked-2 src/running.rt:52:37
+    (λ c κs. search needs)  -- run-checked-requires src/running.rt:52:9
+    (λ c κs. search needs)  -- clear-requires src/running.rt:53:5
+    (λ c. search needs)  -- same-length src/running.rt:46:1
+    (λ c. search needs)  -- same-length-2 src/running.rt:46:1
+    (λ c. search needs)  -- same-length-3 src/running.rt:46:1
     returns)

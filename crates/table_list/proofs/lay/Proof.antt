@@ -20,14 +20,6 @@ abbrev μ-loop : tie.MeasureT-loop
 returns : tie.Need-returns Inv-loop μ-loop
 returns c = lay-full _ _ _ (omega arith)
 
--- src/lib.rt:37:17
-cast-width : tie.Need-cast-width Inv-loop μ-loop
-cast-width c = search needs
-
--- src/lib.rt:38:14
-sub-if2 : tie.Need-sub-if2 Inv-loop μ-loop
-sub-if2 c = search needs
-
 -- src/lib.rt:39:9
 returns-2 : tie.Need-returns-2 Inv-loop μ-loop
 returns-2 c = lay-full _ _ _ (omega arith)
@@ -36,37 +28,9 @@ returns-2 c = lay-full _ _ _ (omega arith)
 loop-holds : tie.Need-loop-holds Inv-loop μ-loop
 loop-holds c = lay-start _ _ _
 
--- src/lib.rt:44:13
-at-requires : tie.Need-at-requires Inv-loop μ-loop
-at-requires c κs = search needs
-
--- src/lib.rt:45:19
-add-put : tie.Need-add-put Inv-loop μ-loop
-add-put c = search needs
-
--- src/lib.rt:45:9
-put-requires : tie.Need-put-requires Inv-loop μ-loop
-put-requires c κs = search needs
-
--- src/lib.rt:46:9
-add-i : tie.Need-add-i Inv-loop μ-loop
-add-i c = search needs
-
 -- src/lib.rt:43:5
 loop-less : tie.Need-loop-less Inv-loop μ-loop
 loop-less c = omega arith
-
--- src/lib.rt:43:5
-loop-again : tie.Need-loop-again Inv-loop μ-loop
-loop-again c = search lay-laws
-
--- src/lib.rt:48:5
-add-result : tie.Need-add-result Inv-loop μ-loop
-add-result c = search needs
-
--- src/lib.rt:30:1
-same-length : tie.Need-same-length Inv-loop μ-loop
-same-length c = search needs
 
 -- src/lib.rt:30:1
 returns-3 : tie.Need-returns-3 Inv-loop μ-loop
@@ -79,16 +43,16 @@ lay-spec =
     Inv-loop
     μ-loop
     returns
-    cast-width
-    sub-if2
+    (λ c. search needs)  -- cast-width src/lib.rt:37:17
+    (λ c. search needs)  -- sub-if2 src/lib.rt:38:14
     returns-2
     loop-holds
-    at-requires
-    add-put
-    put-requires
-    add-i
+    (λ c κs. search needs)  -- at-requires src/lib.rt:44:13
+    (λ c. search needs)  -- add-put src/lib.rt:45:19
+    (λ c κs. search needs)  -- put-requires src/lib.rt:45:9
+    (λ c. search needs)  -- add-i src/lib.rt:46:9
     loop-less
-    loop-again
-    add-result
-    same-length
+    (λ c. search lay-laws)  -- loop-again src/lib.rt:43:5
+    (λ c. search needs)  -- add-result src/lib.rt:48:5
+    (λ c. search needs)  -- same-length src/lib.rt:30:1
     returns-3)

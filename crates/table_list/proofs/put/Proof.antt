@@ -5,25 +5,12 @@ use Rattle.table_list.proofs.put.Tie as tie
 use Rattle.table_list.proofs.put.Reads as reads
 use Rattle.table_list.proofs.put.Lts as lts
 
--- src/lib.rt:25:9
-mul-work : tie.Need-mul-work
-mul-work c = search needs
-
--- src/lib.rt:25:9
-slice-write-work : tie.Need-slice-write-work
-slice-write-work c = search needs
-
--- src/lib.rt:21:1
-same-length : tie.Need-same-length
-same-length c = search needs
-
--- src/lib.rt:21:1
-returns : tie.Need-returns
-returns c = search needs
-
--- src/lib.rt:21:1
-returns-2 : tie.Need-returns-2
-returns-2 c = search (put-past, needs)
-
 pub put-spec : {M : Type 1} → statement M
-put-spec = tie.close (tie.spec mul-work slice-write-work same-length returns returns-2)
+put-spec =
+    tie.close
+    (tie.spec
+    (λ c. search needs)  -- mul-work src/lib.rt:25:9
+    (λ c. search needs)  -- slice-write-work src/lib.rt:25:9
+    (λ c. search needs)  -- same-length src/lib.rt:21:1
+    (λ c. search needs)  -- returns src/lib.rt:21:1
+    (λ c. search (put-past, needs)))  -- returns-2 src/lib.rt:21:1

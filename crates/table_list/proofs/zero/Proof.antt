@@ -18,33 +18,9 @@ abbrev μ-loop : tie.MeasureT-loop
 loop-holds : tie.Need-loop-holds Inv-loop μ-loop
 loop-holds c = zero-start _ _
 
--- src/lib.rt:67:9
-mul-work : tie.Need-mul-work Inv-loop μ-loop
-mul-work c = search needs
-
--- src/lib.rt:67:9
-slice-write-work : tie.Need-slice-write-work Inv-loop μ-loop
-slice-write-work c = search needs
-
--- src/lib.rt:68:9
-add-i : tie.Need-add-i Inv-loop μ-loop
-add-i c = search needs
-
 -- src/lib.rt:66:5
 loop-less : tie.Need-loop-less Inv-loop μ-loop
 loop-less c = omega arith
-
--- src/lib.rt:66:5
-loop-again : tie.Need-loop-again Inv-loop μ-loop
-loop-again c = search zero-laws
-
--- src/lib.rt:61:1
-same-length : tie.Need-same-length Inv-loop μ-loop
-same-length c = search needs
-
--- src/lib.rt:61:1
-returns : tie.Need-returns Inv-loop μ-loop
-returns c = search zero-laws
 
 pub zero-spec : {M : Type 1} → statement M
 zero-spec =
@@ -53,10 +29,10 @@ zero-spec =
     Inv-loop
     μ-loop
     loop-holds
-    mul-work
-    slice-write-work
-    add-i
+    (λ c. search needs)  -- mul-work src/lib.rt:67:9
+    (λ c. search needs)  -- slice-write-work src/lib.rt:67:9
+    (λ c. search needs)  -- add-i src/lib.rt:68:9
     loop-less
-    loop-again
-    same-length
-    returns)
+    (λ c. search zero-laws)  -- loop-again src/lib.rt:66:5
+    (λ c. search needs)  -- same-length src/lib.rt:61:1
+    (λ c. search zero-laws))  -- returns src/lib.rt:61:1

@@ -19,49 +19,9 @@ Inv-loop text work count newest offset key n₀ p₀ n p = Walking text work (ma
 abbrev μ-loop : tie.MeasureT-loop
 μ-loop text work count newest offset key n₀ p₀ n p = n
 
--- src/lib.rt:97:9
-key-of-requires : tie.Need-key-of-requires Inv-loop μ-loop
-key-of-requires c κs = search needs
-
 -- src/lib.rt:100:5
 loop-holds : tie.Need-loop-holds Inv-loop μ-loop
 loop-holds c = walk-start _ _ _ _ _
-
--- src/lib.rt:101:13
-seek-requires : tie.Need-seek-requires Inv-loop μ-loop
-seek-requires c κs = search needs
-
--- src/lib.rt:103:13
-returns : tie.Need-returns Inv-loop μ-loop
-returns c = search walk-laws
-
--- src/lib.rt:105:13
-link-at-requires : tie.Need-link-at-requires Inv-loop μ-loop
-link-at-requires c κs = search needs
-
--- src/lib.rt:106:20
-cast-name : tie.Need-cast-name Inv-loop μ-loop
-cast-name c = search needs
-
--- src/lib.rt:107:12
-same-word-requires : tie.Need-same-word-requires Inv-loop μ-loop
-same-word-requires c κs = search needs
-
--- src/lib.rt:108:13
-returns-2 : tie.Need-returns-2 Inv-loop μ-loop
-returns-2 c = search walk-laws
-
--- src/lib.rt:111:13
-sub-n : tie.Need-sub-n Inv-loop μ-loop
-sub-n c = search needs
-
--- src/lib.rt:100:5
-loop-less : tie.Need-loop-less Inv-loop μ-loop
-loop-less c = search walk-less
-
--- src/lib.rt:100:5
-loop-again : tie.Need-loop-again Inv-loop μ-loop
-loop-again c = search walk-laws
 
 pub lookup-spec : {M : Type 1} → statement M
 lookup-spec =
@@ -69,14 +29,14 @@ lookup-spec =
     (tie.spec
     Inv-loop
     μ-loop
-    key-of-requires
+    (λ c κs. search needs)  -- key-of-requires src/lib.rt:97:9
     loop-holds
-    seek-requires
-    returns
-    link-at-requires
-    cast-name
-    same-word-requires
-    returns-2
-    sub-n
-    loop-less
-    loop-again)
+    (λ c κs. search needs)  -- seek-requires src/lib.rt:101:13
+    (λ c. search walk-laws)  -- returns src/lib.rt:103:13
+    (λ c κs. search needs)  -- link-at-requires src/lib.rt:105:13
+    (λ c. search needs)  -- cast-name src/lib.rt:106:20
+    (λ c κs. search needs)  -- same-word-requires src/lib.rt:107:12
+    (λ c. search walk-laws)  -- returns-2 src/lib.rt:108:13
+    (λ c. search needs)  -- sub-n src/lib.rt:111:13
+    (λ c. search walk-less)  -- loop-less src/lib.rt:100:5
+    (λ c. search walk-laws))  -- loop-again src/lib.rt:100:5

@@ -19,46 +19,6 @@ abbrev μ-loop : tie.MeasureT-loop
 loop-holds : tie.Need-loop-holds Inv-loop μ-loop
 loop-holds c = compare-start _ _ _
 
--- src/lib.rt:25:13
-meet-requires : tie.Need-meet-requires Inv-loop μ-loop
-meet-requires c κs = search needs
-
--- src/lib.rt:28:17
-enum-told : tie.Need-enum-told Inv-loop μ-loop
-enum-told c = search needs
-
--- src/lib.rt:28:17
-add-p : tie.Need-add-p Inv-loop μ-loop
-add-p c = search (compare-left, needs)
-
--- src/lib.rt:29:17
-add-q : tie.Need-add-q Inv-loop μ-loop
-add-q c = search (compare-right, needs)
-
--- src/lib.rt:24:5
-loop-less : tie.Need-loop-less Inv-loop μ-loop
-loop-less c = search compare-falls
-
--- src/lib.rt:24:5
-loop-again : tie.Need-loop-again Inv-loop μ-loop
-loop-again c = search compare-laws
-
--- src/lib.rt:32:17
-enum-told-2 : tie.Need-enum-told-2 Inv-loop μ-loop
-enum-told-2 c = search needs
-
--- src/lib.rt:32:17
-returns : tie.Need-returns Inv-loop μ-loop
-returns c = search compare-laws
-
--- src/lib.rt:35:17
-enum-told-3 : tie.Need-enum-told-3 Inv-loop μ-loop
-enum-told-3 c = search needs
-
--- src/lib.rt:35:17
-returns-2 : tie.Need-returns-2 Inv-loop μ-loop
-returns-2 c = search compare-laws
-
 pub same-word-spec : {M : Type 1} → statement M
 same-word-spec =
     tie.close
@@ -66,13 +26,13 @@ same-word-spec =
     Inv-loop
     μ-loop
     loop-holds
-    meet-requires
-    enum-told
-    add-p
-    add-q
-    loop-less
-    loop-again
-    enum-told-2
-    returns
-    enum-told-3
-    returns-2)
+    (λ c κs. search needs)  -- meet-requires src/lib.rt:25:13
+    (λ c. search needs)  -- enum-told src/lib.rt:28:17
+    (λ c. search (compare-left, needs))  -- add-p src/lib.rt:28:17
+    (λ c. search (compare-right, needs))  -- add-q src/lib.rt:29:17
+    (λ c. search compare-falls)  -- loop-less src/lib.rt:24:5
+    (λ c. search compare-laws)  -- loop-again src/lib.rt:24:5
+    (λ c. search needs)  -- enum-told-2 src/lib.rt:32:17
+    (λ c. search compare-laws)  -- returns src/lib.rt:32:17
+    (λ c. search needs)  -- enum-told-3 src/lib.rt:35:17
+    (λ c. search compare-laws))  -- returns-2 src/lib.rt:35:17

@@ -18,29 +18,9 @@ abbrev μ-loop : tie.MeasureT-loop
 loop-holds : tie.Need-loop-holds Inv-loop μ-loop
 loop-holds c = seek-start _ _ _ _
 
--- src/lib.rt:77:13
-link-at-requires : tie.Need-link-at-requires Inv-loop μ-loop
-link-at-requires c κs = search needs
-
--- src/lib.rt:79:13
-returns : tie.Need-returns Inv-loop μ-loop
-returns c = search seek-laws
-
--- src/lib.rt:85:9
-sub-n : tie.Need-sub-n Inv-loop μ-loop
-sub-n c = search needs
-
 -- src/lib.rt:76:5
 loop-less : tie.Need-loop-less Inv-loop μ-loop
 loop-less c = omega arith
-
--- src/lib.rt:76:5
-loop-again : tie.Need-loop-again Inv-loop μ-loop
-loop-again c = search seek-laws
-
--- src/lib.rt:71:1
-returns-2 : tie.Need-returns-2 Inv-loop μ-loop
-returns-2 c = search seek-laws
 
 pub seek-spec : {M : Type 1} → statement M
 seek-spec =
@@ -49,9 +29,9 @@ seek-spec =
     Inv-loop
     μ-loop
     loop-holds
-    link-at-requires
-    returns
-    sub-n
+    (λ c κs. search needs)  -- link-at-requires src/lib.rt:77:13
+    (λ c. search seek-laws)  -- returns src/lib.rt:79:13
+    (λ c. search needs)  -- sub-n src/lib.rt:85:9
     loop-less
-    loop-again
-    returns-2)
+    (λ c. search seek-laws)  -- loop-again src/lib.rt:76:5
+    (λ c. search seek-laws))  -- returns-2 src/lib.rt:71:1

@@ -19,53 +19,13 @@ Inv-loop text work place fields offset n₀ p₀ n p = Asking text work (map sma
 abbrev μ-loop : tie.MeasureT-loop
 μ-loop text work place fields offset n₀ p₀ n p = n
 
--- src/lib.rt:217:17
-add-p : tie.Need-add-p Inv-loop μ-loop
-add-p c = search (ask-early, needs)
-
 -- src/lib.rt:218:5
 loop-holds : tie.Need-loop-holds Inv-loop μ-loop
 loop-holds c = ask-start _ _ _ _ _ (search needs) (search needs)
 
--- src/lib.rt:219:20
-at-requires : tie.Need-at-requires Inv-loop μ-loop
-at-requires c κs = search needs
-
--- src/lib.rt:219:20
-cast-name : tie.Need-cast-name Inv-loop μ-loop
-cast-name c = search needs
-
--- src/lib.rt:220:12
-same-word-requires : tie.Need-same-word-requires Inv-loop μ-loop
-same-word-requires c κs = search needs
-
--- src/lib.rt:221:13
-narrow-requires : tie.Need-narrow-requires Inv-loop μ-loop
-narrow-requires c κs = search needs
-
--- src/lib.rt:221:13
-returns : tie.Need-returns Inv-loop μ-loop
-returns c = search ask-laws
-
--- src/lib.rt:223:9
-add-p-2 : tie.Need-add-p-2 Inv-loop μ-loop
-add-p-2 c = search needs
-
--- src/lib.rt:224:9
-sub-n : tie.Need-sub-n Inv-loop μ-loop
-sub-n c = search needs
-
 -- src/lib.rt:218:5
 loop-less : tie.Need-loop-less Inv-loop μ-loop
 loop-less c = omega arith
-
--- src/lib.rt:218:5
-loop-again : tie.Need-loop-again Inv-loop μ-loop
-loop-again c = search ask-laws
-
--- src/lib.rt:213:1
-returns-2 : tie.Need-returns-2 Inv-loop μ-loop
-returns-2 c = search ask-laws
 
 pub find-field-spec : {M : Type 1} → statement M
 find-field-spec =
@@ -73,15 +33,15 @@ find-field-spec =
     (tie.spec
     Inv-loop
     μ-loop
-    add-p
+    (λ c. search (ask-early, needs))  -- add-p src/lib.rt:217:17
     loop-holds
-    at-requires
-    cast-name
-    same-word-requires
-    narrow-requires
-    returns
-    add-p-2
-    sub-n
+    (λ c κs. search needs)  -- at-requires src/lib.rt:219:20
+    (λ c. search needs)  -- cast-name src/lib.rt:219:20
+    (λ c κs. search needs)  -- same-word-requires src/lib.rt:220:12
+    (λ c κs. search needs)  -- narrow-requires src/lib.rt:221:13
+    (λ c. search ask-laws)  -- returns src/lib.rt:221:13
+    (λ c. search needs)  -- add-p-2 src/lib.rt:223:9
+    (λ c. search needs)  -- sub-n src/lib.rt:224:9
     loop-less
-    loop-again
-    returns-2)
+    (λ c. search ask-laws)  -- loop-again src/lib.rt:218:5
+    (λ c. search ask-laws))  -- returns-2 src/lib.rt:213:1

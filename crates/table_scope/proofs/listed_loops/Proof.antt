@@ -4,13 +4,9 @@ use Rattle.table_scope.proofs.listed_loops.Tie as tie
 use Rattle.table_scope.proofs.listed_loops.Reads as reads
 use Rattle.table_scope.proofs.listed_loops.Lts as lts
 
--- src/lib.rt:255:9
-returns : tie.Need-returns
-returns c = search listed-laws
-
--- src/lib.rt:251:1
-returns-2 : tie.Need-returns-2
-returns-2 c = search listed-laws
-
 pub listed-loops-spec : {M : Type 1} → statement M
-listed-loops-spec = tie.close (tie.spec returns returns-2)
+listed-loops-spec =
+    tie.close
+    (tie.spec
+    (λ c. search listed-laws)  -- returns src/lib.rt:255:9
+    (λ c. search listed-laws))  -- returns-2 src/lib.rt:251:1

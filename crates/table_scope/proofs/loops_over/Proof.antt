@@ -14,41 +14,9 @@ Inv-loop i over n₀ n = Comparing over i n₀ n
 abbrev μ-loop : tie.MeasureT-loop
 μ-loop i over n₀ n = n
 
--- src/lib.rt:265:9
-listed-loops-requires : tie.Need-listed-loops-requires Inv-loop μ-loop
-listed-loops-requires c κs = search needs
-
--- src/lib.rt:266:5
-loop-holds : tie.Need-loop-holds Inv-loop μ-loop
-loop-holds c = search compare-start
-
--- src/lib.rt:267:9
-sub-n : tie.Need-sub-n Inv-loop μ-loop
-sub-n c = search needs
-
--- src/lib.rt:268:12
-mul-if1 : tie.Need-mul-if1 Inv-loop μ-loop
-mul-if1 c = search needs
-
--- src/lib.rt:268:12
-array-read-if1 : tie.Need-array-read-if1 Inv-loop μ-loop
-array-read-if1 c = search (compare-few, needs)
-
--- src/lib.rt:269:13
-returns : tie.Need-returns Inv-loop μ-loop
-returns c = search compare-laws
-
 -- src/lib.rt:266:5
 loop-less : tie.Need-loop-less Inv-loop μ-loop
 loop-less c = omega arith
-
--- src/lib.rt:266:5
-loop-again : tie.Need-loop-again Inv-loop μ-loop
-loop-again c = search compare-laws
-
--- src/lib.rt:261:1
-returns-2 : tie.Need-returns-2 Inv-loop μ-loop
-returns-2 c = search compare-laws
 
 pub loops-over-spec : {M : Type 1} → statement M
 loops-over-spec =
@@ -56,12 +24,12 @@ loops-over-spec =
     (tie.spec
     Inv-loop
     μ-loop
-    listed-loops-requires
-    loop-holds
-    sub-n
-    mul-if1
-    array-read-if1
-    returns
+    (λ c κs. search needs)  -- listed-loops-requires src/lib.rt:265:9
+    (λ c. search compare-start)  -- loop-holds src/lib.rt:266:5
+    (λ c. search needs)  -- sub-n src/lib.rt:267:9
+    (λ c. search needs)  -- mul-if1 src/lib.rt:268:12
+    (λ c. search (compare-few, needs))  -- array-read-if1 src/lib.rt:268:12
+    (λ c. search compare-laws)  -- returns src/lib.rt:269:13
     loop-less
-    loop-again
-    returns-2)
+    (λ c. search compare-laws)  -- loop-again src/lib.rt:266:5
+    (λ c. search compare-laws))  -- returns-2 src/lib.rt:261:1

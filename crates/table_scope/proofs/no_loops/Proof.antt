@@ -4,9 +4,8 @@ use Rattle.table_scope.proofs.no_loops.Tie as tie
 use Rattle.table_scope.proofs.no_loops.Reads as reads
 use Rattle.table_scope.proofs.no_loops.Lts as lts
 
--- src/lib.rt:241:1
-returns : tie.Need-returns
-returns c = search none-is
-
 pub no-loops-spec : {M : Type 1} → statement M
-no-loops-spec = tie.close (tie.spec returns)
+no-loops-spec =
+    tie.close
+    (tie.spec
+    (λ c. search none-is))  -- returns src/lib.rt:241:1

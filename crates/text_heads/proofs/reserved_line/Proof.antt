@@ -4,25 +4,12 @@ use Rattle.text_heads.proofs.reserved_line.Tie as tie
 use Rattle.text_heads.proofs.reserved_line.Reads as reads
 use Rattle.text_heads.proofs.reserved_line.Lts as lts
 
--- src/lib.rt:170:1
-returns : tie.Need-returns
-returns c = search number-laws
-
--- src/lib.rt:170:1
-returns-2 : tie.Need-returns-2
-returns-2 c = search number-laws
-
--- src/lib.rt:170:1
-returns-3 : tie.Need-returns-3
-returns-3 c = search number-laws
-
--- src/lib.rt:170:1
-returns-4 : tie.Need-returns-4
-returns-4 c = search number-laws
-
--- src/lib.rt:170:1
-returns-5 : tie.Need-returns-5
-returns-5 c = search number-laws
-
 pub reserved-line-spec : {M : Type 1} → statement M
-reserved-line-spec = tie.close (tie.spec returns returns-2 returns-3 returns-4 returns-5)
+reserved-line-spec =
+    tie.close
+    (tie.spec
+    (λ c. search number-laws)  -- returns src/lib.rt:170:1
+    (λ c. search number-laws)  -- returns-2 src/lib.rt:170:1
+    (λ c. search number-laws)  -- returns-3 src/lib.rt:170:1
+    (λ c. search number-laws)  -- returns-4 src/lib.rt:170:1
+    (λ c. search number-laws))  -- returns-5 src/lib.rt:170:1

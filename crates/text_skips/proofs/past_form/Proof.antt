@@ -20,30 +20,6 @@ abbrev μ-loop : tie.MeasureT-loop
 loop-holds : tie.Need-loop-holds Inv-loop μ-loop
 loop-holds c = inside-start _ _
 
--- src/lib.rt:48:13
-step-requires : tie.Need-step-requires Inv-loop μ-loop
-step-requires c κs = search (inside-few, needs)
-
--- src/lib.rt:50:22
-enum-known-s : tie.Need-enum-known-s Inv-loop μ-loop
-enum-known-s c = search needs
-
--- src/lib.rt:47:5
-loop-less : tie.Need-loop-less Inv-loop μ-loop
-loop-less c = search inside-falls
-
--- src/lib.rt:47:5
-loop-again : tie.Need-loop-again Inv-loop μ-loop
-loop-again c = search inside-laws
-
--- src/lib.rt:54:23
-enum-known-s-2 : tie.Need-enum-known-s-2 Inv-loop μ-loop
-enum-known-s-2 c = search needs
-
--- src/lib.rt:55:17
-returns : tie.Need-returns Inv-loop μ-loop
-returns c = search inside-laws
-
 pub past-form-spec : {M : Type 1} → statement M
 past-form-spec =
     tie.close
@@ -51,9 +27,9 @@ past-form-spec =
     Inv-loop
     μ-loop
     loop-holds
-    step-requires
-    enum-known-s
-    loop-less
-    loop-again
-    enum-known-s-2
-    returns)
+    (λ c κs. search (inside-few, needs))  -- step-requires src/lib.rt:48:13
+    (λ c. search needs)  -- enum-known-s src/lib.rt:50:22
+    (λ c. search inside-falls)  -- loop-less src/lib.rt:47:5
+    (λ c. search inside-laws)  -- loop-again src/lib.rt:47:5
+    (λ c. search needs)  -- enum-known-s-2 src/lib.rt:54:23
+    (λ c. search inside-laws))  -- returns src/lib.rt:55:17

@@ -17,21 +17,9 @@ abbrev μ-loop : tie.MeasureT-loop
 loop-holds : tie.Need-loop-holds Inv-loop μ-loop
 loop-holds c = (omega arith, omega arith)
 
--- src/main.rt:72:12
-shared-slice-read-if1 : tie.Need-shared-slice-read-if1 Inv-loop μ-loop
-shared-slice-read-if1 c = search needs
-
 -- src/main.rt:73:13
 returns : tie.Need-returns Inv-loop μ-loop
 returns c = (omega arith, omega arith)
-
--- src/main.rt:75:9
-add-q : tie.Need-add-q Inv-loop μ-loop
-add-q c = search needs
-
--- src/main.rt:71:5
-loop-less : tie.Need-loop-less Inv-loop μ-loop
-loop-less c = search needs
 
 -- src/main.rt:71:5
 loop-again : tie.Need-loop-again Inv-loop μ-loop
@@ -48,9 +36,9 @@ line-end-spec =
     Inv-loop
     μ-loop
     loop-holds
-    shared-slice-read-if1
+    (λ c. search needs)  -- shared-slice-read-if1 src/main.rt:72:12
     returns
-    add-q
-    loop-less
+    (λ c. search needs)  -- add-q src/main.rt:75:9
+    (λ c. search needs)  -- loop-less src/main.rt:71:5
     loop-again
     returns-2)

@@ -13,31 +13,15 @@ Inv-loop text line p₀ n₀ p n = 1 ≤ n
 abbrev μ-loop : tie.MeasureT-loop
 μ-loop text line p₀ n₀ p n = line - n
 
--- src/main.rt:58:5
-loop-holds : tie.Need-loop-holds Inv-loop μ-loop
-loop-holds c = search needs
-
--- src/main.rt:59:9
-next-line-requires : tie.Need-next-line-requires Inv-loop μ-loop
-next-line-requires c κs = search needs
-
--- src/main.rt:60:9
-add-n : tie.Need-add-n Inv-loop μ-loop
-add-n c = search needs
-
--- src/main.rt:58:5
-loop-less : tie.Need-loop-less Inv-loop μ-loop
-loop-less c = search needs
-
--- src/main.rt:58:5
-loop-again : tie.Need-loop-again Inv-loop μ-loop
-loop-again c = search needs
-
--- src/main.rt:55:1
-returns : tie.Need-returns Inv-loop μ-loop
-returns c = search needs
-
 pub line-start-spec : {M : Type 1} → statement M
 line-start-spec =
     tie.close
-    (tie.spec Inv-loop μ-loop loop-holds next-line-requires add-n loop-less loop-again returns)
+    (tie.spec
+    Inv-loop
+    μ-loop
+    (λ c. search needs)  -- loop-holds src/main.rt:58:5
+    (λ c κs. search needs)  -- next-line-requires src/main.rt:59:9
+    (λ c. search needs)  -- add-n src/main.rt:60:9
+    (λ c. search needs)  -- loop-less src/main.rt:58:5
+    (λ c. search needs)  -- loop-again src/main.rt:58:5
+    (λ c. search needs))  -- returns src/main.rt:55:1

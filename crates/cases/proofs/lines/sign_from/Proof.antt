@@ -16,49 +16,17 @@ Inv-loop text p q₀ t4 q = (p ≤ q) × (q ≤ length text)
 abbrev μ-loop : tie.MeasureT-loop
 μ-loop text p q₀ t4 q = length text - q
 
--- src/lines.rt:68:5
-loop-holds : tie.Need-loop-holds Inv-loop μ-loop
-loop-holds c = search needs
-
--- src/lines.rt:69:28
-slice-aggregate-stands : tie.Need-slice-aggregate-stands Inv-loop μ-loop
-slice-aggregate-stands c = search needs
-
--- src/lines.rt:69:12
-stands-requires : tie.Need-stands-requires Inv-loop μ-loop
-stands-requires c κs = search needs
-
--- src/lines.rt:70:13
-returns : tie.Need-returns Inv-loop μ-loop
-returns c = search needs
-
--- src/lines.rt:72:9
-line-after-requires : tie.Need-line-after-requires Inv-loop μ-loop
-line-after-requires c κs = search needs
-
--- src/lines.rt:68:5
-loop-less : tie.Need-loop-less Inv-loop μ-loop
-loop-less c = search needs
-
--- src/lines.rt:68:5
-loop-again : tie.Need-loop-again Inv-loop μ-loop
-loop-again c = search needs
-
--- src/lines.rt:63:1
-returns-2 : tie.Need-returns-2 Inv-loop μ-loop
-returns-2 c = search needs
-
 pub sign-from-spec : {M : Type 1} → statement M
 sign-from-spec =
     tie.close
     (tie.spec
     Inv-loop
     μ-loop
-    loop-holds
-    slice-aggregate-stands
-    stands-requires
-    returns
-    line-after-requires
-    loop-less
-    loop-again
-    returns-2)
+    (λ c. search needs)  -- loop-holds src/lines.rt:68:5
+    (λ c. search needs)  -- slice-aggregate-stands src/lines.rt:69:28
+    (λ c κs. search needs)  -- stands-requires src/lines.rt:69:12
+    (λ c. search needs)  -- returns src/lines.rt:70:13
+    (λ c κs. search needs)  -- line-after-requires src/lines.rt:72:9
+    (λ c. search needs)  -- loop-less src/lines.rt:68:5
+    (λ c. search needs)  -- loop-again src/lines.rt:68:5
+    (λ c. search needs))  -- returns-2 src/lines.rt:63:1

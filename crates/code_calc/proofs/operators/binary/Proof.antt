@@ -6,21 +6,11 @@ use Rattle.code_calc.proofs.operators.binary.Reads as reads
 use Rattle.code_calc.proofs.operators.binary.Lts as lts
 use Rattle.code_calc.proofs.operators.combine.Reads as combine-reads
 
--- src/operators.rt:179:9
-returns : tie.Need-returns
-returns c = search binary-laws
-
--- src/operators.rt:182:9
-returns-2 : tie.Need-returns-2
-returns-2 c = search binary-laws
-
--- src/operators.rt:184:5
-combine-requires : tie.Need-combine-requires
-combine-requires c κs = search needs
-
--- src/operators.rt:175:1
-returns-3 : tie.Need-returns-3
-returns-3 c = search binary-laws
-
 pub binary-spec : {M : Type 1} → statement M
-binary-spec = tie.close (tie.spec returns returns-2 combine-requires returns-3)
+binary-spec =
+    tie.close
+    (tie.spec
+    (λ c. search binary-laws)  -- returns src/operators.rt:179:9
+    (λ c. search binary-laws)  -- returns-2 src/operators.rt:182:9
+    (λ c κs. search needs)  -- combine-requires src/operators.rt:184:5
+    (λ c. search binary-laws))  -- returns-3 src/operators.rt:175:1

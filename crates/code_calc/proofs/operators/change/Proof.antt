@@ -17,142 +17,34 @@ use Rattle.leaf_sets.proofs.pattern.Reads as pattern-reads
 use Rattle.leaf_sets.proofs.setmax.Reads as setmax-reads
 use Rattle.leaf_sets.proofs.setmin.Reads as setmin-reads
 
--- src/operators.rt:202:15
-negated-requires : tie.Need-negated-requires
-negated-requires c κs = search needs
-
--- src/operators.rt:203:20
-abs-requires : tie.Need-abs-requires
-abs-requires c κs = search needs
-
--- src/operators.rt:203:15
-word-requires : tie.Need-word-requires
-word-requires c κs = search needs
-
--- src/operators.rt:204:20
-sqr-requires : tie.Need-sqr-requires
-sqr-requires c κs = search needs
-
--- src/operators.rt:204:15
-word-requires-2 : tie.Need-word-requires-2
-word-requires-2 c κs = search needs
-
--- src/operators.rt:205:24
-odd-requires : tie.Need-odd-requires
-odd-requires c κs = search needs
-
--- src/operators.rt:205:15
-truth-of-requires : tie.Need-truth-of-requires
-truth-of-requires c κs = search needs
-
--- src/operators.rt:207:26
-pattern-requires : tie.Need-pattern-requires
-pattern-requires c κs = search needs
-
--- src/operators.rt:207:15
-card-requires : tie.Need-card-requires
-card-requires c κs = search needs
-
--- src/operators.rt:207:15
-cast-result : tie.Need-cast-result
-cast-result c = search needs
-
--- src/operators.rt:208:35
-pattern-requires-2 : tie.Need-pattern-requires-2
-pattern-requires-2 c κs = search needs
-
--- src/operators.rt:208:22
-setmin-requires : tie.Need-setmin-requires
-setmin-requires c κs = search needs
-
--- src/operators.rt:208:15
-member-requires : tie.Need-member-requires
-member-requires c κs = search needs
-
--- src/operators.rt:209:35
-pattern-requires-3 : tie.Need-pattern-requires-3
-pattern-requires-3 c κs = search needs
-
--- src/operators.rt:209:22
-setmax-requires : tie.Need-setmax-requires
-setmax-requires c κs = search needs
-
--- src/operators.rt:209:15
-member-requires-2 : tie.Need-member-requires-2
-member-requires-2 c κs = search needs
-
--- src/operators.rt:210:19
-neg-requires : tie.Need-neg-requires
-neg-requires c κs = search needs
-
--- src/operators.rt:210:14
-word-requires-3 : tie.Need-word-requires-3
-word-requires-3 c κs = search needs
-
--- src/operators.rt:198:1
-returns : tie.Need-returns
-returns c = search change-laws
-
--- src/operators.rt:198:1
-returns-2 : tie.Need-returns-2
-returns-2 c = search change-laws
-
--- src/operators.rt:198:1
-returns-3 : tie.Need-returns-3
-returns-3 c = search change-laws
-
--- src/operators.rt:198:1
-returns-4 : tie.Need-returns-4
-returns-4 c = search change-laws
-
--- src/operators.rt:198:1
-returns-5 : tie.Need-returns-5
-returns-5 c = search change-laws
-
--- src/operators.rt:198:1
-returns-6 : tie.Need-returns-6
-returns-6 c = search change-laws
-
--- src/operators.rt:198:1
-returns-7 : tie.Need-returns-7
-returns-7 c = search change-laws
-
--- src/operators.rt:198:1
-returns-8 : tie.Need-returns-8
-returns-8 c = search change-laws
-
--- src/operators.rt:198:1
-returns-9 : tie.Need-returns-9
-returns-9 c = search change-laws
-
 pub change-spec : {M : Type 1} → statement M
 change-spec =
     tie.close
     (tie.spec
-    negated-requires
-    abs-requires
-    word-requires
-    sqr-requires
-    word-requires-2
-    odd-requires
-    truth-of-requires
-    pattern-requires
-    card-requires
-    cast-result
-    pattern-requires-2
-    setmin-requires
-    member-requires
-    pattern-requires-3
-    setmax-requires
-    member-requires-2
-    neg-requires
-    word-requires-3
-    returns
-    returns-2
-    returns-3
-    returns-4
-    returns-5
-    returns-6
-    returns-7
-    returns-8
-    returns-9)
+    (λ c κs. search needs)  -- negated-requires src/operators.rt:202:15
+    (λ c κs. search needs)  -- abs-requires src/operators.rt:203:20
+    (λ c κs. search needs)  -- word-requires src/operators.rt:203:15
+    (λ c κs. search needs)  -- sqr-requires src/operators.rt:204:20
+    (λ c κs. search needs)  -- word-requires-2 src/operators.rt:204:15
+    (λ c κs. search needs)  -- odd-requires src/operators.rt:205:24
+    (λ c κs. search needs)  -- truth-of-requires src/operators.rt:205:15
+    (λ c κs. search needs)  -- pattern-requires src/operators.rt:207:26
+    (λ c κs. search needs)  -- card-requires src/operators.rt:207:15
+    (λ c. search needs)  -- cast-result src/operators.rt:207:15
+    (λ c κs. search needs)  -- pattern-requires-2 src/operators.rt:208:35
+    (λ c κs. search needs)  -- setmin-requires src/operators.rt:208:22
+    (λ c κs. search needs)  -- member-requires src/operators.rt:208:15
+    (λ c κs. search needs)  -- pattern-requires-3 src/operators.rt:209:35
+    (λ c κs. search needs)  -- setmax-requires src/operators.rt:209:22
+    (λ c κs. search needs)  -- member-requires-2 src/operators.rt:209:15
+    (λ c κs. search needs)  -- neg-requires src/operators.rt:210:19
+    (λ c κs. search needs)  -- word-requires-3 src/operators.rt:210:14
+    (λ c. search change-laws)  -- returns src/operators.rt:198:1
+    (λ c. search change-laws)  -- returns-2 src/operators.rt:198:1
+    (λ c. search change-laws)  -- returns-3 src/operators.rt:198:1
+    (λ c. search change-laws)  -- returns-4 src/operators.rt:198:1
+    (λ c. search change-laws)  -- returns-5 src/operators.rt:198:1
+    (λ c. search change-laws)  -- returns-6 src/operators.rt:198:1
+    (λ c. search change-laws)  -- returns-7 src/operators.rt:198:1
+    (λ c. search change-laws)  -- returns-8 src/operators.rt:198:1
+    (λ c. search change-laws))  -- returns-9 src/operators.rt:198:1

@@ -8,21 +8,11 @@ use Rattle.code_calc.proofs.words.truth_of.Reads as truth-of-reads
 use Rattle.leaf_sets.proofs.contains.Reads as contains-reads
 use Rattle.leaf_sets.proofs.pattern.Reads as pattern-reads
 
--- src/operators.rt:83:29
-pattern-requires : tie.Need-pattern-requires
-pattern-requires c κs = search needs
-
--- src/operators.rt:83:14
-contains-requires : tie.Need-contains-requires
-contains-requires c κs = search needs
-
--- src/operators.rt:83:5
-truth-of-requires : tie.Need-truth-of-requires
-truth-of-requires c κs = search needs
-
--- src/operators.rt:80:1
-returns : tie.Need-returns
-returns c = search set-laws
-
 pub contained-spec : {M : Type 1} → statement M
-contained-spec = tie.close (tie.spec pattern-requires contains-requires truth-of-requires returns)
+contained-spec =
+    tie.close
+    (tie.spec
+    (λ c κs. search needs)  -- pattern-requires src/operators.rt:83:29
+    (λ c κs. search needs)  -- contains-requires src/operators.rt:83:14
+    (λ c κs. search needs)  -- truth-of-requires src/operators.rt:83:5
+    (λ c. search set-laws))  -- returns src/operators.rt:80:1

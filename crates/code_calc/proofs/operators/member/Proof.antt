@@ -5,25 +5,12 @@ use Rattle.code_calc.proofs.operators.member.Tie as tie
 use Rattle.code_calc.proofs.operators.member.Reads as reads
 use Rattle.code_calc.proofs.operators.member.Lts as lts
 
--- src/operators.rt:43:25
-enum-known-m : tie.Need-enum-known-m
-enum-known-m c = search needs
-
--- src/operators.rt:43:31
-cast-result : tie.Need-cast-result
-cast-result c = search needs
-
--- src/operators.rt:44:26
-enum-told : tie.Need-enum-told
-enum-told c = search needs
-
--- src/operators.rt:39:1
-returns : tie.Need-returns
-returns c = search member-laws
-
--- src/operators.rt:39:1
-returns-2 : tie.Need-returns-2
-returns-2 c = search member-laws
-
 pub member-spec : {M : Type 1} → statement M
-member-spec = tie.close (tie.spec enum-known-m cast-result enum-told returns returns-2)
+member-spec =
+    tie.close
+    (tie.spec
+    (λ c. search needs)  -- enum-known-m src/operators.rt:43:25
+    (λ c. search needs)  -- cast-result src/operators.rt:43:31
+    (λ c. search needs)  -- enum-told src/operators.rt:44:26
+    (λ c. search member-laws)  -- returns src/operators.rt:39:1
+    (λ c. search member-laws))  -- returns-2 src/operators.rt:39:1

@@ -7,25 +7,12 @@ use Rattle.code_calc.proofs.operators.shifted.Lts as lts
 use Rattle.code_calc.proofs.words.capped.Reads as capped-reads
 use Rattle.code_calc.proofs.words.reach.Reads as reach-reads
 
--- src/operators.rt:307:9
-returns : tie.Need-returns
-returns c = search (element-laws, needs)
-
--- src/operators.rt:309:12
-reach-requires : tie.Need-reach-requires
-reach-requires c κs = search needs
-
--- src/operators.rt:309:12
-add-capped : tie.Need-add-capped
-add-capped c = search needs
-
--- src/operators.rt:309:5
-capped-requires : tie.Need-capped-requires
-capped-requires c κs = search needs
-
--- src/operators.rt:303:1
-returns-2 : tie.Need-returns-2
-returns-2 c = search (element-laws, needs)
-
 pub shifted-spec : {M : Type 1} → statement M
-shifted-spec = tie.close (tie.spec returns reach-requires add-capped capped-requires returns-2)
+shifted-spec =
+    tie.close
+    (tie.spec
+    (λ c. search (element-laws, needs))  -- returns src/operators.rt:307:9
+    (λ c κs. search needs)  -- reach-requires src/operators.rt:309:12
+    (λ c. search needs)  -- add-capped src/operators.rt:309:12
+    (λ c κs. search needs)  -- capped-requires src/operators.rt:309:5
+    (λ c. search (element-laws, needs)))  -- returns-2 src/operators.rt:303:1

@@ -6,21 +6,15 @@ use Rattle.code_calc.proofs.words.reach.Tie as tie
 use Rattle.code_calc.proofs.words.reach.Reads as reads
 use Rattle.code_calc.proofs.words.reach.Lts as lts
 
--- src/words.rt:79:9
-returns : tie.Need-returns
-returns c = search (reach-laws, needs)
-
--- src/words.rt:82:9
-returns-2 : tie.Need-returns-2
-returns-2 c = search (reach-laws, needs)
-
 -- src/words.rt:84:5
 cast-result : tie.Need-cast-result
 cast-result c = raise-cast (c .before .before .args .z) (c .before .before .fits .z) (c .before .if1 .left)
 
--- src/words.rt:75:1
-returns-3 : tie.Need-returns-3
-returns-3 c = search (reach-laws, needs)
-
 pub reach-spec : {M : Type 1} → statement M
-reach-spec = tie.close (tie.spec returns returns-2 cast-result returns-3)
+reach-spec =
+    tie.close
+    (tie.spec
+    (λ c. search (reach-laws, needs))  -- returns src/words.rt:79:9
+    (λ c. search (reach-laws, needs))  -- returns-2 src/words.rt:82:9
+    cast-result
+    (λ c. search (reach-laws, needs)))  -- returns-3 src/words.rt:75:1

@@ -7,30 +7,6 @@ use Rattle.host_printing.proofs.markings.mark_scripted.Lts as lts
 use Rattle.mark_texts.proofs.mark.Reads as mark-reads
 use Rattle.host_telling.proofs.markings.mark_shown.Reads as mark-shown-reads
 
--- src/markings.rt:22:9
-mark-requires : tie.Need-mark-requires
-mark-requires c κs = search needs
-
--- src/markings.rt:23:5
-mark-shown-requires : tie.Need-mark-shown-requires
-mark-shown-requires c κs = search needs
-
--- src/markings.rt:11:1
-same-length : tie.Need-same-length
-same-length c = search needs
-
--- src/markings.rt:11:1
-same-length-2 : tie.Need-same-length-2
-same-length-2 c = search needs
-
--- src/markings.rt:11:1
-same-length-3 : tie.Need-same-length-3
-same-length-3 c = search needs
-
--- src/markings.rt:11:1
-same-length-4 : tie.Need-same-length-4
-same-length-4 c = search needs
-
 -- src/markings.rt:11:1
 returns : tie.Need-returns
 returns c = (search mark-shows, search needs)
@@ -39,10 +15,10 @@ pub mark-scripted-spec : {M : Type 1} → statement M
 mark-scripted-spec =
     tie.close
     (tie.spec
-    mark-requires
-    mark-shown-requires
-    same-length
-    same-length-2
-    same-length-3
-    same-length-4
+    (λ c κs. search needs)  -- mark-requires src/markings.rt:22:9
+    (λ c κs. search needs)  -- mark-shown-requires src/markings.rt:23:5
+    (λ c. search needs)  -- same-length src/markings.rt:11:1
+    (λ c. search needs)  -- same-length-2 src/markings.rt:11:1
+    (λ c. search needs)  -- same-length-3 src/markings.rt:11:1
+    (λ c. search needs)  -- same-length-4 src/markings.rt:11:1
     returns)

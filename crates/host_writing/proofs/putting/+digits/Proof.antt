@@ -20,127 +20,6 @@ digits-at t = and 1 digits-kinds.ps (is 1 digits-kinds.ps μ-digits t) digits.Pr
 abbrev digits-below : ℕ → In 1 digits-kinds.ps
 digits-below t = and 1 digits-kinds.ps (falls 1 digits-kinds.ps _<_ μ-digits t) digits.Pre
 
--- src/putting.rt:45:9
-digits-returns : (t : ℕ) → digits-lts.Need-returns (
-  digit-reads.Asked,
-  digit-reads.Learnt,
-  put-reads.Asked,
-  put-reads.Learnt,
-  digits-below t,
-  digits.Post,
-) (digits-at t) digits.Post
-digits-returns t c = search digits-laws
-
--- src/putting.rt:48:29
-digits-digit-requires : (t : ℕ) → digits-lts.Need-digit-requires (
-  digit-reads.Asked,
-  digit-reads.Learnt,
-  put-reads.Asked,
-  put-reads.Learnt,
-  digits-below t,
-  digits.Post,
-) (digits-at t) digits.Post
-digits-digit-requires t c κs = search needs
-
--- src/putting.rt:48:9
-digits-put-requires : (t : ℕ) → digits-lts.Need-put-requires (
-  digit-reads.Asked,
-  digit-reads.Learnt,
-  put-reads.Asked,
-  put-reads.Learnt,
-  digits-below t,
-  digits.Post,
-) (digits-at t) digits.Post
-digits-put-requires t c κs = search needs
-
--- src/putting.rt:48:9
-digits-same-length : (t : ℕ) → digits-lts.Need-same-length (
-  digit-reads.Asked,
-  digit-reads.Learnt,
-  put-reads.Asked,
-  put-reads.Learnt,
-  digits-below t,
-  digits.Post,
-) (digits-at t) digits.Post
-digits-same-length t c = search needs
-
--- src/putting.rt:48:9
-digits-returns-2 : (t : ℕ) → digits-lts.Need-returns-2 (
-  digit-reads.Asked,
-  digit-reads.Learnt,
-  put-reads.Asked,
-  put-reads.Learnt,
-  digits-below t,
-  digits.Post,
-) (digits-at t) digits.Post
-digits-returns-2 t c = search digits-laws
-
--- src/putting.rt:50:37
-digits-sub-digits : (t : ℕ) → digits-lts.Need-sub-digits (
-  digit-reads.Asked,
-  digit-reads.Learnt,
-  put-reads.Asked,
-  put-reads.Learnt,
-  digits-below t,
-  digits.Post,
-) (digits-at t) digits.Post
-digits-sub-digits t c = search needs
-
--- src/putting.rt:50:9
-digits-digits-requires : (t : ℕ) → digits-lts.Need-digits-requires (
-  digit-reads.Asked,
-  digit-reads.Learnt,
-  put-reads.Asked,
-  put-reads.Learnt,
-  digits-below t,
-  digits.Post,
-) (digits-at t) digits.Post
-digits-digits-requires t c κs = search needs
-
--- src/putting.rt:51:17
-digits-digit-requires-2 : (t : ℕ) → digits-lts.Need-digit-requires-2 (
-  digit-reads.Asked,
-  digit-reads.Learnt,
-  put-reads.Asked,
-  put-reads.Learnt,
-  digits-below t,
-  digits.Post,
-) (digits-at t) digits.Post
-digits-digit-requires-2 t c κs = search needs
-
--- src/putting.rt:51:5
-digits-put-requires-2 : (t : ℕ) → digits-lts.Need-put-requires-2 (
-  digit-reads.Asked,
-  digit-reads.Learnt,
-  put-reads.Asked,
-  put-reads.Learnt,
-  digits-below t,
-  digits.Post,
-) (digits-at t) digits.Post
-digits-put-requires-2 t c κs = search needs
-
--- src/putting.rt:41:1
-digits-same-length-2 : (t : ℕ) → digits-lts.Need-same-length-2 (
-  digit-reads.Asked,
-  digit-reads.Learnt,
-  put-reads.Asked,
-  put-reads.Learnt,
-  digits-below t,
-  digits.Post,
-) (digits-at t) digits.Post
-digits-same-length-2 t c = search needs
-
--- src/putting.rt:41:1
-digits-returns-3 : (t : ℕ) → digits-lts.Need-returns-3 (
-  digit-reads.Asked,
-  digit-reads.Learnt,
-  put-reads.Asked,
-  put-reads.Learnt,
-  digits-below t,
-  digits.Post,
-) (digits-at t) digits.Post
-digits-returns-3 t c = search digits-laws
-
 pub +digits-spec : {M : Type 1} → statement M
 +digits-spec = close μ-digits λ t. digits-lts.spec (
   digit-reads.Asked,
@@ -152,14 +31,14 @@ pub +digits-spec : {M : Type 1} → statement M
 )
     (digits-at t)
     digits.Post
-    (digits-returns t)
-    (digits-digit-requires t)
-    (digits-put-requires t)
-    (digits-same-length t)
-    (digits-returns-2 t)
-    (digits-sub-digits t)
-    (digits-digits-requires t)
-    (digits-digit-requires-2 t)
-    (digits-put-requires-2 t)
-    (digits-same-length-2 t)
-    (digits-returns-3 t)
+    (λ c. search digits-laws)  -- digits-returns src/putting.rt:45:9
+    (λ c κs. search needs)  -- digits-digit-requires src/putting.rt:48:29
+    (λ c κs. search needs)  -- digits-put-requires src/putting.rt:48:9
+    (λ c. search needs)  -- digits-same-length src/putting.rt:48:9
+    (λ c. search digits-laws)  -- digits-returns-2 src/putting.rt:48:9
+    (λ c. search needs)  -- digits-sub-digits src/putting.rt:50:37
+    (λ c κs. search needs)  -- digits-digits-requires src/putting.rt:50:9
+    (λ c κs. search needs)  -- digits-digit-requires-2 src/putting.rt:51:17
+    (λ c κs. search needs)  -- digits-put-requires-2 src/putting.rt:51:5
+    (λ c. search needs)  -- digits-same-length-2 src/putting.rt:41:1
+    (λ c. search digits-laws)  -- digits-returns-3 src/putting.rt:41:1

@@ -6,17 +6,14 @@ use Rattle.host_writing.proofs.putting.natural.Tie as tie
 use Rattle.host_writing.proofs.putting.natural.Reads as reads
 use Rattle.host_writing.proofs.putting.natural.Lts as lts
 
--- src/putting.rt:53:9
-returns : tie.Need-returns
-returns c = search (natural-none, natural-is, needs)
-
 -- src/putting.rt:55:5
 cast-result : tie.Need-cast-result
 cast-result c = raise-cast (c .before .args .z) (c .before .fits .z) (c .if1 .left)
 
--- src/putting.rt:49:1
-returns-2 : tie.Need-returns-2
-returns-2 c = search (natural-none, natural-is, needs)
-
 pub natural-spec : {M : Type 1} → statement M
-natural-spec = tie.close (tie.spec returns cast-result returns-2)
+natural-spec =
+    tie.close
+    (tie.spec
+    (λ c. search (natural-none, natural-is, needs))  -- returns src/putting.rt:53:9
+    cast-result
+    (λ c. search (natural-none, natural-is, needs)))  -- returns-2 src/putting.rt:49:1

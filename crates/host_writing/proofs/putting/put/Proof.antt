@@ -5,25 +5,12 @@ use Rattle.host_writing.proofs.putting.put.Tie as tie
 use Rattle.host_writing.proofs.putting.put.Reads as reads
 use Rattle.host_writing.proofs.putting.put.Lts as lts
 
--- src/putting.rt:14:9
-slice-write-out : tie.Need-slice-write-out
-slice-write-out c = search needs
-
--- src/putting.rt:15:16
-add-result : tie.Need-add-result
-add-result c = search needs
-
--- src/putting.rt:15:9
-same-length : tie.Need-same-length
-same-length c = search needs
-
--- src/putting.rt:15:9
-returns : tie.Need-returns
-returns c = search (put-laws, needs)
-
--- src/putting.rt:10:1
-returns-2 : tie.Need-returns-2
-returns-2 c = search (put-laws, needs)
-
 pub put-spec : {M : Type 1} → statement M
-put-spec = tie.close (tie.spec slice-write-out add-result same-length returns returns-2)
+put-spec =
+    tie.close
+    (tie.spec
+    (λ c. search needs)  -- slice-write-out src/putting.rt:14:9
+    (λ c. search needs)  -- add-result src/putting.rt:15:16
+    (λ c. search needs)  -- same-length src/putting.rt:15:9
+    (λ c. search (put-laws, needs))  -- returns src/putting.rt:15:9
+    (λ c. search (put-laws, needs)))  -- returns-2 src/putting.rt:10:1

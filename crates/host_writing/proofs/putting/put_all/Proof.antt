@@ -22,33 +22,9 @@ abbrev μ-loop : tie.MeasureT-loop
 loop-holds : tie.Need-loop-holds Inv-loop μ-loop
 loop-holds c = still-start _ _ _
 
--- src/putting.rt:27:25
-shared-slice-read-put : tie.Need-shared-slice-read-put Inv-loop μ-loop
-shared-slice-read-put c = search needs
-
--- src/putting.rt:27:9
-put-requires : tie.Need-put-requires Inv-loop μ-loop
-put-requires c κs = search needs
-
--- src/putting.rt:28:9
-add-i : tie.Need-add-i Inv-loop μ-loop
-add-i c = search needs
-
 -- src/putting.rt:26:5
 loop-less : tie.Need-loop-less Inv-loop μ-loop
 loop-less c = omega arith
-
--- src/putting.rt:26:5
-loop-again : tie.Need-loop-again Inv-loop μ-loop
-loop-again c = search all-laws
-
--- src/putting.rt:21:1
-same-length : tie.Need-same-length Inv-loop μ-loop
-same-length c = search (still-long, needs)
-
--- src/putting.rt:21:1
-returns : tie.Need-returns Inv-loop μ-loop
-returns c = search all-laws
 
 pub put-all-spec : {M : Type 1} → statement M
 put-all-spec =
@@ -57,10 +33,10 @@ put-all-spec =
     Inv-loop
     μ-loop
     loop-holds
-    shared-slice-read-put
-    put-requires
-    add-i
+    (λ c. search needs)  -- shared-slice-read-put src/putting.rt:27:25
+    (λ c κs. search needs)  -- put-requires src/putting.rt:27:9
+    (λ c. search needs)  -- add-i src/putting.rt:28:9
     loop-less
-    loop-again
-    same-length
-    returns)
+    (λ c. search all-laws)  -- loop-again src/putting.rt:26:5
+    (λ c. search (still-long, needs))  -- same-length src/putting.rt:21:1
+    (λ c. search all-laws))  -- returns src/putting.rt:21:1

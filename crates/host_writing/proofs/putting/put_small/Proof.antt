@@ -25,37 +25,9 @@ abbrev μ-loop : tie.MeasureT-loop
 loop-holds : tie.Need-loop-holds Inv-loop μ-loop
 loop-holds c = still-start _ _ _
 
--- src/putting.rt:42:34
-shared-slice-read-small-of : tie.Need-shared-slice-read-small-of Inv-loop μ-loop
-shared-slice-read-small-of c = search needs
-
--- src/putting.rt:42:25
-small-of-requires : tie.Need-small-of-requires Inv-loop μ-loop
-small-of-requires c κs = search needs
-
--- src/putting.rt:42:9
-put-requires : tie.Need-put-requires Inv-loop μ-loop
-put-requires c κs = search needs
-
--- src/putting.rt:43:9
-add-i : tie.Need-add-i Inv-loop μ-loop
-add-i c = search needs
-
 -- src/putting.rt:41:5
 loop-less : tie.Need-loop-less Inv-loop μ-loop
 loop-less c = omega arith
-
--- src/putting.rt:41:5
-loop-again : tie.Need-loop-again Inv-loop μ-loop
-loop-again c = search small-laws
-
--- src/putting.rt:36:1
-same-length : tie.Need-same-length Inv-loop μ-loop
-same-length c = search (still-long, needs)
-
--- src/putting.rt:36:1
-returns : tie.Need-returns Inv-loop μ-loop
-returns c = search small-laws
 
 pub put-small-spec : {M : Type 1} → statement M
 put-small-spec =
@@ -64,11 +36,11 @@ put-small-spec =
     Inv-loop
     μ-loop
     loop-holds
-    shared-slice-read-small-of
-    small-of-requires
-    put-requires
-    add-i
+    (λ c. search needs)  -- shared-slice-read-small-of src/putting.rt:42:34
+    (λ c κs. search needs)  -- small-of-requires src/putting.rt:42:25
+    (λ c κs. search needs)  -- put-requires src/putting.rt:42:9
+    (λ c. search needs)  -- add-i src/putting.rt:43:9
     loop-less
-    loop-again
-    same-length
-    returns)
+    (λ c. search small-laws)  -- loop-again src/putting.rt:41:5
+    (λ c. search (still-long, needs))  -- same-length src/putting.rt:36:1
+    (λ c. search small-laws))  -- returns src/putting.rt:36:1

@@ -5,13 +5,9 @@ use Rattle.host_writing.proofs.putting.turned.Tie as tie
 use Rattle.host_writing.proofs.putting.turned.Reads as reads
 use Rattle.host_writing.proofs.putting.turned.Lts as lts
 
--- src/putting.rt:63:5
-sub-result : tie.Need-sub-result
-sub-result c = search (turned-fits, turned-is, needs)
-
--- src/putting.rt:60:1
-returns : tie.Need-returns
-returns c = search (turned-fits, turned-is, needs)
-
 pub turned-spec : {M : Type 1} → statement M
-turned-spec = tie.close (tie.spec sub-result returns)
+turned-spec =
+    tie.close
+    (tie.spec
+    (λ c. search (turned-fits, turned-is, needs))  -- sub-result src/putting.rt:63:5
+    (λ c. search (turned-fits, turned-is, needs)))  -- returns src/putting.rt:60:1

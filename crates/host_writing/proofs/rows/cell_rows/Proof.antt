@@ -22,45 +22,9 @@ abbrev μ-loop : tie.MeasureT-loop
 loop-holds : tie.Need-loop-holds Inv-loop μ-loop
 loop-holds c = still-start _ _ _
 
--- src/rows.rt:72:13
-same-length : tie.Need-same-length Inv-loop μ-loop
-same-length c = search (still-long, needs)
-
--- src/rows.rt:72:13
-returns : tie.Need-returns Inv-loop μ-loop
-returns c = search rows-laws
-
--- src/rows.rt:75:13
-same-length-2 : tie.Need-same-length-2 Inv-loop μ-loop
-same-length-2 c = search (still-long, needs)
-
--- src/rows.rt:75:13
-returns-2 : tie.Need-returns-2 Inv-loop μ-loop
-returns-2 c = search rows-laws
-
--- src/rows.rt:77:9
-cell-at-requires : tie.Need-cell-at-requires Inv-loop μ-loop
-cell-at-requires c κs = search needs
-
--- src/rows.rt:78:9
-add-i : tie.Need-add-i Inv-loop μ-loop
-add-i c = search needs
-
 -- src/rows.rt:70:5
 loop-less : tie.Need-loop-less Inv-loop μ-loop
 loop-less c = omega arith
-
--- src/rows.rt:70:5
-loop-again : tie.Need-loop-again Inv-loop μ-loop
-loop-again c = search rows-laws
-
--- src/rows.rt:58:1
-same-length-3 : tie.Need-same-length-3 Inv-loop μ-loop
-same-length-3 c = search (still-long, needs)
-
--- src/rows.rt:58:1
-returns-3 : tie.Need-returns-3 Inv-loop μ-loop
-returns-3 c = search rows-laws
 
 pub cell-rows-spec : {M : Type 1} → statement M
 cell-rows-spec =
@@ -69,13 +33,13 @@ cell-rows-spec =
     Inv-loop
     μ-loop
     loop-holds
-    same-length
-    returns
-    same-length-2
-    returns-2
-    cell-at-requires
-    add-i
+    (λ c. search (still-long, needs))  -- same-length src/rows.rt:72:13
+    (λ c. search rows-laws)  -- returns src/rows.rt:72:13
+    (λ c. search (still-long, needs))  -- same-length-2 src/rows.rt:75:13
+    (λ c. search rows-laws)  -- returns-2 src/rows.rt:75:13
+    (λ c κs. search needs)  -- cell-at-requires src/rows.rt:77:9
+    (λ c. search needs)  -- add-i src/rows.rt:78:9
     loop-less
-    loop-again
-    same-length-3
-    returns-3)
+    (λ c. search rows-laws)  -- loop-again src/rows.rt:70:5
+    (λ c. search (still-long, needs))  -- same-length-3 src/rows.rt:58:1
+    (λ c. search rows-laws))  -- returns-3 src/rows.rt:58:1

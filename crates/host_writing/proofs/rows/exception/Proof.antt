@@ -9,37 +9,13 @@ use Rattle.host_writing.proofs.putting.put_all.Reads as put-all-reads
 use Rattle.host_writing.proofs.putting.signed.Reads as signed-reads
 use Rattle.host_writing.proofs.rows.place_and_steps.Reads as place-and-steps-reads
 
--- src/rows.rt:59:30
-slice-aggregate-put-all : tie.Need-slice-aggregate-put-all
-slice-aggregate-put-all c = search needs
-
--- src/rows.rt:59:9
-put-all-requires : tie.Need-put-all-requires
-put-all-requires c κs = search needs
-
--- src/rows.rt:60:9
-signed-requires : tie.Need-signed-requires
-signed-requires c κs = search needs
-
--- src/rows.rt:61:5
-place-and-steps-requires : tie.Need-place-and-steps-requires
-place-and-steps-requires c κs = search needs
-
--- src/rows.rt:56:1
-same-length : tie.Need-same-length
-same-length c = search needs
-
--- src/rows.rt:56:1
-returns : tie.Need-returns
-returns c = search (exception-is, sfits-of)
-
 pub exception-spec : {M : Type 1} → statement M
 exception-spec =
     tie.close
     (tie.spec
-    slice-aggregate-put-all
-    put-all-requires
-    signed-requires
-    place-and-steps-requires
-    same-length
-    returns)
+    (λ c. search needs)  -- slice-aggregate-put-all src/rows.rt:59:30
+    (λ c κs. search needs)  -- put-all-requires src/rows.rt:59:9
+    (λ c κs. search needs)  -- signed-requires src/rows.rt:60:9
+    (λ c κs. search needs)  -- place-and-steps-requires src/rows.rt:61:5
+    (λ c. search needs)  -- same-length src/rows.rt:56:1
+    (λ c. search (exception-is, sfits-of)))  -- returns src/rows.rt:56:1

@@ -18,27 +18,19 @@ abbrev μ-loop : tie.MeasureT-loop
 loop-holds : tie.Need-loop-holds Inv-loop μ-loop
 loop-holds c = (search needs, search down-start)
 
--- src/cells.rt:62:9
-sub-i : tie.Need-sub-i Inv-loop μ-loop
-sub-i c = search needs
-
--- src/cells.rt:63:9
-copy-one-requires : tie.Need-copy-one-requires Inv-loop μ-loop
-copy-one-requires c κs = search needs
-
--- src/cells.rt:61:5
-loop-less : tie.Need-loop-less Inv-loop μ-loop
-loop-less c = search needs
-
 -- src/cells.rt:61:5
 loop-again : tie.Need-loop-again Inv-loop μ-loop
 loop-again c = (search needs, search (down-next, needs))
 
--- src/cells.rt:57:1
-returns : tie.Need-returns Inv-loop μ-loop
-returns c = search down-end
-
 pub copy-down-spec : {M : Type 1} → statement M
 copy-down-spec =
     tie.close
-    (tie.spec Inv-loop μ-loop loop-holds sub-i copy-one-requires loop-less loop-again returns)
+    (tie.spec
+    Inv-loop
+    μ-loop
+    loop-holds
+    (λ c. search needs)  -- sub-i src/cells.rt:62:9
+    (λ c κs. search needs)  -- copy-one-requires src/cells.rt:63:9
+    (λ c. search needs)  -- loop-less src/cells.rt:61:5
+    loop-again
+    (λ c. search down-end))  -- returns src/cells.rt:57:1

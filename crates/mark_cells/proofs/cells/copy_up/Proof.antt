@@ -18,27 +18,19 @@ abbrev μ-loop : tie.MeasureT-loop
 loop-holds : tie.Need-loop-holds Inv-loop μ-loop
 loop-holds c = (search needs, search up-start)
 
--- src/cells.rt:51:9
-copy-one-requires : tie.Need-copy-one-requires Inv-loop μ-loop
-copy-one-requires c κs = search needs
-
--- src/cells.rt:52:9
-add-i : tie.Need-add-i Inv-loop μ-loop
-add-i c = search needs
-
--- src/cells.rt:50:5
-loop-less : tie.Need-loop-less Inv-loop μ-loop
-loop-less c = search needs
-
 -- src/cells.rt:50:5
 loop-again : tie.Need-loop-again Inv-loop μ-loop
 loop-again c = (search needs, search up-next)
 
--- src/cells.rt:46:1
-returns : tie.Need-returns Inv-loop μ-loop
-returns c = search up-end
-
 pub copy-up-spec : {M : Type 1} → statement M
 copy-up-spec =
     tie.close
-    (tie.spec Inv-loop μ-loop loop-holds copy-one-requires add-i loop-less loop-again returns)
+    (tie.spec
+    Inv-loop
+    μ-loop
+    loop-holds
+    (λ c κs. search needs)  -- copy-one-requires src/cells.rt:51:9
+    (λ c. search needs)  -- add-i src/cells.rt:52:9
+    (λ c. search needs)  -- loop-less src/cells.rt:50:5
+    loop-again
+    (λ c. search up-end))  -- returns src/cells.rt:46:1

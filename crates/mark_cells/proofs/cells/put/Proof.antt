@@ -5,21 +5,11 @@ use Rattle.mark_cells.proofs.cells.put.Tie as tie
 use Rattle.mark_cells.proofs.cells.put.Reads as reads
 use Rattle.mark_cells.proofs.cells.put.Lts as lts
 
--- src/cells.rt:30:9
-mul-z : tie.Need-mul-z
-mul-z c = search needs
-
--- src/cells.rt:30:9
-element-set-from-z : tie.Need-element-set-from-z
-element-set-from-z c = search needs
-
--- src/cells.rt:25:1
-returns : tie.Need-returns
-returns c = search (put-laws, needs)
-
--- src/cells.rt:25:1
-returns-2 : tie.Need-returns-2
-returns-2 c = search (put-laws, needs)
-
 pub put-spec : {M : Type 1} → statement M
-put-spec = tie.close (tie.spec mul-z element-set-from-z returns returns-2)
+put-spec =
+    tie.close
+    (tie.spec
+    (λ c. search needs)  -- mul-z src/cells.rt:30:9
+    (λ c. search needs)  -- element-set-from-z src/cells.rt:30:9
+    (λ c. search (put-laws, needs))  -- returns src/cells.rt:25:1
+    (λ c. search (put-laws, needs)))  -- returns-2 src/cells.rt:25:1

@@ -8,17 +8,10 @@ use Rattle.mark_cells.proofs.cells.store_one.Lts as lts
 use Rattle.mark_cells.proofs.cells.address.Reads as address-reads
 use Rattle.mark_cells.proofs.cells.put.Reads as put-reads
 
--- src/cells.rt:101:16
-address-requires : tie.Need-address-requires
-address-requires c κs = search needs
-
--- src/cells.rt:101:5
-put-requires : tie.Need-put-requires
-put-requires c κs = search needs
-
--- src/cells.rt:98:1
-returns : tie.Need-returns
-returns c = search (one-put, sfits-of)
-
 pub store-one-spec : {M : Type 1} → statement M
-store-one-spec = tie.close (tie.spec address-requires put-requires returns)
+store-one-spec =
+    tie.close
+    (tie.spec
+    (λ c κs. search needs)  -- address-requires src/cells.rt:101:16
+    (λ c κs. search needs)  -- put-requires src/cells.rt:101:5
+    (λ c. search (one-put, sfits-of)))  -- returns src/cells.rt:98:1

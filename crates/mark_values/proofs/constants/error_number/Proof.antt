@@ -7,17 +7,10 @@ use Rattle.mark_values.proofs.constants.error_number.Lts as lts
 use Rattle.mark_values.proofs.values.value.Reads as value-reads
 use Rattle.code_calc.proofs.cells.latest.Reads as latest-reads
 
--- src/constants.rt:69:14
-latest-requires : tie.Need-latest-requires
-latest-requires c κs = search needs
-
--- src/constants.rt:69:5
-value-requires : tie.Need-value-requires
-value-requires c κs = search needs
-
--- src/constants.rt:66:1
-returns : tie.Need-returns
-returns c = search latest-laws
-
 pub error-number-spec : {M : Type 1} → statement M
-error-number-spec = tie.close (tie.spec latest-requires value-requires returns)
+error-number-spec =
+    tie.close
+    (tie.spec
+    (λ c κs. search needs)  -- latest-requires src/constants.rt:69:14
+    (λ c κs. search needs)  -- value-requires src/constants.rt:69:5
+    (λ c. search latest-laws))  -- returns src/constants.rt:66:1

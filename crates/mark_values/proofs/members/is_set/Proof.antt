@@ -6,17 +6,10 @@ use Rattle.mark_values.proofs.members.is_set.Reads as reads
 use Rattle.mark_values.proofs.members.is_set.Lts as lts
 use Rattle.table_scope.proofs.describe.Reads as describe-reads
 
--- src/members.rt:17:9
-describe-requires : tie.Need-describe-requires
-describe-requires c κs = search needs
-
--- src/members.rt:19:9
-returns : tie.Need-returns
-returns c = search set-yes
-
--- src/members.rt:14:1
-returns-2 : tie.Need-returns-2
-returns-2 c = search set-not
-
 pub is-set-spec : {M : Type 1} → statement M
-is-set-spec = tie.close (tie.spec describe-requires returns returns-2)
+is-set-spec =
+    tie.close
+    (tie.spec
+    (λ c κs. search needs)  -- describe-requires src/members.rt:17:9
+    (λ c. search set-yes)  -- returns src/members.rt:19:9
+    (λ c. search set-not))  -- returns-2 src/members.rt:14:1

@@ -10,42 +10,14 @@ use Rattle.code_calc.proofs.words.signed_of.Reads as signed-of-reads
 use Rattle.table_scope.proofs.describe.Reads as describe-reads
 use Rattle.table_scope.proofs.host_of.Reads as host-of-reads
 
--- src/members.rt:25:9
-describe-requires : tie.Need-describe-requires
-describe-requires c κs = search needs
-
--- src/members.rt:26:20
-host-of-requires : tie.Need-host-of-requires
-host-of-requires c κs = search needs
-
--- src/members.rt:26:9
-wanted-requires : tie.Need-wanted-requires
-wanted-requires c κs = search needs
-
--- src/members.rt:27:13
-signed-of-requires : tie.Need-signed-of-requires
-signed-of-requires c κs = search needs
-
--- src/members.rt:27:31
-signed-of-requires-2 : tie.Need-signed-of-requires-2
-signed-of-requires-2 c κs = search needs
-
--- src/members.rt:27:5
-test-requires : tie.Need-test-requires
-test-requires c κs = search needs
-
--- src/members.rt:22:1
-returns : tie.Need-returns
-returns c = search member-laws
-
 pub member-spec : {M : Type 1} → statement M
 member-spec =
     tie.close
     (tie.spec
-    describe-requires
-    host-of-requires
-    wanted-requires
-    signed-of-requires
-    signed-of-requires-2
-    test-requires
-    returns)
+    (λ c κs. search needs)  -- describe-requires src/members.rt:25:9
+    (λ c κs. search needs)  -- host-of-requires src/members.rt:26:20
+    (λ c κs. search needs)  -- wanted-requires src/members.rt:26:9
+    (λ c κs. search needs)  -- signed-of-requires src/members.rt:27:13
+    (λ c κs. search needs)  -- signed-of-requires-2 src/members.rt:27:31
+    (λ c κs. search needs)  -- test-requires src/members.rt:27:5
+    (λ c. search member-laws))  -- returns src/members.rt:22:1

@@ -9,27 +9,12 @@ use Rattle.code_calc.proofs.cells.cells_at.Reads as cells-at-reads
 use Rattle.table_scope.proofs.describe.Reads as describe-reads
 use Rattle.table_scope.proofs.host_of.Reads as host-of-reads
 
--- src/places.rt:48:9
-describe-requires : tie.Need-describe-requires
-describe-requires c κs = search needs
-
--- src/places.rt:49:9
-host-of-requires : tie.Need-host-of-requires
-host-of-requires c κs = search needs
-
--- src/places.rt:50:9
-cells-at-requires : tie.Need-cells-at-requires
-cells-at-requires c κs = search needs
-
--- src/places.rt:51:9
-first-cell-requires : tie.Need-first-cell-requires
-first-cell-requires c κs = search needs
-
--- src/places.rt:45:1
-returns : tie.Need-returns
-returns c = search load-laws
-
 pub load-spec : {M : Type 1} → statement M
 load-spec =
     tie.close
-    (tie.spec describe-requires host-of-requires cells-at-requires first-cell-requires returns)
+    (tie.spec
+    (λ c κs. search needs)  -- describe-requires src/places.rt:48:9
+    (λ c κs. search needs)  -- host-of-requires src/places.rt:49:9
+    (λ c κs. search needs)  -- cells-at-requires src/places.rt:50:9
+    (λ c κs. search needs)  -- first-cell-requires src/places.rt:51:9
+    (λ c. search load-laws))  -- returns src/places.rt:45:1

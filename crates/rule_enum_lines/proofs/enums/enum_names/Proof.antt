@@ -23,46 +23,6 @@ abbrev μ-loop : tie.MeasureT-loop
 loop-holds : tie.Need-loop-holds Inv-loop μ-loop
 loop-holds c = count-start _ _ _ _
 
--- src/enums.rt:138:13
-name-at-requires : tie.Need-name-at-requires Inv-loop μ-loop
-name-at-requires c κs = search (count-small, needs)
-
--- src/enums.rt:140:28
-enum-known-name : tie.Need-enum-known-name Inv-loop μ-loop
-enum-known-name c = search needs
-
--- src/enums.rt:141:31
-is-new-requires : tie.Need-is-new-requires Inv-loop μ-loop
-is-new-requires c κs = search (count-small, needs)
-
--- src/enums.rt:141:17
-both-requires : tie.Need-both-requires Inv-loop μ-loop
-both-requires c κs = search (count-small, needs)
-
--- src/enums.rt:142:17
-one-more-requires : tie.Need-one-more-requires Inv-loop μ-loop
-one-more-requires c κs = search (count-small, needs)
-
--- src/enums.rt:137:5
-loop-less : tie.Need-loop-less Inv-loop μ-loop
-loop-less c = search names-fewer
-
--- src/enums.rt:137:5
-loop-again : tie.Need-loop-again Inv-loop μ-loop
-loop-again c = search (count-laws, needs)
-
--- src/enums.rt:146:17
-enum-told : tie.Need-enum-told Inv-loop μ-loop
-enum-told c = search needs
-
--- src/enums.rt:146:17
-names-end-requires : tie.Need-names-end-requires Inv-loop μ-loop
-names-end-requires c κs = search (count-small, needs)
-
--- src/enums.rt:146:17
-returns : tie.Need-returns Inv-loop μ-loop
-returns c = search (count-laws, needs)
-
 pub enum-names-spec : {M : Type 1} → statement M
 enum-names-spec =
     tie.close
@@ -70,13 +30,13 @@ enum-names-spec =
     Inv-loop
     μ-loop
     loop-holds
-    name-at-requires
-    enum-known-name
-    is-new-requires
-    both-requires
-    one-more-requires
-    loop-less
-    loop-again
-    enum-told
-    names-end-requires
-    returns)
+    (λ c κs. search (count-small, needs))  -- name-at-requires src/enums.rt:138:13
+    (λ c. search needs)  -- enum-known-name src/enums.rt:140:28
+    (λ c κs. search (count-small, needs))  -- is-new-requires src/enums.rt:141:31
+    (λ c κs. search (count-small, needs))  -- both-requires src/enums.rt:141:17
+    (λ c κs. search (count-small, needs))  -- one-more-requires src/enums.rt:142:17
+    (λ c. search names-fewer)  -- loop-less src/enums.rt:137:5
+    (λ c. search (count-laws, needs))  -- loop-again src/enums.rt:137:5
+    (λ c. search needs)  -- enum-told src/enums.rt:146:17
+    (λ c κs. search (count-small, needs))  -- names-end-requires src/enums.rt:146:17
+    (λ c. search (count-laws, needs)))  -- returns src/enums.rt:146:17

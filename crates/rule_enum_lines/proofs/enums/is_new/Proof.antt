@@ -7,17 +7,10 @@ use Rattle.rule_enum_lines.proofs.enums.is_new.Lts as lts
 use Rattle.rule_enum_lines.proofs.enums.is_unknown.Reads as is-unknown-reads
 use Rattle.table_scope.proofs.meaning_of.Reads as meaning-of-reads
 
--- src/enums.rt:64:9
-meaning-of-requires : tie.Need-meaning-of-requires
-meaning-of-requires c κs = search needs
-
--- src/enums.rt:65:5
-is-unknown-requires : tie.Need-is-unknown-requires
-is-unknown-requires c κs = search needs
-
--- src/enums.rt:61:1
-returns : tie.Need-returns
-returns c = search new-told
-
 pub is-new-spec : {M : Type 1} → statement M
-is-new-spec = tie.close (tie.spec meaning-of-requires is-unknown-requires returns)
+is-new-spec =
+    tie.close
+    (tie.spec
+    (λ c κs. search needs)  -- meaning-of-requires src/enums.rt:64:9
+    (λ c κs. search needs)  -- is-unknown-requires src/enums.rt:65:5
+    (λ c. search new-told))  -- returns src/enums.rt:61:1

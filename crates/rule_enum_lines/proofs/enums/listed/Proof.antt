@@ -20,38 +20,6 @@ abbrev μ-loop : tie.MeasureT-loop
 loop-holds : tie.Need-loop-holds Inv-loop μ-loop
 loop-holds c = scan-start _ _ _
 
--- src/enums.rt:13:13
-name-at-requires : tie.Need-name-at-requires Inv-loop μ-loop
-name-at-requires c κs = search needs
-
--- src/enums.rt:15:28
-enum-known-n : tie.Need-enum-known-n Inv-loop μ-loop
-enum-known-n c = search needs
-
--- src/enums.rt:16:20
-same-word-requires : tie.Need-same-word-requires Inv-loop μ-loop
-same-word-requires c κs = search needs
-
--- src/enums.rt:17:21
-returns : tie.Need-returns Inv-loop μ-loop
-returns c = search scan-laws
-
--- src/enums.rt:12:5
-loop-less : tie.Need-loop-less Inv-loop μ-loop
-loop-less c = search names-fewer
-
--- src/enums.rt:12:5
-loop-again : tie.Need-loop-again Inv-loop μ-loop
-loop-again c = search scan-laws
-
--- src/enums.rt:22:17
-enum-told : tie.Need-enum-told Inv-loop μ-loop
-enum-told c = search needs
-
--- src/enums.rt:22:17
-returns-2 : tie.Need-returns-2 Inv-loop μ-loop
-returns-2 c = search scan-laws
-
 pub listed-spec : {M : Type 1} → statement M
 listed-spec =
     tie.close
@@ -59,11 +27,11 @@ listed-spec =
     Inv-loop
     μ-loop
     loop-holds
-    name-at-requires
-    enum-known-n
-    same-word-requires
-    returns
-    loop-less
-    loop-again
-    enum-told
-    returns-2)
+    (λ c κs. search needs)  -- name-at-requires src/enums.rt:13:13
+    (λ c. search needs)  -- enum-known-n src/enums.rt:15:28
+    (λ c κs. search needs)  -- same-word-requires src/enums.rt:16:20
+    (λ c. search scan-laws)  -- returns src/enums.rt:17:21
+    (λ c. search names-fewer)  -- loop-less src/enums.rt:12:5
+    (λ c. search scan-laws)  -- loop-again src/enums.rt:12:5
+    (λ c. search needs)  -- enum-told src/enums.rt:22:17
+    (λ c. search scan-laws))  -- returns-2 src/enums.rt:22:17

@@ -5,17 +5,10 @@ use Rattle.rule_enum_lines.proofs.enums.one_more.Tie as tie
 use Rattle.rule_enum_lines.proofs.enums.one_more.Reads as reads
 use Rattle.rule_enum_lines.proofs.enums.one_more.Lts as lts
 
--- src/enums.rt:68:16
-add-result : tie.Need-add-result
-add-result c = search needs
-
--- src/enums.rt:68:9
-returns : tie.Need-returns
-returns c = search counted-laws
-
--- src/enums.rt:64:1
-returns-2 : tie.Need-returns-2
-returns-2 c = search counted-laws
-
 pub one-more-spec : {M : Type 1} → statement M
-one-more-spec = tie.close (tie.spec add-result returns returns-2)
+one-more-spec =
+    tie.close
+    (tie.spec
+    (λ c. search needs)  -- add-result src/enums.rt:68:16
+    (λ c. search counted-laws)  -- returns src/enums.rt:68:9
+    (λ c. search counted-laws))  -- returns-2 src/enums.rt:64:1

@@ -8,27 +8,12 @@ use Rattle.rule_enum_lines.proofs.values.enum_info.Reads as enum-info-r
 use Rattle.rule_enum_lines.proofs.values.lay_enum_name.Reads as lay-enum-name-reads
 use Rattle.rule_type_lines.proofs.lay_info.Reads as lay-info-reads
 
--- src/values.rt:123:9
-lay-enum-name-requires : tie.Need-lay-enum-name-requires
-lay-enum-name-requires c κs = search needs
-
--- src/values.rt:124:9
-enum-info-requires : tie.Need-enum-info-requires
-enum-info-requires c κs = search needs
-
--- src/values.rt:125:9
-lay-info-requires : tie.Need-lay-info-requires
-lay-info-requires c κs = search needs
-
--- src/values.rt:120:1
-same-length : tie.Need-same-length
-same-length c = search needs
-
--- src/values.rt:120:1
-returns : tie.Need-returns
-returns c = search lays-described
-
 pub lay-described-spec : {M : Type 1} → statement M
 lay-described-spec =
     tie.close
-    (tie.spec lay-enum-name-requires enum-info-requires lay-info-requires same-length returns)
+    (tie.spec
+    (λ c κs. search needs)  -- lay-enum-name-requires src/values.rt:123:9
+    (λ c κs. search needs)  -- enum-info-requires src/values.rt:124:9
+    (λ c κs. search needs)  -- lay-info-requires src/values.rt:125:9
+    (λ c. search needs)  -- same-length src/values.rt:120:1
+    (λ c. search lays-described))  -- returns src/values.rt:120:1

@@ -9,67 +9,19 @@ use Rattle.table_kinds.proofs.two_sided.Reads as two-sided-reads
 use Rattle.rule_faults.proofs.failed.Reads as failed-reads
 use Rattle.table_scope.proofs.side_of.Reads as side-of-reads
 
--- src/operators.rt:68:27
-side-of-requires : tie.Need-side-of-requires
-side-of-requires c κs = search needs
-
--- src/operators.rt:68:57
-side-of-requires-2 : tie.Need-side-of-requires-2
-side-of-requires-2 c κs = search needs
-
--- src/operators.rt:68:9
-two-sided-requires : tie.Need-two-sided-requires
-two-sided-requires c κs = search needs
-
--- src/operators.rt:70:34
-enum-told : tie.Need-enum-told
-enum-told c = search needs
-
--- src/operators.rt:70:27
-failed-requires : tie.Need-failed-requires
-failed-requires c κs = search needs
-
--- src/operators.rt:71:22
-enum-known-x : tie.Need-enum-known-x
-enum-known-x c = search needs
-
--- src/operators.rt:73:42
-slice-aggregate-node : tie.Need-slice-aggregate-node
-slice-aggregate-node c = search needs
-
--- src/operators.rt:73:13
-node-requires : tie.Need-node-requires
-node-requires c κs = search needs
-
--- src/operators.rt:65:1
-same-length : tie.Need-same-length
-same-length c = search needs
-
--- src/operators.rt:65:1
-returns : tie.Need-returns
-returns c = search operate-laws
-
--- src/operators.rt:65:1
-same-length-2 : tie.Need-same-length-2
-same-length-2 c = search needs
-
--- src/operators.rt:65:1
-returns-2 : tie.Need-returns-2
-returns-2 c = search operate-laws
-
 pub operate-spec : {M : Type 1} → statement M
 operate-spec =
     tie.close
     (tie.spec
-    side-of-requires
-    side-of-requires-2
-    two-sided-requires
-    enum-told
-    failed-requires
-    enum-known-x
-    slice-aggregate-node
-    node-requires
-    same-length
-    returns
-    same-length-2
-    returns-2)
+    (λ c κs. search needs)  -- side-of-requires src/operators.rt:68:27
+    (λ c κs. search needs)  -- side-of-requires-2 src/operators.rt:68:57
+    (λ c κs. search needs)  -- two-sided-requires src/operators.rt:68:9
+    (λ c. search needs)  -- enum-told src/operators.rt:70:34
+    (λ c κs. search needs)  -- failed-requires src/operators.rt:70:27
+    (λ c. search needs)  -- enum-known-x src/operators.rt:71:22
+    (λ c. search needs)  -- slice-aggregate-node src/operators.rt:73:42
+    (λ c κs. search needs)  -- node-requires src/operators.rt:73:13
+    (λ c. search needs)  -- same-length src/operators.rt:65:1
+    (λ c. search operate-laws)  -- returns src/operators.rt:65:1
+    (λ c. search needs)  -- same-length-2 src/operators.rt:65:1
+    (λ c. search operate-laws))  -- returns-2 src/operators.rt:65:1

@@ -10,62 +10,18 @@ use Rattle.rule_faults.proofs.failed.Reads as failed-reads
 use Rattle.table_scope.proofs.describe.Reads as describe-reads
 use Rattle.table_scope.proofs.side_of.Reads as side-of-reads
 
--- src/operators.rt:144:26
-side-of-requires : tie.Need-side-of-requires
-side-of-requires c κs = search needs
-
--- src/operators.rt:144:9
-one-sided-requires : tie.Need-one-sided-requires
-one-sided-requires c κs = search needs
-
--- src/operators.rt:146:34
-enum-told : tie.Need-enum-told
-enum-told c = search needs
-
--- src/operators.rt:146:27
-failed-requires : tie.Need-failed-requires
-failed-requires c κs = search needs
-
--- src/operators.rt:147:22
-enum-known-x : tie.Need-enum-known-x
-enum-known-x c = search needs
-
--- src/operators.rt:147:46
-describe-requires : tie.Need-describe-requires
-describe-requires c κs = search needs
-
--- src/operators.rt:147:31
-node-one-requires : tie.Need-node-one-requires
-node-one-requires c κs = search needs
-
--- src/operators.rt:141:1
-same-length : tie.Need-same-length
-same-length c = search needs
-
--- src/operators.rt:141:1
-returns : tie.Need-returns
-returns c = search apply-laws
-
--- src/operators.rt:141:1
-same-length-2 : tie.Need-same-length-2
-same-length-2 c = search needs
-
--- src/operators.rt:141:1
-returns-2 : tie.Need-returns-2
-returns-2 c = search apply-laws
-
 pub operate-one-spec : {M : Type 1} → statement M
 operate-one-spec =
     tie.close
     (tie.spec
-    side-of-requires
-    one-sided-requires
-    enum-told
-    failed-requires
-    enum-known-x
-    describe-requires
-    node-one-requires
-    same-length
-    returns
-    same-length-2
-    returns-2)
+    (λ c κs. search needs)  -- side-of-requires src/operators.rt:144:26
+    (λ c κs. search needs)  -- one-sided-requires src/operators.rt:144:9
+    (λ c. search needs)  -- enum-told src/operators.rt:146:34
+    (λ c κs. search needs)  -- failed-requires src/operators.rt:146:27
+    (λ c. search needs)  -- enum-known-x src/operators.rt:147:22
+    (λ c κs. search needs)  -- describe-requires src/operators.rt:147:46
+    (λ c κs. search needs)  -- node-one-requires src/operators.rt:147:31
+    (λ c. search needs)  -- same-length src/operators.rt:141:1
+    (λ c. search apply-laws)  -- returns src/operators.rt:141:1
+    (λ c. search needs)  -- same-length-2 src/operators.rt:141:1
+    (λ c. search apply-laws))  -- returns-2 src/operators.rt:141:1

@@ -10,52 +10,16 @@ use Rattle.rule_faults.proofs.lowest.Reads as lowest-reads
 use Rattle.table_scope.proofs.describe.Reads as describe-reads
 use Rattle.table_scope.proofs.find_field.Reads as find-field-reads
 
--- src/targets.rt:238:9
-describe-requires : tie.Need-describe-requires
-describe-requires c κs = search needs
-
--- src/targets.rt:240:13
-find-field-requires : tie.Need-find-field-requires
-find-field-requires c κs = search needs
-
--- src/targets.rt:241:9
-field-at-requires : tie.Need-field-at-requires
-field-at-requires c κs = search needs
-
--- src/targets.rt:241:9
-same-length : tie.Need-same-length
-same-length c = search needs
-
--- src/targets.rt:241:9
-returns : tie.Need-returns
-returns c = search select-laws
-
--- src/targets.rt:244:12
-lowest-requires : tie.Need-lowest-requires
-lowest-requires c κs = search needs
-
--- src/targets.rt:244:5
-failed-requires : tie.Need-failed-requires
-failed-requires c κs = search needs
-
--- src/targets.rt:235:1
-same-length-2 : tie.Need-same-length-2
-same-length-2 c = search needs
-
--- src/targets.rt:235:1
-returns-2 : tie.Need-returns-2
-returns-2 c = search select-laws
-
 pub select-spec : {M : Type 1} → statement M
 select-spec =
     tie.close
     (tie.spec
-    describe-requires
-    find-field-requires
-    field-at-requires
-    same-length
-    returns
-    lowest-requires
-    failed-requires
-    same-length-2
-    returns-2)
+    (λ c κs. search needs)  -- describe-requires src/targets.rt:238:9
+    (λ c κs. search needs)  -- find-field-requires src/targets.rt:240:13
+    (λ c κs. search needs)  -- field-at-requires src/targets.rt:241:9
+    (λ c. search needs)  -- same-length src/targets.rt:241:9
+    (λ c. search select-laws)  -- returns src/targets.rt:241:9
+    (λ c κs. search needs)  -- lowest-requires src/targets.rt:244:12
+    (λ c κs. search needs)  -- failed-requires src/targets.rt:244:5
+    (λ c. search needs)  -- same-length-2 src/targets.rt:235:1
+    (λ c. search select-laws))  -- returns-2 src/targets.rt:235:1

@@ -8,47 +8,15 @@ use Rattle.rule_expr_leaves.proofs.fields.is_named.Reads as is-named-re
 use Rattle.text_parts.proofs.end_at.Reads as end-at-reads
 use Rattle.text_heads.proofs.atom_of.Reads as atom-of-reads
 
--- src/fields.rt:36:17
-atom-of-requires : tie.Need-atom-of-requires
-atom-of-requires c κs = search needs
-
--- src/fields.rt:36:8
-is-named-requires : tie.Need-is-named-requires
-is-named-requires c κs = search needs
-
--- src/fields.rt:37:13
-end-at-requires : tie.Need-end-at-requires
-end-at-requires c κs = search needs
-
--- src/fields.rt:39:23
-enum-known-e : tie.Need-enum-known-e
-enum-known-e c = search needs
-
--- src/fields.rt:40:26
-enum-told : tie.Need-enum-told
-enum-told c = search needs
-
--- src/fields.rt:33:1
-returns : tie.Need-returns
-returns c = search sole-word-laws
-
--- src/fields.rt:33:1
-returns-2 : tie.Need-returns-2
-returns-2 c = search sole-word-laws
-
--- src/fields.rt:33:1
-returns-3 : tie.Need-returns-3
-returns-3 c = search sole-word-laws
-
 pub sole-word-spec : {M : Type 1} → statement M
 sole-word-spec =
     tie.close
     (tie.spec
-    atom-of-requires
-    is-named-requires
-    end-at-requires
-    enum-known-e
-    enum-told
-    returns
-    returns-2
-    returns-3)
+    (λ c κs. search needs)  -- atom-of-requires src/fields.rt:36:17
+    (λ c κs. search needs)  -- is-named-requires src/fields.rt:36:8
+    (λ c κs. search needs)  -- end-at-requires src/fields.rt:37:13
+    (λ c. search needs)  -- enum-known-e src/fields.rt:39:23
+    (λ c. search needs)  -- enum-told src/fields.rt:40:26
+    (λ c. search sole-word-laws)  -- returns src/fields.rt:33:1
+    (λ c. search sole-word-laws)  -- returns-2 src/fields.rt:33:1
+    (λ c. search sole-word-laws))  -- returns-3 src/fields.rt:33:1

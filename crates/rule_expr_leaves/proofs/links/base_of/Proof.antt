@@ -7,17 +7,10 @@ use Rattle.rule_expr_leaves.proofs.links.base_of.Lts as lts
 use Rattle.table_scope.proofs.describe.Reads as describe-reads
 use Rattle.table_scope.proofs.host_of.Reads as host-of-reads
 
--- src/links.rt:25:9
-describe-requires : tie.Need-describe-requires
-describe-requires c κs = search needs
-
--- src/links.rt:26:5
-host-of-requires : tie.Need-host-of-requires
-host-of-requires c κs = search needs
-
--- src/links.rt:22:1
-returns : tie.Need-returns
-returns c = search base-is
-
 pub base-of-spec : {M : Type 1} → statement M
-base-of-spec = tie.close (tie.spec describe-requires host-of-requires returns)
+base-of-spec =
+    tie.close
+    (tie.spec
+    (λ c κs. search needs)  -- describe-requires src/links.rt:25:9
+    (λ c κs. search needs)  -- host-of-requires src/links.rt:26:5
+    (λ c. search base-is))  -- returns src/links.rt:22:1

@@ -7,26 +7,12 @@ use Rattle.rule_expr_leaves.proofs.links.link_to.Lts as lts
 use Rattle.table_list.proofs.lay.Reads as lay-reads
 use Rattle.table_list.proofs.put.Reads as put-reads
 
--- src/links.rt:34:28
-slice-aggregate-lay : tie.Need-slice-aggregate-lay
-slice-aggregate-lay c = search needs
-
--- src/links.rt:34:9
-lay-requires : tie.Need-lay-requires
-lay-requires c κs = search needs
-
--- src/links.rt:35:5
-put-requires : tie.Need-put-requires
-put-requires c κs = search needs
-
--- src/links.rt:30:1
-same-length : tie.Need-same-length
-same-length c = search needs
-
--- src/links.rt:30:1
-returns : tie.Need-returns
-returns c = search linked-is
-
 pub link-to-spec : {M : Type 1} → statement M
 link-to-spec =
-    tie.close (tie.spec slice-aggregate-lay lay-requires put-requires same-length returns)
+    tie.close
+    (tie.spec
+    (λ c. search needs)  -- slice-aggregate-lay src/links.rt:34:28
+    (λ c κs. search needs)  -- lay-requires src/links.rt:34:9
+    (λ c κs. search needs)  -- put-requires src/links.rt:35:5
+    (λ c. search needs)  -- same-length src/links.rt:30:1
+    (λ c. search linked-is))  -- returns src/links.rt:30:1

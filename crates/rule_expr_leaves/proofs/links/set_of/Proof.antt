@@ -10,47 +10,15 @@ use Rattle.rule_faults.proofs.is_clear.Reads as is-clear-reads
 use Rattle.rule_faults.proofs.lowest.Reads as lowest-reads
 use Rattle.table_scope.proofs.describe.Reads as describe-reads
 
--- src/links.rt:62:9
-lowest-requires : tie.Need-lowest-requires
-lowest-requires c κs = search needs
-
--- src/links.rt:63:8
-is-clear-requires : tie.Need-is-clear-requires
-is-clear-requires c κs = search needs
-
--- src/links.rt:64:31
-describe-requires : tie.Need-describe-requires
-describe-requires c κs = search needs
-
--- src/links.rt:64:9
-set-node-requires : tie.Need-set-node-requires
-set-node-requires c κs = search needs
-
--- src/links.rt:64:9
-same-length : tie.Need-same-length
-same-length c = search needs
-
--- src/links.rt:64:9
-returns : tie.Need-returns
-returns c = search set-laws
-
--- src/links.rt:66:5
-failed-requires : tie.Need-failed-requires
-failed-requires c κs = search needs
-
--- src/links.rt:58:1
-returns-2 : tie.Need-returns-2
-returns-2 c = search set-laws
-
 pub set-of-spec : {M : Type 1} → statement M
 set-of-spec =
     tie.close
     (tie.spec
-    lowest-requires
-    is-clear-requires
-    describe-requires
-    set-node-requires
-    same-length
-    returns
-    failed-requires
-    returns-2)
+    (λ c κs. search needs)  -- lowest-requires src/links.rt:62:9
+    (λ c κs. search needs)  -- is-clear-requires src/links.rt:63:8
+    (λ c κs. search needs)  -- describe-requires src/links.rt:64:31
+    (λ c κs. search needs)  -- set-node-requires src/links.rt:64:9
+    (λ c. search needs)  -- same-length src/links.rt:64:9
+    (λ c. search set-laws)  -- returns src/links.rt:64:9
+    (λ c κs. search needs)  -- failed-requires src/links.rt:66:5
+    (λ c. search set-laws))  -- returns-2 src/links.rt:58:1

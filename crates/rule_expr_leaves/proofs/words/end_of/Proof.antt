@@ -10,57 +10,17 @@ use Rattle.rule_faults.proofs.failed.Reads as failed-reads
 use Rattle.table_scope.proofs.describe.Reads as describe-reads
 use Rattle.table_scope.proofs.host_of.Reads as host-of-reads
 
--- src/words.rt:135:9
-describe-requires : tie.Need-describe-requires
-describe-requires c κs = search needs
-
--- src/words.rt:137:13
-host-of-requires : tie.Need-host-of-requires
-host-of-requires c κs = search needs
-
--- src/words.rt:138:22
-end-bits-requires : tie.Need-end-bits-requires
-end-bits-requires c κs = search needs
-
--- src/words.rt:139:44
-slice-aggregate-node : tie.Need-slice-aggregate-node
-slice-aggregate-node c = search needs
-
--- src/words.rt:139:9
-node-requires : tie.Need-node-requires
-node-requires c κs = search needs
-
--- src/words.rt:139:9
-same-length : tie.Need-same-length
-same-length c = search needs
-
--- src/words.rt:139:9
-returns : tie.Need-returns
-returns c = search end-laws
-
--- src/words.rt:141:5
-failed-requires : tie.Need-failed-requires
-failed-requires c κs = search needs
-
--- src/words.rt:132:1
-same-length-2 : tie.Need-same-length-2
-same-length-2 c = search needs
-
--- src/words.rt:132:1
-returns-2 : tie.Need-returns-2
-returns-2 c = search end-laws
-
 pub end-of-spec : {M : Type 1} → statement M
 end-of-spec =
     tie.close
     (tie.spec
-    describe-requires
-    host-of-requires
-    end-bits-requires
-    slice-aggregate-node
-    node-requires
-    same-length
-    returns
-    failed-requires
-    same-length-2
-    returns-2)
+    (λ c κs. search needs)  -- describe-requires src/words.rt:135:9
+    (λ c κs. search needs)  -- host-of-requires src/words.rt:137:13
+    (λ c κs. search needs)  -- end-bits-requires src/words.rt:138:22
+    (λ c. search needs)  -- slice-aggregate-node src/words.rt:139:44
+    (λ c κs. search needs)  -- node-requires src/words.rt:139:9
+    (λ c. search needs)  -- same-length src/words.rt:139:9
+    (λ c. search end-laws)  -- returns src/words.rt:139:9
+    (λ c κs. search needs)  -- failed-requires src/words.rt:141:5
+    (λ c. search needs)  -- same-length-2 src/words.rt:132:1
+    (λ c. search end-laws))  -- returns-2 src/words.rt:132:1

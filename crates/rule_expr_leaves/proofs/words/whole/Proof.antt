@@ -8,26 +8,12 @@ use Rattle.rule_expr_nodes.proofs.cells.cells.Reads as cells-reads
 use Rattle.table_scope.proofs.describe.Reads as describe-reads
 use Rattle.table_scope.proofs.host_of.Reads as host-of-reads
 
--- src/words.rt:52:9
-describe-requires : tie.Need-describe-requires
-describe-requires c κs = search needs
-
--- src/words.rt:53:9
-host-of-requires : tie.Need-host-of-requires
-host-of-requires c κs = search needs
-
--- src/words.rt:54:5
-cells-requires : tie.Need-cells-requires
-cells-requires c κs = search needs
-
--- src/words.rt:49:1
-same-length : tie.Need-same-length
-same-length c = search needs
-
--- src/words.rt:49:1
-returns : tie.Need-returns
-returns c = search whole-is
-
 pub whole-spec : {M : Type 1} → statement M
 whole-spec =
-    tie.close (tie.spec describe-requires host-of-requires cells-requires same-length returns)
+    tie.close
+    (tie.spec
+    (λ c κs. search needs)  -- describe-requires src/words.rt:52:9
+    (λ c κs. search needs)  -- host-of-requires src/words.rt:53:9
+    (λ c κs. search needs)  -- cells-requires src/words.rt:54:5
+    (λ c. search needs)  -- same-length src/words.rt:49:1
+    (λ c. search whole-is))  -- returns src/words.rt:49:1

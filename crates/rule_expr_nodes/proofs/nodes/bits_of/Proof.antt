@@ -6,31 +6,13 @@ use Rattle.rule_expr_nodes.proofs.nodes.bits_of.Reads as reads
 use Rattle.rule_expr_nodes.proofs.nodes.bits_of.Lts as lts
 use Rattle.leaf_sets.proofs.pattern.Reads as pattern-reads
 
--- src/nodes.rt:48:37
-sub-pattern : tie.Need-sub-pattern
-sub-pattern c = search (bits-turns, needs)
-
--- src/nodes.rt:48:29
-pattern-requires : tie.Need-pattern-requires
-pattern-requires c κs = search needs
-
--- src/nodes.rt:48:16
-sub-result : tie.Need-sub-result
-sub-result c = search needs
-
--- src/nodes.rt:48:9
-returns : tie.Need-returns
-returns c = search bits-laws
-
--- src/nodes.rt:50:5
-pattern-requires-2 : tie.Need-pattern-requires-2
-pattern-requires-2 c κs = search needs
-
--- src/nodes.rt:44:1
-returns-2 : tie.Need-returns-2
-returns-2 c = search bits-laws
-
 pub bits-of-spec : {M : Type 1} → statement M
 bits-of-spec =
     tie.close
-    (tie.spec sub-pattern pattern-requires sub-result returns pattern-requires-2 returns-2)
+    (tie.spec
+    (λ c. search (bits-turns, needs))  -- sub-pattern src/nodes.rt:48:37
+    (λ c κs. search needs)  -- pattern-requires src/nodes.rt:48:29
+    (λ c. search needs)  -- sub-result src/nodes.rt:48:16
+    (λ c. search bits-laws)  -- returns src/nodes.rt:48:9
+    (λ c κs. search needs)  -- pattern-requires-2 src/nodes.rt:50:5
+    (λ c. search bits-laws))  -- returns-2 src/nodes.rt:44:1

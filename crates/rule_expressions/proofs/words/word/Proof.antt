@@ -13,142 +13,34 @@ use Rattle.rule_faults.proofs.failed.Reads as failed-reads
 use Rattle.text_heads.proofs.atom_of.Reads as atom-of-reads
 use Rattle.table_scope.proofs.meaning_of.Reads as meaning-of-reads
 
--- src/words.rt:101:9
-atom-of-requires : tie.Need-atom-of-requires
-atom-of-requires c κs = search needs
-
--- src/words.rt:103:22
-enum-known-a : tie.Need-enum-known-a
-enum-known-a c = search needs
-
--- src/words.rt:103:28
-literal-requires : tie.Need-literal-requires
-literal-requires c κs = search needs
-
--- src/words.rt:105:38
-enum-told : tie.Need-enum-told
-enum-told c = search needs
-
--- src/words.rt:105:17
-meaning-of-requires : tie.Need-meaning-of-requires
-meaning-of-requires c κs = search needs
-
--- src/words.rt:106:13
-named-requires : tie.Need-named-requires
-named-requires c κs = search needs
-
--- src/words.rt:108:21
-enum-known-a-2 : tie.Need-enum-known-a-2
-enum-known-a-2 c = search needs
-
--- src/words.rt:109:26
-flag-requires : tie.Need-flag-requires
-flag-requires c κs = search needs
-
--- src/words.rt:110:38
-slice-aggregate-node : tie.Need-slice-aggregate-node
-slice-aggregate-node c = search needs
-
--- src/words.rt:110:13
-node-requires : tie.Need-node-requires
-node-requires c κs = search needs
-
--- src/words.rt:113:17
-enum-told-2 : tie.Need-enum-told-2
-enum-told-2 c = search needs
-
--- src/words.rt:114:38
-slice-aggregate-node-2 : tie.Need-slice-aggregate-node-2
-slice-aggregate-node-2 c = search needs
-
--- src/words.rt:114:13
-node-requires-2 : tie.Need-node-requires-2
-node-requires-2 c κs = search needs
-
--- src/words.rt:116:33
-enum-told-3 : tie.Need-enum-told-3
-enum-told-3 c = search needs
-
--- src/words.rt:116:26
-failed-requires : tie.Need-failed-requires
-failed-requires c κs = search needs
-
--- src/words.rt:117:33
-enum-told-4 : tie.Need-enum-told-4
-enum-told-4 c = search needs
-
--- src/words.rt:117:26
-failed-requires-2 : tie.Need-failed-requires-2
-failed-requires-2 c κs = search needs
-
--- src/words.rt:98:1
-same-length : tie.Need-same-length
-same-length c = search needs
-
--- src/words.rt:98:1
-returns : tie.Need-returns
-returns c = search (word-laws, sfits-of)
-
--- src/words.rt:98:1
-same-length-2 : tie.Need-same-length-2
-same-length-2 c = search needs
-
--- src/words.rt:98:1
-returns-2 : tie.Need-returns-2
-returns-2 c = search (word-laws, sfits-of)
-
--- src/words.rt:98:1
-same-length-3 : tie.Need-same-length-3
-same-length-3 c = search needs
-
--- src/words.rt:98:1
-returns-3 : tie.Need-returns-3
-returns-3 c = search (word-laws, sfits-of)
-
--- src/words.rt:98:1
-same-length-4 : tie.Need-same-length-4
-same-length-4 c = search needs
-
--- src/words.rt:98:1
-returns-4 : tie.Need-returns-4
-returns-4 c = search (word-laws, sfits-of)
-
--- src/words.rt:98:1
-returns-5 : tie.Need-returns-5
-returns-5 c = search (word-laws, sfits-of)
-
--- src/words.rt:98:1
-returns-6 : tie.Need-returns-6
-returns-6 c = search (word-laws, sfits-of)
-
 pub word-spec : {M : Type 1} → statement M
 word-spec =
     tie.close
     (tie.spec
-    atom-of-requires
-    enum-known-a
-    literal-requires
-    enum-told
-    meaning-of-requires
-    named-requires
-    enum-known-a-2
-    flag-requires
-    slice-aggregate-node
-    node-requires
-    enum-told-2
-    slice-aggregate-node-2
-    node-requires-2
-    enum-told-3
-    failed-requires
-    enum-told-4
-    failed-requires-2
-    same-length
-    returns
-    same-length-2
-    returns-2
-    same-length-3
-    returns-3
-    same-length-4
-    returns-4
-    returns-5
-    returns-6)
+    (λ c κs. search needs)  -- atom-of-requires src/words.rt:101:9
+    (λ c. search needs)  -- enum-known-a src/words.rt:103:22
+    (λ c κs. search needs)  -- literal-requires src/words.rt:103:28
+    (λ c. search needs)  -- enum-told src/words.rt:105:38
+    (λ c κs. search needs)  -- meaning-of-requires src/words.rt:105:17
+    (λ c κs. search needs)  -- named-requires src/words.rt:106:13
+    (λ c. search needs)  -- enum-known-a-2 src/words.rt:108:21
+    (λ c κs. search needs)  -- flag-requires src/words.rt:109:26
+    (λ c. search needs)  -- slice-aggregate-node src/words.rt:110:38
+    (λ c κs. search needs)  -- node-requires src/words.rt:110:13
+    (λ c. search needs)  -- enum-told-2 src/words.rt:113:17
+    (λ c. search needs)  -- slice-aggregate-node-2 src/words.rt:114:38
+    (λ c κs. search needs)  -- node-requires-2 src/words.rt:114:13
+    (λ c. search needs)  -- enum-told-3 src/words.rt:116:33
+    (λ c κs. search needs)  -- failed-requires src/words.rt:116:26
+    (λ c. search needs)  -- enum-told-4 src/words.rt:117:33
+    (λ c κs. search needs)  -- failed-requires-2 src/words.rt:117:26
+    (λ c. search needs)  -- same-length src/words.rt:98:1
+    (λ c. search (word-laws, sfits-of))  -- returns src/words.rt:98:1
+    (λ c. search needs)  -- same-length-2 src/words.rt:98:1
+    (λ c. search (word-laws, sfits-of))  -- returns-2 src/words.rt:98:1
+    (λ c. search needs)  -- same-length-3 src/words.rt:98:1
+    (λ c. search (word-laws, sfits-of))  -- returns-3 src/words.rt:98:1
+    (λ c. search needs)  -- same-length-4 src/words.rt:98:1
+    (λ c. search (word-laws, sfits-of))  -- returns-4 src/words.rt:98:1
+    (λ c. search (word-laws, sfits-of))  -- returns-5 src/words.rt:98:1
+    (λ c. search (word-laws, sfits-of)))  -- returns-6 src/words.rt:98:1

@@ -7,17 +7,10 @@ use Rattle.rule_judge.proofs.entering.proc_entry.Lts as lts
 use Rattle.rule_declarations.proofs.with_body.Reads as with-body-reads
 use Rattle.rule_declarations.proofs.with_names.Reads as with-names-reads
 
--- src/entering.rt:80:9
-with-names-requires : tie.Need-with-names-requires
-with-names-requires c κs = search needs
-
--- src/entering.rt:81:9
-with-body-requires : tie.Need-with-body-requires
-with-body-requires c κs = search needs
-
--- src/entering.rt:76:1
-returns : tie.Need-returns
-returns c = search proc-entry-is
-
 pub proc-entry-spec : {M : Type 1} → statement M
-proc-entry-spec = tie.close (tie.spec with-names-requires with-body-requires returns)
+proc-entry-spec =
+    tie.close
+    (tie.spec
+    (λ c κs. search needs)  -- with-names-requires src/entering.rt:80:9
+    (λ c κs. search needs)  -- with-body-requires src/entering.rt:81:9
+    (λ c. search proc-entry-is))  -- returns src/entering.rt:76:1

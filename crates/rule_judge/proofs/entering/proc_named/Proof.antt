@@ -10,42 +10,14 @@ use Rattle.rule_faults.proofs.lowest.Reads as lowest-reads
 use Rattle.rule_statements.proofs.body.body.Reads as body-reads
 use Rattle.table_names.proofs.keys.name_number.Reads as name-number-reads
 
--- src/entering.rt:123:9
-named-fault-requires : tie.Need-named-fault-requires
-named-fault-requires c κs = search needs
-
--- src/entering.rt:124:9
-body-requires : tie.Need-body-requires
-body-requires c κs = search needs
-
--- src/entering.rt:135:9
-name-number-requires : tie.Need-name-number-requires
-name-number-requires c κs = search needs
-
--- src/entering.rt:136:24
-lowest-requires : tie.Need-lowest-requires
-lowest-requires c κs = search needs
-
--- src/entering.rt:136:5
-proc-end-requires : tie.Need-proc-end-requires
-proc-end-requires c κs = search needs
-
--- src/entering.rt:112:1
-same-length : tie.Need-same-length
-same-length c = search needs
-
--- src/entering.rt:112:1
-returns : tie.Need-returns
-returns c = search proc-named-is
-
 pub proc-named-spec : {M : Type 1} → statement M
 proc-named-spec =
     tie.close
     (tie.spec
-    named-fault-requires
-    body-requires
-    name-number-requires
-    lowest-requires
-    proc-end-requires
-    same-length
-    returns)
+    (λ c κs. search needs)  -- named-fault-requires src/entering.rt:123:9
+    (λ c κs. search needs)  -- body-requires src/entering.rt:124:9
+    (λ c κs. search needs)  -- name-number-requires src/entering.rt:135:9
+    (λ c κs. search needs)  -- lowest-requires src/entering.rt:136:24
+    (λ c κs. search needs)  -- proc-end-requires src/entering.rt:136:5
+    (λ c. search needs)  -- same-length src/entering.rt:112:1
+    (λ c. search proc-named-is))  -- returns src/entering.rt:112:1

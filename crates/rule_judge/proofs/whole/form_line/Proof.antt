@@ -10,77 +10,21 @@ use Rattle.rule_known.proofs.judging.refused.Reads as refused-reads
 use Rattle.text_parts.proofs.part_at.Reads as part-at-reads
 use Rattle.text_heads.proofs.line_head.Reads as line-head-reads
 
--- src/whole.rt:20:9
-part-at-requires : tie.Need-part-at-requires
-part-at-requires c κs = search needs
-
--- src/whole.rt:22:20
-enum-known-p : tie.Need-enum-known-p
-enum-known-p c = search needs
-
--- src/whole.rt:23:50
-line-head-requires : tie.Need-line-head-requires
-line-head-requires c κs = search needs
-
--- src/whole.rt:23:17
-enter-requires : tie.Need-enter-requires
-enter-requires c κs = search needs
-
--- src/whole.rt:24:13
-judge-requires : tie.Need-judge-requires
-judge-requires c κs = search needs
-
--- src/whole.rt:26:26
-enum-told : tie.Need-enum-told
-enum-told c = search needs
-
--- src/whole.rt:26:26
-refused-requires : tie.Need-refused-requires
-refused-requires c κs = search needs
-
--- src/whole.rt:27:26
-enum-told-2 : tie.Need-enum-told-2
-enum-told-2 c = search needs
-
--- src/whole.rt:27:26
-refused-requires-2 : tie.Need-refused-requires-2
-refused-requires-2 c κs = search needs
-
--- src/whole.rt:17:1
-same-length : tie.Need-same-length
-same-length c = search needs
-
--- src/whole.rt:17:1
-same-length-2 : tie.Need-same-length-2
-same-length-2 c = search needs
-
--- src/whole.rt:17:1
-returns : tie.Need-returns
-returns c = search form-laws
-
--- src/whole.rt:17:1
-returns-2 : tie.Need-returns-2
-returns-2 c = search form-laws
-
--- src/whole.rt:17:1
-returns-3 : tie.Need-returns-3
-returns-3 c = search form-laws
-
 pub form-line-spec : {M : Type 1} → statement M
 form-line-spec =
     tie.close
     (tie.spec
-    part-at-requires
-    enum-known-p
-    line-head-requires
-    enter-requires
-    judge-requires
-    enum-told
-    refused-requires
-    enum-told-2
-    refused-requires-2
-    same-length
-    same-length-2
-    returns
-    returns-2
-    returns-3)
+    (λ c κs. search needs)  -- part-at-requires src/whole.rt:20:9
+    (λ c. search needs)  -- enum-known-p src/whole.rt:22:20
+    (λ c κs. search needs)  -- line-head-requires src/whole.rt:23:50
+    (λ c κs. search needs)  -- enter-requires src/whole.rt:23:17
+    (λ c κs. search needs)  -- judge-requires src/whole.rt:24:13
+    (λ c. search needs)  -- enum-told src/whole.rt:26:26
+    (λ c κs. search needs)  -- refused-requires src/whole.rt:26:26
+    (λ c. search needs)  -- enum-told-2 src/whole.rt:27:26
+    (λ c κs. search needs)  -- refused-requires-2 src/whole.rt:27:26
+    (λ c. search needs)  -- same-length src/whole.rt:17:1
+    (λ c. search needs)  -- same-length-2 src/whole.rt:17:1
+    (λ c. search form-laws)  -- returns src/whole.rt:17:1
+    (λ c. search form-laws)  -- returns-2 src/whole.rt:17:1
+    (λ c. search form-laws))  -- returns-3 src/whole.rt:17:1

@@ -8,52 +8,16 @@ use Rattle.rule_declarations.proofs.name_at.Reads as name-at-reads
 use Rattle.rule_judge_loose.proofs.bodied.faulty.Reads as faulty-reads
 use Rattle.rule_judge_loose.proofs.bodied.proc_named.Reads as proc-named-reads
 
--- src/bodied.rt:149:9
-name-at-requires : tie.Need-name-at-requires
-name-at-requires c κs = search needs
-
--- src/bodied.rt:151:24
-enum-known-n : tie.Need-enum-known-n
-enum-known-n c = search needs
-
--- src/bodied.rt:151:33
-proc-named-requires : tie.Need-proc-named-requires
-proc-named-requires c κs = search needs
-
--- src/bodied.rt:152:39
-enum-told : tie.Need-enum-told
-enum-told c = search needs
-
--- src/bodied.rt:152:28
-faulty-requires : tie.Need-faulty-requires
-faulty-requires c κs = search needs
-
--- src/bodied.rt:139:1
-same-length : tie.Need-same-length
-same-length c = search needs
-
--- src/bodied.rt:139:1
-same-length-2 : tie.Need-same-length-2
-same-length-2 c = search needs
-
--- src/bodied.rt:139:1
-returns : tie.Need-returns
-returns c = search proc-line-laws
-
--- src/bodied.rt:139:1
-returns-2 : tie.Need-returns-2
-returns-2 c = search proc-line-laws
-
 pub proc-line-spec : {M : Type 1} → statement M
 proc-line-spec =
     tie.close
     (tie.spec
-    name-at-requires
-    enum-known-n
-    proc-named-requires
-    enum-told
-    faulty-requires
-    same-length
-    same-length-2
-    returns
-    returns-2)
+    (λ c κs. search needs)  -- name-at-requires src/bodied.rt:149:9
+    (λ c. search needs)  -- enum-known-n src/bodied.rt:151:24
+    (λ c κs. search needs)  -- proc-named-requires src/bodied.rt:151:33
+    (λ c. search needs)  -- enum-told src/bodied.rt:152:39
+    (λ c κs. search needs)  -- faulty-requires src/bodied.rt:152:28
+    (λ c. search needs)  -- same-length src/bodied.rt:139:1
+    (λ c. search needs)  -- same-length-2 src/bodied.rt:139:1
+    (λ c. search proc-line-laws)  -- returns src/bodied.rt:139:1
+    (λ c. search proc-line-laws))  -- returns-2 src/bodied.rt:139:1

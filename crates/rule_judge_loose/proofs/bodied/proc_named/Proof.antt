@@ -11,52 +11,16 @@ use Rattle.rule_body_notes.proofs.note_body.Reads as note-body-reads
 use Rattle.rule_faults.proofs.lowest.Reads as lowest-reads
 use Rattle.table_names.proofs.keys.name_number.Reads as name-number-reads
 
--- src/bodied.rt:115:9
-named-fault-requires : tie.Need-named-fault-requires
-named-fault-requires c κs = search needs
-
--- src/bodied.rt:116:9
-loose-body-requires : tie.Need-loose-body-requires
-loose-body-requires c κs = search needs
-
--- src/bodied.rt:118:5
-note-body-requires : tie.Need-note-body-requires
-note-body-requires c κs = search needs
-
--- src/bodied.rt:119:9
-name-number-requires : tie.Need-name-number-requires
-name-number-requires c κs = search needs
-
--- src/bodied.rt:120:24
-lowest-requires : tie.Need-lowest-requires
-lowest-requires c κs = search needs
-
--- src/bodied.rt:120:5
-proc-end-requires : tie.Need-proc-end-requires
-proc-end-requires c κs = search needs
-
--- src/bodied.rt:103:1
-same-length : tie.Need-same-length
-same-length c = search needs
-
--- src/bodied.rt:103:1
-same-length-2 : tie.Need-same-length-2
-same-length-2 c = search needs
-
--- src/bodied.rt:103:1
-returns : tie.Need-returns
-returns c = search proc-enters
-
 pub proc-named-spec : {M : Type 1} → statement M
 proc-named-spec =
     tie.close
     (tie.spec
-    named-fault-requires
-    loose-body-requires
-    note-body-requires
-    name-number-requires
-    lowest-requires
-    proc-end-requires
-    same-length
-    same-length-2
-    returns)
+    (λ c κs. search needs)  -- named-fault-requires src/bodied.rt:115:9
+    (λ c κs. search needs)  -- loose-body-requires src/bodied.rt:116:9
+    (λ c κs. search needs)  -- note-body-requires src/bodied.rt:118:5
+    (λ c κs. search needs)  -- name-number-requires src/bodied.rt:119:9
+    (λ c κs. search needs)  -- lowest-requires src/bodied.rt:120:24
+    (λ c κs. search needs)  -- proc-end-requires src/bodied.rt:120:5
+    (λ c. search needs)  -- same-length src/bodied.rt:103:1
+    (λ c. search needs)  -- same-length-2 src/bodied.rt:103:1
+    (λ c. search proc-enters))  -- returns src/bodied.rt:103:1

@@ -22,62 +22,6 @@ abbrev μ-loop : tie.MeasureT-loop
 loop-holds : tie.Need-loop-holds Inv-loop μ-loop
 loop-holds c = going-start _ _ _ _ _
 
--- src/checking.rt:29:13
-loose-line-requires : tie.Need-loose-line-requires Inv-loop μ-loop
-loose-line-requires c κs = search needs
-
--- src/checking.rt:32:13
-same-length : tie.Need-same-length Inv-loop μ-loop
-same-length c = search needs
-
--- src/checking.rt:32:13
-same-length-2 : tie.Need-same-length-2 Inv-loop μ-loop
-same-length-2 c = search needs
-
--- src/checking.rt:32:13
-same-length-3 : tie.Need-same-length-3 Inv-loop μ-loop
-same-length-3 c = search needs
-
--- src/checking.rt:32:13
-returns : tie.Need-returns Inv-loop μ-loop
-returns c = search drive-laws
-
--- src/checking.rt:38:9
-next-line-requires : tie.Need-next-line-requires Inv-loop μ-loop
-next-line-requires c κs = search needs
-
--- src/checking.rt:39:9
-add-n : tie.Need-add-n Inv-loop μ-loop
-add-n c = search (going-room, needs)
-
--- src/checking.rt:28:5
-loop-less : tie.Need-loop-less Inv-loop μ-loop
-loop-less c = search next-less
-
--- src/checking.rt:28:5
-loop-again : tie.Need-loop-again Inv-loop μ-loop
-loop-again c = search drive-laws
-
--- src/checking.rt:41:5
-at-end-requires : tie.Need-at-end-requires Inv-loop μ-loop
-at-end-requires c κs = search needs
-
--- src/checking.rt:15:1
-same-length-4 : tie.Need-same-length-4 Inv-loop μ-loop
-same-length-4 c = search needs
-
--- src/checking.rt:15:1
-same-length-5 : tie.Need-same-length-5 Inv-loop μ-loop
-same-length-5 c = search needs
-
--- src/checking.rt:15:1
-same-length-6 : tie.Need-same-length-6 Inv-loop μ-loop
-same-length-6 c = search needs
-
--- src/checking.rt:15:1
-returns-2 : tie.Need-returns-2 Inv-loop μ-loop
-returns-2 c = search drive-laws
-
 pub check-lines-spec : {M : Type 1} → statement M
 check-lines-spec =
     tie.close
@@ -85,17 +29,17 @@ check-lines-spec =
     Inv-loop
     μ-loop
     loop-holds
-    loose-line-requires
-    same-length
-    same-length-2
-    same-length-3
-    returns
-    next-line-requires
-    add-n
-    loop-less
-    loop-again
-    at-end-requires
-    same-length-4
-    same-length-5
-    same-length-6
-    returns-2)
+    (λ c κs. search needs)  -- loose-line-requires src/checking.rt:29:13
+    (λ c. search needs)  -- same-length src/checking.rt:32:13
+    (λ c. search needs)  -- same-length-2 src/checking.rt:32:13
+    (λ c. search needs)  -- same-length-3 src/checking.rt:32:13
+    (λ c. search drive-laws)  -- returns src/checking.rt:32:13
+    (λ c κs. search needs)  -- next-line-requires src/checking.rt:38:9
+    (λ c. search (going-room, needs))  -- add-n src/checking.rt:39:9
+    (λ c. search next-less)  -- loop-less src/checking.rt:28:5
+    (λ c. search drive-laws)  -- loop-again src/checking.rt:28:5
+    (λ c κs. search needs)  -- at-end-requires src/checking.rt:41:5
+    (λ c. search needs)  -- same-length-4 src/checking.rt:15:1
+    (λ c. search needs)  -- same-length-5 src/checking.rt:15:1
+    (λ c. search needs)  -- same-length-6 src/checking.rt:15:1
+    (λ c. search drive-laws))  -- returns-2 src/checking.rt:15:1

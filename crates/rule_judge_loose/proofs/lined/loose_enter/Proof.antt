@@ -11,142 +11,34 @@ use Rattle.rule_judge_loose.proofs.bodied.main_line.Reads as main-line-
 use Rattle.rule_judge_loose.proofs.bodied.proc_line.Reads as proc-line-reads
 use Rattle.rule_type_forms.proofs.type_line.Reads as type-line-reads
 
--- src/lined.rt:39:56
-enum-told : tie.Need-enum-told
-enum-told c = search needs
-
--- src/lined.rt:39:40
-type-line-requires : tie.Need-type-line-requires
-type-line-requires c κs = search needs
-
--- src/lined.rt:39:27
-declared-requires : tie.Need-declared-requires
-declared-requires c κs = search needs
-
--- src/lined.rt:40:54
-enum-told-2 : tie.Need-enum-told-2
-enum-told-2 c = search needs
-
--- src/lined.rt:40:39
-var-line-requires : tie.Need-var-line-requires
-var-line-requires c κs = search needs
-
--- src/lined.rt:40:26
-declared-requires-2 : tie.Need-declared-requires-2
-declared-requires-2 c κs = search needs
-
--- src/lined.rt:41:43
-enum-told-3 : tie.Need-enum-told-3
-enum-told-3 c = search needs
-
--- src/lined.rt:41:27
-proc-line-requires : tie.Need-proc-line-requires
-proc-line-requires c κs = search needs
-
--- src/lined.rt:42:43
-enum-told-4 : tie.Need-enum-told-4
-enum-told-4 c = search needs
-
--- src/lined.rt:42:27
-main-line-requires : tie.Need-main-line-requires
-main-line-requires c κs = search needs
-
--- src/lined.rt:43:41
-enum-told-5 : tie.Need-enum-told-5
-enum-told-5 c = search needs
-
--- src/lined.rt:43:30
-faulty-requires : tie.Need-faulty-requires
-faulty-requires c κs = search needs
-
--- src/lined.rt:26:1
-same-length : tie.Need-same-length
-same-length c = search needs
-
--- src/lined.rt:26:1
-same-length-2 : tie.Need-same-length-2
-same-length-2 c = search needs
-
--- src/lined.rt:26:1
-returns : tie.Need-returns
-returns c = search enter-laws
-
--- src/lined.rt:26:1
-same-length-3 : tie.Need-same-length-3
-same-length-3 c = search needs
-
--- src/lined.rt:26:1
-same-length-4 : tie.Need-same-length-4
-same-length-4 c = search needs
-
--- src/lined.rt:26:1
-returns-2 : tie.Need-returns-2
-returns-2 c = search enter-laws
-
--- src/lined.rt:26:1
-same-length-5 : tie.Need-same-length-5
-same-length-5 c = search needs
-
--- src/lined.rt:26:1
-same-length-6 : tie.Need-same-length-6
-same-length-6 c = search needs
-
--- src/lined.rt:26:1
-same-length-7 : tie.Need-same-length-7
-same-length-7 c = search needs
-
--- src/lined.rt:26:1
-returns-3 : tie.Need-returns-3
-returns-3 c = search enter-laws
-
--- src/lined.rt:26:1
-same-length-8 : tie.Need-same-length-8
-same-length-8 c = search needs
-
--- src/lined.rt:26:1
-same-length-9 : tie.Need-same-length-9
-same-length-9 c = search needs
-
--- src/lined.rt:26:1
-same-length-10 : tie.Need-same-length-10
-same-length-10 c = search needs
-
--- src/lined.rt:26:1
-returns-4 : tie.Need-returns-4
-returns-4 c = search enter-laws
-
--- src/lined.rt:26:1
-returns-5 : tie.Need-returns-5
-returns-5 c = search enter-laws
-
 pub loose-enter-spec : {M : Type 1} → statement M
 loose-enter-spec =
     tie.close
     (tie.spec
-    enum-told
-    type-line-requires
-    declared-requires
-    enum-told-2
-    var-line-requires
-    declared-requires-2
-    enum-told-3
-    proc-line-requires
-    enum-told-4
-    main-line-requires
-    enum-told-5
-    faulty-requires
-    same-length
-    same-length-2
-    returns
-    same-length-3
-    same-length-4
-    returns-2
-    same-length-5
-    same-length-6
-    same-length-7
-    returns-3
-    same-length-8
-    same-length-9
-    same-length-10
-    returns-4
-    returns-5)
+    (λ c. search needs)  -- enum-told src/lined.rt:39:56
+    (λ c κs. search needs)  -- type-line-requires src/lined.rt:39:40
+    (λ c κs. search needs)  -- declared-requires src/lined.rt:39:27
+    (λ c. search needs)  -- enum-told-2 src/lined.rt:40:54
+    (λ c κs. search needs)  -- var-line-requires src/lined.rt:40:39
+    (λ c κs. search needs)  -- declared-requires-2 src/lined.rt:40:26
+    (λ c. search needs)  -- enum-told-3 src/lined.rt:41:43
+    (λ c κs. search needs)  -- proc-line-requires src/lined.rt:41:27
+    (λ c. search needs)  -- enum-told-4 src/lined.rt:42:43
+    (λ c κs. search needs)  -- main-line-requires src/lined.rt:42:27
+    (λ c. search needs)  -- enum-told-5 src/lined.rt:43:41
+    (λ c κs. search needs)  -- faulty-requires src/lined.rt:43:30
+    (λ c. search needs)  -- same-length src/lined.rt:26:1
+    (λ c. search needs)  -- same-length-2 src/lined.rt:26:1
+    (λ c. search enter-laws)  -- returns src/lined.rt:26:1
+    (λ c. search needs)  -- same-length-3 src/lined.rt:26:1
+    (λ c. search needs)  -- same-length-4 src/lined.rt:26:1
+    (λ c. search enter-laws)  -- returns-2 src/lined.rt:26:1
+    (λ c. search needs)  -- same-length-5 src/lined.rt:26:1
+    (λ c. search needs)  -- same-length-6 src/lined.rt:26:1
+    (λ c. search needs)  -- same-length-7 src/lined.rt:26:1
+    (λ c. search enter-laws)  -- returns-3 src/lined.rt:26:1
+    (λ c. search needs)  -- same-length-8 src/lined.rt:26:1
+    (λ c. search needs)  -- same-length-9 src/lined.rt:26:1
+    (λ c. search needs)  -- same-length-10 src/lined.rt:26:1
+    (λ c. search enter-laws)  -- returns-4 src/lined.rt:26:1
+    (λ c. search enter-laws))  -- returns-5 src/lined.rt:26:1

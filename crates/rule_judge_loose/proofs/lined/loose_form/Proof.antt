@@ -8,72 +8,20 @@ use Rattle.rule_known.proofs.judging.refused.Reads as refused-reads
 use Rattle.rule_judge_loose.proofs.lined.loose_headed.Reads as loose-headed-reads
 use Rattle.text_parts.proofs.part_at.Reads as part-at-reads
 
--- src/lined.rt:76:9
-part-at-requires : tie.Need-part-at-requires
-part-at-requires c κs = search needs
-
--- src/lined.rt:78:20
-enum-known-p : tie.Need-enum-known-p
-enum-known-p c = search needs
-
--- src/lined.rt:78:32
-loose-headed-requires : tie.Need-loose-headed-requires
-loose-headed-requires c κs = search needs
-
--- src/lined.rt:79:26
-enum-told : tie.Need-enum-told
-enum-told c = search needs
-
--- src/lined.rt:79:26
-refused-requires : tie.Need-refused-requires
-refused-requires c κs = search needs
-
--- src/lined.rt:80:26
-enum-told-2 : tie.Need-enum-told-2
-enum-told-2 c = search needs
-
--- src/lined.rt:80:26
-refused-requires-2 : tie.Need-refused-requires-2
-refused-requires-2 c κs = search needs
-
--- src/lined.rt:65:1
-same-length : tie.Need-same-length
-same-length c = search needs
-
--- src/lined.rt:65:1
-same-length-2 : tie.Need-same-length-2
-same-length-2 c = search needs
-
--- src/lined.rt:65:1
-same-length-3 : tie.Need-same-length-3
-same-length-3 c = search needs
-
--- src/lined.rt:65:1
-returns : tie.Need-returns
-returns c = search form-laws
-
--- src/lined.rt:65:1
-returns-2 : tie.Need-returns-2
-returns-2 c = search form-laws
-
--- src/lined.rt:65:1
-returns-3 : tie.Need-returns-3
-returns-3 c = search form-laws
-
 pub loose-form-spec : {M : Type 1} → statement M
 loose-form-spec =
     tie.close
     (tie.spec
-    part-at-requires
-    enum-known-p
-    loose-headed-requires
-    enum-told
-    refused-requires
-    enum-told-2
-    refused-requires-2
-    same-length
-    same-length-2
-    same-length-3
-    returns
-    returns-2
-    returns-3)
+    (λ c κs. search needs)  -- part-at-requires src/lined.rt:76:9
+    (λ c. search needs)  -- enum-known-p src/lined.rt:78:20
+    (λ c κs. search needs)  -- loose-headed-requires src/lined.rt:78:32
+    (λ c. search needs)  -- enum-told src/lined.rt:79:26
+    (λ c κs. search needs)  -- refused-requires src/lined.rt:79:26
+    (λ c. search needs)  -- enum-told-2 src/lined.rt:80:26
+    (λ c κs. search needs)  -- refused-requires-2 src/lined.rt:80:26
+    (λ c. search needs)  -- same-length src/lined.rt:65:1
+    (λ c. search needs)  -- same-length-2 src/lined.rt:65:1
+    (λ c. search needs)  -- same-length-3 src/lined.rt:65:1
+    (λ c. search form-laws)  -- returns src/lined.rt:65:1
+    (λ c. search form-laws)  -- returns-2 src/lined.rt:65:1
+    (λ c. search form-laws))  -- returns-3 src/lined.rt:65:1

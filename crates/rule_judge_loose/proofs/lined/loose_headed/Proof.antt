@@ -8,42 +8,14 @@ use Rattle.rule_known.proofs.judging.judge.Reads as judge-reads
 use Rattle.rule_judge_loose.proofs.lined.loose_enter.Reads as loose-enter-reads
 use Rattle.text_heads.proofs.line_head.Reads as line-head-reads
 
--- src/lined.rt:60:56
-line-head-requires : tie.Need-line-head-requires
-line-head-requires c κs = search needs
-
--- src/lined.rt:60:9
-loose-enter-requires : tie.Need-loose-enter-requires
-loose-enter-requires c κs = search needs
-
--- src/lined.rt:61:5
-judge-requires : tie.Need-judge-requires
-judge-requires c κs = search needs
-
--- src/lined.rt:48:1
-same-length : tie.Need-same-length
-same-length c = search needs
-
--- src/lined.rt:48:1
-same-length-2 : tie.Need-same-length-2
-same-length-2 c = search needs
-
--- src/lined.rt:48:1
-same-length-3 : tie.Need-same-length-3
-same-length-3 c = search needs
-
--- src/lined.rt:48:1
-returns : tie.Need-returns
-returns c = search headed-is
-
 pub loose-headed-spec : {M : Type 1} → statement M
 loose-headed-spec =
     tie.close
     (tie.spec
-    line-head-requires
-    loose-enter-requires
-    judge-requires
-    same-length
-    same-length-2
-    same-length-3
-    returns)
+    (λ c κs. search needs)  -- line-head-requires src/lined.rt:60:56
+    (λ c κs. search needs)  -- loose-enter-requires src/lined.rt:60:9
+    (λ c κs. search needs)  -- judge-requires src/lined.rt:61:5
+    (λ c. search needs)  -- same-length src/lined.rt:48:1
+    (λ c. search needs)  -- same-length-2 src/lined.rt:48:1
+    (λ c. search needs)  -- same-length-3 src/lined.rt:48:1
+    (λ c. search headed-is))  -- returns src/lined.rt:48:1

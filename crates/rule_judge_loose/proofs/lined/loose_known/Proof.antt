@@ -9,87 +9,23 @@ use Rattle.rule_judge_loose.proofs.lined.loose_form.Reads as loose-form
 use Rattle.text_parts.proofs.part_at.Reads as part-at-reads
 use Rattle.text_words.proofs.lines.count_nodes.Reads as count-nodes-reads
 
--- src/lined.rt:96:9
-refused-requires : tie.Need-refused-requires
-refused-requires c κs = search needs
-
--- src/lined.rt:96:9
-returns : tie.Need-returns
-returns c = search known-laws
-
--- src/lined.rt:98:9
-count-nodes-requires : tie.Need-count-nodes-requires
-count-nodes-requires c κs = search needs
-
--- src/lined.rt:99:9
-part-at-requires : tie.Need-part-at-requires
-part-at-requires c κs = search needs
-
--- src/lined.rt:101:20
-enum-known-p : tie.Need-enum-known-p
-enum-known-p c = search needs
-
--- src/lined.rt:101:26
-loose-form-requires : tie.Need-loose-form-requires
-loose-form-requires c κs = search needs
-
--- src/lined.rt:102:32
-enum-told : tie.Need-enum-told
-enum-told c = search needs
-
--- src/lined.rt:102:32
-refused-requires-2 : tie.Need-refused-requires-2
-refused-requires-2 c κs = search needs
-
--- src/lined.rt:103:26
-enum-told-2 : tie.Need-enum-told-2
-enum-told-2 c = search needs
-
--- src/lined.rt:103:26
-refused-requires-3 : tie.Need-refused-requires-3
-refused-requires-3 c κs = search needs
-
--- src/lined.rt:85:1
-same-length : tie.Need-same-length
-same-length c = search needs
-
--- src/lined.rt:85:1
-same-length-2 : tie.Need-same-length-2
-same-length-2 c = search needs
-
--- src/lined.rt:85:1
-same-length-3 : tie.Need-same-length-3
-same-length-3 c = search needs
-
--- src/lined.rt:85:1
-returns-2 : tie.Need-returns-2
-returns-2 c = search known-laws
-
--- src/lined.rt:85:1
-returns-3 : tie.Need-returns-3
-returns-3 c = search known-laws
-
--- src/lined.rt:85:1
-returns-4 : tie.Need-returns-4
-returns-4 c = search known-laws
-
 pub loose-known-spec : {M : Type 1} → statement M
 loose-known-spec =
     tie.close
     (tie.spec
-    refused-requires
-    returns
-    count-nodes-requires
-    part-at-requires
-    enum-known-p
-    loose-form-requires
-    enum-told
-    refused-requires-2
-    enum-told-2
-    refused-requires-3
-    same-length
-    same-length-2
-    same-length-3
-    returns-2
-    returns-3
-    returns-4)
+    (λ c κs. search needs)  -- refused-requires src/lined.rt:96:9
+    (λ c. search known-laws)  -- returns src/lined.rt:96:9
+    (λ c κs. search needs)  -- count-nodes-requires src/lined.rt:98:9
+    (λ c κs. search needs)  -- part-at-requires src/lined.rt:99:9
+    (λ c. search needs)  -- enum-known-p src/lined.rt:101:20
+    (λ c κs. search needs)  -- loose-form-requires src/lined.rt:101:26
+    (λ c. search needs)  -- enum-told src/lined.rt:102:32
+    (λ c κs. search needs)  -- refused-requires-2 src/lined.rt:102:32
+    (λ c. search needs)  -- enum-told-2 src/lined.rt:103:26
+    (λ c κs. search needs)  -- refused-requires-3 src/lined.rt:103:26
+    (λ c. search needs)  -- same-length src/lined.rt:85:1
+    (λ c. search needs)  -- same-length-2 src/lined.rt:85:1
+    (λ c. search needs)  -- same-length-3 src/lined.rt:85:1
+    (λ c. search known-laws)  -- returns-2 src/lined.rt:85:1
+    (λ c. search known-laws)  -- returns-3 src/lined.rt:85:1
+    (λ c. search known-laws))  -- returns-4 src/lined.rt:85:1

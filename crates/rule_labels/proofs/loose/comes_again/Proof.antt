@@ -21,38 +21,6 @@ abbrev μ-loop : tie.MeasureT-loop
 loop-holds : tie.Need-loop-holds Inv-loop μ-loop
 loop-holds c = seek-start _ _ _ _ _
 
--- src/loose.rt:120:13
-next-key-requires : tie.Need-next-key-requires Inv-loop μ-loop
-next-key-requires c κs = search needs
-
--- src/loose.rt:122:26
-enum-known-x : tie.Need-enum-known-x Inv-loop μ-loop
-enum-known-x c = search needs
-
--- src/loose.rt:123:20
-holds-requires : tie.Need-holds-requires Inv-loop μ-loop
-holds-requires c κs = search needs
-
--- src/loose.rt:124:21
-returns : tie.Need-returns Inv-loop μ-loop
-returns c = search (seek-laws, sfits-of)
-
--- src/loose.rt:119:5
-loop-less : tie.Need-loop-less Inv-loop μ-loop
-loop-less c = search key-falls
-
--- src/loose.rt:119:5
-loop-again : tie.Need-loop-again Inv-loop μ-loop
-loop-again c = search (seek-laws, sfits-of)
-
--- src/loose.rt:129:17
-enum-told : tie.Need-enum-told Inv-loop μ-loop
-enum-told c = search needs
-
--- src/loose.rt:129:17
-returns-2 : tie.Need-returns-2 Inv-loop μ-loop
-returns-2 c = search (seek-laws, sfits-of)
-
 pub comes-again-spec : {M : Type 1} → statement M
 comes-again-spec =
     tie.close
@@ -60,11 +28,11 @@ comes-again-spec =
     Inv-loop
     μ-loop
     loop-holds
-    next-key-requires
-    enum-known-x
-    holds-requires
-    returns
-    loop-less
-    loop-again
-    enum-told
-    returns-2)
+    (λ c κs. search needs)  -- next-key-requires src/loose.rt:120:13
+    (λ c. search needs)  -- enum-known-x src/loose.rt:122:26
+    (λ c κs. search needs)  -- holds-requires src/loose.rt:123:20
+    (λ c. search (seek-laws, sfits-of))  -- returns src/loose.rt:124:21
+    (λ c. search key-falls)  -- loop-less src/loose.rt:119:5
+    (λ c. search (seek-laws, sfits-of))  -- loop-again src/loose.rt:119:5
+    (λ c. search needs)  -- enum-told src/loose.rt:129:17
+    (λ c. search (seek-laws, sfits-of)))  -- returns-2 src/loose.rt:129:17

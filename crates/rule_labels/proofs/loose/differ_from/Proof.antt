@@ -20,46 +20,6 @@ abbrev μ-loop : tie.MeasureT-loop
 loop-holds : tie.Need-loop-holds Inv-loop μ-loop
 loop-holds c = clear-start _ _ _ _ _
 
--- src/loose.rt:158:13
-fill-keys-requires : tie.Need-fill-keys-requires Inv-loop μ-loop
-fill-keys-requires c κs = search needs
-
--- src/loose.rt:161:13
-same-length : tie.Need-same-length Inv-loop μ-loop
-same-length c = search needs
-
--- src/loose.rt:161:13
-returns : tie.Need-returns Inv-loop μ-loop
-returns c = search clear-laws
-
--- src/loose.rt:163:38
-slice-reshare-prefix-recurs : tie.Need-slice-reshare-prefix-recurs Inv-loop μ-loop
-slice-reshare-prefix-recurs c = search needs
-
--- src/loose.rt:163:38
-slice-aggregate-recurs : tie.Need-slice-aggregate-recurs Inv-loop μ-loop
-slice-aggregate-recurs c = search block-part
-
--- src/loose.rt:163:12
-recurs-requires : tie.Need-recurs-requires Inv-loop μ-loop
-recurs-requires c κs = search needs
-
--- src/loose.rt:164:13
-same-length-2 : tie.Need-same-length-2 Inv-loop μ-loop
-same-length-2 c = search needs
-
--- src/loose.rt:164:13
-returns-2 : tie.Need-returns-2 Inv-loop μ-loop
-returns-2 c = search clear-laws
-
--- src/loose.rt:157:5
-loop-less : tie.Need-loop-less Inv-loop μ-loop
-loop-less c = search block-falls
-
--- src/loose.rt:157:5
-loop-again : tie.Need-loop-again Inv-loop μ-loop
-loop-again c = search clear-laws
-
 pub differ-from-spec : {M : Type 1} → statement M
 differ-from-spec =
     tie.close
@@ -67,13 +27,13 @@ differ-from-spec =
     Inv-loop
     μ-loop
     loop-holds
-    fill-keys-requires
-    same-length
-    returns
-    slice-reshare-prefix-recurs
-    slice-aggregate-recurs
-    recurs-requires
-    same-length-2
-    returns-2
-    loop-less
-    loop-again)
+    (λ c κs. search needs)  -- fill-keys-requires src/loose.rt:158:13
+    (λ c. search needs)  -- same-length src/loose.rt:161:13
+    (λ c. search clear-laws)  -- returns src/loose.rt:161:13
+    (λ c. search needs)  -- slice-reshare-prefix-recurs src/loose.rt:163:38
+    (λ c. search block-part)  -- slice-aggregate-recurs src/loose.rt:163:38
+    (λ c κs. search needs)  -- recurs-requires src/loose.rt:163:12
+    (λ c. search needs)  -- same-length-2 src/loose.rt:164:13
+    (λ c. search clear-laws)  -- returns-2 src/loose.rt:164:13
+    (λ c. search block-falls)  -- loop-less src/loose.rt:157:5
+    (λ c. search clear-laws))  -- loop-again src/loose.rt:157:5

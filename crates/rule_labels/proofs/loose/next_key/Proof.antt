@@ -8,31 +8,13 @@ use Rattle.rule_labels.proofs.loose.next_key.Lts as lts
 use Rattle.rule_labels.proofs.loose.key_of.Reads as key-of-reads
 use Rattle.rule_labels.proofs.next_label.Reads as next-label-reads
 
--- src/loose.rt:78:9
-next-label-requires : tie.Need-next-label-requires
-next-label-requires c κs = search needs
-
--- src/loose.rt:80:21
-enum-known-x : tie.Need-enum-known-x
-enum-known-x c = search needs
-
--- src/loose.rt:80:43
-key-of-requires : tie.Need-key-of-requires
-key-of-requires c κs = search needs
-
--- src/loose.rt:81:23
-enum-told : tie.Need-enum-told
-enum-told c = search needs
-
--- src/loose.rt:75:1
-returns : tie.Need-returns
-returns c = search (next-laws, sfits-of)
-
--- src/loose.rt:75:1
-returns-2 : tie.Need-returns-2
-returns-2 c = search (next-laws, sfits-of)
-
 pub next-key-spec : {M : Type 1} → statement M
 next-key-spec =
     tie.close
-    (tie.spec next-label-requires enum-known-x key-of-requires enum-told returns returns-2)
+    (tie.spec
+    (λ c κs. search needs)  -- next-label-requires src/loose.rt:78:9
+    (λ c. search needs)  -- enum-known-x src/loose.rt:80:21
+    (λ c κs. search needs)  -- key-of-requires src/loose.rt:80:43
+    (λ c. search needs)  -- enum-told src/loose.rt:81:23
+    (λ c. search (next-laws, sfits-of))  -- returns src/loose.rt:75:1
+    (λ c. search (next-laws, sfits-of)))  -- returns-2 src/loose.rt:75:1

@@ -9,47 +9,15 @@ use Rattle.rule_record_lines.proofs.records.lay_record.Reads as lay-rec
 use Rattle.rule_type_lines.proofs.type_state.Reads as type-state-reads
 use Rattle.table_list.proofs.put.Reads as put-reads
 
--- src/records.rt:116:9
-lay-record-requires : tie.Need-lay-record-requires
-lay-record-requires c κs = search needs
-
--- src/records.rt:117:16
-cast-put : tie.Need-cast-put
-cast-put c = search needs
-
--- src/records.rt:117:5
-put-requires : tie.Need-put-requires
-put-requires c κs = search needs
-
--- src/records.rt:118:9
-type-state-requires : tie.Need-type-state-requires
-type-state-requires c κs = search needs
-
--- src/records.rt:119:5
-answered-requires : tie.Need-answered-requires
-answered-requires c κs = search needs
-
--- src/records.rt:104:1
-same-length : tie.Need-same-length
-same-length c = search needs
-
--- src/records.rt:104:1
-same-length-2 : tie.Need-same-length-2
-same-length-2 c = search needs
-
--- src/records.rt:104:1
-returns : tie.Need-returns
-returns c = search adds-record
-
 pub add-record-spec : {M : Type 1} → statement M
 add-record-spec =
     tie.close
     (tie.spec
-    lay-record-requires
-    cast-put
-    put-requires
-    type-state-requires
-    answered-requires
-    same-length
-    same-length-2
-    returns)
+    (λ c κs. search needs)  -- lay-record-requires src/records.rt:116:9
+    (λ c. search needs)  -- cast-put src/records.rt:117:16
+    (λ c κs. search needs)  -- put-requires src/records.rt:117:5
+    (λ c κs. search needs)  -- type-state-requires src/records.rt:118:9
+    (λ c κs. search needs)  -- answered-requires src/records.rt:119:5
+    (λ c. search needs)  -- same-length src/records.rt:104:1
+    (λ c. search needs)  -- same-length-2 src/records.rt:104:1
+    (λ c. search adds-record))  -- returns src/records.rt:104:1

@@ -7,21 +7,11 @@ use Rattle.rule_record_lines.proofs.records.lay_field.Lts as lts
 use Rattle.rule_declarations.proofs.narrow.Reads as narrow-reads
 use Rattle.table_names.proofs.declare.Reads as declare-reads
 
--- src/records.rt:32:9
-narrow-requires : tie.Need-narrow-requires
-narrow-requires c κs = search needs
-
--- src/records.rt:33:5
-declare-requires : tie.Need-declare-requires
-declare-requires c κs = search needs
-
--- src/records.rt:29:1
-same-length : tie.Need-same-length
-same-length c = search needs
-
--- src/records.rt:29:1
-returns : tie.Need-returns
-returns c = search field-laid
-
 pub lay-field-spec : {M : Type 1} → statement M
-lay-field-spec = tie.close (tie.spec narrow-requires declare-requires same-length returns)
+lay-field-spec =
+    tie.close
+    (tie.spec
+    (λ c κs. search needs)  -- narrow-requires src/records.rt:32:9
+    (λ c κs. search needs)  -- declare-requires src/records.rt:33:5
+    (λ c. search needs)  -- same-length src/records.rt:29:1
+    (λ c. search field-laid))  -- returns src/records.rt:29:1

@@ -21,37 +21,9 @@ abbrev μ-loop : tie.MeasureT-loop
 loop-holds : tie.Need-loop-holds Inv-loop μ-loop
 loop-holds c = fields-start _ _ _ _ _ _ _ (search needs) (search needs)
 
--- src/records.rt:54:13
-pair-at-requires : tie.Need-pair-at-requires Inv-loop μ-loop
-pair-at-requires c κs = search (laying-place, laying-offset, needs)
-
--- src/records.rt:55:13
-add-type-size-requires : tie.Need-add-type-size-requires Inv-loop μ-loop
-add-type-size-requires c κs = search (laying-place, laying-offset, needs)
-
--- src/records.rt:56:9
-lay-field-requires : tie.Need-lay-field-requires Inv-loop μ-loop
-lay-field-requires c κs = search (laying-place, laying-offset, needs)
-
--- src/records.rt:59:9
-add-i : tie.Need-add-i Inv-loop μ-loop
-add-i c = search needs
-
 -- src/records.rt:53:5
 loop-less : tie.Need-loop-less Inv-loop μ-loop
 loop-less c = omega arith
-
--- src/records.rt:53:5
-loop-again : tie.Need-loop-again Inv-loop μ-loop
-loop-again c = search (laying-laws, needs)
-
--- src/records.rt:38:1
-same-length : tie.Need-same-length Inv-loop μ-loop
-same-length c = search needs
-
--- src/records.rt:38:1
-returns : tie.Need-returns Inv-loop μ-loop
-returns c = search (laying-laws, needs)
 
 pub lay-fields-spec : {M : Type 1} → statement M
 lay-fields-spec =
@@ -60,11 +32,11 @@ lay-fields-spec =
     Inv-loop
     μ-loop
     loop-holds
-    pair-at-requires
-    add-type-size-requires
-    lay-field-requires
-    add-i
+    (λ c κs. search (laying-place, laying-offset, needs))  -- pair-at-requires src/records.rt:54:13
+    (λ c κs. search (laying-place, laying-offset, needs))  -- add-type-size-requires src/records.rt:55:13
+    (λ c κs. search (laying-place, laying-offset, needs))  -- lay-field-requires src/records.rt:56:9
+    (λ c. search needs)  -- add-i src/records.rt:59:9
     loop-less
-    loop-again
-    same-length
-    returns)
+    (λ c. search (laying-laws, needs))  -- loop-again src/records.rt:53:5
+    (λ c. search needs)  -- same-length src/records.rt:38:1
+    (λ c. search (laying-laws, needs)))  -- returns src/records.rt:38:1

@@ -9,37 +9,13 @@ use Rattle.rule_record_lines.proofs.records.record_info.Reads as record
 use Rattle.table_names.proofs.keys.name_number.Reads as name-number-reads
 use Rattle.rule_type_lines.proofs.lay_type.Reads as lay-type-reads
 
--- src/records.rt:94:9
-record-info-requires : tie.Need-record-info-requires
-record-info-requires c κs = search needs
-
--- src/records.rt:95:9
-name-number-requires : tie.Need-name-number-requires
-name-number-requires c κs = search needs
-
--- src/records.rt:96:9
-lay-type-requires : tie.Need-lay-type-requires
-lay-type-requires c κs = search needs
-
--- src/records.rt:97:9
-lay-fields-requires : tie.Need-lay-fields-requires
-lay-fields-requires c κs = search needs
-
--- src/records.rt:82:1
-same-length : tie.Need-same-length
-same-length c = search needs
-
--- src/records.rt:82:1
-returns : tie.Need-returns
-returns c = search lays-record
-
 pub lay-record-spec : {M : Type 1} → statement M
 lay-record-spec =
     tie.close
     (tie.spec
-    record-info-requires
-    name-number-requires
-    lay-type-requires
-    lay-fields-requires
-    same-length
-    returns)
+    (λ c κs. search needs)  -- record-info-requires src/records.rt:94:9
+    (λ c κs. search needs)  -- name-number-requires src/records.rt:95:9
+    (λ c κs. search needs)  -- lay-type-requires src/records.rt:96:9
+    (λ c κs. search needs)  -- lay-fields-requires src/records.rt:97:9
+    (λ c. search needs)  -- same-length src/records.rt:82:1
+    (λ c. search lays-record))  -- returns src/records.rt:82:1

@@ -20,38 +20,6 @@ abbrev μ-loop : tie.MeasureT-loop
 loop-holds : tie.Need-loop-holds Inv-loop μ-loop
 loop-holds c = seek-start _ _ _ _ _ _
 
--- src/blocks.rt:149:13
-next-name-requires : tie.Need-next-name-requires Inv-loop μ-loop
-next-name-requires c κs = search needs
-
--- src/blocks.rt:151:24
-enum-known-y : tie.Need-enum-known-y Inv-loop μ-loop
-enum-known-y c = search needs
-
--- src/blocks.rt:152:20
-meets-requires : tie.Need-meets-requires Inv-loop μ-loop
-meets-requires c κs = search needs
-
--- src/blocks.rt:153:21
-returns : tie.Need-returns Inv-loop μ-loop
-returns c = search seek-laws
-
--- src/blocks.rt:148:5
-loop-less : tie.Need-loop-less Inv-loop μ-loop
-loop-less c = search names-fewer
-
--- src/blocks.rt:148:5
-loop-again : tie.Need-loop-again Inv-loop μ-loop
-loop-again c = search seek-laws
-
--- src/blocks.rt:158:17
-enum-told : tie.Need-enum-told Inv-loop μ-loop
-enum-told c = search needs
-
--- src/blocks.rt:158:17
-returns-2 : tie.Need-returns-2 Inv-loop μ-loop
-returns-2 c = search seek-laws
-
 pub comes-again-spec : {M : Type 1} → statement M
 comes-again-spec =
     tie.close
@@ -59,11 +27,11 @@ comes-again-spec =
     Inv-loop
     μ-loop
     loop-holds
-    next-name-requires
-    enum-known-y
-    meets-requires
-    returns
-    loop-less
-    loop-again
-    enum-told
-    returns-2)
+    (λ c κs. search needs)  -- next-name-requires src/blocks.rt:149:13
+    (λ c. search needs)  -- enum-known-y src/blocks.rt:151:24
+    (λ c κs. search needs)  -- meets-requires src/blocks.rt:152:20
+    (λ c. search seek-laws)  -- returns src/blocks.rt:153:21
+    (λ c. search names-fewer)  -- loop-less src/blocks.rt:148:5
+    (λ c. search seek-laws)  -- loop-again src/blocks.rt:148:5
+    (λ c. search needs)  -- enum-told src/blocks.rt:158:17
+    (λ c. search seek-laws))  -- returns-2 src/blocks.rt:158:17

@@ -20,42 +20,6 @@ abbrev μ-loop : tie.MeasureT-loop
 loop-holds : tie.Need-loop-holds Inv-loop μ-loop
 loop-holds c = clear-start _ _ _ _ (search needs)
 
--- src/blocks.rt:171:13
-fill-block-requires : tie.Need-fill-block-requires Inv-loop μ-loop
-fill-block-requires c κs = search (clear-long, needs)
-
--- src/blocks.rt:173:24
-enum-known-f : tie.Need-enum-known-f Inv-loop μ-loop
-enum-known-f c = search needs
-
--- src/blocks.rt:175:21
-returns : tie.Need-returns Inv-loop μ-loop
-returns c = search clear-laws
-
--- src/blocks.rt:177:20
-comes-again-requires : tie.Need-comes-again-requires Inv-loop μ-loop
-comes-again-requires c κs = search needs
-
--- src/blocks.rt:178:21
-returns-2 : tie.Need-returns-2 Inv-loop μ-loop
-returns-2 c = search clear-laws
-
--- src/blocks.rt:170:5
-loop-less : tie.Need-loop-less Inv-loop μ-loop
-loop-less c = search clear-fewer
-
--- src/blocks.rt:170:5
-loop-again : tie.Need-loop-again Inv-loop μ-loop
-loop-again c = search clear-laws
-
--- src/blocks.rt:183:17
-enum-told : tie.Need-enum-told Inv-loop μ-loop
-enum-told c = search needs
-
--- src/blocks.rt:183:17
-returns-3 : tie.Need-returns-3 Inv-loop μ-loop
-returns-3 c = search clear-laws
-
 pub differ-from-spec : {M : Type 1} → statement M
 differ-from-spec =
     tie.close
@@ -63,12 +27,12 @@ differ-from-spec =
     Inv-loop
     μ-loop
     loop-holds
-    fill-block-requires
-    enum-known-f
-    returns
-    comes-again-requires
-    returns-2
-    loop-less
-    loop-again
-    enum-told
-    returns-3)
+    (λ c κs. search (clear-long, needs))  -- fill-block-requires src/blocks.rt:171:13
+    (λ c. search needs)  -- enum-known-f src/blocks.rt:173:24
+    (λ c. search clear-laws)  -- returns src/blocks.rt:175:21
+    (λ c κs. search needs)  -- comes-again-requires src/blocks.rt:177:20
+    (λ c. search clear-laws)  -- returns-2 src/blocks.rt:178:21
+    (λ c. search clear-fewer)  -- loop-less src/blocks.rt:170:5
+    (λ c. search clear-laws)  -- loop-again src/blocks.rt:170:5
+    (λ c. search needs)  -- enum-told src/blocks.rt:183:17
+    (λ c. search clear-laws))  -- returns-3 src/blocks.rt:183:17

@@ -19,33 +19,9 @@ abbrev μ-loop : tie.MeasureT-loop
 loop-holds : tie.Need-loop-holds Inv-loop μ-loop
 loop-holds c = have-start _ _
 
--- src/blocks.rt:46:27
-mul-either : tie.Need-mul-either Inv-loop μ-loop
-mul-either c = search needs
-
--- src/blocks.rt:46:27
-element-copy-out-either : tie.Need-element-copy-out-either Inv-loop μ-loop
-element-copy-out-either c = search needs
-
--- src/blocks.rt:46:9
-either-requires : tie.Need-either-requires Inv-loop μ-loop
-either-requires c κs = search needs
-
--- src/blocks.rt:47:9
-add-i : tie.Need-add-i Inv-loop μ-loop
-add-i c = search needs
-
 -- src/blocks.rt:45:5
 loop-less : tie.Need-loop-less Inv-loop μ-loop
 loop-less c = omega arith
-
--- src/blocks.rt:45:5
-loop-again : tie.Need-loop-again Inv-loop μ-loop
-loop-again c = search have-laws
-
--- src/blocks.rt:40:1
-returns : tie.Need-returns Inv-loop μ-loop
-returns c = search have-laws
 
 pub has-spec : {M : Type 1} → statement M
 has-spec =
@@ -54,10 +30,10 @@ has-spec =
     Inv-loop
     μ-loop
     loop-holds
-    mul-either
-    element-copy-out-either
-    either-requires
-    add-i
+    (λ c. search needs)  -- mul-either src/blocks.rt:46:27
+    (λ c. search needs)  -- element-copy-out-either src/blocks.rt:46:27
+    (λ c κs. search needs)  -- either-requires src/blocks.rt:46:9
+    (λ c. search needs)  -- add-i src/blocks.rt:47:9
     loop-less
-    loop-again
-    returns)
+    (λ c. search have-laws)  -- loop-again src/blocks.rt:45:5
+    (λ c. search have-laws))  -- returns src/blocks.rt:40:1

@@ -20,34 +20,6 @@ abbrev μ-loop : tie.MeasureT-loop
 loop-holds : tie.Need-loop-holds Inv-loop μ-loop
 loop-holds c = both-start _ _ _ _
 
--- src/blocks.rt:59:32
-mul-both : tie.Need-mul-both Inv-loop μ-loop
-mul-both c = search needs
-
--- src/blocks.rt:59:32
-element-copy-out-both : tie.Need-element-copy-out-both Inv-loop μ-loop
-element-copy-out-both c = search needs
-
--- src/blocks.rt:59:46
-mul-both-2 : tie.Need-mul-both-2 Inv-loop μ-loop
-mul-both-2 c = search needs
-
--- src/blocks.rt:59:46
-element-copy-out-both-2 : tie.Need-element-copy-out-both-2 Inv-loop μ-loop
-element-copy-out-both-2 c = search needs
-
--- src/blocks.rt:59:27
-both-requires : tie.Need-both-requires Inv-loop μ-loop
-both-requires c κs = search needs
-
--- src/blocks.rt:59:9
-either-requires : tie.Need-either-requires Inv-loop μ-loop
-either-requires c κs = search needs
-
--- src/blocks.rt:60:9
-add-i : tie.Need-add-i Inv-loop μ-loop
-add-i c = search needs
-
 -- src/blocks.rt:58:5
 loop-less : tie.Need-loop-less Inv-loop μ-loop
 loop-less c = omega arith
@@ -56,10 +28,6 @@ loop-less c = omega arith
 loop-again : tie.Need-loop-again Inv-loop μ-loop
 loop-again c = both-on _ _ _ _ _ _ (c .before .before .before .before .before .loop .inv) (c .before .before .before .before .loop-test .taken) _ (c .before .both .ensures) _ (c .either .ensures)
 
--- src/blocks.rt:53:1
-returns : tie.Need-returns Inv-loop μ-loop
-returns c = search both-laws
-
 pub has-both-spec : {M : Type 1} → statement M
 has-both-spec =
     tie.close
@@ -67,13 +35,13 @@ has-both-spec =
     Inv-loop
     μ-loop
     loop-holds
-    mul-both
-    element-copy-out-both
-    mul-both-2
-    element-copy-out-both-2
-    both-requires
-    either-requires
-    add-i
+    (λ c. search needs)  -- mul-both src/blocks.rt:59:32
+    (λ c. search needs)  -- element-copy-out-both src/blocks.rt:59:32
+    (λ c. search needs)  -- mul-both-2 src/blocks.rt:59:46
+    (λ c. search needs)  -- element-copy-out-both-2 src/blocks.rt:59:46
+    (λ c κs. search needs)  -- both-requires src/blocks.rt:59:27
+    (λ c κs. search needs)  -- either-requires src/blocks.rt:59:9
+    (λ c. search needs)  -- add-i src/blocks.rt:60:9
     loop-less
     loop-again
-    returns)
+    (λ c. search both-laws))  -- returns src/blocks.rt:53:1

@@ -5,21 +5,11 @@ use Rattle.rule_repeats.proofs.keys.high_with.Tie as tie
 use Rattle.rule_repeats.proofs.keys.high_with.Reads as reads
 use Rattle.rule_repeats.proofs.keys.high_with.Lts as lts
 
--- src/keys.rt:26:7
-mul-result : tie.Need-mul-result
-mul-result c = search needs
-
--- src/keys.rt:26:7
-add-result : tie.Need-add-result
-add-result c = search needs
-
--- src/keys.rt:26:5
-cast-result : tie.Need-cast-result
-cast-result c = search needs
-
--- src/keys.rt:23:1
-returns : tie.Need-returns
-returns c = search high-more
-
 pub high-with-spec : {M : Type 1} → statement M
-high-with-spec = tie.close (tie.spec mul-result add-result cast-result returns)
+high-with-spec =
+    tie.close
+    (tie.spec
+    (λ c. search needs)  -- mul-result src/keys.rt:26:7
+    (λ c. search needs)  -- add-result src/keys.rt:26:7
+    (λ c. search needs)  -- cast-result src/keys.rt:26:5
+    (λ c. search high-more))  -- returns src/keys.rt:23:1

@@ -5,21 +5,11 @@ use Rattle.rule_repeats.proofs.keys.low_with.Tie as tie
 use Rattle.rule_repeats.proofs.keys.low_with.Reads as reads
 use Rattle.rule_repeats.proofs.keys.low_with.Lts as lts
 
--- src/keys.rt:19:7
-mul-result : tie.Need-mul-result
-mul-result c = search needs
-
--- src/keys.rt:19:7
-add-result : tie.Need-add-result
-add-result c = search needs
-
--- src/keys.rt:19:5
-cast-result : tie.Need-cast-result
-cast-result c = search needs
-
--- src/keys.rt:16:1
-returns : tie.Need-returns
-returns c = search low-more
-
 pub low-with-spec : {M : Type 1} → statement M
-low-with-spec = tie.close (tie.spec mul-result add-result cast-result returns)
+low-with-spec =
+    tie.close
+    (tie.spec
+    (λ c. search needs)  -- mul-result src/keys.rt:19:7
+    (λ c. search needs)  -- add-result src/keys.rt:19:7
+    (λ c. search needs)  -- cast-result src/keys.rt:19:5
+    (λ c. search low-more))  -- returns src/keys.rt:16:1

@@ -19,46 +19,6 @@ abbrev μ-loop : tie.MeasureT-loop
 loop-holds : tie.Need-loop-holds Inv-loop μ-loop
 loop-holds c = pass-start _ _
 
--- src/arm_parts.rt:62:13
-arm-part-requires : tie.Need-arm-part-requires Inv-loop μ-loop
-arm-part-requires c κs = search needs
-
--- src/arm_parts.rt:65:17
-enum-told : tie.Need-enum-told Inv-loop μ-loop
-enum-told c = search needs
-
--- src/arm_parts.rt:65:17
-returns : tie.Need-returns Inv-loop μ-loop
-returns c = search pass-laws
-
--- src/arm_parts.rt:68:17
-enum-told-2 : tie.Need-enum-told-2 Inv-loop μ-loop
-enum-told-2 c = search needs
-
--- src/arm_parts.rt:68:17
-returns-2 : tie.Need-returns-2 Inv-loop μ-loop
-returns-2 c = search pass-laws
-
--- src/arm_parts.rt:70:28
-enum-known-x : tie.Need-enum-known-x Inv-loop μ-loop
-enum-known-x c = search needs
-
--- src/arm_parts.rt:61:5
-loop-less : tie.Need-loop-less Inv-loop μ-loop
-loop-less c = search pass-falls
-
--- src/arm_parts.rt:61:5
-loop-again : tie.Need-loop-again Inv-loop μ-loop
-loop-again c = search pass-laws
-
--- src/arm_parts.rt:74:17
-enum-told-3 : tie.Need-enum-told-3 Inv-loop μ-loop
-enum-told-3 c = search needs
-
--- src/arm_parts.rt:74:17
-returns-3 : tie.Need-returns-3 Inv-loop μ-loop
-returns-3 c = search pass-laws
-
 pub after-labels-spec : {M : Type 1} → statement M
 after-labels-spec =
     tie.close
@@ -66,13 +26,13 @@ after-labels-spec =
     Inv-loop
     μ-loop
     loop-holds
-    arm-part-requires
-    enum-told
-    returns
-    enum-told-2
-    returns-2
-    enum-known-x
-    loop-less
-    loop-again
-    enum-told-3
-    returns-3)
+    (λ c κs. search needs)  -- arm-part-requires src/arm_parts.rt:62:13
+    (λ c. search needs)  -- enum-told src/arm_parts.rt:65:17
+    (λ c. search pass-laws)  -- returns src/arm_parts.rt:65:17
+    (λ c. search needs)  -- enum-told-2 src/arm_parts.rt:68:17
+    (λ c. search pass-laws)  -- returns-2 src/arm_parts.rt:68:17
+    (λ c. search needs)  -- enum-known-x src/arm_parts.rt:70:28
+    (λ c. search pass-falls)  -- loop-less src/arm_parts.rt:61:5
+    (λ c. search pass-laws)  -- loop-again src/arm_parts.rt:61:5
+    (λ c. search needs)  -- enum-told-3 src/arm_parts.rt:74:17
+    (λ c. search pass-laws))  -- returns-3 src/arm_parts.rt:74:17

@@ -8,52 +8,16 @@ use Rattle.rule_restrictions.proofs.control.start_by.Reads as start-by-
 use Rattle.text_parts.proofs.part_at.Reads as part-at-reads
 use Rattle.table_scope.proofs.meaning_of.Reads as meaning-of-reads
 
--- src/control.rt:124:9
-part-at-requires : tie.Need-part-at-requires
-part-at-requires c κs = search needs
-
--- src/control.rt:126:23
-enum-known-part : tie.Need-enum-known-part
-enum-known-part c = search needs
-
--- src/control.rt:126:54
-meaning-of-requires : tie.Need-meaning-of-requires
-meaning-of-requires c κs = search needs
-
--- src/control.rt:126:32
-start-by-requires : tie.Need-start-by-requires
-start-by-requires c κs = search needs
-
--- src/control.rt:127:26
-enum-told : tie.Need-enum-told
-enum-told c = search needs
-
--- src/control.rt:128:26
-enum-told-2 : tie.Need-enum-told-2
-enum-told-2 c = search needs
-
--- src/control.rt:121:1
-returns : tie.Need-returns
-returns c = search start-laws
-
--- src/control.rt:121:1
-returns-2 : tie.Need-returns-2
-returns-2 c = search start-laws
-
--- src/control.rt:121:1
-returns-3 : tie.Need-returns-3
-returns-3 c = search start-laws
-
 pub start-at-spec : {M : Type 1} → statement M
 start-at-spec =
     tie.close
     (tie.spec
-    part-at-requires
-    enum-known-part
-    meaning-of-requires
-    start-by-requires
-    enum-told
-    enum-told-2
-    returns
-    returns-2
-    returns-3)
+    (λ c κs. search needs)  -- part-at-requires src/control.rt:124:9
+    (λ c. search needs)  -- enum-known-part src/control.rt:126:23
+    (λ c κs. search needs)  -- meaning-of-requires src/control.rt:126:54
+    (λ c κs. search needs)  -- start-by-requires src/control.rt:126:32
+    (λ c. search needs)  -- enum-told src/control.rt:127:26
+    (λ c. search needs)  -- enum-told-2 src/control.rt:128:26
+    (λ c. search start-laws)  -- returns src/control.rt:121:1
+    (λ c. search start-laws)  -- returns-2 src/control.rt:121:1
+    (λ c. search start-laws))  -- returns-3 src/control.rt:121:1

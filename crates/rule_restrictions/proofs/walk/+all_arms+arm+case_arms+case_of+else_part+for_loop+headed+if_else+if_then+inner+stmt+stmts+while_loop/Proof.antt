@@ -207,1256 +207,6 @@ all-arms-loop-holds : (t : ℕ) → all-arms-lts.Need-loop-holds (
 ) (all-arms-at t) all-arms.Post all-arms-Inv-loop all-arms-μ-loop
 all-arms-loop-holds t c = arms-start _ _ _ _ _ _
 
--- src/walk.rt:260:13
-all-arms-arm-at-requires : (t : ℕ) → all-arms-lts.Need-arm-at-requires (
-  arm-at-reads.Asked,
-  arm-at-reads.Learnt,
-  stmt-below t,
-  stmt.Post,
-  arm-below t,
-  arm.Post,
-  skip-reads.Asked,
-  skip-reads.Learnt,
-) (all-arms-at t) all-arms.Post all-arms-Inv-loop all-arms-μ-loop
-all-arms-arm-at-requires t c κs = search needs
-
--- src/walk.rt:263:17
-all-arms-enum-told : (t : ℕ) → all-arms-lts.Need-enum-told (
-  arm-at-reads.Asked,
-  arm-at-reads.Learnt,
-  stmt-below t,
-  stmt.Post,
-  arm-below t,
-  arm.Post,
-  skip-reads.Asked,
-  skip-reads.Learnt,
-) (all-arms-at t) all-arms.Post all-arms-Inv-loop all-arms-μ-loop
-all-arms-enum-told t c = search needs
-
--- src/walk.rt:263:17
-all-arms-returns : (t : ℕ) → all-arms-lts.Need-returns (
-  arm-at-reads.Asked,
-  arm-at-reads.Learnt,
-  stmt-below t,
-  stmt.Post,
-  arm-below t,
-  arm.Post,
-  skip-reads.Asked,
-  skip-reads.Learnt,
-) (all-arms-at t) all-arms.Post all-arms-Inv-loop all-arms-μ-loop
-all-arms-returns t c = search arms-laws
-
--- src/walk.rt:265:27
-all-arms-enum-known-e : (t : ℕ) → all-arms-lts.Need-enum-known-e (
-  arm-at-reads.Asked,
-  arm-at-reads.Learnt,
-  stmt-below t,
-  stmt.Post,
-  arm-below t,
-  arm.Post,
-  skip-reads.Asked,
-  skip-reads.Learnt,
-) (all-arms-at t) all-arms.Post all-arms-Inv-loop all-arms-μ-loop
-all-arms-enum-known-e t c = search needs
-
--- src/walk.rt:266:17
-all-arms-stmt-requires : (t : ℕ) → all-arms-lts.Need-stmt-requires (
-  arm-at-reads.Asked,
-  arm-at-reads.Learnt,
-  stmt-below t,
-  stmt.Post,
-  arm-below t,
-  arm.Post,
-  skip-reads.Asked,
-  skip-reads.Learnt,
-) (all-arms-at t) all-arms.Post all-arms-Inv-loop all-arms-μ-loop
-all-arms-stmt-requires t c κs = search needs
-
--- src/walk.rt:266:17
-all-arms-returns-2 : (t : ℕ) → all-arms-lts.Need-returns-2 (
-  arm-at-reads.Asked,
-  arm-at-reads.Learnt,
-  stmt-below t,
-  stmt.Post,
-  arm-below t,
-  arm.Post,
-  skip-reads.Asked,
-  skip-reads.Learnt,
-) (all-arms-at t) all-arms.Post all-arms-Inv-loop all-arms-μ-loop
-all-arms-returns-2 t c = search arms-laws
-
--- src/walk.rt:269:17
-all-arms-enum-told-2 : (t : ℕ) → all-arms-lts.Need-enum-told-2 (
-  arm-at-reads.Asked,
-  arm-at-reads.Learnt,
-  stmt-below t,
-  stmt.Post,
-  arm-below t,
-  arm.Post,
-  skip-reads.Asked,
-  skip-reads.Learnt,
-) (all-arms-at t) all-arms.Post all-arms-Inv-loop all-arms-μ-loop
-all-arms-enum-told-2 t c = search needs
-
--- src/walk.rt:269:17
-all-arms-returns-3 : (t : ℕ) → all-arms-lts.Need-returns-3 (
-  arm-at-reads.Asked,
-  arm-at-reads.Learnt,
-  stmt-below t,
-  stmt.Post,
-  arm-below t,
-  arm.Post,
-  skip-reads.Asked,
-  skip-reads.Learnt,
-) (all-arms-at t) all-arms.Post all-arms-Inv-loop all-arms-μ-loop
-all-arms-returns-3 t c = search arms-laws
-
--- src/walk.rt:271:26
-all-arms-enum-known-e-2 : (t : ℕ) → all-arms-lts.Need-enum-known-e-2 (
-  arm-at-reads.Asked,
-  arm-at-reads.Learnt,
-  stmt-below t,
-  stmt.Post,
-  arm-below t,
-  arm.Post,
-  skip-reads.Asked,
-  skip-reads.Learnt,
-) (all-arms-at t) all-arms.Post all-arms-Inv-loop all-arms-μ-loop
-all-arms-enum-known-e-2 t c = search needs
-
--- src/walk.rt:272:20
-all-arms-arm-requires : (t : ℕ) → all-arms-lts.Need-arm-requires (
-  arm-at-reads.Asked,
-  arm-at-reads.Learnt,
-  stmt-below t,
-  stmt.Post,
-  arm-below t,
-  arm.Post,
-  skip-reads.Asked,
-  skip-reads.Learnt,
-) (all-arms-at t) all-arms.Post all-arms-Inv-loop all-arms-μ-loop
-all-arms-arm-requires t c κs = search needs
-
--- src/walk.rt:273:21
-all-arms-skip-requires : (t : ℕ) → all-arms-lts.Need-skip-requires (
-  arm-at-reads.Asked,
-  arm-at-reads.Learnt,
-  stmt-below t,
-  stmt.Post,
-  arm-below t,
-  arm.Post,
-  skip-reads.Asked,
-  skip-reads.Learnt,
-) (all-arms-at t) all-arms.Post all-arms-Inv-loop all-arms-μ-loop
-all-arms-skip-requires t c κs = search needs
-
--- src/walk.rt:259:5
-all-arms-loop-less : (t : ℕ) → all-arms-lts.Need-loop-less (
-  arm-at-reads.Asked,
-  arm-at-reads.Learnt,
-  stmt-below t,
-  stmt.Post,
-  arm-below t,
-  arm.Post,
-  skip-reads.Asked,
-  skip-reads.Learnt,
-) (all-arms-at t) all-arms.Post all-arms-Inv-loop all-arms-μ-loop
-all-arms-loop-less t c = search arms-falls
-
--- src/walk.rt:259:5
-all-arms-loop-again : (t : ℕ) → all-arms-lts.Need-loop-again (
-  arm-at-reads.Asked,
-  arm-at-reads.Learnt,
-  stmt-below t,
-  stmt.Post,
-  arm-below t,
-  arm.Post,
-  skip-reads.Asked,
-  skip-reads.Learnt,
-) (all-arms-at t) all-arms.Post all-arms-Inv-loop all-arms-μ-loop
-all-arms-loop-again t c = search arms-laws
-
--- src/walk.rt:275:21
-all-arms-returns-4 : (t : ℕ) → all-arms-lts.Need-returns-4 (
-  arm-at-reads.Asked,
-  arm-at-reads.Learnt,
-  stmt-below t,
-  stmt.Post,
-  arm-below t,
-  arm.Post,
-  skip-reads.Asked,
-  skip-reads.Learnt,
-) (all-arms-at t) all-arms.Post all-arms-Inv-loop all-arms-μ-loop
-all-arms-returns-4 t c = search arms-laws
-
--- src/walk.rt:293:9
-arm-after-labels-requires : (t : ℕ) → arm-lts.Need-after-labels-requires (
-  after-labels-reads.Asked,
-  after-labels-reads.Learnt,
-  stmt-below t,
-  stmt.Post,
-) (arm-at t) arm.Post
-arm-after-labels-requires t c κs = search needs
-
--- src/walk.rt:295:24
-arm-enum-known-x : (t : ℕ) → arm-lts.Need-enum-known-x (
-  after-labels-reads.Asked,
-  after-labels-reads.Learnt,
-  stmt-below t,
-  stmt.Post,
-) (arm-at t) arm.Post
-arm-enum-known-x t c = search needs
-
--- src/walk.rt:295:30
-arm-stmt-requires : (t : ℕ) → arm-lts.Need-stmt-requires (
-  after-labels-reads.Asked,
-  after-labels-reads.Learnt,
-  stmt-below t,
-  stmt.Post,
-) (arm-at t) arm.Post
-arm-stmt-requires t c κs = search needs
-
--- src/walk.rt:296:29
-arm-enum-told : (t : ℕ) → arm-lts.Need-enum-told (
-  after-labels-reads.Asked,
-  after-labels-reads.Learnt,
-  stmt-below t,
-  stmt.Post,
-) (arm-at t) arm.Post
-arm-enum-told t c = search needs
-
--- src/walk.rt:297:30
-arm-enum-told-2 : (t : ℕ) → arm-lts.Need-enum-told-2 (
-  after-labels-reads.Asked,
-  after-labels-reads.Learnt,
-  stmt-below t,
-  stmt.Post,
-) (arm-at t) arm.Post
-arm-enum-told-2 t c = search needs
-
--- src/walk.rt:283:1
-arm-returns : (t : ℕ) → arm-lts.Need-returns (
-  after-labels-reads.Asked,
-  after-labels-reads.Learnt,
-  stmt-below t,
-  stmt.Post,
-) (arm-at t) arm.Post
-arm-returns t c = search arm-laws
-
--- src/walk.rt:283:1
-arm-returns-2 : (t : ℕ) → arm-lts.Need-returns-2 (
-  after-labels-reads.Asked,
-  after-labels-reads.Learnt,
-  stmt-below t,
-  stmt.Post,
-) (arm-at t) arm.Post
-arm-returns-2 t c = search arm-laws
-
--- src/walk.rt:283:1
-arm-returns-3 : (t : ℕ) → arm-lts.Need-returns-3 (
-  after-labels-reads.Asked,
-  after-labels-reads.Learnt,
-  stmt-below t,
-  stmt.Post,
-) (arm-at t) arm.Post
-arm-returns-3 t c = search arm-laws
-
--- src/walk.rt:241:8
-case-arms-all-arms-requires : (t : ℕ) → case-arms-lts.Need-all-arms-requires (
-  all-arms-below t,
-  all-arms.Post,
-  labels-differ-reads.Asked,
-  labels-differ-reads.Learnt,
-) (case-arms-at t) case-arms.Post
-case-arms-all-arms-requires t c κs = search needs
-
--- src/walk.rt:242:9
-case-arms-labels-differ-requires : (t : ℕ) → case-arms-lts.Need-labels-differ-requires (
-  all-arms-below t,
-  all-arms.Post,
-  labels-differ-reads.Asked,
-  labels-differ-reads.Learnt,
-) (case-arms-at t) case-arms.Post
-case-arms-labels-differ-requires t c κs = search needs
-
--- src/walk.rt:242:9
-case-arms-returns : (t : ℕ) → case-arms-lts.Need-returns (
-  all-arms-below t,
-  all-arms.Post,
-  labels-differ-reads.Asked,
-  labels-differ-reads.Learnt,
-) (case-arms-at t) case-arms.Post
-case-arms-returns t c = search cases-laws
-
--- src/walk.rt:231:1
-case-arms-returns-2 : (t : ℕ) → case-arms-lts.Need-returns-2 (
-  all-arms-below t,
-  all-arms.Post,
-  labels-differ-reads.Asked,
-  labels-differ-reads.Learnt,
-) (case-arms-at t) case-arms.Post
-case-arms-returns-2 t c = search cases-laws
-
--- src/walk.rt:223:8
-case-of-plain-part-requires : (t : ℕ) → case-of-lts.Need-plain-part-requires (
-  plain-part-reads.Asked,
-  plain-part-reads.Learnt,
-  skip-reads.Asked,
-  skip-reads.Learnt,
-  case-arms-below t,
-  case-arms.Post,
-) (case-of-at t) case-of.Post
-case-of-plain-part-requires t c κs = search needs
-
--- src/walk.rt:224:13
-case-of-skip-requires : (t : ℕ) → case-of-lts.Need-skip-requires (
-  plain-part-reads.Asked,
-  plain-part-reads.Learnt,
-  skip-reads.Asked,
-  skip-reads.Learnt,
-  case-arms-below t,
-  case-arms.Post,
-) (case-of-at t) case-of.Post
-case-of-skip-requires t c κs = search needs
-
--- src/walk.rt:225:9
-case-of-case-arms-requires : (t : ℕ) → case-of-lts.Need-case-arms-requires (
-  plain-part-reads.Asked,
-  plain-part-reads.Learnt,
-  skip-reads.Asked,
-  skip-reads.Learnt,
-  case-arms-below t,
-  case-arms.Post,
-) (case-of-at t) case-of.Post
-case-of-case-arms-requires t c κs = search needs
-
--- src/walk.rt:225:9
-case-of-returns : (t : ℕ) → case-of-lts.Need-returns (
-  plain-part-reads.Asked,
-  plain-part-reads.Learnt,
-  skip-reads.Asked,
-  skip-reads.Learnt,
-  case-arms-below t,
-  case-arms.Post,
-) (case-of-at t) case-of.Post
-case-of-returns t c = search case-laws
-
--- src/walk.rt:213:1
-case-of-returns-2 : (t : ℕ) → case-of-lts.Need-returns-2 (
-  plain-part-reads.Asked,
-  plain-part-reads.Learnt,
-  skip-reads.Asked,
-  skip-reads.Learnt,
-  case-arms-below t,
-  case-arms.Post,
-) (case-of-at t) case-of.Post
-case-of-returns-2 t c = search case-laws
-
--- src/walk.rt:158:9
-else-part-end-at-requires : (t : ℕ) → else-part-lts.Need-end-at-requires (
-  end-at-reads.Asked,
-  end-at-reads.Learnt,
-  stmt-below t,
-  stmt.Post,
-) (else-part-at t) else-part.Post
-else-part-end-at-requires t c κs = search needs
-
--- src/walk.rt:160:25
-else-part-enum-told : (t : ℕ) → else-part-lts.Need-enum-told (
-  end-at-reads.Asked,
-  end-at-reads.Learnt,
-  stmt-below t,
-  stmt.Post,
-) (else-part-at t) else-part.Post
-else-part-enum-told t c = search needs
-
--- src/walk.rt:161:22
-else-part-enum-told-2 : (t : ℕ) → else-part-lts.Need-enum-told-2 (
-  end-at-reads.Asked,
-  end-at-reads.Learnt,
-  stmt-below t,
-  stmt.Post,
-) (else-part-at t) else-part.Post
-else-part-enum-told-2 t c = search needs
-
--- src/walk.rt:161:22
-else-part-stmt-requires : (t : ℕ) → else-part-lts.Need-stmt-requires (
-  end-at-reads.Asked,
-  end-at-reads.Learnt,
-  stmt-below t,
-  stmt.Post,
-) (else-part-at t) else-part.Post
-else-part-stmt-requires t c κs = search needs
-
--- src/walk.rt:148:1
-else-part-returns : (t : ℕ) → else-part-lts.Need-returns (
-  end-at-reads.Asked,
-  end-at-reads.Learnt,
-  stmt-below t,
-  stmt.Post,
-) (else-part-at t) else-part.Post
-else-part-returns t c = search else-laws
-
--- src/walk.rt:148:1
-else-part-returns-2 : (t : ℕ) → else-part-lts.Need-returns-2 (
-  end-at-reads.Asked,
-  end-at-reads.Learnt,
-  stmt-below t,
-  stmt.Post,
-) (else-part-at t) else-part.Post
-else-part-returns-2 t c = search else-laws
-
--- src/walk.rt:176:9
-for-loop-start-at-requires : (t : ℕ) → for-loop-lts.Need-start-at-requires (
-  start-at-reads.Asked,
-  start-at-reads.Learnt,
-  with-loop-reads.Asked,
-  with-loop-reads.Learnt,
-  stmt-below t,
-  stmt.Post,
-) (for-loop-at t) for-loop.Post
-for-loop-start-at-requires t c κs = search needs
-
--- src/walk.rt:178:21
-for-loop-enum-known-x : (t : ℕ) → for-loop-lts.Need-enum-known-x (
-  start-at-reads.Asked,
-  start-at-reads.Learnt,
-  with-loop-reads.Asked,
-  with-loop-reads.Learnt,
-  stmt-below t,
-  stmt.Post,
-) (for-loop-at t) for-loop.Post
-for-loop-enum-known-x t c = search needs
-
--- src/walk.rt:178:54
-for-loop-with-loop-requires : (t : ℕ) → for-loop-lts.Need-with-loop-requires (
-  start-at-reads.Asked,
-  start-at-reads.Learnt,
-  with-loop-reads.Asked,
-  with-loop-reads.Learnt,
-  stmt-below t,
-  stmt.Post,
-) (for-loop-at t) for-loop.Post
-for-loop-with-loop-requires t c κs = search needs
-
--- src/walk.rt:178:30
-for-loop-stmt-requires : (t : ℕ) → for-loop-lts.Need-stmt-requires (
-  start-at-reads.Asked,
-  start-at-reads.Learnt,
-  with-loop-reads.Asked,
-  with-loop-reads.Learnt,
-  stmt-below t,
-  stmt.Post,
-) (for-loop-at t) for-loop.Post
-for-loop-stmt-requires t c κs = search needs
-
--- src/walk.rt:179:26
-for-loop-enum-told : (t : ℕ) → for-loop-lts.Need-enum-told (
-  start-at-reads.Asked,
-  start-at-reads.Learnt,
-  with-loop-reads.Asked,
-  with-loop-reads.Learnt,
-  stmt-below t,
-  stmt.Post,
-) (for-loop-at t) for-loop.Post
-for-loop-enum-told t c = search needs
-
--- src/walk.rt:166:1
-for-loop-returns : (t : ℕ) → for-loop-lts.Need-returns (
-  start-at-reads.Asked,
-  start-at-reads.Learnt,
-  with-loop-reads.Asked,
-  with-loop-reads.Learnt,
-  stmt-below t,
-  stmt.Post,
-) (for-loop-at t) for-loop.Post
-for-loop-returns t c = search for-laws
-
--- src/walk.rt:166:1
-for-loop-returns-2 : (t : ℕ) → for-loop-lts.Need-returns-2 (
-  start-at-reads.Asked,
-  start-at-reads.Learnt,
-  with-loop-reads.Asked,
-  with-loop-reads.Learnt,
-  stmt-below t,
-  stmt.Post,
-) (for-loop-at t) for-loop.Post
-for-loop-returns-2 t c = search for-laws
-
--- src/walk.rt:81:25
-headed-enum-told : (t : ℕ) → headed-lts.Need-enum-told (
-  assign-kept-reads.Asked,
-  assign-kept-reads.Learnt,
-  stmts-below t,
-  stmts.Post,
-  if-else-below t,
-  if-else.Post,
-  while-loop-below t,
-  while-loop.Post,
-  for-loop-below t,
-  for-loop.Post,
-  case-of-below t,
-  case-of.Post,
-  plain-part-reads.Asked,
-  plain-part-reads.Learnt,
-) (headed-at t) headed.Post
-headed-enum-told t c = search needs
-
--- src/walk.rt:81:25
-headed-assign-kept-requires : (t : ℕ) → headed-lts.Need-assign-kept-requires (
-  assign-kept-reads.Asked,
-  assign-kept-reads.Learnt,
-  stmts-below t,
-  stmts.Post,
-  if-else-below t,
-  if-else.Post,
-  while-loop-below t,
-  while-loop.Post,
-  for-loop-below t,
-  for-loop.Post,
-  case-of-below t,
-  case-of.Post,
-  plain-part-reads.Asked,
-  plain-part-reads.Learnt,
-) (headed-at t) headed.Post
-headed-assign-kept-requires t c κs = search needs
-
--- src/walk.rt:82:24
-headed-enum-told-2 : (t : ℕ) → headed-lts.Need-enum-told-2 (
-  assign-kept-reads.Asked,
-  assign-kept-reads.Learnt,
-  stmts-below t,
-  stmts.Post,
-  if-else-below t,
-  if-else.Post,
-  while-loop-below t,
-  while-loop.Post,
-  for-loop-below t,
-  for-loop.Post,
-  case-of-below t,
-  case-of.Post,
-  plain-part-reads.Asked,
-  plain-part-reads.Learnt,
-) (headed-at t) headed.Post
-headed-enum-told-2 t c = search needs
-
--- src/walk.rt:82:24
-headed-stmts-requires : (t : ℕ) → headed-lts.Need-stmts-requires (
-  assign-kept-reads.Asked,
-  assign-kept-reads.Learnt,
-  stmts-below t,
-  stmts.Post,
-  if-else-below t,
-  if-else.Post,
-  while-loop-below t,
-  while-loop.Post,
-  for-loop-below t,
-  for-loop.Post,
-  case-of-below t,
-  case-of.Post,
-  plain-part-reads.Asked,
-  plain-part-reads.Learnt,
-) (headed-at t) headed.Post
-headed-stmts-requires t c κs = search needs
-
--- src/walk.rt:83:21
-headed-enum-told-3 : (t : ℕ) → headed-lts.Need-enum-told-3 (
-  assign-kept-reads.Asked,
-  assign-kept-reads.Learnt,
-  stmts-below t,
-  stmts.Post,
-  if-else-below t,
-  if-else.Post,
-  while-loop-below t,
-  while-loop.Post,
-  for-loop-below t,
-  for-loop.Post,
-  case-of-below t,
-  case-of.Post,
-  plain-part-reads.Asked,
-  plain-part-reads.Learnt,
-) (headed-at t) headed.Post
-headed-enum-told-3 t c = search needs
-
--- src/walk.rt:83:21
-headed-if-else-requires : (t : ℕ) → headed-lts.Need-if-else-requires (
-  assign-kept-reads.Asked,
-  assign-kept-reads.Learnt,
-  stmts-below t,
-  stmts.Post,
-  if-else-below t,
-  if-else.Post,
-  while-loop-below t,
-  while-loop.Post,
-  for-loop-below t,
-  for-loop.Post,
-  case-of-below t,
-  case-of.Post,
-  plain-part-reads.Asked,
-  plain-part-reads.Learnt,
-) (headed-at t) headed.Post
-headed-if-else-requires t c κs = search needs
-
--- src/walk.rt:84:24
-headed-enum-told-4 : (t : ℕ) → headed-lts.Need-enum-told-4 (
-  assign-kept-reads.Asked,
-  assign-kept-reads.Learnt,
-  stmts-below t,
-  stmts.Post,
-  if-else-below t,
-  if-else.Post,
-  while-loop-below t,
-  while-loop.Post,
-  for-loop-below t,
-  for-loop.Post,
-  case-of-below t,
-  case-of.Post,
-  plain-part-reads.Asked,
-  plain-part-reads.Learnt,
-) (headed-at t) headed.Post
-headed-enum-told-4 t c = search needs
-
--- src/walk.rt:84:24
-headed-while-loop-requires : (t : ℕ) → headed-lts.Need-while-loop-requires (
-  assign-kept-reads.Asked,
-  assign-kept-reads.Learnt,
-  stmts-below t,
-  stmts.Post,
-  if-else-below t,
-  if-else.Post,
-  while-loop-below t,
-  while-loop.Post,
-  for-loop-below t,
-  for-loop.Post,
-  case-of-below t,
-  case-of.Post,
-  plain-part-reads.Asked,
-  plain-part-reads.Learnt,
-) (headed-at t) headed.Post
-headed-while-loop-requires t c κs = search needs
-
--- src/walk.rt:85:22
-headed-enum-told-5 : (t : ℕ) → headed-lts.Need-enum-told-5 (
-  assign-kept-reads.Asked,
-  assign-kept-reads.Learnt,
-  stmts-below t,
-  stmts.Post,
-  if-else-below t,
-  if-else.Post,
-  while-loop-below t,
-  while-loop.Post,
-  for-loop-below t,
-  for-loop.Post,
-  case-of-below t,
-  case-of.Post,
-  plain-part-reads.Asked,
-  plain-part-reads.Learnt,
-) (headed-at t) headed.Post
-headed-enum-told-5 t c = search needs
-
--- src/walk.rt:85:22
-headed-for-loop-requires : (t : ℕ) → headed-lts.Need-for-loop-requires (
-  assign-kept-reads.Asked,
-  assign-kept-reads.Learnt,
-  stmts-below t,
-  stmts.Post,
-  if-else-below t,
-  if-else.Post,
-  while-loop-below t,
-  while-loop.Post,
-  for-loop-below t,
-  for-loop.Post,
-  case-of-below t,
-  case-of.Post,
-  plain-part-reads.Asked,
-  plain-part-reads.Learnt,
-) (headed-at t) headed.Post
-headed-for-loop-requires t c κs = search needs
-
--- src/walk.rt:86:23
-headed-enum-told-6 : (t : ℕ) → headed-lts.Need-enum-told-6 (
-  assign-kept-reads.Asked,
-  assign-kept-reads.Learnt,
-  stmts-below t,
-  stmts.Post,
-  if-else-below t,
-  if-else.Post,
-  while-loop-below t,
-  while-loop.Post,
-  for-loop-below t,
-  for-loop.Post,
-  case-of-below t,
-  case-of.Post,
-  plain-part-reads.Asked,
-  plain-part-reads.Learnt,
-) (headed-at t) headed.Post
-headed-enum-told-6 t c = search needs
-
--- src/walk.rt:86:23
-headed-case-of-requires : (t : ℕ) → headed-lts.Need-case-of-requires (
-  assign-kept-reads.Asked,
-  assign-kept-reads.Learnt,
-  stmts-below t,
-  stmts.Post,
-  if-else-below t,
-  if-else.Post,
-  while-loop-below t,
-  while-loop.Post,
-  for-loop-below t,
-  for-loop.Post,
-  case-of-below t,
-  case-of.Post,
-  plain-part-reads.Asked,
-  plain-part-reads.Learnt,
-) (headed-at t) headed.Post
-headed-case-of-requires t c κs = search needs
-
--- src/walk.rt:87:23
-headed-enum-told-7 : (t : ℕ) → headed-lts.Need-enum-told-7 (
-  assign-kept-reads.Asked,
-  assign-kept-reads.Learnt,
-  stmts-below t,
-  stmts.Post,
-  if-else-below t,
-  if-else.Post,
-  while-loop-below t,
-  while-loop.Post,
-  for-loop-below t,
-  for-loop.Post,
-  case-of-below t,
-  case-of.Post,
-  plain-part-reads.Asked,
-  plain-part-reads.Learnt,
-) (headed-at t) headed.Post
-headed-enum-told-7 t c = search needs
-
--- src/walk.rt:88:24
-headed-enum-told-8 : (t : ℕ) → headed-lts.Need-enum-told-8 (
-  assign-kept-reads.Asked,
-  assign-kept-reads.Learnt,
-  stmts-below t,
-  stmts.Post,
-  if-else-below t,
-  if-else.Post,
-  while-loop-below t,
-  while-loop.Post,
-  for-loop-below t,
-  for-loop.Post,
-  case-of-below t,
-  case-of.Post,
-  plain-part-reads.Asked,
-  plain-part-reads.Learnt,
-) (headed-at t) headed.Post
-headed-enum-told-8 t c = search needs
-
--- src/walk.rt:88:24
-headed-plain-part-requires : (t : ℕ) → headed-lts.Need-plain-part-requires (
-  assign-kept-reads.Asked,
-  assign-kept-reads.Learnt,
-  stmts-below t,
-  stmts.Post,
-  if-else-below t,
-  if-else.Post,
-  while-loop-below t,
-  while-loop.Post,
-  for-loop-below t,
-  for-loop.Post,
-  case-of-below t,
-  case-of.Post,
-  plain-part-reads.Asked,
-  plain-part-reads.Learnt,
-) (headed-at t) headed.Post
-headed-plain-part-requires t c κs = search needs
-
--- src/walk.rt:89:26
-headed-enum-told-9 : (t : ℕ) → headed-lts.Need-enum-told-9 (
-  assign-kept-reads.Asked,
-  assign-kept-reads.Learnt,
-  stmts-below t,
-  stmts.Post,
-  if-else-below t,
-  if-else.Post,
-  while-loop-below t,
-  while-loop.Post,
-  for-loop-below t,
-  for-loop.Post,
-  case-of-below t,
-  case-of.Post,
-  plain-part-reads.Asked,
-  plain-part-reads.Learnt,
-) (headed-at t) headed.Post
-headed-enum-told-9 t c = search needs
-
--- src/walk.rt:69:1
-headed-returns : (t : ℕ) → headed-lts.Need-returns (
-  assign-kept-reads.Asked,
-  assign-kept-reads.Learnt,
-  stmts-below t,
-  stmts.Post,
-  if-else-below t,
-  if-else.Post,
-  while-loop-below t,
-  while-loop.Post,
-  for-loop-below t,
-  for-loop.Post,
-  case-of-below t,
-  case-of.Post,
-  plain-part-reads.Asked,
-  plain-part-reads.Learnt,
-) (headed-at t) headed.Post
-headed-returns t c = search verb-laws
-
--- src/walk.rt:69:1
-headed-returns-2 : (t : ℕ) → headed-lts.Need-returns-2 (
-  assign-kept-reads.Asked,
-  assign-kept-reads.Learnt,
-  stmts-below t,
-  stmts.Post,
-  if-else-below t,
-  if-else.Post,
-  while-loop-below t,
-  while-loop.Post,
-  for-loop-below t,
-  for-loop.Post,
-  case-of-below t,
-  case-of.Post,
-  plain-part-reads.Asked,
-  plain-part-reads.Learnt,
-) (headed-at t) headed.Post
-headed-returns-2 t c = search verb-laws
-
--- src/walk.rt:69:1
-headed-returns-3 : (t : ℕ) → headed-lts.Need-returns-3 (
-  assign-kept-reads.Asked,
-  assign-kept-reads.Learnt,
-  stmts-below t,
-  stmts.Post,
-  if-else-below t,
-  if-else.Post,
-  while-loop-below t,
-  while-loop.Post,
-  for-loop-below t,
-  for-loop.Post,
-  case-of-below t,
-  case-of.Post,
-  plain-part-reads.Asked,
-  plain-part-reads.Learnt,
-) (headed-at t) headed.Post
-headed-returns-3 t c = search verb-laws
-
--- src/walk.rt:69:1
-headed-returns-4 : (t : ℕ) → headed-lts.Need-returns-4 (
-  assign-kept-reads.Asked,
-  assign-kept-reads.Learnt,
-  stmts-below t,
-  stmts.Post,
-  if-else-below t,
-  if-else.Post,
-  while-loop-below t,
-  while-loop.Post,
-  for-loop-below t,
-  for-loop.Post,
-  case-of-below t,
-  case-of.Post,
-  plain-part-reads.Asked,
-  plain-part-reads.Learnt,
-) (headed-at t) headed.Post
-headed-returns-4 t c = search verb-laws
-
--- src/walk.rt:69:1
-headed-returns-5 : (t : ℕ) → headed-lts.Need-returns-5 (
-  assign-kept-reads.Asked,
-  assign-kept-reads.Learnt,
-  stmts-below t,
-  stmts.Post,
-  if-else-below t,
-  if-else.Post,
-  while-loop-below t,
-  while-loop.Post,
-  for-loop-below t,
-  for-loop.Post,
-  case-of-below t,
-  case-of.Post,
-  plain-part-reads.Asked,
-  plain-part-reads.Learnt,
-) (headed-at t) headed.Post
-headed-returns-5 t c = search verb-laws
-
--- src/walk.rt:69:1
-headed-returns-6 : (t : ℕ) → headed-lts.Need-returns-6 (
-  assign-kept-reads.Asked,
-  assign-kept-reads.Learnt,
-  stmts-below t,
-  stmts.Post,
-  if-else-below t,
-  if-else.Post,
-  while-loop-below t,
-  while-loop.Post,
-  for-loop-below t,
-  for-loop.Post,
-  case-of-below t,
-  case-of.Post,
-  plain-part-reads.Asked,
-  plain-part-reads.Learnt,
-) (headed-at t) headed.Post
-headed-returns-6 t c = search verb-laws
-
--- src/walk.rt:69:1
-headed-returns-7 : (t : ℕ) → headed-lts.Need-returns-7 (
-  assign-kept-reads.Asked,
-  assign-kept-reads.Learnt,
-  stmts-below t,
-  stmts.Post,
-  if-else-below t,
-  if-else.Post,
-  while-loop-below t,
-  while-loop.Post,
-  for-loop-below t,
-  for-loop.Post,
-  case-of-below t,
-  case-of.Post,
-  plain-part-reads.Asked,
-  plain-part-reads.Learnt,
-) (headed-at t) headed.Post
-headed-returns-7 t c = search verb-laws
-
--- src/walk.rt:69:1
-headed-returns-8 : (t : ℕ) → headed-lts.Need-returns-8 (
-  assign-kept-reads.Asked,
-  assign-kept-reads.Learnt,
-  stmts-below t,
-  stmts.Post,
-  if-else-below t,
-  if-else.Post,
-  while-loop-below t,
-  while-loop.Post,
-  for-loop-below t,
-  for-loop.Post,
-  case-of-below t,
-  case-of.Post,
-  plain-part-reads.Asked,
-  plain-part-reads.Learnt,
-) (headed-at t) headed.Post
-headed-returns-8 t c = search verb-laws
-
--- src/walk.rt:69:1
-headed-returns-9 : (t : ℕ) → headed-lts.Need-returns-9 (
-  assign-kept-reads.Asked,
-  assign-kept-reads.Learnt,
-  stmts-below t,
-  stmts.Post,
-  if-else-below t,
-  if-else.Post,
-  while-loop-below t,
-  while-loop.Post,
-  for-loop-below t,
-  for-loop.Post,
-  case-of-below t,
-  case-of.Post,
-  plain-part-reads.Asked,
-  plain-part-reads.Learnt,
-) (headed-at t) headed.Post
-headed-returns-9 t c = search verb-laws
-
--- src/walk.rt:122:8
-if-else-plain-part-requires : (t : ℕ) → if-else-lts.Need-plain-part-requires (
-  plain-part-reads.Asked,
-  plain-part-reads.Learnt,
-  skip-reads.Asked,
-  skip-reads.Learnt,
-  if-then-below t,
-  if-then.Post,
-) (if-else-at t) if-else.Post
-if-else-plain-part-requires t c κs = search needs
-
--- src/walk.rt:123:13
-if-else-skip-requires : (t : ℕ) → if-else-lts.Need-skip-requires (
-  plain-part-reads.Asked,
-  plain-part-reads.Learnt,
-  skip-reads.Asked,
-  skip-reads.Learnt,
-  if-then-below t,
-  if-then.Post,
-) (if-else-at t) if-else.Post
-if-else-skip-requires t c κs = search needs
-
--- src/walk.rt:124:9
-if-else-if-then-requires : (t : ℕ) → if-else-lts.Need-if-then-requires (
-  plain-part-reads.Asked,
-  plain-part-reads.Learnt,
-  skip-reads.Asked,
-  skip-reads.Learnt,
-  if-then-below t,
-  if-then.Post,
-) (if-else-at t) if-else.Post
-if-else-if-then-requires t c κs = search needs
-
--- src/walk.rt:124:9
-if-else-returns : (t : ℕ) → if-else-lts.Need-returns (
-  plain-part-reads.Asked,
-  plain-part-reads.Learnt,
-  skip-reads.Asked,
-  skip-reads.Learnt,
-  if-then-below t,
-  if-then.Post,
-) (if-else-at t) if-else.Post
-if-else-returns t c = search if-laws
-
--- src/walk.rt:112:1
-if-else-returns-2 : (t : ℕ) → if-else-lts.Need-returns-2 (
-  plain-part-reads.Asked,
-  plain-part-reads.Learnt,
-  skip-reads.Asked,
-  skip-reads.Learnt,
-  if-then-below t,
-  if-then.Post,
-) (if-else-at t) if-else.Post
-if-else-returns-2 t c = search if-laws
-
--- src/walk.rt:140:8
-if-then-stmt-requires : (t : ℕ) → if-then-lts.Need-stmt-requires (
-  stmt-below t,
-  stmt.Post,
-  skip-reads.Asked,
-  skip-reads.Learnt,
-  else-part-below t,
-  else-part.Post,
-) (if-then-at t) if-then.Post
-if-then-stmt-requires t c κs = search needs
-
--- src/walk.rt:141:13
-if-then-skip-requires : (t : ℕ) → if-then-lts.Need-skip-requires (
-  stmt-below t,
-  stmt.Post,
-  skip-reads.Asked,
-  skip-reads.Learnt,
-  else-part-below t,
-  else-part.Post,
-) (if-then-at t) if-then.Post
-if-then-skip-requires t c κs = search needs
-
--- src/walk.rt:142:9
-if-then-else-part-requires : (t : ℕ) → if-then-lts.Need-else-part-requires (
-  stmt-below t,
-  stmt.Post,
-  skip-reads.Asked,
-  skip-reads.Learnt,
-  else-part-below t,
-  else-part.Post,
-) (if-then-at t) if-then.Post
-if-then-else-part-requires t c κs = search needs
-
--- src/walk.rt:142:9
-if-then-returns : (t : ℕ) → if-then-lts.Need-returns (
-  stmt-below t,
-  stmt.Post,
-  skip-reads.Asked,
-  skip-reads.Learnt,
-  else-part-below t,
-  else-part.Post,
-) (if-then-at t) if-then.Post
-if-then-returns t c = search then-laws
-
--- src/walk.rt:130:1
-if-then-returns-2 : (t : ℕ) → if-then-lts.Need-returns-2 (
-  stmt-below t,
-  stmt.Post,
-  skip-reads.Asked,
-  skip-reads.Learnt,
-  else-part-below t,
-  else-part.Post,
-) (if-then-at t) if-then.Post
-if-then-returns-2 t c = search then-laws
-
--- src/walk.rt:57:9
-inner-part-at-requires : (t : ℕ) → inner-lts.Need-part-at-requires (
-  part-at-reads.Asked,
-  part-at-reads.Learnt,
-  verb-of-reads.Asked,
-  verb-of-reads.Learnt,
-  headed-below t,
-  headed.Post,
-) (inner-at t) inner.Post
-inner-part-at-requires t c κs = search needs
-
--- src/walk.rt:59:20
-inner-enum-known-part : (t : ℕ) → inner-lts.Need-enum-known-part (
-  part-at-reads.Asked,
-  part-at-reads.Learnt,
-  verb-of-reads.Asked,
-  verb-of-reads.Learnt,
-  headed-below t,
-  headed.Post,
-) (inner-at t) inner.Post
-inner-enum-known-part t c = search needs
-
--- src/walk.rt:60:17
-inner-verb-of-requires : (t : ℕ) → inner-lts.Need-verb-of-requires (
-  part-at-reads.Asked,
-  part-at-reads.Learnt,
-  verb-of-reads.Asked,
-  verb-of-reads.Learnt,
-  headed-below t,
-  headed.Post,
-) (inner-at t) inner.Post
-inner-verb-of-requires t c κs = search needs
-
--- src/walk.rt:61:13
-inner-headed-requires : (t : ℕ) → inner-lts.Need-headed-requires (
-  part-at-reads.Asked,
-  part-at-reads.Learnt,
-  verb-of-reads.Asked,
-  verb-of-reads.Learnt,
-  headed-below t,
-  headed.Post,
-) (inner-at t) inner.Post
-inner-headed-requires t c κs = search needs
-
--- src/walk.rt:63:26
-inner-enum-told : (t : ℕ) → inner-lts.Need-enum-told (
-  part-at-reads.Asked,
-  part-at-reads.Learnt,
-  verb-of-reads.Asked,
-  verb-of-reads.Learnt,
-  headed-below t,
-  headed.Post,
-) (inner-at t) inner.Post
-inner-enum-told t c = search needs
-
--- src/walk.rt:64:26
-inner-enum-told-2 : (t : ℕ) → inner-lts.Need-enum-told-2 (
-  part-at-reads.Asked,
-  part-at-reads.Learnt,
-  verb-of-reads.Asked,
-  verb-of-reads.Learnt,
-  headed-below t,
-  headed.Post,
-) (inner-at t) inner.Post
-inner-enum-told-2 t c = search needs
-
--- src/walk.rt:47:1
-inner-returns : (t : ℕ) → inner-lts.Need-returns (
-  part-at-reads.Asked,
-  part-at-reads.Learnt,
-  verb-of-reads.Asked,
-  verb-of-reads.Learnt,
-  headed-below t,
-  headed.Post,
-) (inner-at t) inner.Post
-inner-returns t c = search inner-laws
-
--- src/walk.rt:47:1
-inner-returns-2 : (t : ℕ) → inner-lts.Need-returns-2 (
-  part-at-reads.Asked,
-  part-at-reads.Learnt,
-  verb-of-reads.Asked,
-  verb-of-reads.Learnt,
-  headed-below t,
-  headed.Post,
-) (inner-at t) inner.Post
-inner-returns-2 t c = search inner-laws
-
--- src/walk.rt:47:1
-inner-returns-3 : (t : ℕ) → inner-lts.Need-returns-3 (
-  part-at-reads.Asked,
-  part-at-reads.Learnt,
-  verb-of-reads.Asked,
-  verb-of-reads.Learnt,
-  headed-below t,
-  headed.Post,
-) (inner-at t) inner.Post
-inner-returns-3 t c = search inner-laws
-
--- src/walk.rt:36:9
-stmt-returns : (t : ℕ) → stmt-lts.Need-returns (
-  part-at-reads.Asked,
-  part-at-reads.Learnt,
-  inner-below t,
-  inner.Post,
-) (stmt-at t) stmt.Post
-stmt-returns t c = search stmt-laws
-
--- src/walk.rt:38:9
-stmt-part-at-requires : (t : ℕ) → stmt-lts.Need-part-at-requires (
-  part-at-reads.Asked,
-  part-at-reads.Learnt,
-  inner-below t,
-  inner.Post,
-) (stmt-at t) stmt.Post
-stmt-part-at-requires t c κs = search needs
-
--- src/walk.rt:40:32
-stmt-enum-told : (t : ℕ) → stmt-lts.Need-enum-told (
-  part-at-reads.Asked,
-  part-at-reads.Learnt,
-  inner-below t,
-  inner.Post,
-) (stmt-at t) stmt.Post
-stmt-enum-told t c = search needs
-
--- src/walk.rt:41:20
-stmt-enum-known-part : (t : ℕ) → stmt-lts.Need-enum-known-part (
-  part-at-reads.Asked,
-  part-at-reads.Learnt,
-  inner-below t,
-  inner.Post,
-) (stmt-at t) stmt.Post
-stmt-enum-known-part t c = search needs
-
--- src/walk.rt:41:58
-stmt-sub-inner : (t : ℕ) → stmt-lts.Need-sub-inner (
-  part-at-reads.Asked,
-  part-at-reads.Learnt,
-  inner-below t,
-  inner.Post,
-) (stmt-at t) stmt.Post
-stmt-sub-inner t c = search needs
-
--- src/walk.rt:41:26
-stmt-inner-requires : (t : ℕ) → stmt-lts.Need-inner-requires (
-  part-at-reads.Asked,
-  part-at-reads.Learnt,
-  inner-below t,
-  inner.Post,
-) (stmt-at t) stmt.Post
-stmt-inner-requires t c κs = search needs
-
--- src/walk.rt:42:26
-stmt-enum-told-2 : (t : ℕ) → stmt-lts.Need-enum-told-2 (
-  part-at-reads.Asked,
-  part-at-reads.Learnt,
-  inner-below t,
-  inner.Post,
-) (stmt-at t) stmt.Post
-stmt-enum-told-2 t c = search needs
-
--- src/walk.rt:25:1
-stmt-returns-2 : (t : ℕ) → stmt-lts.Need-returns-2 (
-  part-at-reads.Asked,
-  part-at-reads.Learnt,
-  inner-below t,
-  inner.Post,
-) (stmt-at t) stmt.Post
-stmt-returns-2 t c = search stmt-laws
-
--- src/walk.rt:25:1
-stmt-returns-3 : (t : ℕ) → stmt-lts.Need-returns-3 (
-  part-at-reads.Asked,
-  part-at-reads.Learnt,
-  inner-below t,
-  inner.Post,
-) (stmt-at t) stmt.Post
-stmt-returns-3 t c = search stmt-laws
-
--- src/walk.rt:25:1
-stmt-returns-4 : (t : ℕ) → stmt-lts.Need-returns-4 (
-  part-at-reads.Asked,
-  part-at-reads.Learnt,
-  inner-below t,
-  inner.Post,
-) (stmt-at t) stmt.Post
-stmt-returns-4 t c = search stmt-laws
-
 abbrev stmts-Inv-loop : stmts-lts.InvT-loop
 stmts-Inv-loop text work scope loops depth at p₀ p = Doing text work scope loops depth at p
 
@@ -1473,160 +223,6 @@ stmts-loop-holds : (t : ℕ) → stmts-lts.Need-loop-holds (
   skip-reads.Learnt,
 ) (stmts-at t) stmts.Post stmts-Inv-loop stmts-μ-loop
 stmts-loop-holds t c = do-start _ _ _ _ _ _
-
--- src/walk.rt:196:13
-stmts-end-at-requires : (t : ℕ) → stmts-lts.Need-end-at-requires (
-  end-at-reads.Asked,
-  end-at-reads.Learnt,
-  stmt-below t,
-  stmt.Post,
-  skip-reads.Asked,
-  skip-reads.Learnt,
-) (stmts-at t) stmts.Post stmts-Inv-loop stmts-μ-loop
-stmts-end-at-requires t c κs = search needs
-
--- src/walk.rt:199:17
-stmts-enum-told : (t : ℕ) → stmts-lts.Need-enum-told (
-  end-at-reads.Asked,
-  end-at-reads.Learnt,
-  stmt-below t,
-  stmt.Post,
-  skip-reads.Asked,
-  skip-reads.Learnt,
-) (stmts-at t) stmts.Post stmts-Inv-loop stmts-μ-loop
-stmts-enum-told t c = search needs
-
--- src/walk.rt:199:17
-stmts-returns : (t : ℕ) → stmts-lts.Need-returns (
-  end-at-reads.Asked,
-  end-at-reads.Learnt,
-  stmt-below t,
-  stmt.Post,
-  skip-reads.Asked,
-  skip-reads.Learnt,
-) (stmts-at t) stmts.Post stmts-Inv-loop stmts-μ-loop
-stmts-returns t c = search do-laws
-
--- src/walk.rt:202:20
-stmts-enum-told-2 : (t : ℕ) → stmts-lts.Need-enum-told-2 (
-  end-at-reads.Asked,
-  end-at-reads.Learnt,
-  stmt-below t,
-  stmt.Post,
-  skip-reads.Asked,
-  skip-reads.Learnt,
-) (stmts-at t) stmts.Post stmts-Inv-loop stmts-μ-loop
-stmts-enum-told-2 t c = search needs
-
--- src/walk.rt:202:20
-stmts-stmt-requires : (t : ℕ) → stmts-lts.Need-stmt-requires (
-  end-at-reads.Asked,
-  end-at-reads.Learnt,
-  stmt-below t,
-  stmt.Post,
-  skip-reads.Asked,
-  skip-reads.Learnt,
-) (stmts-at t) stmts.Post stmts-Inv-loop stmts-μ-loop
-stmts-stmt-requires t c κs = search needs
-
--- src/walk.rt:203:21
-stmts-skip-requires : (t : ℕ) → stmts-lts.Need-skip-requires (
-  end-at-reads.Asked,
-  end-at-reads.Learnt,
-  stmt-below t,
-  stmt.Post,
-  skip-reads.Asked,
-  skip-reads.Learnt,
-) (stmts-at t) stmts.Post stmts-Inv-loop stmts-μ-loop
-stmts-skip-requires t c κs = search needs
-
--- src/walk.rt:195:5
-stmts-loop-less : (t : ℕ) → stmts-lts.Need-loop-less (
-  end-at-reads.Asked,
-  end-at-reads.Learnt,
-  stmt-below t,
-  stmt.Post,
-  skip-reads.Asked,
-  skip-reads.Learnt,
-) (stmts-at t) stmts.Post stmts-Inv-loop stmts-μ-loop
-stmts-loop-less t c = search do-falls
-
--- src/walk.rt:195:5
-stmts-loop-again : (t : ℕ) → stmts-lts.Need-loop-again (
-  end-at-reads.Asked,
-  end-at-reads.Learnt,
-  stmt-below t,
-  stmt.Post,
-  skip-reads.Asked,
-  skip-reads.Learnt,
-) (stmts-at t) stmts.Post stmts-Inv-loop stmts-μ-loop
-stmts-loop-again t c = search do-laws
-
--- src/walk.rt:205:21
-stmts-returns-2 : (t : ℕ) → stmts-lts.Need-returns-2 (
-  end-at-reads.Asked,
-  end-at-reads.Learnt,
-  stmt-below t,
-  stmt.Post,
-  skip-reads.Asked,
-  skip-reads.Learnt,
-) (stmts-at t) stmts.Post stmts-Inv-loop stmts-μ-loop
-stmts-returns-2 t c = search do-laws
-
--- src/walk.rt:104:8
-while-loop-plain-part-requires : (t : ℕ) → while-loop-lts.Need-plain-part-requires (
-  plain-part-reads.Asked,
-  plain-part-reads.Learnt,
-  skip-reads.Asked,
-  skip-reads.Learnt,
-  stmt-below t,
-  stmt.Post,
-) (while-loop-at t) while-loop.Post
-while-loop-plain-part-requires t c κs = search needs
-
--- src/walk.rt:105:13
-while-loop-skip-requires : (t : ℕ) → while-loop-lts.Need-skip-requires (
-  plain-part-reads.Asked,
-  plain-part-reads.Learnt,
-  skip-reads.Asked,
-  skip-reads.Learnt,
-  stmt-below t,
-  stmt.Post,
-) (while-loop-at t) while-loop.Post
-while-loop-skip-requires t c κs = search needs
-
--- src/walk.rt:106:9
-while-loop-stmt-requires : (t : ℕ) → while-loop-lts.Need-stmt-requires (
-  plain-part-reads.Asked,
-  plain-part-reads.Learnt,
-  skip-reads.Asked,
-  skip-reads.Learnt,
-  stmt-below t,
-  stmt.Post,
-) (while-loop-at t) while-loop.Post
-while-loop-stmt-requires t c κs = search needs
-
--- src/walk.rt:106:9
-while-loop-returns : (t : ℕ) → while-loop-lts.Need-returns (
-  plain-part-reads.Asked,
-  plain-part-reads.Learnt,
-  skip-reads.Asked,
-  skip-reads.Learnt,
-  stmt-below t,
-  stmt.Post,
-) (while-loop-at t) while-loop.Post
-while-loop-returns t c = search while-laws
-
--- src/walk.rt:94:1
-while-loop-returns-2 : (t : ℕ) → while-loop-lts.Need-returns-2 (
-  plain-part-reads.Asked,
-  plain-part-reads.Learnt,
-  skip-reads.Asked,
-  skip-reads.Learnt,
-  stmt-below t,
-  stmt.Post,
-) (while-loop-at t) while-loop.Post
-while-loop-returns-2 t c = search while-laws
 
 pub +all-arms+arm+case-arms+case-of+else-part+for-loop+headed+if-else+if-then+inner+stmt+stmts+while-loop-spec :
     {M : Type 1} → statement M
@@ -1660,20 +256,20 @@ pub +all-arms+arm+case-arms+case-of+else-part+for-loop+headed+if-else+if-then+in
     all-arms-Inv-loop
     all-arms-μ-loop
     (all-arms-loop-holds t)
-    (all-arms-arm-at-requires t)
-    (all-arms-enum-told t)
-    (all-arms-returns t)
-    (all-arms-enum-known-e t)
-    (all-arms-stmt-requires t)
-    (all-arms-returns-2 t)
-    (all-arms-enum-told-2 t)
-    (all-arms-returns-3 t)
-    (all-arms-enum-known-e-2 t)
-    (all-arms-arm-requires t)
-    (all-arms-skip-requires t)
-    (all-arms-loop-less t)
-    (all-arms-loop-again t)
-    (all-arms-returns-4 t))
+    (λ c κs. search needs)  -- all-arms-arm-at-requires src/walk.rt:260:13
+    (λ c. search needs)  -- all-arms-enum-told src/walk.rt:263:17
+    (λ c. search arms-laws)  -- all-arms-returns src/walk.rt:263:17
+    (λ c. search needs)  -- all-arms-enum-known-e src/walk.rt:265:27
+    (λ c κs. search needs)  -- all-arms-stmt-requires src/walk.rt:266:17
+    (λ c. search arms-laws)  -- all-arms-returns-2 src/walk.rt:266:17
+    (λ c. search needs)  -- all-arms-enum-told-2 src/walk.rt:269:17
+    (λ c. search arms-laws)  -- all-arms-returns-3 src/walk.rt:269:17
+    (λ c. search needs)  -- all-arms-enum-known-e-2 src/walk.rt:271:26
+    (λ c κs. search needs)  -- all-arms-arm-requires src/walk.rt:272:20
+    (λ c κs. search needs)  -- all-arms-skip-requires src/walk.rt:273:21
+    (λ c. search arms-falls)  -- all-arms-loop-less src/walk.rt:259:5
+    (λ c. search arms-laws)  -- all-arms-loop-again src/walk.rt:259:5
+    (λ c. search arms-laws))  -- all-arms-returns-4 src/walk.rt:275:21
     (λ t. arm-lts.spec (
       after-labels-reads.Asked,
       after-labels-reads.Learnt,
@@ -1682,14 +278,14 @@ pub +all-arms+arm+case-arms+case-of+else-part+for-loop+headed+if-else+if-then+in
     )
     (arm-at t)
     arm.Post
-    (arm-after-labels-requires t)
-    (arm-enum-known-x t)
-    (arm-stmt-requires t)
-    (arm-enum-told t)
-    (arm-enum-told-2 t)
-    (arm-returns t)
-    (arm-returns-2 t)
-    (arm-returns-3 t))
+    (λ c κs. search needs)  -- arm-after-labels-requires src/walk.rt:293:9
+    (λ c. search needs)  -- arm-enum-known-x src/walk.rt:295:24
+    (λ c κs. search needs)  -- arm-stmt-requires src/walk.rt:295:30
+    (λ c. search needs)  -- arm-enum-told src/walk.rt:296:29
+    (λ c. search needs)  -- arm-enum-told-2 src/walk.rt:297:30
+    (λ c. search arm-laws)  -- arm-returns src/walk.rt:283:1
+    (λ c. search arm-laws)  -- arm-returns-2 src/walk.rt:283:1
+    (λ c. search arm-laws))  -- arm-returns-3 src/walk.rt:283:1
     (λ t. case-arms-lts.spec (
       all-arms-below t,
       all-arms.Post,
@@ -1698,10 +294,10 @@ pub +all-arms+arm+case-arms+case-of+else-part+for-loop+headed+if-else+if-then+in
     )
     (case-arms-at t)
     case-arms.Post
-    (case-arms-all-arms-requires t)
-    (case-arms-labels-differ-requires t)
-    (case-arms-returns t)
-    (case-arms-returns-2 t))
+    (λ c κs. search needs)  -- case-arms-all-arms-requires src/walk.rt:241:8
+    (λ c κs. search needs)  -- case-arms-labels-differ-requires src/walk.rt:242:9
+    (λ c. search cases-laws)  -- case-arms-returns src/walk.rt:242:9
+    (λ c. search cases-laws))  -- case-arms-returns-2 src/walk.rt:231:1
     (λ t. case-of-lts.spec (
       plain-part-reads.Asked,
       plain-part-reads.Learnt,
@@ -1712,21 +308,21 @@ pub +all-arms+arm+case-arms+case-of+else-part+for-loop+headed+if-else+if-then+in
     )
     (case-of-at t)
     case-of.Post
-    (case-of-plain-part-requires t)
-    (case-of-skip-requires t)
-    (case-of-case-arms-requires t)
-    (case-of-returns t)
-    (case-of-returns-2 t))
+    (λ c κs. search needs)  -- case-of-plain-part-requires src/walk.rt:223:8
+    (λ c κs. search needs)  -- case-of-skip-requires src/walk.rt:224:13
+    (λ c κs. search needs)  -- case-of-case-arms-requires src/walk.rt:225:9
+    (λ c. search case-laws)  -- case-of-returns src/walk.rt:225:9
+    (λ c. search case-laws))  -- case-of-returns-2 src/walk.rt:213:1
     (λ t. else-part-lts.spec
     (end-at-reads.Asked, end-at-reads.Learnt, stmt-below t, stmt.Post)
     (else-part-at t)
     else-part.Post
-    (else-part-end-at-requires t)
-    (else-part-enum-told t)
-    (else-part-enum-told-2 t)
-    (else-part-stmt-requires t)
-    (else-part-returns t)
-    (else-part-returns-2 t))
+    (λ c κs. search needs)  -- else-part-end-at-requires src/walk.rt:158:9
+    (λ c. search needs)  -- else-part-enum-told src/walk.rt:160:25
+    (λ c. search needs)  -- else-part-enum-told-2 src/walk.rt:161:22
+    (λ c κs. search needs)  -- else-part-stmt-requires src/walk.rt:161:22
+    (λ c. search else-laws)  -- else-part-returns src/walk.rt:148:1
+    (λ c. search else-laws))  -- else-part-returns-2 src/walk.rt:148:1
     (λ t. for-loop-lts.spec (
       start-at-reads.Asked,
       start-at-reads.Learnt,
@@ -1737,13 +333,13 @@ pub +all-arms+arm+case-arms+case-of+else-part+for-loop+headed+if-else+if-then+in
     )
     (for-loop-at t)
     for-loop.Post
-    (for-loop-start-at-requires t)
-    (for-loop-enum-known-x t)
-    (for-loop-with-loop-requires t)
-    (for-loop-stmt-requires t)
-    (for-loop-enum-told t)
-    (for-loop-returns t)
-    (for-loop-returns-2 t))
+    (λ c κs. search needs)  -- for-loop-start-at-requires src/walk.rt:176:9
+    (λ c. search needs)  -- for-loop-enum-known-x src/walk.rt:178:21
+    (λ c κs. search needs)  -- for-loop-with-loop-requires src/walk.rt:178:54
+    (λ c κs. search needs)  -- for-loop-stmt-requires src/walk.rt:178:30
+    (λ c. search needs)  -- for-loop-enum-told src/walk.rt:179:26
+    (λ c. search for-laws)  -- for-loop-returns src/walk.rt:166:1
+    (λ c. search for-laws))  -- for-loop-returns-2 src/walk.rt:166:1
     (λ t. headed-lts.spec (
       assign-kept-reads.Asked,
       assign-kept-reads.Learnt,
@@ -1762,31 +358,31 @@ pub +all-arms+arm+case-arms+case-of+else-part+for-loop+headed+if-else+if-then+in
     )
     (headed-at t)
     headed.Post
-    (headed-enum-told t)
-    (headed-assign-kept-requires t)
-    (headed-enum-told-2 t)
-    (headed-stmts-requires t)
-    (headed-enum-told-3 t)
-    (headed-if-else-requires t)
-    (headed-enum-told-4 t)
-    (headed-while-loop-requires t)
-    (headed-enum-told-5 t)
-    (headed-for-loop-requires t)
-    (headed-enum-told-6 t)
-    (headed-case-of-requires t)
-    (headed-enum-told-7 t)
-    (headed-enum-told-8 t)
-    (headed-plain-part-requires t)
-    (headed-enum-told-9 t)
-    (headed-returns t)
-    (headed-returns-2 t)
-    (headed-returns-3 t)
-    (headed-returns-4 t)
-    (headed-returns-5 t)
-    (headed-returns-6 t)
-    (headed-returns-7 t)
-    (headed-returns-8 t)
-    (headed-returns-9 t))
+    (λ c. search needs)  -- headed-enum-told src/walk.rt:81:25
+    (λ c κs. search needs)  -- headed-assign-kept-requires src/walk.rt:81:25
+    (λ c. search needs)  -- headed-enum-told-2 src/walk.rt:82:24
+    (λ c κs. search needs)  -- headed-stmts-requires src/walk.rt:82:24
+    (λ c. search needs)  -- headed-enum-told-3 src/walk.rt:83:21
+    (λ c κs. search needs)  -- headed-if-else-requires src/walk.rt:83:21
+    (λ c. search needs)  -- headed-enum-told-4 src/walk.rt:84:24
+    (λ c κs. search needs)  -- headed-while-loop-requires src/walk.rt:84:24
+    (λ c. search needs)  -- headed-enum-told-5 src/walk.rt:85:22
+    (λ c κs. search needs)  -- headed-for-loop-requires src/walk.rt:85:22
+    (λ c. search needs)  -- headed-enum-told-6 src/walk.rt:86:23
+    (λ c κs. search needs)  -- headed-case-of-requires src/walk.rt:86:23
+    (λ c. search needs)  -- headed-enum-told-7 src/walk.rt:87:23
+    (λ c. search needs)  -- headed-enum-told-8 src/walk.rt:88:24
+    (λ c κs. search needs)  -- headed-plain-part-requires src/walk.rt:88:24
+    (λ c. search needs)  -- headed-enum-told-9 src/walk.rt:89:26
+    (λ c. search verb-laws)  -- headed-returns src/walk.rt:69:1
+    (λ c. search verb-laws)  -- headed-returns-2 src/walk.rt:69:1
+    (λ c. search verb-laws)  -- headed-returns-3 src/walk.rt:69:1
+    (λ c. search verb-laws)  -- headed-returns-4 src/walk.rt:69:1
+    (λ c. search verb-laws)  -- headed-returns-5 src/walk.rt:69:1
+    (λ c. search verb-laws)  -- headed-returns-6 src/walk.rt:69:1
+    (λ c. search verb-laws)  -- headed-returns-7 src/walk.rt:69:1
+    (λ c. search verb-laws)  -- headed-returns-8 src/walk.rt:69:1
+    (λ c. search verb-laws))  -- headed-returns-9 src/walk.rt:69:1
     (λ t. if-else-lts.spec (
       plain-part-reads.Asked,
       plain-part-reads.Learnt,
@@ -1797,11 +393,11 @@ pub +all-arms+arm+case-arms+case-of+else-part+for-loop+headed+if-else+if-then+in
     )
     (if-else-at t)
     if-else.Post
-    (if-else-plain-part-requires t)
-    (if-else-skip-requires t)
-    (if-else-if-then-requires t)
-    (if-else-returns t)
-    (if-else-returns-2 t))
+    (λ c κs. search needs)  -- if-else-plain-part-requires src/walk.rt:122:8
+    (λ c κs. search needs)  -- if-else-skip-requires src/walk.rt:123:13
+    (λ c κs. search needs)  -- if-else-if-then-requires src/walk.rt:124:9
+    (λ c. search if-laws)  -- if-else-returns src/walk.rt:124:9
+    (λ c. search if-laws))  -- if-else-returns-2 src/walk.rt:112:1
     (λ t. if-then-lts.spec (
       stmt-below t,
       stmt.Post,
@@ -1812,11 +408,11 @@ pub +all-arms+arm+case-arms+case-of+else-part+for-loop+headed+if-else+if-then+in
     )
     (if-then-at t)
     if-then.Post
-    (if-then-stmt-requires t)
-    (if-then-skip-requires t)
-    (if-then-else-part-requires t)
-    (if-then-returns t)
-    (if-then-returns-2 t))
+    (λ c κs. search needs)  -- if-then-stmt-requires src/walk.rt:140:8
+    (λ c κs. search needs)  -- if-then-skip-requires src/walk.rt:141:13
+    (λ c κs. search needs)  -- if-then-else-part-requires src/walk.rt:142:9
+    (λ c. search then-laws)  -- if-then-returns src/walk.rt:142:9
+    (λ c. search then-laws))  -- if-then-returns-2 src/walk.rt:130:1
     (λ t. inner-lts.spec (
       part-at-reads.Asked,
       part-at-reads.Learnt,
@@ -1827,29 +423,29 @@ pub +all-arms+arm+case-arms+case-of+else-part+for-loop+headed+if-else+if-then+in
     )
     (inner-at t)
     inner.Post
-    (inner-part-at-requires t)
-    (inner-enum-known-part t)
-    (inner-verb-of-requires t)
-    (inner-headed-requires t)
-    (inner-enum-told t)
-    (inner-enum-told-2 t)
-    (inner-returns t)
-    (inner-returns-2 t)
-    (inner-returns-3 t))
+    (λ c κs. search needs)  -- inner-part-at-requires src/walk.rt:57:9
+    (λ c. search needs)  -- inner-enum-known-part src/walk.rt:59:20
+    (λ c κs. search needs)  -- inner-verb-of-requires src/walk.rt:60:17
+    (λ c κs. search needs)  -- inner-headed-requires src/walk.rt:61:13
+    (λ c. search needs)  -- inner-enum-told src/walk.rt:63:26
+    (λ c. search needs)  -- inner-enum-told-2 src/walk.rt:64:26
+    (λ c. search inner-laws)  -- inner-returns src/walk.rt:47:1
+    (λ c. search inner-laws)  -- inner-returns-2 src/walk.rt:47:1
+    (λ c. search inner-laws))  -- inner-returns-3 src/walk.rt:47:1
     (λ t. stmt-lts.spec
     (part-at-reads.Asked, part-at-reads.Learnt, inner-below t, inner.Post)
     (stmt-at t)
     stmt.Post
-    (stmt-returns t)
-    (stmt-part-at-requires t)
-    (stmt-enum-told t)
-    (stmt-enum-known-part t)
-    (stmt-sub-inner t)
-    (stmt-inner-requires t)
-    (stmt-enum-told-2 t)
-    (stmt-returns-2 t)
-    (stmt-returns-3 t)
-    (stmt-returns-4 t))
+    (λ c. search stmt-laws)  -- stmt-returns src/walk.rt:36:9
+    (λ c κs. search needs)  -- stmt-part-at-requires src/walk.rt:38:9
+    (λ c. search needs)  -- stmt-enum-told src/walk.rt:40:32
+    (λ c. search needs)  -- stmt-enum-known-part src/walk.rt:41:20
+    (λ c. search needs)  -- stmt-sub-inner src/walk.rt:41:58
+    (λ c κs. search needs)  -- stmt-inner-requires src/walk.rt:41:26
+    (λ c. search needs)  -- stmt-enum-told-2 src/walk.rt:42:26
+    (λ c. search stmt-laws)  -- stmt-returns-2 src/walk.rt:25:1
+    (λ c. search stmt-laws)  -- stmt-returns-3 src/walk.rt:25:1
+    (λ c. search stmt-laws))  -- stmt-returns-4 src/walk.rt:25:1
     (λ t. stmts-lts.spec (
       end-at-reads.Asked,
       end-at-reads.Learnt,
@@ -1863,15 +459,15 @@ pub +all-arms+arm+case-arms+case-of+else-part+for-loop+headed+if-else+if-then+in
     stmts-Inv-loop
     stmts-μ-loop
     (stmts-loop-holds t)
-    (stmts-end-at-requires t)
-    (stmts-enum-told t)
-    (stmts-returns t)
-    (stmts-enum-told-2 t)
-    (stmts-stmt-requires t)
-    (stmts-skip-requires t)
-    (stmts-loop-less t)
-    (stmts-loop-again t)
-    (stmts-returns-2 t))
+    (λ c κs. search needs)  -- stmts-end-at-requires src/walk.rt:196:13
+    (λ c. search needs)  -- stmts-enum-told src/walk.rt:199:17
+    (λ c. search do-laws)  -- stmts-returns src/walk.rt:199:17
+    (λ c. search needs)  -- stmts-enum-told-2 src/walk.rt:202:20
+    (λ c κs. search needs)  -- stmts-stmt-requires src/walk.rt:202:20
+    (λ c κs. search needs)  -- stmts-skip-requires src/walk.rt:203:21
+    (λ c. search do-falls)  -- stmts-loop-less src/walk.rt:195:5
+    (λ c. search do-laws)  -- stmts-loop-again src/walk.rt:195:5
+    (λ c. search do-laws))  -- stmts-returns-2 src/walk.rt:205:21
     λ t. while-loop-lts.spec (
       plain-part-reads.Asked,
       plain-part-reads.Learnt,
@@ -1882,8 +478,8 @@ pub +all-arms+arm+case-arms+case-of+else-part+for-loop+headed+if-else+if-then+in
     )
     (while-loop-at t)
     while-loop.Post
-    (while-loop-plain-part-requires t)
-    (while-loop-skip-requires t)
-    (while-loop-stmt-requires t)
-    (while-loop-returns t)
-    (while-loop-returns-2 t)
+    (λ c κs. search needs)  -- while-loop-plain-part-requires src/walk.rt:104:8
+    (λ c κs. search needs)  -- while-loop-skip-requires src/walk.rt:105:13
+    (λ c κs. search needs)  -- while-loop-stmt-requires src/walk.rt:106:9
+    (λ c. search while-laws)  -- while-loop-returns src/walk.rt:106:9
+    (λ c. search while-laws)  -- while-loop-returns-2 src/walk.rt:94:1

@@ -7,17 +7,10 @@ use Rattle.rule_statements.proofs.arm_labels.labelled.Lts as lts
 use Rattle.rule_expr_nodes.proofs.members.member_fault.Reads as member-fault-reads
 use Rattle.rule_faults.proofs.lowest.Reads as lowest-reads
 
--- src/arm_labels.rt:26:26
-member-fault-requires : tie.Need-member-fault-requires
-member-fault-requires c κs = search needs
-
--- src/arm_labels.rt:26:16
-lowest-requires : tie.Need-lowest-requires
-lowest-requires c κs = search needs
-
--- src/arm_labels.rt:20:1
-returns : tie.Need-returns
-returns c = search labelled-is
-
 pub labelled-spec : {M : Type 1} → statement M
-labelled-spec = tie.close (tie.spec member-fault-requires lowest-requires returns)
+labelled-spec =
+    tie.close
+    (tie.spec
+    (λ c κs. search needs)  -- member-fault-requires src/arm_labels.rt:26:26
+    (λ c κs. search needs)  -- lowest-requires src/arm_labels.rt:26:16
+    (λ c. search labelled-is))  -- returns src/arm_labels.rt:20:1

@@ -24,73 +24,9 @@ Inv-loop text work₀ scope k first at top g₀ p₀ work g p = (length work ≡
 abbrev μ-loop : tie.MeasureT-loop
 μ-loop text work₀ scope k first at top g₀ p₀ work g p = many (head (stackAt text (g .next)))
 
--- src/arm_labels.rt:66:9
-no-act-requires : tie.Need-no-act-requires Inv-loop μ-loop
-no-act-requires c κs = search needs
-
 -- src/arm_labels.rt:68:5
 loop-holds : tie.Need-loop-holds Inv-loop μ-loop
 loop-holds c = (refl, search labels-start)
-
--- src/arm_labels.rt:69:13
-constant-requires : tie.Need-constant-requires Inv-loop μ-loop
-constant-requires c κs = search needs
-
--- src/arm_labels.rt:71:12
-is-form-requires : tie.Need-is-form-requires Inv-loop μ-loop
-is-form-requires c κs = search needs
-
--- src/arm_labels.rt:72:13
-counted-requires : tie.Need-counted-requires Inv-loop μ-loop
-counted-requires c κs = search needs
-
--- src/arm_labels.rt:72:13
-same-length : tie.Need-same-length Inv-loop μ-loop
-same-length c = search needs
-
--- src/arm_labels.rt:72:13
-returns : tie.Need-returns Inv-loop μ-loop
-returns c = search labels-laws
-
--- src/arm_labels.rt:74:13
-end-at-requires : tie.Need-end-at-requires Inv-loop μ-loop
-end-at-requires c κs = search needs
-
--- src/arm_labels.rt:77:17
-enum-told : tie.Need-enum-told Inv-loop μ-loop
-enum-told c = search needs
-
--- src/arm_labels.rt:77:17
-counted-requires-2 : tie.Need-counted-requires-2 Inv-loop μ-loop
-counted-requires-2 c κs = search needs
-
--- src/arm_labels.rt:77:17
-same-length-2 : tie.Need-same-length-2 Inv-loop μ-loop
-same-length-2 c = search needs
-
--- src/arm_labels.rt:77:17
-returns-2 : tie.Need-returns-2 Inv-loop μ-loop
-returns-2 c = search labels-laws
-
--- src/arm_labels.rt:80:36
-enum-told-2 : tie.Need-enum-told-2 Inv-loop μ-loop
-enum-told-2 c = search needs
-
--- src/arm_labels.rt:80:21
-link-label-requires : tie.Need-link-label-requires Inv-loop μ-loop
-link-label-requires c κs = search needs
-
--- src/arm_labels.rt:81:17
-after-requires : tie.Need-after-requires Inv-loop μ-loop
-after-requires c κs = search needs
-
--- src/arm_labels.rt:82:17
-labelled-requires : tie.Need-labelled-requires Inv-loop μ-loop
-labelled-requires c κs = search needs
-
--- src/arm_labels.rt:68:5
-loop-less : tie.Need-loop-less Inv-loop μ-loop
-loop-less c = search labels-falls
 
 -- src/arm_labels.rt:68:5
 loop-again : tie.Need-loop-again Inv-loop μ-loop
@@ -102,21 +38,21 @@ labels-spec =
     (tie.spec
     Inv-loop
     μ-loop
-    no-act-requires
+    (λ c κs. search needs)  -- no-act-requires src/arm_labels.rt:66:9
     loop-holds
-    constant-requires
-    is-form-requires
-    counted-requires
-    same-length
-    returns
-    end-at-requires
-    enum-told
-    counted-requires-2
-    same-length-2
-    returns-2
-    enum-told-2
-    link-label-requires
-    after-requires
-    labelled-requires
-    loop-less
+    (λ c κs. search needs)  -- constant-requires src/arm_labels.rt:69:13
+    (λ c κs. search needs)  -- is-form-requires src/arm_labels.rt:71:12
+    (λ c κs. search needs)  -- counted-requires src/arm_labels.rt:72:13
+    (λ c. search needs)  -- same-length src/arm_labels.rt:72:13
+    (λ c. search labels-laws)  -- returns src/arm_labels.rt:72:13
+    (λ c κs. search needs)  -- end-at-requires src/arm_labels.rt:74:13
+    (λ c. search needs)  -- enum-told src/arm_labels.rt:77:17
+    (λ c κs. search needs)  -- counted-requires-2 src/arm_labels.rt:77:17
+    (λ c. search needs)  -- same-length-2 src/arm_labels.rt:77:17
+    (λ c. search labels-laws)  -- returns-2 src/arm_labels.rt:77:17
+    (λ c. search needs)  -- enum-told-2 src/arm_labels.rt:80:36
+    (λ c κs. search needs)  -- link-label-requires src/arm_labels.rt:80:21
+    (λ c κs. search needs)  -- after-requires src/arm_labels.rt:81:17
+    (λ c κs. search needs)  -- labelled-requires src/arm_labels.rt:82:17
+    (λ c. search labels-falls)  -- loop-less src/arm_labels.rt:68:5
     loop-again)

@@ -9,37 +9,13 @@ use Rattle.rule_statements.proofs.arms.case_node.Reads as case-node-rea
 use Rattle.rule_statements.proofs.arms.first_fault.Reads as first-fault-reads
 use Rattle.table_scope.proofs.describe.Reads as describe-reads
 
--- src/arms.rt:137:9
-first-fault-requires : tie.Need-first-fault-requires
-first-fault-requires c κs = search needs
-
--- src/arms.rt:139:9
-repeat-fault-requires : tie.Need-repeat-fault-requires
-repeat-fault-requires c κs = search needs
-
--- src/arms.rt:140:9
-describe-requires : tie.Need-describe-requires
-describe-requires c κs = search needs
-
--- src/arms.rt:141:5
-case-node-requires : tie.Need-case-node-requires
-case-node-requires c κs = search needs
-
--- src/arms.rt:134:1
-same-length : tie.Need-same-length
-same-length c = search needs
-
--- src/arms.rt:134:1
-returns : tie.Need-returns
-returns c = search end-is
-
 pub case-end-spec : {M : Type 1} → statement M
 case-end-spec =
     tie.close
     (tie.spec
-    first-fault-requires
-    repeat-fault-requires
-    describe-requires
-    case-node-requires
-    same-length
-    returns)
+    (λ c κs. search needs)  -- first-fault-requires src/arms.rt:137:9
+    (λ c κs. search needs)  -- repeat-fault-requires src/arms.rt:139:9
+    (λ c κs. search needs)  -- describe-requires src/arms.rt:140:9
+    (λ c κs. search needs)  -- case-node-requires src/arms.rt:141:5
+    (λ c. search needs)  -- same-length src/arms.rt:134:1
+    (λ c. search end-is))  -- returns src/arms.rt:134:1

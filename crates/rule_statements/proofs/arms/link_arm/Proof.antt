@@ -8,31 +8,13 @@ use Rattle.rule_faults.proofs.lowest.Reads as lowest-reads
 use Rattle.table_list.proofs.lay.Reads as lay-reads
 use Rattle.table_list.proofs.put.Reads as put-reads
 
--- src/arms.rt:68:30
-slice-aggregate-lay : tie.Need-slice-aggregate-lay
-slice-aggregate-lay c = search needs
-
--- src/arms.rt:68:9
-lay-requires : tie.Need-lay-requires
-lay-requires c κs = search needs
-
--- src/arms.rt:69:5
-put-requires : tie.Need-put-requires
-put-requires c κs = search needs
-
--- src/arms.rt:73:16
-lowest-requires : tie.Need-lowest-requires
-lowest-requires c κs = search needs
-
--- src/arms.rt:64:1
-same-length : tie.Need-same-length
-same-length c = search needs
-
--- src/arms.rt:64:1
-returns : tie.Need-returns
-returns c = search link-arm-is
-
 pub link-arm-spec : {M : Type 1} → statement M
 link-arm-spec =
     tie.close
-    (tie.spec slice-aggregate-lay lay-requires put-requires lowest-requires same-length returns)
+    (tie.spec
+    (λ c. search needs)  -- slice-aggregate-lay src/arms.rt:68:30
+    (λ c κs. search needs)  -- lay-requires src/arms.rt:68:9
+    (λ c κs. search needs)  -- put-requires src/arms.rt:69:5
+    (λ c κs. search needs)  -- lowest-requires src/arms.rt:73:16
+    (λ c. search needs)  -- same-length src/arms.rt:64:1
+    (λ c. search link-arm-is))  -- returns src/arms.rt:64:1

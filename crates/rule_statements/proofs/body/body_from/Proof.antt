@@ -27,93 +27,9 @@ Inv-loop text work₀ types scope k number start at top g₀ p₀ work g p = (le
 abbrev μ-loop : tie.MeasureT-loop
 μ-loop text work₀ types scope k number start at top g₀ p₀ work g p = many (first (stackAt text (g .next)))
 
--- src/body.rt:53:9
-no-act-requires : tie.Need-no-act-requires Inv-loop μ-loop
-no-act-requires c κs = search needs
-
--- src/body.rt:54:9
-wide-requires : tie.Need-wide-requires Inv-loop μ-loop
-wide-requires c κs = search needs
-
 -- src/body.rt:55:5
 loop-holds : tie.Need-loop-holds Inv-loop μ-loop
 loop-holds c = (refl, search body-start)
-
--- src/body.rt:56:13
-next-at-requires : tie.Need-next-at-requires Inv-loop μ-loop
-next-at-requires c κs = search needs
-
--- src/body.rt:58:24
-enum-known-e : tie.Need-enum-known-e Inv-loop μ-loop
-enum-known-e c = search needs
-
--- src/body.rt:59:17
-plain-node-requires : tie.Need-plain-node-requires Inv-loop μ-loop
-plain-node-requires c κs = search needs
-
--- src/body.rt:59:17
-same-length : tie.Need-same-length Inv-loop μ-loop
-same-length c = search needs
-
--- src/body.rt:59:17
-returns : tie.Need-returns Inv-loop μ-loop
-returns c = search body-laws
-
--- src/body.rt:61:27
-enum-known-e-2 : tie.Need-enum-known-e-2 Inv-loop μ-loop
-enum-known-e-2 c = search needs
-
--- src/body.rt:62:17
-handled-requires : tie.Need-handled-requires Inv-loop μ-loop
-handled-requires c κs = search needs
-
--- src/body.rt:62:17
-same-length-2 : tie.Need-same-length-2 Inv-loop μ-loop
-same-length-2 c = search needs
-
--- src/body.rt:62:17
-returns-2 : tie.Need-returns-2 Inv-loop μ-loop
-returns-2 c = search body-laws
-
--- src/body.rt:65:21
-enum-told : tie.Need-enum-told Inv-loop μ-loop
-enum-told c = search needs
-
--- src/body.rt:65:21
-no-loops-requires : tie.Need-no-loops-requires Inv-loop μ-loop
-no-loops-requires c κs = search needs
-
--- src/body.rt:66:21
-stmt-requires : tie.Need-stmt-requires Inv-loop μ-loop
-stmt-requires c κs = search needs
-
--- src/body.rt:78:20
-is-form-requires : tie.Need-is-form-requires Inv-loop μ-loop
-is-form-requires c κs = search needs
-
--- src/body.rt:79:21
-same-length-3 : tie.Need-same-length-3 Inv-loop μ-loop
-same-length-3 c = search needs
-
--- src/body.rt:79:21
-returns-3 : tie.Need-returns-3 Inv-loop μ-loop
-returns-3 c = search body-laws
-
--- src/body.rt:81:21
-chain-requires : tie.Need-chain-requires Inv-loop μ-loop
-chain-requires c κs = search needs
-
--- src/body.rt:82:17
-after-requires : tie.Need-after-requires Inv-loop μ-loop
-after-requires c κs = search needs
-
--- src/body.rt:83:17
-joined-requires : tie.Need-joined-requires Inv-loop μ-loop
-joined-requires c κs = search needs
-
--- src/body.rt:55:5
-loop-less : tie.Need-loop-less Inv-loop μ-loop
-loop-less c = search body-falls
 
 -- src/body.rt:55:5
 loop-again : tie.Need-loop-again Inv-loop μ-loop
@@ -125,26 +41,26 @@ body-from-spec =
     (tie.spec
     Inv-loop
     μ-loop
-    no-act-requires
-    wide-requires
+    (λ c κs. search needs)  -- no-act-requires src/body.rt:53:9
+    (λ c κs. search needs)  -- wide-requires src/body.rt:54:9
     loop-holds
-    next-at-requires
-    enum-known-e
-    plain-node-requires
-    same-length
-    returns
-    enum-known-e-2
-    handled-requires
-    same-length-2
-    returns-2
-    enum-told
-    no-loops-requires
-    stmt-requires
-    is-form-requires
-    same-length-3
-    returns-3
-    chain-requires
-    after-requires
-    joined-requires
-    loop-less
+    (λ c κs. search needs)  -- next-at-requires src/body.rt:56:13
+    (λ c. search needs)  -- enum-known-e src/body.rt:58:24
+    (λ c κs. search needs)  -- plain-node-requires src/body.rt:59:17
+    (λ c. search needs)  -- same-length src/body.rt:59:17
+    (λ c. search body-laws)  -- returns src/body.rt:59:17
+    (λ c. search needs)  -- enum-known-e-2 src/body.rt:61:27
+    (λ c κs. search needs)  -- handled-requires src/body.rt:62:17
+    (λ c. search needs)  -- same-length-2 src/body.rt:62:17
+    (λ c. search body-laws)  -- returns-2 src/body.rt:62:17
+    (λ c. search needs)  -- enum-told src/body.rt:65:21
+    (λ c κs. search needs)  -- no-loops-requires src/body.rt:65:21
+    (λ c κs. search needs)  -- stmt-requires src/body.rt:66:21
+    (λ c κs. search needs)  -- is-form-requires src/body.rt:78:20
+    (λ c. search needs)  -- same-length-3 src/body.rt:79:21
+    (λ c. search body-laws)  -- returns-3 src/body.rt:79:21
+    (λ c κs. search needs)  -- chain-requires src/body.rt:81:21
+    (λ c κs. search needs)  -- after-requires src/body.rt:82:17
+    (λ c κs. search needs)  -- joined-requires src/body.rt:83:17
+    (λ c. search body-falls)  -- loop-less src/body.rt:55:5
     loop-again)

@@ -7,26 +7,12 @@ use Rattle.rule_stmt_nodes.proofs.last.plain_node.Lts as lts
 use Rattle.rule_stmt_nodes.proofs.base.node_if.Reads as node-if-reads
 use Rattle.table_list.proofs.slot.Reads as slot-reads
 
--- src/last.rt:53:9
-slot-requires : tie.Need-slot-requires
-slot-requires c κs = search needs
-
--- src/last.rt:56:36
-slice-aggregate-node-if : tie.Need-slice-aggregate-node-if
-slice-aggregate-node-if c = search needs
-
--- src/last.rt:56:5
-node-if-requires : tie.Need-node-if-requires
-node-if-requires c κs = search needs
-
--- src/last.rt:50:1
-same-length : tie.Need-same-length
-same-length c = search needs
-
--- src/last.rt:50:1
-returns : tie.Need-returns
-returns c = search plain-is
-
 pub plain-node-spec : {M : Type 1} → statement M
 plain-node-spec =
-    tie.close (tie.spec slot-requires slice-aggregate-node-if node-if-requires same-length returns)
+    tie.close
+    (tie.spec
+    (λ c κs. search needs)  -- slot-requires src/last.rt:53:9
+    (λ c. search needs)  -- slice-aggregate-node-if src/last.rt:56:36
+    (λ c κs. search needs)  -- node-if-requires src/last.rt:56:5
+    (λ c. search needs)  -- same-length src/last.rt:50:1
+    (λ c. search plain-is))  -- returns src/last.rt:50:1

@@ -7,25 +7,12 @@ use Rattle.rule_stmt_nodes.proofs.nodes.chain.Lts as lts
 use Rattle.table_list.proofs.lay.Reads as lay-reads
 use Rattle.table_list.proofs.put.Reads as put-reads
 
--- src/nodes.rt:226:28
-slice-aggregate-lay : tie.Need-slice-aggregate-lay
-slice-aggregate-lay c = search needs
-
--- src/nodes.rt:226:9
-lay-requires : tie.Need-lay-requires
-lay-requires c κs = search needs
-
--- src/nodes.rt:227:5
-put-requires : tie.Need-put-requires
-put-requires c κs = search needs
-
--- src/nodes.rt:222:1
-same-length : tie.Need-same-length
-same-length c = search needs
-
--- src/nodes.rt:222:1
-returns : tie.Need-returns
-returns c = search chain-is
-
 pub chain-spec : {M : Type 1} → statement M
-chain-spec = tie.close (tie.spec slice-aggregate-lay lay-requires put-requires same-length returns)
+chain-spec =
+    tie.close
+    (tie.spec
+    (λ c. search needs)  -- slice-aggregate-lay src/nodes.rt:226:28
+    (λ c κs. search needs)  -- lay-requires src/nodes.rt:226:9
+    (λ c κs. search needs)  -- put-requires src/nodes.rt:227:5
+    (λ c. search needs)  -- same-length src/nodes.rt:222:1
+    (λ c. search chain-is))  -- returns src/nodes.rt:222:1

@@ -9,37 +9,13 @@ use Rattle.rule_stmt_nodes.proofs.nodes.for_parts.Reads as for-parts-re
 use Rattle.table_scope.proofs.describe.Reads as describe-reads
 use Rattle.table_scope.proofs.loops_over.Reads as loops-over-reads
 
--- src/nodes.rt:221:9
-describe-requires : tie.Need-describe-requires
-describe-requires c κs = search needs
-
--- src/nodes.rt:222:27
-loops-over-requires : tie.Need-loops-over-requires
-loops-over-requires c κs = search needs
-
--- src/nodes.rt:222:9
-control-fault-requires : tie.Need-control-fault-requires
-control-fault-requires c κs = search needs
-
--- src/nodes.rt:223:5
-for-parts-requires : tie.Need-for-parts-requires
-for-parts-requires c κs = search needs
-
--- src/nodes.rt:218:1
-same-length : tie.Need-same-length
-same-length c = search needs
-
--- src/nodes.rt:218:1
-returns : tie.Need-returns
-returns c = search for-control
-
 pub for-node-spec : {M : Type 1} → statement M
 for-node-spec =
     tie.close
     (tie.spec
-    describe-requires
-    loops-over-requires
-    control-fault-requires
-    for-parts-requires
-    same-length
-    returns)
+    (λ c κs. search needs)  -- describe-requires src/nodes.rt:221:9
+    (λ c κs. search needs)  -- loops-over-requires src/nodes.rt:222:27
+    (λ c κs. search needs)  -- control-fault-requires src/nodes.rt:222:9
+    (λ c κs. search needs)  -- for-parts-requires src/nodes.rt:223:5
+    (λ c. search needs)  -- same-length src/nodes.rt:218:1
+    (λ c. search for-control))  -- returns src/nodes.rt:218:1

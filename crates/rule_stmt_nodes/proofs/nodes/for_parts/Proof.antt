@@ -7,47 +7,15 @@ use Rattle.rule_stmt_nodes.proofs.nodes.for_parts.Lts as lts
 use Rattle.rule_faults.proofs.lowest.Reads as lowest-reads
 use Rattle.rule_stmt_nodes.proofs.base.node_if.Reads as node-if-reads
 
--- src/nodes.rt:208:37
-lowest-requires : tie.Need-lowest-requires
-lowest-requires c κs = search needs
-
--- src/nodes.rt:208:30
-lowest-requires-2 : tie.Need-lowest-requires-2
-lowest-requires-2 c κs = search needs
-
--- src/nodes.rt:208:20
-lowest-requires-3 : tie.Need-lowest-requires-3
-lowest-requires-3 c κs = search needs
-
--- src/nodes.rt:208:9
-lowest-requires-4 : tie.Need-lowest-requires-4
-lowest-requires-4 c κs = search needs
-
--- src/nodes.rt:210:45
-slice-aggregate-node-if : tie.Need-slice-aggregate-node-if
-slice-aggregate-node-if c = search needs
-
--- src/nodes.rt:210:5
-node-if-requires : tie.Need-node-if-requires
-node-if-requires c κs = search needs
-
--- src/nodes.rt:201:1
-same-length : tie.Need-same-length
-same-length c = search needs
-
--- src/nodes.rt:201:1
-returns : tie.Need-returns
-returns c = search for-is
-
 pub for-parts-spec : {M : Type 1} → statement M
 for-parts-spec =
     tie.close
     (tie.spec
-    lowest-requires
-    lowest-requires-2
-    lowest-requires-3
-    lowest-requires-4
-    slice-aggregate-node-if
-    node-if-requires
-    same-length
-    returns)
+    (λ c κs. search needs)  -- lowest-requires src/nodes.rt:208:37
+    (λ c κs. search needs)  -- lowest-requires-2 src/nodes.rt:208:30
+    (λ c κs. search needs)  -- lowest-requires-3 src/nodes.rt:208:20
+    (λ c κs. search needs)  -- lowest-requires-4 src/nodes.rt:208:9
+    (λ c. search needs)  -- slice-aggregate-node-if src/nodes.rt:210:45
+    (λ c κs. search needs)  -- node-if-requires src/nodes.rt:210:5
+    (λ c. search needs)  -- same-length src/nodes.rt:201:1
+    (λ c. search for-is))  -- returns src/nodes.rt:201:1

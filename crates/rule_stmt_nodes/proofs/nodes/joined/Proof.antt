@@ -6,13 +6,9 @@ use Rattle.rule_stmt_nodes.proofs.nodes.joined.Reads as reads
 use Rattle.rule_stmt_nodes.proofs.nodes.joined.Lts as lts
 use Rattle.rule_faults.proofs.lowest.Reads as lowest-reads
 
--- src/nodes.rt:251:16
-lowest-requires : tie.Need-lowest-requires
-lowest-requires c κs = search needs
-
--- src/nodes.rt:245:1
-returns : tie.Need-returns
-returns c = search joined-is
-
 pub joined-spec : {M : Type 1} → statement M
-joined-spec = tie.close (tie.spec lowest-requires returns)
+joined-spec =
+    tie.close
+    (tie.spec
+    (λ c κs. search needs)  -- lowest-requires src/nodes.rt:251:16
+    (λ c. search joined-is))  -- returns src/nodes.rt:245:1

@@ -7,27 +7,12 @@ use Rattle.rule_stmt_nodes.proofs.nodes.while_node.Lts as lts
 use Rattle.rule_faults.proofs.lowest.Reads as lowest-reads
 use Rattle.rule_stmt_nodes.proofs.base.node_if.Reads as node-if-reads
 
--- src/nodes.rt:85:19
-lowest-requires : tie.Need-lowest-requires
-lowest-requires c κs = search needs
-
--- src/nodes.rt:85:56
-slice-aggregate-node-if : tie.Need-slice-aggregate-node-if
-slice-aggregate-node-if c = search needs
-
--- src/nodes.rt:85:5
-node-if-requires : tie.Need-node-if-requires
-node-if-requires c κs = search needs
-
--- src/nodes.rt:79:1
-same-length : tie.Need-same-length
-same-length c = search needs
-
--- src/nodes.rt:79:1
-returns : tie.Need-returns
-returns c = search while-is
-
 pub while-node-spec : {M : Type 1} → statement M
 while-node-spec =
     tie.close
-    (tie.spec lowest-requires slice-aggregate-node-if node-if-requires same-length returns)
+    (tie.spec
+    (λ c κs. search needs)  -- lowest-requires src/nodes.rt:85:19
+    (λ c. search needs)  -- slice-aggregate-node-if src/nodes.rt:85:56
+    (λ c κs. search needs)  -- node-if-requires src/nodes.rt:85:5
+    (λ c. search needs)  -- same-length src/nodes.rt:79:1
+    (λ c. search while-is))  -- returns src/nodes.rt:79:1

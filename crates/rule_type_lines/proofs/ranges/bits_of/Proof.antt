@@ -9,26 +9,12 @@ use Rattle.leaf_integers.proofs.sub.Reads as sub-reads
 use Rattle.rule_type_lines.proofs.ranges.flipped.Reads as flipped-reads
 use Rattle.leaf_sets.proofs.pattern.Reads as pattern-reads
 
--- src/ranges.rt:67:24
-sub-requires : tie.Need-sub-requires
-sub-requires c κs = search needs
-
--- src/ranges.rt:67:9
-flipped-requires : tie.Need-flipped-requires
-flipped-requires c κs = search needs
-
--- src/ranges.rt:67:9
-returns : tie.Need-returns
-returns c = search (bits-laws, sfits-of)
-
--- src/ranges.rt:69:5
-pattern-requires : tie.Need-pattern-requires
-pattern-requires c κs = search needs
-
--- src/ranges.rt:63:1
-returns-2 : tie.Need-returns-2
-returns-2 c = search (bits-laws, sfits-of)
-
 pub bits-of-spec : {M : Type 1} → statement M
 bits-of-spec =
-    tie.close (tie.spec sub-requires flipped-requires returns pattern-requires returns-2)
+    tie.close
+    (tie.spec
+    (λ c κs. search needs)  -- sub-requires src/ranges.rt:67:24
+    (λ c κs. search needs)  -- flipped-requires src/ranges.rt:67:9
+    (λ c. search (bits-laws, sfits-of))  -- returns src/ranges.rt:67:9
+    (λ c κs. search needs)  -- pattern-requires src/ranges.rt:69:5
+    (λ c. search (bits-laws, sfits-of)))  -- returns-2 src/ranges.rt:63:1

@@ -10,62 +10,18 @@ use Rattle.rule_type_lines.proofs.ranges.value_answer.Reads as value-an
 use Rattle.text_parts.proofs.end_at.Reads as end-at-reads
 use Rattle.rule_faults.proofs.is_form.Reads as is-form-reads
 
--- src/ranges.rt:40:9
-constant-requires : tie.Need-constant-requires
-constant-requires c κs = search needs
-
--- src/ranges.rt:42:8
-is-form-requires : tie.Need-is-form-requires
-is-form-requires c κs = search needs
-
--- src/ranges.rt:43:9
-value-answer-requires : tie.Need-value-answer-requires
-value-answer-requires c κs = search needs
-
--- src/ranges.rt:43:9
-returns : tie.Need-returns
-returns c = search (last-laws, sfits-of)
-
--- src/ranges.rt:45:9
-end-at-requires : tie.Need-end-at-requires
-end-at-requires c κs = search needs
-
--- src/ranges.rt:47:19
-enum-known-e : tie.Need-enum-known-e
-enum-known-e c = search needs
-
--- src/ranges.rt:47:25
-value-answer-requires-2 : tie.Need-value-answer-requires-2
-value-answer-requires-2 c κs = search needs
-
--- src/ranges.rt:48:35
-enum-told : tie.Need-enum-told
-enum-told c = search needs
-
--- src/ranges.rt:48:22
-value-answer-requires-3 : tie.Need-value-answer-requires-3
-value-answer-requires-3 c κs = search needs
-
--- src/ranges.rt:37:1
-returns-2 : tie.Need-returns-2
-returns-2 c = search (last-laws, sfits-of)
-
--- src/ranges.rt:37:1
-returns-3 : tie.Need-returns-3
-returns-3 c = search (last-laws, sfits-of)
-
 pub last-constant-spec : {M : Type 1} → statement M
 last-constant-spec =
     tie.close
     (tie.spec
-    constant-requires
-    is-form-requires
-    value-answer-requires
-    returns
-    end-at-requires
-    enum-known-e
-    value-answer-requires-2
-    enum-told
-    value-answer-requires-3
-    returns-2
-    returns-3)
+    (λ c κs. search needs)  -- constant-requires src/ranges.rt:40:9
+    (λ c κs. search needs)  -- is-form-requires src/ranges.rt:42:8
+    (λ c κs. search needs)  -- value-answer-requires src/ranges.rt:43:9
+    (λ c. search (last-laws, sfits-of))  -- returns src/ranges.rt:43:9
+    (λ c κs. search needs)  -- end-at-requires src/ranges.rt:45:9
+    (λ c. search needs)  -- enum-known-e src/ranges.rt:47:19
+    (λ c κs. search needs)  -- value-answer-requires-2 src/ranges.rt:47:25
+    (λ c. search needs)  -- enum-told src/ranges.rt:48:35
+    (λ c κs. search needs)  -- value-answer-requires-3 src/ranges.rt:48:22
+    (λ c. search (last-laws, sfits-of))  -- returns-2 src/ranges.rt:37:1
+    (λ c. search (last-laws, sfits-of)))  -- returns-3 src/ranges.rt:37:1

@@ -10,42 +10,14 @@ use Rattle.rule_type_lines.proofs.simple.ordinal_fault.Reads as ordinal
 use Rattle.rule_type_lines.proofs.simple.span_of.Reads as span-of-reads
 use Rattle.rule_faults.proofs.lowest.Reads as lowest-reads
 
--- src/simple.rt:121:24
-lowest-requires : tie.Need-lowest-requires
-lowest-requires c κs = search needs
-
--- src/simple.rt:121:38
-ordinal-fault-requires : tie.Need-ordinal-fault-requires
-ordinal-fault-requires c κs = search needs
-
--- src/simple.rt:121:9
-lowest-requires-2 : tie.Need-lowest-requires-2
-lowest-requires-2 c κs = search needs
-
--- src/simple.rt:122:9
-span-of-requires : tie.Need-span-of-requires
-span-of-requires c κs = search needs
-
--- src/simple.rt:123:9
-array-fits-requires : tie.Need-array-fits-requires
-array-fits-requires c κs = search needs
-
--- src/simple.rt:124:9
-cells-in-requires : tie.Need-cells-in-requires
-cells-in-requires c κs = search needs
-
--- src/simple.rt:118:1
-returns : tie.Need-returns
-returns c = search array-shape-is
-
 pub array-shape-spec : {M : Type 1} → statement M
 array-shape-spec =
     tie.close
     (tie.spec
-    lowest-requires
-    ordinal-fault-requires
-    lowest-requires-2
-    span-of-requires
-    array-fits-requires
-    cells-in-requires
-    returns)
+    (λ c κs. search needs)  -- lowest-requires src/simple.rt:121:24
+    (λ c κs. search needs)  -- ordinal-fault-requires src/simple.rt:121:38
+    (λ c κs. search needs)  -- lowest-requires-2 src/simple.rt:121:9
+    (λ c κs. search needs)  -- span-of-requires src/simple.rt:122:9
+    (λ c κs. search needs)  -- array-fits-requires src/simple.rt:123:9
+    (λ c κs. search needs)  -- cells-in-requires src/simple.rt:124:9
+    (λ c. search array-shape-is))  -- returns src/simple.rt:118:1

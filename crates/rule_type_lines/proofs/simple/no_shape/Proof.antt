@@ -6,13 +6,9 @@ use Rattle.rule_type_lines.proofs.simple.no_shape.Reads as reads
 use Rattle.rule_type_lines.proofs.simple.no_shape.Lts as lts
 use Rattle.table_scope.proofs.no_info.Reads as no-info-reads
 
--- src/simple.rt:99:9
-no-info-requires : tie.Need-no-info-requires
-no-info-requires c κs = search needs
-
--- src/simple.rt:96:1
-returns : tie.Need-returns
-returns c = search no-shape-is
-
 pub no-shape-spec : {M : Type 1} → statement M
-no-shape-spec = tie.close (tie.spec no-info-requires returns)
+no-shape-spec =
+    tie.close
+    (tie.spec
+    (λ c κs. search needs)  -- no-info-requires src/simple.rt:99:9
+    (λ c. search no-shape-is))  -- returns src/simple.rt:96:1

@@ -21,42 +21,6 @@ abbrev μ-loop : tie.MeasureT-loop
 loop-holds : tie.Need-loop-holds Inv-loop μ-loop
 loop-holds c = keying-start _ _
 
--- src/keys.rt:17:27
-byte-at-requires : tie.Need-byte-at-requires Inv-loop μ-loop
-byte-at-requires c κs = search needs
-
--- src/keys.rt:17:13
-letter-of-requires : tie.Need-letter-of-requires Inv-loop μ-loop
-letter-of-requires c κs = search needs
-
--- src/keys.rt:19:13
-returns : tie.Need-returns Inv-loop μ-loop
-returns c = search keying-laws
-
--- src/keys.rt:21:14
-mul-k : tie.Need-mul-k Inv-loop μ-loop
-mul-k c = search (keying-small, needs)
-
--- src/keys.rt:21:23
-cast-k : tie.Need-cast-k Inv-loop μ-loop
-cast-k c = search (keying-small, needs)
-
--- src/keys.rt:21:14
-add-k : tie.Need-add-k Inv-loop μ-loop
-add-k c = search (keying-small, needs)
-
--- src/keys.rt:22:9
-add-p : tie.Need-add-p Inv-loop μ-loop
-add-p c = search (letter-room, needs)
-
--- src/keys.rt:16:5
-loop-less : tie.Need-loop-less Inv-loop μ-loop
-loop-less c = search letter-falls
-
--- src/keys.rt:16:5
-loop-again : tie.Need-loop-again Inv-loop μ-loop
-loop-again c = search keying-laws
-
 pub key-of-spec : {M : Type 1} → statement M
 key-of-spec =
     tie.close
@@ -64,12 +28,12 @@ key-of-spec =
     Inv-loop
     μ-loop
     loop-holds
-    byte-at-requires
-    letter-of-requires
-    returns
-    mul-k
-    cast-k
-    add-k
-    add-p
-    loop-less
-    loop-again)
+    (λ c κs. search needs)  -- byte-at-requires src/keys.rt:17:27
+    (λ c κs. search needs)  -- letter-of-requires src/keys.rt:17:13
+    (λ c. search keying-laws)  -- returns src/keys.rt:19:13
+    (λ c. search (keying-small, needs))  -- mul-k src/keys.rt:21:14
+    (λ c. search (keying-small, needs))  -- cast-k src/keys.rt:21:23
+    (λ c. search (keying-small, needs))  -- add-k src/keys.rt:21:14
+    (λ c. search (letter-room, needs))  -- add-p src/keys.rt:22:9
+    (λ c. search letter-falls)  -- loop-less src/keys.rt:16:5
+    (λ c. search keying-laws))  -- loop-again src/keys.rt:16:5

@@ -6,25 +6,12 @@ use Rattle.table_names.proofs.keys.name_number.Reads as reads
 use Rattle.table_names.proofs.keys.name_number.Lts as lts
 use Rattle.table_names.proofs.keys.key_of.Reads as key-of-reads
 
--- src/keys.rt:30:9
-key-of-requires : tie.Need-key-of-requires
-key-of-requires c κs = search needs
-
--- src/keys.rt:31:5
-cast-result : tie.Need-cast-result
-cast-result c = search needs
-
--- src/keys.rt:31:26
-mul-result : tie.Need-mul-result
-mul-result c = search (key-room, needs)
-
--- src/keys.rt:31:5
-add-result : tie.Need-add-result
-add-result c = search (keyed-fits, needs)
-
--- src/keys.rt:27:1
-returns : tie.Need-returns
-returns c = search keyed-is
-
 pub name-number-spec : {M : Type 1} → statement M
-name-number-spec = tie.close (tie.spec key-of-requires cast-result mul-result add-result returns)
+name-number-spec =
+    tie.close
+    (tie.spec
+    (λ c κs. search needs)  -- key-of-requires src/keys.rt:30:9
+    (λ c. search needs)  -- cast-result src/keys.rt:31:5
+    (λ c. search (key-room, needs))  -- mul-result src/keys.rt:31:26
+    (λ c. search (keyed-fits, needs))  -- add-result src/keys.rt:31:5
+    (λ c. search keyed-is))  -- returns src/keys.rt:27:1

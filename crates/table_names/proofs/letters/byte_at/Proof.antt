@@ -5,17 +5,10 @@ use Rattle.table_names.proofs.letters.byte_at.Tie as tie
 use Rattle.table_names.proofs.letters.byte_at.Reads as reads
 use Rattle.table_names.proofs.letters.byte_at.Lts as lts
 
--- src/letters.rt:14:16
-shared-slice-read-result : tie.Need-shared-slice-read-result
-shared-slice-read-result c = search needs
-
--- src/letters.rt:14:9
-returns : tie.Need-returns
-returns c = search byte-laws
-
--- src/letters.rt:10:1
-returns-2 : tie.Need-returns-2
-returns-2 c = search byte-laws
-
 pub byte-at-spec : {M : Type 1} → statement M
-byte-at-spec = tie.close (tie.spec shared-slice-read-result returns returns-2)
+byte-at-spec =
+    tie.close
+    (tie.spec
+    (λ c. search needs)  -- shared-slice-read-result src/letters.rt:14:16
+    (λ c. search byte-laws)  -- returns src/letters.rt:14:9
+    (λ c. search byte-laws))  -- returns-2 src/letters.rt:10:1

@@ -22,34 +22,6 @@ abbrev μ-loop : tie.MeasureT-loop
 loop-holds : tie.Need-loop-holds Inv-loop μ-loop
 loop-holds c = walk-start _ _
 
--- src/lines.rt:155:12
-shared-slice-read-if1 : tie.Need-shared-slice-read-if1 Inv-loop μ-loop
-shared-slice-read-if1 c = search needs
-
--- src/lines.rt:156:13
-is-after-requires : tie.Need-is-after-requires Inv-loop μ-loop
-is-after-requires c κs = search needs
-
--- src/lines.rt:156:13
-returns : tie.Need-returns Inv-loop μ-loop
-returns c = search balance-laws
-
--- src/lines.rt:158:32
-shared-slice-read-class-of : tie.Need-shared-slice-read-class-of Inv-loop μ-loop
-shared-slice-read-class-of c = search needs
-
--- src/lines.rt:158:23
-class-of-requires : tie.Need-class-of-requires Inv-loop μ-loop
-class-of-requires c κs = search needs
-
--- src/lines.rt:158:9
-past-byte-requires : tie.Need-past-byte-requires Inv-loop μ-loop
-past-byte-requires c κs = search needs
-
--- src/lines.rt:159:9
-add-p : tie.Need-add-p Inv-loop μ-loop
-add-p c = search needs
-
 -- src/lines.rt:154:5
 loop-less : tie.Need-loop-less Inv-loop μ-loop
 loop-less c = omega arith
@@ -58,10 +30,6 @@ loop-less c = omega arith
 loop-again : tie.Need-loop-again Inv-loop μ-loop
 loop-again c = balance-on _ _ _ _ (c .before .before .before .before .before .before .loop .inv) _ _ (search needs) (search needs) (search needs) (c .past-byte .ensures)
 
--- src/lines.rt:149:1
-returns-2 : tie.Need-returns-2 Inv-loop μ-loop
-returns-2 c = search balance-laws
-
 pub balance-spec : {M : Type 1} → statement M
 balance-spec =
     tie.close
@@ -69,13 +37,13 @@ balance-spec =
     Inv-loop
     μ-loop
     loop-holds
-    shared-slice-read-if1
-    is-after-requires
-    returns
-    shared-slice-read-class-of
-    class-of-requires
-    past-byte-requires
-    add-p
+    (λ c. search needs)  -- shared-slice-read-if1 src/lines.rt:155:12
+    (λ c κs. search needs)  -- is-after-requires src/lines.rt:156:13
+    (λ c. search balance-laws)  -- returns src/lines.rt:156:13
+    (λ c. search needs)  -- shared-slice-read-class-of src/lines.rt:158:32
+    (λ c κs. search needs)  -- class-of-requires src/lines.rt:158:23
+    (λ c κs. search needs)  -- past-byte-requires src/lines.rt:158:9
+    (λ c. search needs)  -- add-p src/lines.rt:159:9
     loop-less
     loop-again
-    returns-2)
+    (λ c. search balance-laws))  -- returns-2 src/lines.rt:149:1

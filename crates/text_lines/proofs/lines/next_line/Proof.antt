@@ -20,21 +20,9 @@ abbrev μ-loop : tie.MeasureT-loop
 loop-holds : tie.Need-loop-holds Inv-loop μ-loop
 loop-holds c = (refl, omega arith)
 
--- src/lines.rt:170:12
-shared-slice-read-if1 : tie.Need-shared-slice-read-if1 Inv-loop μ-loop
-shared-slice-read-if1 c = search needs
-
--- src/lines.rt:171:20
-add-result : tie.Need-add-result Inv-loop μ-loop
-add-result c = search needs
-
 -- src/lines.rt:171:13
 returns : tie.Need-returns Inv-loop μ-loop
 returns c = (search next-laws, omega arith)
-
--- src/lines.rt:173:9
-add-p : tie.Need-add-p Inv-loop μ-loop
-add-p c = search needs
 
 -- src/lines.rt:169:5
 loop-less : tie.Need-loop-less Inv-loop μ-loop
@@ -55,10 +43,10 @@ next-line-spec =
     Inv-loop
     μ-loop
     loop-holds
-    shared-slice-read-if1
-    add-result
+    (λ c. search needs)  -- shared-slice-read-if1 src/lines.rt:170:12
+    (λ c. search needs)  -- add-result src/lines.rt:171:20
     returns
-    add-p
+    (λ c. search needs)  -- add-p src/lines.rt:173:9
     loop-less
     loop-again
     returns-2)

@@ -22,45 +22,9 @@ abbrev μ-loop : tie.MeasureT-loop
 loop-holds : tie.Need-loop-holds Inv-loop μ-loop
 loop-holds c = seek-start _
 
--- src/lines.rt:56:26
-shared-slice-read-class-of : tie.Need-shared-slice-read-class-of Inv-loop μ-loop
-shared-slice-read-class-of c = search needs
-
--- src/lines.rt:56:13
-class-of-requires : tie.Need-class-of-requires Inv-loop μ-loop
-class-of-requires c κs = search needs
-
--- src/lines.rt:57:12
-is-refused-requires : tie.Need-is-refused-requires Inv-loop μ-loop
-is-refused-requires c κs = search needs
-
--- src/lines.rt:58:20
-add-result : tie.Need-add-result Inv-loop μ-loop
-add-result c = search (seek-few, needs)
-
--- src/lines.rt:58:13
-returns : tie.Need-returns Inv-loop μ-loop
-returns c = search seek-laws
-
--- src/lines.rt:60:9
-feeds-after-requires : tie.Need-feeds-after-requires Inv-loop μ-loop
-feeds-after-requires c κs = search (seek-few, needs)
-
--- src/lines.rt:61:9
-add-p : tie.Need-add-p Inv-loop μ-loop
-add-p c = search (seek-few, needs)
-
 -- src/lines.rt:55:5
 loop-less : tie.Need-loop-less Inv-loop μ-loop
 loop-less c = omega arith
-
--- src/lines.rt:55:5
-loop-again : tie.Need-loop-again Inv-loop μ-loop
-loop-again c = search seek-laws
-
--- src/lines.rt:50:1
-returns-2 : tie.Need-returns-2 Inv-loop μ-loop
-returns-2 c = search seek-laws
 
 pub refused-line-spec : {M : Type 1} → statement M
 refused-line-spec =
@@ -69,13 +33,13 @@ refused-line-spec =
     Inv-loop
     μ-loop
     loop-holds
-    shared-slice-read-class-of
-    class-of-requires
-    is-refused-requires
-    add-result
-    returns
-    feeds-after-requires
-    add-p
+    (λ c. search needs)  -- shared-slice-read-class-of src/lines.rt:56:26
+    (λ c κs. search needs)  -- class-of-requires src/lines.rt:56:13
+    (λ c κs. search needs)  -- is-refused-requires src/lines.rt:57:12
+    (λ c. search (seek-few, needs))  -- add-result src/lines.rt:58:20
+    (λ c. search seek-laws)  -- returns src/lines.rt:58:13
+    (λ c κs. search (seek-few, needs))  -- feeds-after-requires src/lines.rt:60:9
+    (λ c. search (seek-few, needs))  -- add-p src/lines.rt:61:9
     loop-less
-    loop-again
-    returns-2)
+    (λ c. search seek-laws)  -- loop-again src/lines.rt:55:5
+    (λ c. search seek-laws))  -- returns-2 src/lines.rt:50:1

@@ -25,37 +25,9 @@ abbrev μ-loop : tie.MeasureT-loop
 loop-holds : tie.Need-loop-holds Inv-loop μ-loop
 loop-holds c = count-start _ _
 
--- src/lines.rt:301:13
-hop-at-requires : tie.Need-hop-at-requires Inv-loop μ-loop
-hop-at-requires c κs = search needs
-
--- src/lines.rt:302:12
-stops-requires : tie.Need-stops-requires Inv-loop μ-loop
-stops-requires c κs = search needs
-
--- src/lines.rt:303:13
-returns : tie.Need-returns Inv-loop μ-loop
-returns c = search count-laws
-
--- src/lines.rt:305:14
-weight-requires : tie.Need-weight-requires Inv-loop μ-loop
-weight-requires c κs = search needs
-
 -- src/lines.rt:305:9
 add-n : tie.Need-add-n Inv-loop μ-loop
 add-n c = let r : c .before .before .before .before .loop .n + c .weight .result ≤ length (c .before .before .before .before .before .before .args .text .now) = search count-room in let l : Fits w64 (length (c .before .before .before .before .before .before .args .text .now)) = search needs in omega arith
-
--- src/lines.rt:306:9
-next-of-requires : tie.Need-next-of-requires Inv-loop μ-loop
-next-of-requires c κs = search needs
-
--- src/lines.rt:300:5
-loop-less : tie.Need-loop-less Inv-loop μ-loop
-loop-less c = search hop-falls
-
--- src/lines.rt:300:5
-loop-again : tie.Need-loop-again Inv-loop μ-loop
-loop-again c = search count-laws
 
 pub count-nodes-spec : {M : Type 1} → statement M
 count-nodes-spec =
@@ -64,11 +36,11 @@ count-nodes-spec =
     Inv-loop
     μ-loop
     loop-holds
-    hop-at-requires
-    stops-requires
-    returns
-    weight-requires
+    (λ c κs. search needs)  -- hop-at-requires src/lines.rt:301:13
+    (λ c κs. search needs)  -- stops-requires src/lines.rt:302:12
+    (λ c. search count-laws)  -- returns src/lines.rt:303:13
+    (λ c κs. search needs)  -- weight-requires src/lines.rt:305:14
     add-n
-    next-of-requires
-    loop-less
-    loop-again)
+    (λ c κs. search needs)  -- next-of-requires src/lines.rt:306:9
+    (λ c. search hop-falls)  -- loop-less src/lines.rt:300:5
+    (λ c. search count-laws))  -- loop-again src/lines.rt:300:5

@@ -22,38 +22,6 @@ abbrev μ-loop : tie.MeasureT-loop
 loop-holds : tie.Need-loop-holds Inv-loop μ-loop
 loop-holds c = know-start _ _
 
--- src/lines.rt:282:13
-hop-at-requires : tie.Need-hop-at-requires Inv-loop μ-loop
-hop-at-requires c κs = search needs
-
--- src/lines.rt:283:12
-stops-requires : tie.Need-stops-requires Inv-loop μ-loop
-stops-requires c κs = search needs
-
--- src/lines.rt:284:13
-returns : tie.Need-returns Inv-loop μ-loop
-returns c = search known-laws
-
--- src/lines.rt:286:12
-fine-requires : tie.Need-fine-requires Inv-loop μ-loop
-fine-requires c κs = search needs
-
--- src/lines.rt:287:13
-next-of-requires : tie.Need-next-of-requires Inv-loop μ-loop
-next-of-requires c κs = search needs
-
--- src/lines.rt:281:5
-loop-less : tie.Need-loop-less Inv-loop μ-loop
-loop-less c = search hop-falls
-
--- src/lines.rt:281:5
-loop-again : tie.Need-loop-again Inv-loop μ-loop
-loop-again c = search known-laws
-
--- src/lines.rt:289:13
-returns-2 : tie.Need-returns-2 Inv-loop μ-loop
-returns-2 c = search known-laws
-
 pub words-known-spec : {M : Type 1} → statement M
 words-known-spec =
     tie.close
@@ -61,11 +29,11 @@ words-known-spec =
     Inv-loop
     μ-loop
     loop-holds
-    hop-at-requires
-    stops-requires
-    returns
-    fine-requires
-    next-of-requires
-    loop-less
-    loop-again
-    returns-2)
+    (λ c κs. search needs)  -- hop-at-requires src/lines.rt:282:13
+    (λ c κs. search needs)  -- stops-requires src/lines.rt:283:12
+    (λ c. search known-laws)  -- returns src/lines.rt:284:13
+    (λ c κs. search needs)  -- fine-requires src/lines.rt:286:12
+    (λ c κs. search needs)  -- next-of-requires src/lines.rt:287:13
+    (λ c. search hop-falls)  -- loop-less src/lines.rt:281:5
+    (λ c. search known-laws)  -- loop-again src/lines.rt:281:5
+    (λ c. search known-laws))  -- returns-2 src/lines.rt:289:13
