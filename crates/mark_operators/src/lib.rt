@@ -1,4 +1,4 @@
-// Operators and functions: what they come to at the kinds that they meet.
+// Operators and functions of the marking machine: what they come to at the kinds that they meet.
 use code_calc::operators::combine;
 use code_calc::operators::pred;
 use code_calc::operators::succ;

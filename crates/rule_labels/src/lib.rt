@@ -1,4 +1,4 @@
-// Whether the labels of a `case` differ: their values are compared block by block, since the working list may be too short for the labels of a faulty line.
+// Whether the labels of a `case` differ (in `loose` their kinds may be any): compared block by block, since the working list may be too short for the labels of a faulty line.
 pub mod loose;
 
 use leaf_words::words::Word;

@@ -1,4 +1,4 @@
-// Lines that declare types: the name's entry, the description and its place, and the counts then.
+// Lines that declare types: the name's entry, the description and its place, the counts then; and the lines of one description: aliases, ranges, arrays, sets.
 pub mod made;
 pub mod ranges;
 pub mod simple;
