@@ -1,4 +1,4 @@
--- What the answers for a type's name and a constant tell of rows 6 to 8 (law, Stages), and where the walk goes on.
+-- What the answers for a type's name and a constant tell of rows 6 to 8 (rule_stages, Stages), and where the walk goes on.
 use mathlib.Core.Bool.{true, false}
 use mathlib.Core.List.{List}
 use mathlib.Core.Option.{Option, none, some}

@@ -1,4 +1,4 @@
--- The answer for a part of a line, and what it tells of the stages of rows 6 to 8 (law, Stages).
+-- The answer for a part of a line, and what it tells of the stages of rows 6 to 8 (rule_stages, Stages).
 use mathlib.Core.Bool.{Bool, true, false}
 use mathlib.Core.List.{List}
 use mathlib.Core.Option.{Option, none, some}

@@ -1,4 +1,4 @@
--- Code that is ready for an engine (law, CodeReady) is code that the emitter has nodes and instructions for (run_nodes, run_emit).
+-- Code that is ready for an engine (code, CodeReady) is code that the emitter has nodes and instructions for (run_nodes, run_emit).
 use mathlib.Core.Path.{_≡_, refl}
 use mathlib.Core.Bool.{true}
 use mathlib.Core.List.{List}

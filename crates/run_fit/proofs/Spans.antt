@@ -1,4 +1,4 @@
--- The emitter's numbers (run_nodes, spanCode; run_emit, spanAct) are a measure of code (law, Measure): an accepted text's code has room for them.
+-- The emitter's numbers (run_nodes, spanCode; run_emit, spanAct) are a measure of code (code, Measure): an accepted text's code has room for them.
 use mathlib.Core.Path.{_≡_, refl}
 use mathlib.Core.List.{List, [], _∷_}
 use mathlib.Core.Logic.{_⊎_, inl, inr}
