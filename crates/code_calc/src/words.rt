@@ -9,14 +9,29 @@ ghost use lib.IntN.{pos};
 // The greatest value, the greatest finite real's pattern; a greater word is a fault.
 pub const GREATEST: i64 = 9218868437227405311;
 
+// The exceptions' numbers, by document 01's names: Numeric_Error ..
+const NUMERIC_ERROR: i64 = -101;
+
+// .. System_Error ..
+pub const SYSTEM_ERROR: i64 = -102;
+
+// .. Range_Error ..
+pub const RANGE_ERROR: i64 = -103;
+
+// .. Undefined_Error ..
+pub const UNDEFINED_ERROR: i64 = -104;
+
+// .. and Case_Error.
+pub const CASE_ERROR: i64 = -105;
+
 // A fault's word is the exception's number above this one.
 pub const FAULT: i64 = 9223372036854775807;
 
-pub const NUMERIC: i64 = 9223372036854775706;
+pub const NUMERIC: i64 = FAULT + NUMERIC_ERROR;
 
-pub const RANGE: i64 = 9223372036854775704;
+pub const RANGE: i64 = FAULT + RANGE_ERROR;
 
-pub const UNDEFINED: i64 = 9223372036854775703;
+pub const UNDEFINED: i64 = FAULT + UNDEFINED_ERROR;
 
 // The store's array: the cells' words, then the last exception's number and its statement; the rest is not used.
 pub type Store = [i64; WORDS];
@@ -25,9 +40,9 @@ pub const WORDS: usize = 2184;
 
 pub const CELLS: usize = 2176;
 
-pub const LATEST: usize = 2176;
+pub const LATEST: usize = CELLS;
 
-pub const PLACE: usize = 2177;
+pub const PLACE: usize = LATEST + 1;
 
 // A number as an integer of 32 bits: with its top bit turned, less what that bit counts, for which the compiler has one instruction.
 pub fn signed_of(n: u32) -> i64

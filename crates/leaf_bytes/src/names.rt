@@ -40,6 +40,9 @@ fn goes_on(w: &[u8]) -> bool
     true
 }
 
+// How many bytes a name has at most: "1 to 31 bytes".
+const LONGEST: usize = 31;
+
 // Whether w has the shape of a name; a reserved word has it too.
 pub fn is_name(w: &[u8]) -> bool
     ensures { λ r. ⌜ r ≡ isName (now (w .entry)) ⌝ }
@@ -47,7 +50,7 @@ pub fn is_name(w: &[u8]) -> bool
     if w.len() == 0 {
         return false;
     }
-    if w.len() > 31 {
+    if w.len() > LONGEST {
         return false;
     }
     if is_letter(w[0]) {

@@ -1,5 +1,6 @@
 // How a statement of the marking machine ends: as the runner's do (steps), or it sticks.
 use code_calc::words::Store;
+use mark_steps::ends::SPENT;
 use mark_steps::ends::failing;
 use mark_values::values::STUCK;
 ghost use mathlib.Core.Path.{_≡_};
@@ -12,7 +13,7 @@ pub const STICKS: u64 = 12884901888;
 pub fn sticking(left: u64) -> u64
     ensures { λ r. ⌜ r ≡ stuckWord left ⌝ }
 {
-    STICKS + left % 4294967296
+    STICKS + left % SPENT
 }
 
 // What the word of no value does in statement n: a fault raises, and STUCK sticks.

@@ -1,6 +1,7 @@
 // Storing into cells; one past the last changes nothing.
 use code_calc::cells::cell;
 use code_calc::words::CELLS;
+use code_calc::words::RANGE_ERROR;
 use code_calc::words::Store;
 use leaf_integers::in_range;
 use mark_steps::ends::raising;
@@ -91,7 +92,7 @@ pub fn store_ordinal(
         put(store, address(a), x);
         return left;
     }
-    raising(store, left, -103, n)
+    raising(store, left, RANGE_ERROR, n)
 }
 
 // One cell x stored with no range test in the cell of the word a, by statement n.

@@ -8,8 +8,11 @@ use code_store::load_words;
 use code_store::save_cells;
 use law_answers::Ending;
 use law_answers::Marked;
+use mark_acts::ends::STICKS;
 use mark_cells::cells::address;
 use mark_statements::walk::mark_body;
+use mark_steps::ends::RAISED;
+use mark_steps::ends::SPENT;
 use mark_steps::ends::left_in;
 ghost use Rattle.mark_machine.specs.Answers.{MarksLent};
 ghost use Rattle.mark_machine.specs.Lending.{MarkTells, MarksIn};
@@ -18,13 +21,13 @@ ghost use Rattle.mark_machine.specs.Lending.{MarkTells, MarksIn};
 fn told(w: u64, store: &Store) -> Ending
     ensures { λ r. ⌜ MarkTells w (now (store .entry)) r ⌝ }
 {
-    if w < 4294967296 {
+    if w < SPENT {
         return Ending::Normal;
     }
-    if w < 8589934592 {
+    if w < RAISED {
         return Ending::Spent;
     }
-    if w < 12884901888 {
+    if w < STICKS {
         return Ending::Raised(store[LATEST], address(store[PLACE]));
     }
     Ending::Stuck

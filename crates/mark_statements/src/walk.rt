@@ -6,7 +6,9 @@ use crate::finding::callee;
 use crate::finding::handler_of;
 use crate::finding::line_of;
 use crate::finding::plan_for;
+use code_calc::words::CASE_ERROR;
 use code_calc::words::GREATEST;
+use code_calc::words::RANGE_ERROR;
 use code_calc::words::Store;
 use mark_acts::acts::assign;
 use mark_acts::acts::condition;
@@ -477,7 +479,7 @@ fn count_up(
             )
         }
         Plan::Nothing => left,
-        Plan::Outside => raising(store, left, -103, n),
+        Plan::Outside => raising(store, left, RANGE_ERROR, n),
         Plan::Halted(w) => halting(store, left, w, n),
     }
 }
@@ -573,7 +575,7 @@ fn choose(
             m,
             q,
         ),
-        Arm::Absent => raising(store, left, -105, n),
+        Arm::Absent => raising(store, left, CASE_ERROR, n),
         Arm::Stuck => sticking(left),
     }
 }

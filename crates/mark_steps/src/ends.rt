@@ -4,11 +4,13 @@ use code_calc::words::FAULT;
 use code_calc::words::GREATEST;
 use code_calc::words::LATEST;
 use code_calc::words::PLACE;
+use code_calc::words::SYSTEM_ERROR;
 use code_calc::words::Store;
 ghost use mathlib.Core.Path.{_≡_};
 ghost use lib.Dec.{ltb};
 ghost use Rattle.mark_steps.specs.Ends.{leftIn, stepWord, faultIn, Raises, RaisesNumber};
 
+// No number of steps left is so large.
 pub const SPENT: u64 = 4294967296;
 
 pub const RAISED: u64 = 8589934592;
@@ -24,7 +26,7 @@ pub fn stopped(w: u64) -> bool
 pub fn left_in(w: u64) -> u64
     ensures { λ r. ⌜ r ≡ leftIn w ⌝ }
 {
-    w % 4294967296
+    w % SPENT
 }
 
 // One step taken, as a word.
@@ -43,7 +45,7 @@ pub fn raising(store: &mut Store, left: u64, z: i64, n: u32) -> u64
 {
     store[LATEST] = z;
     store[PLACE] = n as i64;
-    RAISED + left % 4294967296
+    RAISED + left % SPENT
 }
 
 // The fault that a word is, at statement n.
@@ -64,7 +66,7 @@ pub fn raise_number(store: &mut Store, left: u64, z: i64, n: u32) -> u64
         return raising(store, left, z, n);
     }
     if store[LATEST] == 0 {
-        return raising(store, left, -102, n);
+        return raising(store, left, SYSTEM_ERROR, n);
     }
-    RAISED + left % 4294967296
+    RAISED + left % SPENT
 }

@@ -62,11 +62,14 @@ pub fn refused_line(text: &[u8]) -> usize
     0
 }
 
+// How many brackets may be open around the innermost: "Bracket depth is at most 32".
+const INNERMOST: u32 = 31;
+
 // One bracket more.
 fn deeper(n: u32) -> Standing
     ensures { λ r. ⌜ placeOf r ≡ opened (inside n) ⌝ }
 {
-    if n < 31 {
+    if n < INNERMOST {
         return Standing::Inside(n + 1);
     }
     Standing::Faulty
