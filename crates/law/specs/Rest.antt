@@ -1,4 +1,4 @@
--- What is left of a run that is spent: parts of the code, the loops that are under way with their counts, the handlers that still stand.
+-- What may be left of a run that is spent: statements' code, loops that are under way with their counts, handlers that still stand.
 -- There is no store in it. `resume` carries it out by the chair's own definitions, so that it adds no rule of its own.
 use mathlib.Core.Bool.{true}
 use mathlib.Core.List.{List, [], _∷_, _++_}
