@@ -6,10 +6,10 @@ use drive::WORK_LENGTH;
 use drive::mark_owners;
 use host_input::Input;
 use host_input::read_text;
+use host_output::least;
+use host_output::tell;
 use host_printing::markings::mark_scripted;
 use host_writing::rows::refused;
-use libc::STDOUT_FILENO;
-ghost use Prim.Native.Nat.{_≤_};
 ghost use lib.ListN.{length};
 
 // How many cells a script has at most.
@@ -17,16 +17,6 @@ const CELLS: usize = MOST_CELLS as usize;
 
 // How many bytes a report may have.
 const OUT_LENGTH: usize = 131072;
-
-// The smaller of two numbers.
-fn least(a: usize, b: usize) -> usize
-    ensures { λ r. ⌜ (r ≤ a) × (r ≤ b) ⌝ }
-{
-    if a < b {
-        return a;
-    }
-    b
-}
 
 // Writes the report of a run of a script that has so many cells; the lists have room for them.
 fn run_cells(
@@ -65,12 +55,6 @@ fn answer(
         Counted::Refused(number, line) => refused(out, 0, number, line),
         Counted::Cells(cells) => run_cells(text, work, names, values, marks, out, cells),
     }
-}
-
-// Prints the first n bytes.
-fn tell(out: &[u8], n: usize) {
-    let k = least(n, out.len());
-    io::write_all(STDOUT_FILENO, &out[..k]);
 }
 
 // Answers for a script.
