@@ -11,7 +11,7 @@ pub tell-spec : {M : Type 1} → statement M
 tell-spec =
     tie.close
     (tie.spec
-    (λ c κs. search needs)  -- least-requires src/lib.rt:17:9
-    (λ c. search (part-long, needs))  -- slice-aggregate-write-all src/lib.rt:18:34
-    (λ c κs. search needs)  -- write-all-requires src/lib.rt:18:5
-    (λ c. search needs))  -- returns src/lib.rt:16:1
+    (λ c κs. search needs)  -- least-requires src/lib.rt:20:9
+    (λ c. search (part-long, needs))  -- slice-aggregate-write-all src/lib.rt:21:34
+    (λ c κs. search needs)  -- write-all-requires src/lib.rt:21:5
+    (λ c. search needs))  -- returns src/lib.rt:17:1
