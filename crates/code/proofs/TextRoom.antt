@@ -11,9 +11,9 @@ use lib.Dec.{leb}
 use lib.ListN.{length, length-append, drop}
 use Rattle.law.specs.Base.{Name, each}
 use Rattle.law.specs.Syntax as Syntax
-use Rattle.law.specs.Types.{Types, TypeInfo}
+use Rattle.law.specs.Types.{Types, TypeSort, facts}
 use Rattle.law.specs.Script.{Decl, Entry, alias, arrayOf, enum, newMain, newProc, newType, newVar, range, recordOf, setOf}
-use Rattle.law.specs.Environment.{Declared, Environment, declNames, declareLine, enumNames, extendTypes, layFields, nothingDeclared, typeInfoOf}
+use Rattle.law.specs.Environment.{Declared, Environment, declNames, declareLine, enumNames, extendTypes, layFields, nothingDeclared, typeSortOf}
 use Rattle.law.specs.Names.{declOf, entryOf}
 use Rattle.law.specs.Code.{BodyCode}
 use Rattle.code.specs.LayoutSize.{sizeBodies, sizeDecl, sizeSymbols, sizeTypes, symbolSize}
@@ -70,13 +70,13 @@ unfolding layFields
 lay-length Γ a [] = refl
 lay-length Γ a (f ∷ fs) = ap suc (lay-length Γ _ fs)
 
-types-more : (Γ : Types) (i : TypeInfo) → sizeTypes (Γ ++ (i ∷ [])) ≡ sizeTypes Γ + (8 + 4 * length (i .fields))
+types-more : (Γ : Types) (i : TypeSort) → sizeTypes (Γ ++ (i ∷ [])) ≡ sizeTypes Γ + (8 + 4 * length (facts i .fields))
 unfolding sizeTypes
 types-more [] i = omega arith
 types-more (j ∷ Γ) i = rw (types-more Γ i) (omega arith)
 
 -- past the built-in types
-declared-more : (Γ : Types) (i : TypeInfo) → 2 ≤ length Γ → sizeTypes (drop 2 (Γ ++ (i ∷ []))) ≡ sizeTypes (drop 2 Γ) + (8 + 4 * length (i .fields))
+declared-more : (Γ : Types) (i : TypeSort) → 2 ≤ length Γ → sizeTypes (drop 2 (Γ ++ (i ∷ []))) ≡ sizeTypes (drop 2 Γ) + (8 + 4 * length (facts i .fields))
 declared-more [] i h = absurd (omega arith)
 declared-more (a ∷ []) i h = absurd (omega arith)
 declared-more (a ∷ (b ∷ Γ)) i h = types-more Γ i
@@ -84,7 +84,7 @@ declared-more (a ∷ (b ∷ Γ)) i h = types-more Γ i
 -- the entries of a `type` line
 decl-symbols : (Γ : Types) (w : Name) (d : Decl) → 2 ≤ length Γ
     → 4 * length (declNames Γ w d) + sizeTypes (drop 2 (extendTypes Γ d)) ≡ sizeTypes (drop 2 Γ) + sizeDecl d
-unfolding declNames extendTypes sizeDecl typeInfoOf
+unfolding declNames extendTypes sizeDecl typeSortOf
 decl-symbols Γ w (alias t) h = omega arith
 decl-symbols Γ w (enum v vs) h = rw (declared-more Γ _ h, enum-length (length Γ) 0 (v ∷ vs)) (omega arith)
 decl-symbols Γ w (range a b) h = rw (declared-more Γ _ h) (omega arith)

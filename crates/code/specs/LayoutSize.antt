@@ -7,7 +7,7 @@ use lib.IntN.{ℤ}
 use lib.ListN.{length, drop}
 use Rattle.leaf_integers.specs.Integers.{least, most, inside}
 use Rattle.law.specs.Operators.{Operation, Operation1, intNegate, boolNot, intAbs, intSqr, intOdd, ordinalOf, predIn, succIn, setCard, setLeast, setGreatest}
-use Rattle.law.specs.Types.{Types}
+use Rattle.law.specs.Types.{Types, facts}
 use Rattle.law.specs.Script.{Decl, Entry, alias, arrayOf, enum, newMain, newProc, newType, newVar, range, recordOf, setOf}
 use Rattle.law.specs.Environment.{Environment}
 use Rattle.law.specs.Code.{Code, literal, load, lastNumber, makeSet, calculate, shortCut, calculate1, Place, cell, index, shift, Codes, noCodes, _with_, Act, assignOrdinal, assignWhole, sequence, branchOn, whileLoop, forLoop, caseOf, callTo, raiseWith, noAct, Acts, stop, _also_, Cases, elseCase, noCase, oneCase, BodyCode}
@@ -177,7 +177,7 @@ symbolSize (newMain b) = 0
 
 unfoldable pub sizeTypes : Types → ℕ
 sizeTypes [] = 0
-sizeTypes (t ∷ ts) = 8 + 4 * length (t .fields) + sizeTypes ts
+sizeTypes (t ∷ ts) = 8 + 4 * length (facts t .fields) + sizeTypes ts
 
 -- of all that the lines so far declared; the two built-in types take none
 unfoldable pub sizeSymbols : Environment → ℕ

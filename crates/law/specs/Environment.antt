@@ -3,12 +3,12 @@ use mathlib.Core.Bool.{Bool, true, false}
 use mathlib.Core.List.{List, [], _∷_, _++_}
 use Prim.Native.Nat.{ℕ, zero, suc, _+_}
 use lib.IntN.{ℤ, pos, _-ℤ_, sucℤ}
-use lib.ListN.{length, replicate}
+use lib.ListN.{length, getD, replicate}
 use Rattle.leaf_integers.specs.Integers.{least, most}
 use Rattle.law.specs.Base.{Name}
 use Rattle.law.specs.Calculate.{natOf}
 use Rattle.law.specs.Script.{Body, Const, Decl, Entry, alias, arrayOf, enum, newMain, newProc, newType, newVar, range, recordOf, setOf}
-use Rattle.law.specs.Types.{Field, TypeInfo, Types, Vars, arrayShape, setShape, cellsOf, infoAt, ordinalShape, recordShape, sizeOf}
+use Rattle.law.specs.Types.{Field, TypeSort, ordinalType, setType, arrayType, recordType, Types, undeclared, Vars, cellsOf, infoAt, sizeOf}
 
 -- the sorts of name
 pub data NameSort : Type 0 where
@@ -40,13 +40,9 @@ pub record Declared : Type 0 where
 
 -- ---- types
 
--- an ordinal type of host h
-abbrev pub ordinalInfo : ℕ → ℤ → ℤ → TypeInfo
-ordinalInfo h lo hi = record { shape = ordinalShape; host = h; low = lo; high = hi; cells = []; index = 0; element = 0; fields = [] }
-
 -- integer and boolean
 abbrev pub builtIn : Types
-builtIn = ordinalInfo 0 least most ∷ ordinalInfo 1 (pos 0) (pos 1) ∷ []
+builtIn = ordinalType 0 least most ∷ ordinalType 1 (pos 0) (pos 1) ∷ []
 
 -- the list n times
 unfoldable pub copies : ℕ → List ℕ → List ℕ
@@ -68,22 +64,22 @@ abbrev pub valueCount : Types → ℕ → ℕ
 valueCount Γ i = natOf (sucℤ (infoAt Γ i .high -ℤ infoAt Γ i .low))
 
 -- what a declaration says of its type
-unfoldable pub typeInfoOf : Types → Decl → TypeInfo
-typeInfoOf Γ (alias t) = infoAt Γ t
-typeInfoOf Γ (enum v vs) = ordinalInfo (length Γ) (pos 0) (pos (length vs))
-typeInfoOf Γ (range a b) = ordinalInfo (a .kind) (a .value) (b .value)
-typeInfoOf Γ (arrayOf i e) = record { shape = arrayShape; host = 0; low = infoAt Γ i .low; high = infoAt Γ i .high; cells = copies (valueCount Γ i) (cellsOf Γ e); index = i; element = e; fields = [] }
-typeInfoOf Γ (recordOf fs) = record { shape = recordShape; host = 0; low = pos 0; high = pos 0; cells = fieldCells Γ fs; index = 0; element = 0; fields = layFields Γ 0 fs }
-typeInfoOf Γ (setOf b) = record { shape = setShape; host = 0; low = infoAt Γ b .low; high = infoAt Γ b .high; cells = []; index = 0; element = b; fields = [] }
+unfoldable pub typeSortOf : Types → Decl → TypeSort
+typeSortOf Γ (alias t) = getD Γ t undeclared
+typeSortOf Γ (enum v vs) = ordinalType (length Γ) (pos 0) (pos (length vs))
+typeSortOf Γ (range a b) = ordinalType (a .kind) (a .value) (b .value)
+typeSortOf Γ (arrayOf i e) = arrayType i e (infoAt Γ i .low) (infoAt Γ i .high) (copies (valueCount Γ i) (cellsOf Γ e))
+typeSortOf Γ (recordOf fs) = recordType (layFields Γ 0 fs) (fieldCells Γ fs)
+typeSortOf Γ (setOf b) = setType b (infoAt Γ b .low) (infoAt Γ b .high)
 
 -- a type name for a type makes an alias: no new type. Any other declaration is the table's next entry
 unfoldable pub extendTypes : Types → Decl → Types
 extendTypes Γ (alias t) = Γ
-extendTypes Γ (enum v vs) = Γ ++ (typeInfoOf Γ (enum v vs) ∷ [])
-extendTypes Γ (range a b) = Γ ++ (typeInfoOf Γ (range a b) ∷ [])
-extendTypes Γ (arrayOf i e) = Γ ++ (typeInfoOf Γ (arrayOf i e) ∷ [])
-extendTypes Γ (recordOf fs) = Γ ++ (typeInfoOf Γ (recordOf fs) ∷ [])
-extendTypes Γ (setOf b) = Γ ++ (typeInfoOf Γ (setOf b) ∷ [])
+extendTypes Γ (enum v vs) = Γ ++ (typeSortOf Γ (enum v vs) ∷ [])
+extendTypes Γ (range a b) = Γ ++ (typeSortOf Γ (range a b) ∷ [])
+extendTypes Γ (arrayOf i e) = Γ ++ (typeSortOf Γ (arrayOf i e) ∷ [])
+extendTypes Γ (recordOf fs) = Γ ++ (typeSortOf Γ (recordOf fs) ∷ [])
+extendTypes Γ (setOf b) = Γ ++ (typeSortOf Γ (setOf b) ∷ [])
 
 -- ---- names
 

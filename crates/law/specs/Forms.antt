@@ -1,5 +1,6 @@
--- "The forms" (row 6): a line's tree to what it says. Recursion is on the depth alone, which is at most 32; a function one
--- level down is handed to those that take a form's parts one by one.
+-- "The forms" (row 6): a line's tree to what it says. The quoted forms are document 01's: T a type, I, E and B type names, C a constant, G a target,
+-- E an expression, S a statement; `..` stands for none or more. A line is at most 32 brackets deep, and `expr d`, `target d`, `stmt d` read what is
+-- less than d deep: so each form is read by a function of its parts, given the readers for what stands one bracket deeper.
 use mathlib.Core.Bool.{Bool, true, false}
 use mathlib.Core.List.{List, [], _∷_}
 use mathlib.Core.Option.{Option, none, some}
@@ -75,15 +76,18 @@ among (p ∷ ps) w = elim (same (bytes (p .0)) w) [ true ↦ some (p .1) | false
 
 -- ---- type names and constants
 
+-- "type names, `integer` and `boolean` among them"
 unfoldable pub typeName : Item → Option TypeName
 typeName t = either (free t >>= λ w. some (declared w)) (keyOf t >>= among (("integer", integer) ∷ ("boolean", boolean) ∷ []))
 
 unfoldable pub truths : List (String × Bool)
 truths = ("true", true) ∷ ("false", false) ∷ []
 
+-- "`(- number)` (always read as a constant)"
 unfoldable pub minusNumber : Name × List Item → Option Constant
 minusNumber p = elim (same (bytes "-") (p .0)) [ false ↦ none | true ↦ one (p .1) >>= isNumber >>= λ z. some (Syntax.minus z) ]
 
+-- C: "a number, `(- number)`, an enum name, `true`, `false`"
 unfoldable pub constant : Item → Option Constant
 constant t =
     either (isNumber t >>= λ z. some (Syntax.number z))
@@ -116,20 +120,23 @@ exprsOf (e ∷ es) = e and exprsOf es
 unfoldable pub atom : Item → Option Expr
 atom t = either (constant t >>= λ c. some (const c)) (keyOf t >>= among (("error_number", errorNumber) ∷ []))
 
+-- forms whose expressions and targets are read by these
 module _ (expr : Item → Option Expr) (target : Item → Option Target) where
+  -- `(at G E)`, `(dot G N)`
   unfoldable pub atForm : List Item → Option Target
   atForm ts = two ts >>= λ p. target (p .0) >>= λ g. expr (p .1) >>= λ e. some (at g e)
 
   unfoldable pub dotForm : List Item → Option Target
   dotForm ts = two ts >>= λ p. target (p .0) >>= λ g. free (p .1) >>= λ n. some (dot g n)
 
+  -- `(OP E E)`; `(not E)` and the like
   unfoldable pub twoSided : (Expr → Expr → Expr) → List Item → Option Expr
   twoSided f ts = two ts >>= λ p. expr (p .0) >>= λ a. expr (p .1) >>= λ b. some (f a b)
 
   unfoldable pub oneSided : Fun → List Item → Option Expr
   oneSided f ts = one ts >>= expr >>= λ a. some (unary f a)
 
-  -- a form that is an expression. `(- number)` is always a constant
+  -- a form that is an expression: one of those, `(members T E..)`, `(- E)`, `(first T)`, `(last T)`
   unfoldable pub exprForm : Head → List Item → Option Expr
   exprForm hAt ts = atForm ts >>= λ g. some (read g)
   exprForm hDot ts = dotForm ts >>= λ g. some (read g)
@@ -150,6 +157,7 @@ module _ (expr : Item → Option Expr) (target : Item → Option Target) where
         elim (same (bytes "dot") (p .0)) [ true ↦ dotForm (p .1) | false ↦ none ]
   ]
 
+-- E: "a constant, a target, `error_number`", or a form. G: "a variable, `(at G E)`, `(dot G N)`"
 unfoldable mutual
   pub expr : ℕ → Item → Option Expr
   expr zero t = none
@@ -161,7 +169,7 @@ unfoldable mutual
   target (suc d) (word w) = free (word w) >>= λ n. some (var n)
   target (suc d) (form ts) = first? (list ts) >>= targetForm (λ t. expr d t) (λ t. target d t)
 
--- the whole of a line's depth
+-- at any depth that a line has
 abbrev pub exprAt : Item → Option Expr
 exprAt = expr 33
 
@@ -179,6 +187,7 @@ pub data Verb : Type 0 where
 unfoldable pub verbs : List (String × Verb)
 verbs = (":=", vAssign) ∷ ("begin", vBegin) ∷ ("if", vIf) ∷ ("while", vWhile) ∷ ("for", vFor) ∷ ("case", vCase) ∷ ("call", vCall) ∷ ("raise", vRaise) ∷ []
 
+-- `S..`
 unfoldable pub stmts : Reader → ℕ → List Item → Option (Stmts × ℕ)
 stmts r n [] = some (done, n)
 stmts r n (t ∷ ts) = do
@@ -231,6 +240,7 @@ ifForm r n (t ∷ (u ∷ ts)) = do
   (b, m′) ← elseOf r m ts
   some (ifElse n e a b, m′)
 
+-- `(for N E E S)`
 unfoldable pub forForm : Reader → ℕ → List Item → Option (Stmt × ℕ)
 forForm r n [] = none
 forForm r n (v ∷ []) = none
@@ -242,6 +252,7 @@ forForm r n (v ∷ (t ∷ ts)) = do
   (c, m) ← r n s
   some (for n i a b c, m)
 
+-- `(case E (arm C.. S).. )` "with one or more arms, each of one or more labels, and at most one last `(else S)`"
 unfoldable pub caseForm : Reader → ℕ → List Item → Option (Stmt × ℕ)
 caseForm r n [] = none
 caseForm r n (t ∷ ts) = do
@@ -250,7 +261,7 @@ caseForm r n (t ∷ ts) = do
   bs′ ← armsFirst bs
   some (case n e bs′, m)
 
--- statement n, by its head
+-- statement n, by its head: the others are `(:= G E)`, `(begin S..)`, `(while E S)`, `(call N)`, `(raise E)`
 unfoldable pub stmtForm : Reader → Verb → ℕ → List Item → Option (Stmt × ℕ)
 stmtForm r vAssign n ts = do
   (t, u) ← two ts
@@ -276,7 +287,7 @@ stmt (suc d) n t = do
   v ← among verbs w
   stmtForm (stmt d) v (suc n) ts
 
--- ---- bodies: statements, then at most one `(exception S..)`
+-- ---- BODY: "any number of statements, then at most one `(exception S..)`"
 
 unfoldable pub handlerOf : Item → Option (List Item)
 handlerOf t = headed t >>= λ p. given (same (bytes "exception") (p .0)) (p .1)
@@ -294,6 +305,7 @@ body n (t ∷ ts) = elim (handlerOf t) [
 
 -- ---- lines
 
+-- `(N E)`
 unfoldable pub field : Item → Option (Name × TypeName)
 field (word w) = none
 field (form ts) = two (list ts) >>= λ p. free (p .0) >>= λ n. typeName (p .1) >>= λ t. some (n, t)
@@ -304,7 +316,7 @@ pub data Maker : Type 0 where
 unfoldable pub makers : List (String × Maker)
 makers = ("enum", mEnum) ∷ ("range", mRange) ∷ ("array", mArray) ∷ ("record", mRecord) ∷ ("setof", mSet) ∷ []
 
--- 257 enum names or 17 fields are matters of row 9
+-- T: `(enum N..)`, `(range C C)`, `(array I E)`, `(record (N E)..)`, `(setof B)`. 257 enum names or 17 fields are matters of row 9
 unfoldable pub madeType : Maker → List Item → Option TypeForm
 madeType mEnum ts = each free ts >>= some? >>= λ ns. some (enum (ns .0) (ns .1))
 madeType mRange ts = two ts >>= λ p. constant (p .0) >>= λ a. constant (p .1) >>= λ b. some (range a b)
@@ -312,6 +324,7 @@ madeType mArray ts = two ts >>= λ p. typeName (p .0) >>= λ i. typeName (p .1) 
 madeType mRecord ts = each field ts >>= some? >>= λ fs. some (recordOf (fs .0 ∷ fs .1))
 madeType mSet ts = one ts >>= typeName >>= λ b. some (setOf b)
 
+-- T in a `type` line
 unfoldable pub typeForm : Item → Option TypeForm
 typeForm (word w) = typeName (word w) >>= λ t. some (alias t)
 typeForm (form ts) = first? (list ts) >>= λ p. among makers (p .0) >>= λ m. madeType m (p .1)
@@ -322,6 +335,7 @@ pub data LineHead : Type 0 where
 unfoldable pub lineHeads : List (String × LineHead)
 lineHeads = ("type", isType) ∷ ("var", isVar) ∷ ("proc", isProc) ∷ ("main", isMain) ∷ []
 
+-- `(type N T)`, `(var N T)`, `(proc N BODY)`, `(main BODY)`
 unfoldable pub lineBy : LineHead → ℕ → List Item → Option (LineForm × ℕ)
 lineBy isType n ts = two ts >>= λ p. free (p .0) >>= λ w. typeForm (p .1) >>= λ t. some (typeLine w t, n)
 lineBy isVar n ts = two ts >>= λ p. free (p .0) >>= λ w. typeName (p .1) >>= λ t. some (varLine w t, n)

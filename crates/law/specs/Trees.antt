@@ -1,5 +1,5 @@
 -- Document 01, "The text": a line holds one balanced form (row 4); a line's bytes as a tree.
-use mathlib.Core.Bool.{Bool, true, false}
+use mathlib.Core.Bool.{Bool, true, false, cond}
 use mathlib.Core.List.{List, [], _∷_}
 use mathlib.Core.Option.{Option, none, some}
 use Prim.Native.Nat.{ℕ, zero, suc, _+_}
@@ -88,20 +88,51 @@ unfoldable pub balanced : List ℕ → Place → Bool
 balanced [] p = isAfter p
 balanced (b ∷ bs) p = balanced bs (past (classOf b) p)
 
--- ---- reading. The bytes are read from the right: `)` begins a list of trees, and `(` makes a form of the list read last
+-- ---- reading: a line's tokens, and the trees that its brackets make of them
 
 -- a word: a longest run of other visible bytes
 abbrev pub Run : Type 0
 Run = List ℕ
 
--- what was read: the word that may still grow (none: []), and lists of trees. The first list holds the trees from here
--- to the next closing bracket of this level, the second those after that bracket, and so on outwards
-pub record Reading : Type 0 where
-  pub begun : Run
-  pub stack : List (Trees Run)
+unfoldable pub isVisible : Class → Bool
+isVisible Feed = false
+isVisible Space = false
+isVisible Open = false
+isVisible Close = false
+isVisible Visible = true
+isVisible Refused = false
 
-abbrev pub reading : Run → List (Trees Run) → Reading
-reading w k = record { begun = w; stack = k }
+-- the word that the bytes begin with, [] for none
+unfoldable pub wordOf : List ℕ → Run
+wordOf [] = []
+wordOf (b ∷ bs) = cond (isVisible (classOf b)) (b ∷ wordOf bs) []
+
+-- the word at an offset of a text
+unfoldable pub wordAt : List ℕ → ℕ → Run
+wordAt s p = wordOf (drop p s)
+
+pub data Token : Type 0 where
+  openToken closeToken : Token
+  wordToken : Run → Token
+
+-- the tokens behind a word that they begin with
+abbrev pub behind : Run → List Token → List Token
+behind [] ts = ts
+behind (b ∷ w) [] = []
+behind (b ∷ w) (t ∷ ts) = ts
+
+-- with one byte more on the left; w is the word that goes on behind it. Nothing of a later line is seen before a line feed
+unfoldable pub withToken : Class → ℕ → Run → List Token → List Token
+withToken Feed b w ts = []
+withToken Space b w ts = ts
+withToken Open b w ts = openToken ∷ ts
+withToken Close b w ts = closeToken ∷ ts
+withToken Visible b w ts = wordToken (b ∷ w) ∷ behind w ts
+withToken Refused b w ts = []
+
+unfoldable pub tokensOf : List ℕ → List Token
+tokensOf [] = []
+tokensOf (b ∷ bs) = withToken (classOf b) b (wordOf bs) (tokensOf bs)
 
 abbrev pub first : List (Trees Run) → Trees Run
 first [] = end
@@ -115,30 +146,17 @@ later (ts ∷ k) = k
 abbrev pub push : Tree Run → List (Trees Run) → List (Trees Run)
 push t k = (t then first k) ∷ later k
 
--- the word, if there is one, ends here
-abbrev pub ended : Run → List (Trees Run) → List (Trees Run)
-ended [] k = k
-ended (b ∷ w) k = push (word (b ∷ w)) k
-
-abbrev pub wrapped : List (Trees Run) → List (Trees Run)
-wrapped k = push (form (first k)) (later k)
-
--- one byte more, on the left. A line feed ends a line: nothing of later lines is seen before it
-unfoldable pub withByte : Class → ℕ → Reading → Reading
-withByte Feed b r = reading [] []
-withByte Space b r = reading [] (ended (r .begun) (r .stack))
-withByte Open b r = reading [] (wrapped (ended (r .begun) (r .stack)))
-withByte Close b r = reading [] (end ∷ ended (r .begun) (r .stack))
-withByte Visible b r = reading (b ∷ r .begun) (r .stack)
-withByte Refused b r = reading [] []
-
-unfoldable pub readBytes : List ℕ → Reading
-readBytes [] = reading [] []
-readBytes (b ∷ bs) = withByte (classOf b) b (readBytes bs)
+-- the trees of the tokens by level: the first list holds those up to the next closing bracket of this level, the second those after that
+-- bracket, and so on outwards. So `)` begins a list, and `(` makes a form of the first one
+unfoldable pub levels : List Token → List (Trees Run)
+levels [] = []
+levels (openToken ∷ ts) = push (form (first (levels ts))) (later (levels ts))
+levels (closeToken ∷ ts) = end ∷ levels ts
+levels (wordToken w ∷ ts) = push (word w) (levels ts)
 
 -- the trees that the bytes begin with
 unfoldable pub treesOf : List ℕ → Trees Run
-treesOf bs = first (ended (readBytes bs .begun) (readBytes bs .stack))
+treesOf bs = first (levels (tokensOf bs))
 
 -- one form, and nothing beside it
 unfoldable pub single : Trees Run → Option (Tree Run)
@@ -150,15 +168,3 @@ single (form f then (t then ts)) = none
 -- row 4: the line's one form, with its words as they stand
 unfoldable pub formOf : Line → Option (Tree Run)
 formOf l = given (l .fed) (l .bytes) >>= λ bs. given (balanced bs before) (treesOf bs) >>= single
-
--- ---- the same from an offset of a text on: what a reader that has reached it sees
-
--- the word that goes on at the offset; the trees after that word; all from the offset on
-unfoldable pub wordAt : List ℕ → ℕ → Run
-wordAt s p = readBytes (drop p s) .begun
-
-unfoldable pub restAt : List ℕ → ℕ → List (Trees Run)
-restAt s p = readBytes (drop p s) .stack
-
-unfoldable pub stackAt : List ℕ → ℕ → List (Trees Run)
-stackAt s p = ended (wordAt s p) (restAt s p)

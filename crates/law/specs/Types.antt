@@ -18,26 +18,41 @@ pub record Field : Type 0 where
   pub type : ℕ
   pub offset : ℕ
 
--- all that is asked of a type, worked out where it is declared
+-- a type by its declaration. Bounds are the least and the greatest value: of an ordinal its own, of a set those of its base, of an array
+-- those of its index type. Cells are by their types, each an ordinal or a set
+pub data TypeSort : Type 0 where
+  ordinalType : (host : ℕ) (low high : ℤ) → TypeSort  -- a range's host, any other's own number
+  setType : (base : ℕ) (low high : ℤ) → TypeSort
+  arrayType : (index element : ℕ) (low high : ℤ) (cells : List ℕ) → TypeSort
+  recordType : (fields : List Field) (cells : List ℕ) → TypeSort
+
+-- what is asked of any type
 pub record TypeInfo : Type 0 where
   pub shape : Shape
-  pub host : ℕ  -- of an ordinal: a range's host, any other's own number
-  pub low : ℤ  -- of an ordinal its least value, of a set its base's, of an array its index type's
-  pub high : ℤ  -- and the greatest
-  pub cells : List ℕ  -- of an array or a record: its cells' types, each an ordinal or a set
-  pub index : ℕ  -- of an array: its index type
-  pub element : ℕ  -- of an array its element type, of a set its base
+  pub host : ℕ
+  pub low : ℤ
+  pub high : ℤ
+  pub cells : List ℕ
+  pub index : ℕ
+  pub element : ℕ  -- of an array, and the base of a set
   pub fields : List Field
 
--- what stands for a type that no line declared: no ordinal, no cells, no fields
-abbrev pub undeclared : TypeInfo
-undeclared = record { shape = recordShape; host = 0; low = pos 0; high = pos 0; cells = []; index = 0; element = 0; fields = [] }
+-- the answers, 0 and none where there is nothing to ask
+abbrev pub facts : TypeSort → TypeInfo
+facts (ordinalType h lo hi) = record { shape = ordinalShape; host = h; low = lo; high = hi; cells = []; index = 0; element = 0; fields = [] }
+facts (setType b lo hi) = record { shape = setShape; host = 0; low = lo; high = hi; cells = []; index = 0; element = b; fields = [] }
+facts (arrayType i e lo hi cs) = record { shape = arrayShape; host = 0; low = lo; high = hi; cells = cs; index = i; element = e; fields = [] }
+facts (recordType fs cs) = record { shape = recordShape; host = 0; low = pos 0; high = pos 0; cells = cs; index = 0; element = 0; fields = fs }
 
 abbrev pub Types : Type 0
-Types = List TypeInfo
+Types = List TypeSort
+
+-- a number that no line declared is no ordinal, and has no cells and no fields
+abbrev pub undeclared : TypeSort
+undeclared = recordType [] []
 
 abbrev pub infoAt : Types → ℕ → TypeInfo
-infoAt Γ t = getD Γ t undeclared
+infoAt Γ t = facts (getD Γ t undeclared)
 
 -- a variable: its type and its first cell
 pub record Var : Type 0 where

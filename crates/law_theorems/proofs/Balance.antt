@@ -12,7 +12,9 @@ use Rattle.leaf_bytes.specs.declared.bytes.Class.{Class}
 use Rattle.leaf_bytes.specs.declared.bytes.Class.the-variants.{Feed, Space, Open, Close, Visible, Refused}
 use Rattle.leaf_bytes.specs.Bytes.{classOf}
 use Rattle.law.specs.Lines.{Line}
-use Rattle.law.specs.Trees.{Tree, word, form, Trees, end, _then_, Place, before, after, faulty, inside, deeper, opened, closed, spelled, past, isAfter, balanced, Run, Reading, reading, first, push, ended, wrapped, withByte, readBytes, treesOf, single, formOf}
+use Rattle.law.specs.Trees.{Tree, word, form, Trees, end, _then_, Place, before, after, faulty, inside, deeper, opened, closed, spelled, past, isAfter, balanced, Run, first, push, treesOf, single, formOf}
+use Rattle.law_theorems.specs.Readings.{Reading, reading, ended, wrapped, withByte, readBytes}
+use Rattle.law_theorems.proofs.Reading.{trees-read}
 use Rattle.law_theorems.proofs.TreeDepth as Depth
 use Rattle.law_theorems.proofs.TreeDepth.{Shallow, ShallowAll}
 use Rattle.law_theorems.proofs.Inversion.{bind-some, given-some, some-inj}
@@ -154,16 +156,16 @@ reads bs p h = go (deeply bs p h)
 
 -- a balanced line has its one form
 pub one-form : (bs : List ℕ) → balanced bs before ≡ true → (f : Trees Run) × (single (treesOf bs) ≡ some (form f))
-unfolding treesOf single
-one-form bs h = go (readBytes bs) (reads bs before h)
+unfolding single
+one-form bs h = rw (trees-read bs) (go (readBytes bs) (reads bs before h))
   where
     go : (r : Reading) → Reads before r → (f : Trees Run) × (single (first (ended (r .begun) (r .stack))) ≡ some (form f))
     go r (one f e) = (f, rw e)
 
 -- at most 32 deep
 pub form-depth : (l : Line) (t : Tree Run) → formOf l ≡ some t → Shallow 32 t
-unfolding formOf treesOf single
-form-depth l t h = bind-some h λ bs _ h. bind-some h λ ts hts h. given-some hts λ hb e. go (readBytes bs) (deeply bs before hb) (rw (← e) at h)
+unfolding formOf single
+form-depth l t h = bind-some h λ bs _ h. bind-some h λ ts hts h. given-some hts λ hb e. go (readBytes bs) (deeply bs before hb) (rw (← e, trees-read bs) at h)
   where
     go : (r : Reading) → Deeply before r → single (first (ended (r .begun) (r .stack))) ≡ some t → Shallow 32 t
     go r (one-deep {f = f} d e) h = let q : some (form f) ≡ some t = rw e at h in rw (← some-inj q) (Depth.form d)

@@ -13,13 +13,13 @@ use lib.Seq.{getD-append-add}
 use Rattle.law.specs.Base.{Name}
 use Rattle.law.specs.Ceilings.{lineBounded, typeBounded}
 use Rattle.law.specs.Code.{BodyCode}
-use Rattle.law.specs.Environment.{Declared, NameSort, aProc, aType, aValue, aVar, builtIn, copies, declNames, declareLine, enumNames, extendTypes, fieldCells, layFields, nothingDeclared, typeInfoOf, valueCount}
+use Rattle.law.specs.Environment.{Declared, NameSort, aProc, aType, aValue, aVar, builtIn, copies, declNames, declareLine, enumNames, extendTypes, fieldCells, layFields, nothingDeclared, typeSortOf, valueCount}
 use Rattle.law.specs.Lines.{Line, linesOf}
 use Rattle.law.specs.Names.{entryOf}
 use Rattle.law.specs.Rules.{keepsRules}
 use Rattle.law.specs.Script.{Const, Decl, Entry, alias, arrayOf, enum, newType, newVar, range, recordOf, setOf}
 use Rattle.law.specs.Syntax.{LineForm, mainLine, procLine, typeLine, varLine}
-use Rattle.law.specs.Types.{TypeInfo, Types, Var, Vars, cellsOf, infoAt, isArray, isRecord, sizeOf, undeclared, variable}
+use Rattle.law.specs.Types.{TypeInfo, TypeSort, facts, Types, Var, Vars, cellsOf, infoAt, isArray, isRecord, sizeOf, undeclared, variable}
 use Rattle.law.specs.Verdict.{Fitting, Read, accepted, has, judge, judgeLines, strictly}
 use Rattle.law.specs.Whole.{verdictOf}
 use Rattle.law_theorems.proofs.TextsAgree.{accepted-inj, onward-is, opening-is, line-good}
@@ -63,19 +63,19 @@ module _ {Γ Γ′ : Types} (x : Extends Γ Γ′) where
     };
   }
 
-built-none : (Γ : Types) (t : ℕ) → Built Γ t undeclared
+built-none : (Γ : Types) (t : ℕ) → Built Γ t (facts undeclared)
 unfolding fieldCells layFields
 built-none Γ t = record { array = λ p. wrong p; fielded = λ p. record { parts = []; cells-are = refl; fields-are = refl; earlier = tt } }
 
 -- one entry more
-built-last : (Γ : Types) (i : TypeInfo) → Extends Γ (Γ ++ (i ∷ [])) → BuiltTypes Γ → Built Γ (length Γ) i → BuiltTypes (Γ ++ (i ∷ []))
+built-last : (Γ : Types) (i : TypeSort) → Extends Γ (Γ ++ (i ∷ [])) → BuiltTypes Γ → Built Γ (length Γ) (facts i) → BuiltTypes (Γ ++ (i ∷ []))
 built-last Γ i x B b t = go (decLt t (length Γ)) (ℕ-discrete t (length Γ))
   where
     go : Dec (t < length Γ) → Dec (t ≡ length Γ) → Built (Γ ++ (i ∷ [])) t (infoAt (Γ ++ (i ∷ [])) t)
     go (yes l) d = rw (old Γ i t l) (built-more x t (infoAt Γ t) (omega arith) (B t))
-    go (no nl) (yes q) = rw (q, new Γ i) (built-more x (length Γ) i (omega arith) b)
+    go (no nl) (yes q) = rw (q, new Γ i) (built-more x (length Γ) (facts i) (omega arith) b)
     go (no nl) (no nq) =
-        let e : infoAt (Γ ++ (i ∷ [])) t ≡ undeclared = List·getD-eq-default (Γ ++ (i ∷ [])) undeclared (rw length-append (omega arith)) in
+        let e : infoAt (Γ ++ (i ∷ [])) t ≡ facts undeclared = ap facts (List·getD-eq-default (Γ ++ (i ∷ [])) undeclared (rw length-append (omega arith))) in
         rw e (built-none (Γ ++ (i ∷ [])) t)
 
 built-start : BuiltTypes builtIn
@@ -84,7 +84,7 @@ built-start (suc zero) = record { array = λ p. wrong p; fielded = λ p. wrong p
 built-start (suc (suc t)) = built-none builtIn (suc (suc t))
 
 built-declared : (Γ : Types) (d : Decl) → Valid Γ d → Extends Γ (extendTypes Γ d) → BuiltTypes Γ → BuiltTypes (extendTypes Γ d)
-unfolding typeInfoOf extendTypes
+unfolding typeSortOf extendTypes
 built-declared Γ (alias t) v x B = B
 built-declared Γ (enum w ws) v x B = built-last Γ _ x B (record { array = λ p. wrong p; fielded = λ p. wrong p })
 built-declared Γ (range a b) v x B = built-last Γ _ x B (record { array = λ p. wrong p; fielded = λ p. wrong p })

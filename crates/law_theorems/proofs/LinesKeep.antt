@@ -20,14 +20,14 @@ use Rattle.law.specs.Base.{Name, _>>=_, each, find}
 use Rattle.law.specs.Ceilings.{lineBounded, typeBounded}
 use Rattle.law.specs.Code.{BodyCode}
 use Rattle.law.specs.Elaborate.{inKind}
-use Rattle.law.specs.Environment.{Declared, Environment, NameSort, PlacedBody, aProc, aType, aValue, aVar, declNames, declareLine, enumNames, extendTypes, nothingDeclared, typeInfoOf, withBody}
+use Rattle.law.specs.Environment.{Declared, Environment, NameSort, PlacedBody, aProc, aType, aValue, aVar, declNames, declareLine, enumNames, extendTypes, nothingDeclared, typeSortOf, withBody}
 use Rattle.law.specs.Lines.{Line, linesOf}
 use Rattle.law.specs.Names.{asProc, asType, asValue, constantOf, declOf, entryOf, typeOf}
 use Rattle.law.specs.Rules.{keepsRules, keptDecl, plain}
 use Rattle.law.specs.Script.{Body, Const, Decl, Entry, alias, arrayOf, enum, newMain, newProc, newType, newVar, range, recordOf, setOf}
 use Rattle.law.specs.Store.{cellFits}
 use Rattle.law.specs.Syntax.{Constant, LineForm, TypeForm, TypeName, boolean, declared, integer, mainLine, minus, named, number, procLine, truth, typeLine, varLine}
-use Rattle.law.specs.Types.{TypeInfo, Types, Var, Vars, cellsOf, infoAt, ordinal?, variable}
+use Rattle.law.specs.Types.{TypeSort, Types, Var, Vars, cellsOf, infoAt, ordinal?, variable}
 use Rattle.law.specs.Verdict.{Read, accepted, has, judge, judgeLines, strictly}
 use Rattle.law.specs.Whole.{verdictOf}
 use Rattle.law_theorems.proofs.TextsAgree.{accepted-inj, onward-is, opening-is, line-good}
@@ -91,7 +91,7 @@ formed-more ys f = record {
 
 -- ---- a table that has another's entries
 
-one-more : (Γ : Types) (i : TypeInfo) → Extends Γ (Γ ++ (i ∷ []))
+one-more : (Γ : Types) (i : TypeSort) → Extends Γ (Γ ++ (i ∷ []))
 one-more Γ i = record { keeps = old Γ i; longer = rw length-append (omega arith) }
 
 pub declared-more : (Γ : Types) (d : Decl) → Extends Γ (extendTypes Γ d)
@@ -245,11 +245,11 @@ enum-fair Γ t n (v ∷ vs) top l o lo hi b =
     name (value {c = record { kind = t; value = pos n }} l (rw (o, lo, hi) (inside-from n top (omega arith)))) (enum-fair Γ t (suc n) vs top l o lo hi (omega arith))
 
 -- the next entry's number
-new-in : (Γ : Types) (i : TypeInfo) {k : ℕ} → Fair (Γ ++ (i ∷ [])) k (aType (length Γ))
+new-in : (Γ : Types) (i : TypeSort) {k : ℕ} → Fair (Γ ++ (i ∷ [])) k (aType (length Γ))
 new-in Γ i = type {t = length Γ} (rw length-append (omega arith))
 
 decl-fair : (σ : Environment) → Table (σ .types) → {k : ℕ} → AllFair (σ .types) k (σ .names) → (w : Name) (t : TypeForm) (d : Decl) → declOf σ w t ≡ some d → AllFair (extendTypes (σ .types) d) k (declNames (σ .types) w d)
-unfolding declOf extendTypes declNames typeInfoOf
+unfolding declOf extendTypes declNames typeSortOf
 decl-fair σ 𝓣 ns w (Syntax.alias t) d h = bind-some h λ n hn e. given-some e λ _ v. rw (← v) (name (type (type-in σ 𝓣 ns t n hn)) no-names)
 decl-fair σ 𝓣 ns w (Syntax.enum v vs) d h = given-some h λ _ q. rw (← q) (name (new-in (σ .types) _)
     (enum-fair _ (length (σ .types)) 0 (v ∷ vs) (length vs) (rw length-append (omega arith)) (rw new) (rw new) (rw new) (omega arith)))

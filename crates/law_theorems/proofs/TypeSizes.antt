@@ -13,20 +13,20 @@ use lib.Signed.{leZ}
 use Rattle.leaf_integers.specs.Integers.{inside}
 use Rattle.law.specs.Base.{Name}
 use Rattle.law.specs.Ceilings.{fieldSizes, typeBounded}
-use Rattle.law.specs.Environment.{builtIn, copies, extendTypes, fieldCells, typeInfoOf, valueCount}
+use Rattle.law.specs.Environment.{builtIn, copies, extendTypes, fieldCells, typeSortOf, valueCount}
 use Rattle.law.specs.Rules.{keptDecl, plain}
 use Rattle.law.specs.Script.{Decl, alias, arrayOf, enum, range, recordOf, setOf}
-use Rattle.law.specs.Types.{Shape, TypeInfo, Types, arrayShape, cellsBy, cellsOf, infoAt, isSet, ordinalShape, recordShape, setShape, sizeOf, undeclared}
+use Rattle.law.specs.Types.{Shape, TypeInfo, TypeSort, facts, Types, arrayShape, cellsBy, cellsOf, infoAt, isSet, ordinalShape, recordShape, setShape, sizeOf, undeclared}
 use Rattle.law_theorems.proofs.Inversion.{and-true}
 use Rattle.law_theorems.proofs.ValuesInRange.{wrong, int-pos}
 use Rattle.law_theorems.specs.ValuesInRange.{InInt}
 use Rattle.law_theorems.specs.TypeSizes.{Small, SmallTypes}
 
-small-none : Small undeclared
+small-none : Small (facts undeclared)
 small-none = record { low = int-pos 0 (omega arith); high = int-pos 0 (omega arith); base = λ h. wrong h; cells = omega arith }
 
 -- one entry more
-small-last : (Γ : Types) (i : TypeInfo) → SmallTypes Γ → Small i → SmallTypes (Γ ++ (i ∷ []))
+small-last : (Γ : Types) (i : TypeSort) → SmallTypes Γ → Small (facts i) → SmallTypes (Γ ++ (i ∷ []))
 small-last [] i h s zero = s
 small-last [] i h s (suc t) = small-none
 small-last (j ∷ Γ) i h s zero = h 0
@@ -50,7 +50,7 @@ fields-length Γ (f ∷ fs) = rw (length-append, fields-length Γ fs)
 
 -- a declaration that kept rows 8 and 9
 pub small-declared : (Γ : Types) (d : Decl) → keptDecl Γ d ≡ true → typeBounded Γ d ≡ true → SmallTypes Γ → SmallTypes (extendTypes Γ d)
-unfolding keptDecl typeBounded extendTypes typeInfoOf plain
+unfolding keptDecl typeBounded extendTypes typeSortOf plain
 small-declared Γ (alias t) k b h = h
 small-declared Γ (enum v vs) k b h = small-last Γ _ h (record { low = int-pos 0 (omega arith); high = int-pos (length vs) (let l = leb-true (suc (length vs)) 256 b in omega arith); base = λ h. wrong h; cells = omega arith })
 small-declared Γ (range x y) k b h =

@@ -15,9 +15,9 @@ use Rattle.leaf_integers.specs.Integers.{inside, least, most}
 use Rattle.leaf_bytes.specs.Bytes.{same}
 use Rattle.law.specs.Base.{Name}
 use Rattle.law.specs.Calculate.{natOf}
-use Rattle.law.specs.Environment.{builtIn, copies, extendTypes, fieldCells, layFields, ordinalInfo, typeInfoOf}
+use Rattle.law.specs.Environment.{builtIn, copies, extendTypes, fieldCells, layFields, typeSortOf}
 use Rattle.law.specs.Script.{Const, Decl, alias, arrayOf, enum, range, recordOf, setOf}
-use Rattle.law.specs.Types.{Field, Shape, TypeInfo, Types, Var, Vars, arrayShape, cellsBy, cellsOf, fieldOf, hostBy, infoAt, isArray, isOrdinal, isSet, ordinal?, ordinalShape, recordShape, setShape, sizeOf, undeclared, variable}
+use Rattle.law.specs.Types.{Field, Shape, TypeInfo, TypeSort, facts, ordinalType, Types, Var, Vars, arrayShape, cellsBy, cellsOf, fieldOf, hostBy, infoAt, isArray, isOrdinal, isSet, ordinal?, ordinalShape, recordShape, setShape, sizeOf, undeclared, variable}
 use Rattle.law_theorems.proofs.Spans.{inside-span}
 use Rattle.leaf_integers.proofs.Order.{leZ-refl}
 use borrow.Author.Tests.{le-leb}
@@ -99,21 +99,21 @@ no-field : {X : Type 0} (n : Name) (f : Field) → fieldOf [] n ≡ some f → X
 unfolding fieldOf
 no-field n f h = absurd (none-some h)
 
-none-entry : (Γ : Types) (t : ℕ) → Sane Γ t undeclared
+none-entry : (Γ : Types) (t : ℕ) → Sane Γ t (facts undeclared)
 none-entry Γ t = record { inner = λ _. empty; element = λ h. wrong h; index = λ h. wrong h; base = λ h. wrong h; host = λ h. wrong h; bounds = λ h. wrong h; lowest = λ h. wrong h; wider = λ h. wrong h; small = λ h. wrong h; filled = λ h. wrong h; nonempty = λ h. wrong h; fieldTypes = λ m g k. no-field m g k; elements = λ h. wrong h; places = λ m g k. no-field m g k }
 
-module _ (Γ : Types) (i : TypeInfo) where
+module _ (Γ : Types) (i : TypeSort) where
   abbrev Γ′ : Types
   Γ′ = Γ ++ (i ∷ [])
 
   pub old : (t : ℕ) → t < length Γ → infoAt Γ′ t ≡ infoAt Γ t
-  old t l = List·getD-append Γ (i ∷ []) undeclared t l
+  old t l = ap facts (List·getD-append Γ (i ∷ []) undeclared t l)
 
-  pub new : infoAt Γ′ (length Γ) ≡ i
-  new = ap (λ (n : ℕ). getD Γ′ n undeclared) (sym (add-zero (length Γ))) ∙ getD-append-add Γ (i ∷ []) 0 undeclared
+  pub new : infoAt Γ′ (length Γ) ≡ facts i
+  new = ap (λ (n : ℕ). infoAt Γ′ n) (sym (add-zero (length Γ))) ∙ ap facts (getD-append-add Γ (i ∷ []) 0 undeclared)
 
-  beyond : (t : ℕ) → length Γ < t → infoAt Γ′ t ≡ undeclared
-  beyond t l = List·getD-eq-default Γ′ undeclared (rw length-append (omega arith))
+  beyond : (t : ℕ) → length Γ < t → infoAt Γ′ t ≡ facts undeclared
+  beyond t l = ap facts (List·getD-eq-default Γ′ undeclared (rw length-append (omega arith)))
 
   longer : (n : ℕ) → n < length Γ → n < length Γ′
   longer n l = rw length-append (omega arith)
@@ -142,7 +142,7 @@ module _ (Γ : Types) (i : TypeInfo) where
     places = λ n f h. rw (cells-old (f .type) (k .fieldTypes n f h)) (k .places n f h);
   }
 
-  extended : Table Γ → Sane Γ′ (length Γ) i → Table Γ′
+  extended : Table Γ → Sane Γ′ (length Γ) (facts i) → Table Γ′
   extended 𝓣 e = record {
     each = λ t. go t (decLt t (length Γ)) (ℕ-discrete t (length Γ));
     integers = rw (old 0 (omega (arith, 𝓣 .two))) (𝓣 .integers);
@@ -172,7 +172,7 @@ all-fields Γ 𝓣 [] v = empty
 all-fields Γ 𝓣 (f ∷ fs) v = all-append (𝓣 .each (f .1) .inner (v .0)) (all-fields Γ 𝓣 fs (v .1))
 
 pub enum-declared : (Γ : Types) (v : Name) (vs : List Name) → Valid Γ (enum v vs) → Table Γ → Table (extendTypes Γ (enum v vs))
-unfolding extendTypes typeInfoOf
+unfolding extendTypes typeSortOf
 enum-declared Γ v vs p 𝓣 = extended Γ _ 𝓣 (record {
   element = λ h. wrong h;
   index = λ h. wrong h;
@@ -191,7 +191,7 @@ enum-declared Γ v vs p 𝓣 = extended Γ _ 𝓣 (record {
 })
 
 pub range-declared : (Γ : Types) (a b : Const) → Valid Γ (range a b) → Table Γ → Table (extendTypes Γ (range a b))
-unfolding extendTypes typeInfoOf
+unfolding extendTypes typeSortOf
 range-declared Γ a b v 𝓣 = extended Γ _ 𝓣 (record {
   element = λ h. wrong h;
   index = λ h. wrong h;
@@ -210,7 +210,7 @@ range-declared Γ a b v 𝓣 = extended Γ _ 𝓣 (record {
 })
 
 pub array-declared : (Γ : Types) (i e : ℕ) → Valid Γ (arrayOf i e) → Table Γ → Table (extendTypes Γ (arrayOf i e))
-unfolding extendTypes typeInfoOf
+unfolding extendTypes typeSortOf
 array-declared Γ i e v 𝓣 = extended Γ _ 𝓣 (record {
   element = λ p. longer Γ _ e (v .0);
   index = λ p. (longer Γ _ i (v .1), ord-old Γ _ i (v .1) (v .2));
@@ -229,7 +229,7 @@ array-declared Γ i e v 𝓣 = extended Γ _ 𝓣 (record {
 })
 
 pub record-declared : (Γ : Types) (fs : List (Name × ℕ)) → Valid Γ (recordOf fs) → Table Γ → Table (extendTypes Γ (recordOf fs))
-unfolding extendTypes typeInfoOf
+unfolding extendTypes typeSortOf
 record-declared Γ fs v 𝓣 = extended Γ _ 𝓣 (record {
   element = λ h. wrong h;
   index = λ h. wrong h;
@@ -248,7 +248,7 @@ record-declared Γ fs v 𝓣 = extended Γ _ 𝓣 (record {
 })
 
 pub set-declared : (Γ : Types) (b : ℕ) → Valid Γ (setOf b) → Table Γ → Table (extendTypes Γ (setOf b))
-unfolding extendTypes typeInfoOf
+unfolding extendTypes typeSortOf
 set-declared Γ b v 𝓣 = extended Γ _ 𝓣 (record {
   element = λ h. wrong h;
   index = λ h. wrong h;
@@ -278,7 +278,7 @@ declared Γ (setOf b) v 𝓣 = set-declared Γ b v 𝓣
 pub started : Table builtIn
 started = record { each = go; integers = (refl, refl, refl); booleans = (refl, refl, refl); two = omega arith }
   where
-    simple : (t : ℕ) (lo hi : ℤ) → t < 2 → (isOrdinal ordinalShape ≡ true → (leZ (infoAt builtIn t .low) lo ≡ true) × (leZ hi (infoAt builtIn t .high) ≡ true)) → ordinal? builtIn t ≡ true → leZ least lo ≡ true → leZ hi most ≡ true → leZ lo hi ≡ true → Sane builtIn t (ordinalInfo t lo hi)
+    simple : (t : ℕ) (lo hi : ℤ) → t < 2 → (isOrdinal ordinalShape ≡ true → (leZ (infoAt builtIn t .low) lo ≡ true) × (leZ hi (infoAt builtIn t .high) ≡ true)) → ordinal? builtIn t ≡ true → leZ least lo ≡ true → leZ hi most ≡ true → leZ lo hi ≡ true → Sane builtIn t (facts (ordinalType t lo hi))
     simple t lo hi l w o p q r = record {
       filled = λ _. r;
       nonempty = λ h. wrong h;

@@ -5,6 +5,7 @@ pub mod Bodies
 pub mod StatementNumbers
 pub mod LinesKeep
 pub mod TypeTables
+pub mod Readings
 pub mod CodeCalls
 pub mod StatementsNoted
 pub mod LinesCover

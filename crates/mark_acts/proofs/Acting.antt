@@ -19,7 +19,8 @@ use Rattle.law.specs.Names as Names
 use Rattle.law.specs.Names.{targetOf}
 use Rattle.law.specs.Script.{Expr}
 use Rattle.law.specs.Syntax as Syntax
-use Rattle.law.specs.Trees.{Trees, end, _then_, Run, first, stackAt}
+use Rattle.law.specs.Trees.{Trees, end, _then_, Run, first}
+use Rattle.law_theorems.specs.Readings.{stackAt}
 use Rattle.law.specs.Types.{hostOf, ordinal?}
 use Rattle.law_theorems.proofs.Inversion.{none-some}
 use Rattle.text_heads.specs.Parts.{rest, exprIn, targetIn}

@@ -26,7 +26,8 @@ use Rattle.law.specs.Marking.{TypedValue, typedPlace, markBounds, markExpr, mar
 use Rattle.law.specs.Names.{asVar, varOf, targetOf, reached}
 use Rattle.law.specs.Script as Script
 use Rattle.law.specs.Syntax as Syntax
-use Rattle.law.specs.Trees.{word, form, Trees, end, _then_, Run, first, stackAt}
+use Rattle.law.specs.Trees.{word, form, Trees, end, _then_, Run, first}
+use Rattle.law_theorems.specs.Readings.{stackAt}
 use Rattle.law.specs.Types.{Types, Var, Vars, variable, infoAt, hostOf, ordinal?}
 use Rattle.law_theorems.proofs.Inversion.{none-some, some-inj, bind-some}
 use Rattle.code_calc.specs.Words.{noResult, greatest, Holds}

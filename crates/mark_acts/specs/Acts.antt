@@ -12,7 +12,8 @@ use Rattle.law.specs.Names as Names
 use Rattle.law.specs.Names.{exprOf, targetOf}
 use Rattle.law.specs.Script.{Expr, assign, raise}
 use Rattle.law.specs.Syntax as Syntax
-use Rattle.law.specs.Trees.{first, stackAt}
+use Rattle.law.specs.Trees.{first}
+use Rattle.law_theorems.specs.Readings.{stackAt}
 use Rattle.law.specs.Types.{ordinal?}
 use Rattle.code_calc.specs.Words.{Holds}
 use Rattle.text_heads.specs.Parts.{rest, exprIn, targetIn}

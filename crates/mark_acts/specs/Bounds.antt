@@ -12,7 +12,8 @@ use Rattle.law.specs.Marking.{TypedValue, markExpr, markBounds, orStuck, typedP
 use Rattle.law.specs.Names.{exprOf, varOf}
 use Rattle.law.specs.Script.{Expr}
 use Rattle.law.specs.Syntax as Syntax
-use Rattle.law.specs.Trees.{first, stackAt}
+use Rattle.law.specs.Trees.{first}
+use Rattle.law_theorems.specs.Readings.{stackAt}
 use Rattle.law.specs.Types.{Types, Var, Vars, variable, infoAt}
 use Rattle.code_calc.specs.Words.{InRange, Holds}
 use Rattle.text_heads.specs.Parts.{rest, exprIn, nameIn}

@@ -21,7 +21,8 @@ use Rattle.law.specs.Names.{constantOf, stmtOf, armsOf}
 use Rattle.law.specs.Script as Script
 use Rattle.law.specs.Script.{Const}
 use Rattle.law.specs.Syntax.{Constant, Stmt, Arms, arm, elseArm, noElse}
-use Rattle.law.specs.Trees.{Tree, word, form, Trees, end, _then_, Run, first, later, wordAt, stackAt}
+use Rattle.law.specs.Trees.{Tree, word, form, Trees, end, _then_, Run, first, later, wordAt}
+use Rattle.law_theorems.specs.Readings.{stackAt}
 use Rattle.law_theorems.proofs.Inversion.{none-some, some-inj, bind-some}
 use Rattle.text_parts.specs.Parts.{Before, FormAt, ShutAt, Stands}
 use Rattle.text_parts.specs.declared.Part.{Part}

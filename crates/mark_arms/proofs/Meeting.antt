@@ -19,7 +19,8 @@ use Rattle.law.specs.Marking.{markLabels}
 use Rattle.law.specs.Names.{constantOf}
 use Rattle.law.specs.Script.{Const}
 use Rattle.law.specs.Syntax.{Constant}
-use Rattle.law.specs.Trees.{Tree, Trees, end, _then_, Run, first, stackAt}
+use Rattle.law.specs.Trees.{Tree, Trees, end, _then_, Run, first}
+use Rattle.law_theorems.specs.Readings.{stackAt}
 use Rattle.law.specs.Words.{worded}
 use Rattle.law_theorems.proofs.Inversion.{none-some, some-inj, bind-some}
 use Rattle.text_heads.specs.Parts.{partOf, rest, constantIn}

@@ -25,7 +25,8 @@ use Rattle.law.specs.Script.{Const}
 use Rattle.rule_stages.specs.Stages.{fits, staged, named, ruled}
 use Rattle.law.specs.Syntax as Syntax
 use Rattle.law.specs.Syntax.{Constant, Stmt}
-use Rattle.law.specs.Trees.{Tree, word, form, Trees, end, _then_, Run, first, stackAt}
+use Rattle.law.specs.Trees.{Tree, word, form, Trees, end, _then_, Run, first}
+use Rattle.law_theorems.specs.Readings.{stackAt}
 use Rattle.law.specs.Words.{worded}
 use Rattle.law_theorems.proofs.Inversion.{none-some, some-inj, bind-some}
 use Rattle.rule_faults.specs.Got.{isClear, faultOf}

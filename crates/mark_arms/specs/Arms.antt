@@ -15,7 +15,8 @@ use Rattle.law.specs.Names.{constantOf, stmtOf, armsOf}
 use Rattle.law.specs.Script as Script
 use Rattle.law.specs.Script.{Const}
 use Rattle.law.specs.Syntax.{Constant, Stmt, Arms, noElse}
-use Rattle.law.specs.Trees.{Tree, word, form, Trees, end, _then_, Run, first, stackAt}
+use Rattle.law.specs.Trees.{Tree, word, form, Trees, end, _then_, Run, first}
+use Rattle.law_theorems.specs.Readings.{stackAt}
 use Rattle.law.specs.Words.{worded}
 use Rattle.text_parts.specs.Parts.{Before}
 use Rattle.text_heads.specs.Parts.{rest, constantIn, stmtIn, armHeadIn, armsIn}

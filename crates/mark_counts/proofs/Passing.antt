@@ -5,7 +5,8 @@ use mathlib.Core.Option.{none, some}
 use Prim.Native.Nat.{ℕ, _+_}
 use Rattle.law.specs.Forms.{isArm}
 use Rattle.law.specs.Syntax.{Arms, Body, Constant, Stmt, Stmts, _next_, arm}
-use Rattle.law.specs.Trees.{Tree, word, form, Trees, end, _then_, Run, first, stackAt}
+use Rattle.law.specs.Trees.{Tree, word, form, Trees, end, _then_, Run, first}
+use Rattle.law_theorems.specs.Readings.{stackAt}
 use Rattle.law_theorems.proofs.Inversion.{none-some}
 use Rattle.text_parts.specs.Parts.{Before}
 use Rattle.text_heads.specs.Parts.{stmtIn, stmtsIn, armHeadIn, armIn, armsIn, handlerIn, withFirst, bodyIn}

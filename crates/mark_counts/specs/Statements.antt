@@ -4,7 +4,8 @@ use mathlib.Core.Path.{_≡_}
 use Prim.Native.Nat.{ℕ, zero, suc, _+_, _*_, _<_, _≤_}
 use lib.ListN.{length}
 use Rattle.leaf_words.specs.Words.{wordOf}
-use Rattle.law.specs.Trees.{Tree, word, form, Trees, end, _then_, Run, first, later, stackAt}
+use Rattle.law.specs.Trees.{Tree, word, form, Trees, end, _then_, Run, first, later}
+use Rattle.law_theorems.specs.Readings.{stackAt}
 use Rattle.text_words.specs.Passes.{nodesAll}
 use Rattle.text_heads.specs.Heads.{verbOf}
 use Rattle.text_heads.specs.declared.Verb.{Verb}

@@ -5,7 +5,8 @@ use text_parts::Part;
 use text_parts::part_at;
 ghost use mathlib.Core.Path.{_≡_};
 ghost use Prim.Native.Nat.{_+_};
-ghost use Rattle.law.specs.Trees.{first, stackAt};
+ghost use Rattle.law.specs.Trees.{first};
+ghost use Rattle.law_theorems.specs.Readings.{stackAt};
 ghost use Rattle.mark_counts.specs.Statements.{oneFor, headVerbs, verbsIn, Room, shutFrom, Moves, CountsStatements};
 
 // On inside a form: the offset reached, how many more forms are open there and the statements counted; or the form has ended.

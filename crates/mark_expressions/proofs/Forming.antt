@@ -22,7 +22,8 @@ use Rattle.law.specs.Names.{constOf, exprOf, targetOf, atomOf as atomMeant}
 use Rattle.law.specs.Operators.{Op, Fun, negate, minus}
 use Rattle.law.specs.Script.{Expr, const}
 use Rattle.law.specs.Syntax as Syntax
-use Rattle.law.specs.Trees.{Tree, Trees, end, _then_, Run, first, stackAt, wordAt}
+use Rattle.law.specs.Trees.{Tree, Trees, end, _then_, Run, first, wordAt}
+use Rattle.law_theorems.specs.Readings.{stackAt}
 use Rattle.law_theorems.proofs.Inversion.{none-some, some-inj, bind-some}
 use Rattle.table_kinds.specs.Kinds.{opNumber}
 use Rattle.table_kinds.specs.Functions.{funNumber}

@@ -21,7 +21,8 @@ use Rattle.law.specs.Marking.{wanted, markExpr, markMembers}
 use Rattle.law.specs.Names.{exprsOf}
 use Rattle.law.specs.Script.{Expr, Exprs, nil, _and_}
 use Rattle.law.specs.Syntax as Syntax
-use Rattle.law.specs.Trees.{Trees, end, _then_, Run, first, stackAt}
+use Rattle.law.specs.Trees.{Trees, end, _then_, Run, first}
+use Rattle.law_theorems.specs.Readings.{stackAt}
 use Rattle.law.specs.Types.{baseOf}
 use Rattle.law_theorems.proofs.Inversion.{some-inj, bind-some}
 use Rattle.code_calc.specs.Words.{greatest, Holds}

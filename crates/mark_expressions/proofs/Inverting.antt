@@ -12,7 +12,8 @@ use Rattle.law.specs.Base.{Name, _>>=_}
 use Rattle.law.specs.Forms.{Item, hOp, hFun, expr, target}
 use Rattle.law.specs.Operators.{Op, Fun, negate, minus}
 use Rattle.law.specs.Syntax as Syntax
-use Rattle.law.specs.Trees.{Tree, Trees, end, _then_, Run, first, stackAt}
+use Rattle.law.specs.Trees.{Tree, Trees, end, _then_, Run, first}
+use Rattle.law_theorems.specs.Readings.{stackAt}
 use Rattle.law_theorems.proofs.Inversion.{none-some, some-inj, bind-some}
 use Rattle.table_kinds.specs.Kinds.{opNumber}
 use Rattle.code_ops.specs.Operators.{operators}

@@ -23,7 +23,8 @@ use Rattle.law.specs.Names.{asExpr, asVar, constOf, exprOf, targetOf, varOf, ty
 use Rattle.law.specs.Script.{Expr, const, read, errorNumber, var}
 use Rattle.rule_stages.specs.Stages.{staged, named, ruled, fits}
 use Rattle.law.specs.Syntax as Syntax
-use Rattle.law.specs.Trees.{first, stackAt, wordAt}
+use Rattle.law.specs.Trees.{first, wordAt}
+use Rattle.law_theorems.specs.Readings.{stackAt}
 use Rattle.law.specs.Types.{Var, variable}
 use Rattle.law_theorems.proofs.Inversion.{none-some, some-inj, bind-some}
 use Rattle.text_heads.specs.declared.Atom.{Atom}

@@ -16,7 +16,8 @@ use Rattle.law.specs.Names as Names
 use Rattle.law.specs.Names.{asExpr, asVar, exprOf, targetOf, exprsOf}
 use Rattle.law.specs.Script.{Expr, Exprs, var}
 use Rattle.law.specs.Syntax as Syntax
-use Rattle.law.specs.Trees.{form, end, _then_, first, wordAt, stackAt}
+use Rattle.law.specs.Trees.{form, end, _then_, first, wordAt}
+use Rattle.law_theorems.specs.Readings.{stackAt}
 use Rattle.code_calc.specs.Words.{Holds}
 use Rattle.text_heads.specs.declared.ExprHead.{ExprHead}
 use Rattle.text_heads.specs.declared.ExprHead.the-variants.{Minus}

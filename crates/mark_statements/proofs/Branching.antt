@@ -27,7 +27,8 @@ use Rattle.law.specs.Names.{stmtOf}
 use Rattle.law.specs.Script as Script
 use Rattle.law.specs.Syntax as Syntax
 use Rattle.law.specs.Syntax.{Stmt}
-use Rattle.law.specs.Trees.{word, form, Trees, end, _then_, Run, first, later, wordAt, stackAt}
+use Rattle.law.specs.Trees.{word, form, Trees, end, _then_, Run, first, later, wordAt}
+use Rattle.law_theorems.specs.Readings.{stackAt}
 use Rattle.law.specs.Types.{ordinal?}
 use Rattle.law.specs.Whole.{markBody}
 use Rattle.law_theorems.proofs.Inversion.{none-some, some-inj, bind-some}

@@ -14,7 +14,8 @@ use Rattle.law.specs.Marking.{markStmts}
 use Rattle.law.specs.Names.{stmtsOf}
 use Rattle.law.specs.Script as Script
 use Rattle.law.specs.Syntax.{Body, Stmt, Stmts, done, _next_}
-use Rattle.law.specs.Trees.{Tree, word, form, Trees, end, _then_, Run, first, later, stackAt}
+use Rattle.law.specs.Trees.{Tree, word, form, Trees, end, _then_, Run, first, later}
+use Rattle.law_theorems.specs.Readings.{stackAt}
 use Rattle.law_theorems.proofs.Inversion.{none-some, some-inj, bind-some}
 use Rattle.text_heads.specs.Parts.{rest, stmtIn, stmtsIn, bodyIn, handlerIn}
 use Rattle.text_parts.specs.declared.End.{End}

@@ -15,7 +15,8 @@ use Rattle.law.specs.Names.{asProc, exprOf, targetOf, varOf, stmtOf, stmtsOf, a
 use Rattle.law.specs.Script as Script
 use Rattle.law.specs.Syntax as Syntax
 use Rattle.law.specs.Syntax.{Stmt, Stmts, Arms, arm, elseArm, noElse}
-use Rattle.law.specs.Trees.{Tree, word, form, Trees, end, _then_, Run, first, stackAt}
+use Rattle.law.specs.Trees.{Tree, word, form, Trees, end, _then_, Run, first}
+use Rattle.law_theorems.specs.Readings.{stackAt}
 use Rattle.law.specs.Types.{Types, Vars}
 use Rattle.law_theorems.proofs.Inversion.{none-some, some-inj, bind-some}
 use Rattle.text_heads.specs.declared.Verb.{Verb}

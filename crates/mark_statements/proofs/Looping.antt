@@ -19,7 +19,8 @@ use Rattle.law.specs.Calculate.{Result, is, isTrue, natOf, rangeError}
 use Rattle.law.specs.Machine.{Store, State, state, Answer, answer, normal, spent, andThen, branch, countUp, forRounds, raising, stored, whileRounds, withResult, noRound, outside, planned, rounds}
 use Rattle.law.specs.Script as Script
 use Rattle.law.specs.Syntax.{Expr}
-use Rattle.law.specs.Trees.{end, first, stackAt}
+use Rattle.law.specs.Trees.{end, first}
+use Rattle.law_theorems.specs.Readings.{stackAt}
 use Rattle.law.specs.Types.{Types, infoAt}
 use Rattle.text_heads.specs.declared.Verb.the-variants as VB
 use Rattle.text_heads.specs.Parts.{partOf, rest, exprIn, nameIn, stmtIn}

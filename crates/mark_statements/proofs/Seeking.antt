@@ -19,7 +19,8 @@ use Rattle.law.specs.Machine as Machine
 use Rattle.law.specs.Machine.{planned}
 use Rattle.law.specs.Names.{asProc}
 use Rattle.law.specs.Syntax.{Body, Stmt, Stmts}
-use Rattle.law.specs.Trees.{word, form, Trees, end, _then_, Run, first, later, wordAt, stackAt}
+use Rattle.law.specs.Trees.{word, form, Trees, end, _then_, Run, first, later, wordAt}
+use Rattle.law_theorems.specs.Readings.{stackAt}
 use Rattle.law_theorems.proofs.Inversion.{none-some, some-inj}
 use Rattle.text_heads.specs.Parts.{rest, nameIn, bodyIn, handlerIn}
 use Rattle.table_scope.specs.declared.Scope.{Scope}

@@ -15,7 +15,8 @@ use Rattle.law.specs.Marking.{markStmts}
 use Rattle.law.specs.Names.{bodyOf, stmtsOf}
 use Rattle.law.specs.Script as Script
 use Rattle.law.specs.Syntax.{Body, Stmts}
-use Rattle.law.specs.Trees.{first, stackAt}
+use Rattle.law.specs.Trees.{first}
+use Rattle.law_theorems.specs.Readings.{stackAt}
 use Rattle.law.specs.Types.{Types, Vars}
 use Rattle.law.specs.Whole.{markBody, markAll}
 use Rattle.law_theorems.proofs.Inversion.{some-inj, bind-some}

@@ -12,7 +12,8 @@ use Rattle.law.specs.Machine as Machine
 use Rattle.law.specs.Machine.{planned}
 use Rattle.law.specs.Names.{asProc}
 use Rattle.law.specs.Syntax.{Body}
-use Rattle.law.specs.Trees.{first, stackAt}
+use Rattle.law.specs.Trees.{first}
+use Rattle.law_theorems.specs.Readings.{stackAt}
 use Rattle.text_heads.specs.Parts.{rest, closed, nameIn, stmtsIn, bodyIn}
 use Rattle.table_scope.specs.declared.Scope.{Scope}
 use Rattle.table_scope.specs.declared.Meaning.{Meaning}

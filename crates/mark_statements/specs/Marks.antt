@@ -16,7 +16,8 @@ use Rattle.law.specs.Marking.{markCondition, markStmt, markStmts}
 use Rattle.law.specs.Names.{exprOf, stmtOf, stmtsOf, bodyOf}
 use Rattle.law.specs.Script as Script
 use Rattle.law.specs.Syntax.{Expr, Stmt, Stmts, Body}
-use Rattle.law.specs.Trees.{form, Trees, end, _then_, Run, first, stackAt}
+use Rattle.law.specs.Trees.{form, Trees, end, _then_, Run, first}
+use Rattle.law_theorems.specs.Readings.{stackAt}
 use Rattle.law.specs.Whole.{markBody}
 use Rattle.law_theorems.specs.TypeSizes.{SmallTypes}
 use Rattle.code_calc.specs.Words.{InRange}

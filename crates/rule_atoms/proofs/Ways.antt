@@ -26,7 +26,8 @@ use Rattle.law.specs.Words.{worded, wordedAll}
 use Rattle.law.specs.Names.{typeOf, constantOf}
 use Rattle.rule_stages.specs.Stages.{staged}
 use Rattle.law.specs.Syntax.{Constant, minus}
-use Rattle.law.specs.Trees.{word, form, Trees, end, _then_, Run, first, later, wordAt, stackAt}
+use Rattle.law.specs.Trees.{word, form, Trees, end, _then_, Run, first, later, wordAt}
+use Rattle.law_theorems.specs.Readings.{stackAt}
 use Rattle.table_scope.specs.declared.Scope.{Scope}
 use Rattle.rule_faults.specs.declared.Fault.the-variants.{Clear, Kind, Name, Form}
 use Rattle.table_scope.specs.declared.Meaning.{Meaning}

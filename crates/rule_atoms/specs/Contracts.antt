@@ -12,7 +12,8 @@ use Rattle.law.specs.Rules.{plain}
 use Rattle.law.specs.Script.{Const}
 use Rattle.rule_stages.specs.Stages.{Staged, fits, staged}
 use Rattle.law.specs.Syntax.{Constant, minus}
-use Rattle.law.specs.Trees.{Tree, form, Trees, end, _then_, Run, first, later, stackAt}
+use Rattle.law.specs.Trees.{Tree, form, Trees, end, _then_, Run, first, later}
+use Rattle.law_theorems.specs.Readings.{stackAt}
 use Rattle.table_scope.specs.declared.Scope.{Scope}
 use Rattle.table_scope.specs.Scene.{Scene}
 use Rattle.rule_faults.specs.Got.{isForm, faultOf}

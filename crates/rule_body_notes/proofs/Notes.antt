@@ -8,7 +8,7 @@ use native.Mathlib.Omega.{arith}
 use lib.ListN.{length, getD, set, drop, length-set, drop-of-length-le}
 use lib.Seq.{getD-set-same, getD-set-other}
 use Rattle.leaf_integers.proofs.Order.{le-or-lt}
-use Rattle.law.specs.Trees.{ended, readBytes, stackAt, wordAt, restAt}
+use Rattle.law_theorems.specs.Readings.{ended, readBytes, stackAt, restAt}
 use Rattle.table_bodies.specs.Table.{offsetOf, countOf, newestOf, stmtsBefore, typesOf}
 use Rattle.rule_known.specs.declared.Known.{Known}
 use Rattle.rule_body_notes.specs.Noting.{offsetIn, notedFirst, notedLast, noted}
@@ -16,7 +16,7 @@ use Rattle.rule_body_notes.specs.Noting.{offsetIn, notedFirst, notedLast
 -- ---- the offset
 
 stack-by : (s : List ℕ) (p q : ℕ) → drop p s ≡ drop q s → stackAt s p ≡ stackAt s q
-unfolding stackAt wordAt restAt
+unfolding stackAt restAt
 stack-by s p q e = ap (λ (r : List ℕ). ended (readBytes r .begun) (readBytes r .stack)) e
 
 module _ (s : List ℕ) (at : ℕ) where

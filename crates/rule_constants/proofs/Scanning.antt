@@ -16,7 +16,8 @@ use Rattle.law.specs.Rules.{plain}
 use Rattle.law.specs.Script.{Const}
 use Rattle.rule_stages.specs.Stages.{ruled, named as namedStage, staged}
 use Rattle.law.specs.Syntax.{Constant, number, minus, truth, named}
-use Rattle.law.specs.Trees.{Tree, word, form, Trees, end, nodes, nodesIn, Run, first, later, push, wordAt, stackAt}
+use Rattle.law.specs.Trees.{Tree, word, form, Trees, end, nodes, nodesIn, Run, first, later, push, wordAt}
+use Rattle.law_theorems.specs.Readings.{stackAt}
 use Rattle.text_words.specs.Passes.{nodesAll}
 use Rattle.text_words.specs.declared.sight.Sight.{Sight}
 use Rattle.text_words.specs.declared.sight.Sight.the-variants as sight

@@ -3,7 +3,8 @@ use mathlib.Core.Bool.{Bool, true, false, _&&_}
 use mathlib.Core.List.{List}
 use mathlib.Core.Path.{_≡_}
 use Prim.Native.Nat.{ℕ, zero, suc, _+_, _*_, _<_, _≤_}
-use Rattle.law.specs.Trees.{Trees, Run, first, later, stackAt}
+use Rattle.law.specs.Trees.{Trees, Run, first, later}
+use Rattle.law_theorems.specs.Readings.{stackAt}
 use Rattle.text_words.specs.Passes.{nodesAll}
 use Rattle.rule_atoms.specs.Contracts.{minusForm}
 use Rattle.rule_constants.specs.Plain.{soundBy, plainIn}

@@ -19,7 +19,8 @@ use Rattle.law.specs.Forms.{free}
 use Rattle.law.specs.Names.{typeOf}
 use Rattle.rule_stages.specs.Stages as Stages
 use Rattle.rule_stages.specs.Stages.{ruled, staged}
-use Rattle.law.specs.Trees.{Tree, form, Trees, end, _then_, Run, first, later, wordAt, stackAt}
+use Rattle.law.specs.Trees.{Tree, form, Trees, end, _then_, Run, first, later, wordAt}
+use Rattle.law_theorems.specs.Readings.{stackAt}
 use Rattle.law.specs.Words as Words
 use Rattle.law.specs.Words.{worded, wordedAll}
 use Rattle.law_theorems.proofs.Reading.{none-word}

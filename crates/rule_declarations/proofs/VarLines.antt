@@ -22,7 +22,8 @@ use Rattle.law.specs.Script.{Const, Entry, newVar}
 use Rattle.rule_stages.specs.Stages as Stages
 use Rattle.rule_stages.specs.Stages.{Staged, wrong, unnamed, unfit, fits, ruled, staged, onFits, unknown}
 use Rattle.law.specs.Syntax.{LineForm, TypeName, varLine}
-use Rattle.law.specs.Trees.{Trees, end, _then_, Run, first, wordAt, stackAt, list}
+use Rattle.law.specs.Trees.{Trees, end, _then_, Run, first, list, wordAt}
+use Rattle.law_theorems.specs.Readings.{stackAt}
 use Rattle.law.specs.Types.{Var, Vars, variable, sizeOf}
 use Rattle.law.specs.Words.{Word, wordedAll}
 use Rattle.law_theorems.proofs.Inversion.{none-some, some-inj, and-true}

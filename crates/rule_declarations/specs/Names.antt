@@ -12,7 +12,8 @@ use Rattle.law.specs.Names.{typeOf, constantOf}
 use Rattle.law.specs.Rules.{plain}
 use Rattle.rule_stages.specs.Stages.{staged}
 use Rattle.law.specs.Syntax.{TypeName, Constant}
-use Rattle.law.specs.Trees.{Trees, Run, first, later, wordAt, stackAt}
+use Rattle.law.specs.Trees.{Trees, Run, first, later, wordAt}
+use Rattle.law_theorems.specs.Readings.{stackAt}
 use Rattle.table_scope.specs.declared.Scope.{Scope}
 use Rattle.rule_faults.specs.declared.Fault.{Fault}
 use Rattle.rule_faults.specs.declared.Fault.the-variants.{Name}

@@ -10,7 +10,8 @@ use Rattle.leaf_bytes.specs.Bytes.{small}
 use Rattle.law.specs.Base.{Name, _>>=_}
 use Rattle.code.specs.Layout.{lay}
 use Rattle.law.specs.Syntax.{LineForm, varLine}
-use Rattle.law.specs.Trees.{Trees, Run, first, wordAt, stackAt}
+use Rattle.law.specs.Trees.{Trees, Run, first, wordAt}
+use Rattle.law_theorems.specs.Readings.{stackAt}
 use Rattle.table_scope.specs.Descriptions.{infoOf}
 use Rattle.rule_faults.specs.declared.Fault.the-variants.{Clear}
 use Rattle.text_heads.specs.Parts.{rest, closed, typeNameIn}

@@ -13,7 +13,7 @@ use lib.ListN.{length, getD, set, length-append, length-set}
 use Rattle.leaf_bytes.specs.Bytes.{small}
 use Rattle.law.specs.Base.{Name, _>>=_}
 use Rattle.law.specs.Ceilings.{lineBounded, typeBounded}
-use Rattle.law.specs.Environment.{Declared, aType, declareLine, extendTypes, declNames, enumNames, typeInfoOf}
+use Rattle.law.specs.Environment.{Declared, aType, declareLine, extendTypes, declNames, enumNames, typeSortOf}
 use Rattle.law.specs.Forms.{some?}
 use Rattle.code.specs.Layout.{bits}
 use Rattle.code.specs.LayoutSize.{symbolSize, sizeDecl}
@@ -22,8 +22,9 @@ use Rattle.law.specs.Rules.{keepsRules}
 use Rattle.law.specs.Script.{Entry, newType, enum}
 use Rattle.rule_stages.specs.Stages.{Staged, wrong, unnamed, fits, staged}
 use Rattle.law.specs.Syntax.{LineForm, TypeForm, typeLine}
-use Rattle.law.specs.Trees.{Trees, Run, first, later, wordAt, stackAt}
-use Rattle.law.specs.Types.{Types, infoAt, cellsBy, isRecord}
+use Rattle.law.specs.Trees.{Trees, Run, first, later, wordAt}
+use Rattle.law_theorems.specs.Readings.{stackAt}
+use Rattle.law.specs.Types.{Types, facts, infoAt, cellsBy, isRecord}
 use Rattle.law_theorems.proofs.Inversion.{and-true}
 use Rattle.code.proofs.LayoutRegions.{Has, lay-g, lay-l}
 use Rattle.code.specs.LayoutRegions.{Same, Room}
@@ -141,8 +142,8 @@ module _ {s l ts : List ℕ} {st : State} {k : Declared} {bs : List ℕ} (H : Ho
   unfolding infoNumbers
   info-held = lay-l (infoNumbers (enumInfo (st .types) n)) t₁ l₁ .held info-room l′ (record { at = λ i a c. A .values .below .at i (omega arith) c })
 
-  described : Describes (enumInfo (st .types) n) (typeInfoOf Γ (enum v vs))
-  unfolding enumInfo typeInfoOf shapeNumber bits
+  described : Describes (enumInfo (st .types) n) (facts (typeSortOf Γ (enum v vs)))
+  unfolding enumInfo typeSortOf shapeNumber bits
   described = record {
     shape-is = refl;
     host-is = H .types-are;
@@ -166,14 +167,14 @@ module _ {s l ts : List ℕ} {st : State} {k : Declared} {bs : List ℕ} (H : Ho
       rw (← H .types-are) (chained-one (st .top) w (aType (st .types)) (H .start) (rw free-is (omega arith)) (called-keyed s l′ (st .top) p (omega (arith, H .short-text)) m)
       (rw (entry-held .at 1 (omega arith), entry-held .at 2 (omega arith)) (type-means (ks .env) bs (st .types) 0)) (entry-held .at 3 (omega arith) ∙ sym top₂) c)
 
-  told-types : (t : ℕ) → Tells s l′ (infoOf l′ (set ts (length Γ) t₁) t) (infoAt (Γ ++ (typeInfoOf Γ (enum v vs) ∷ [])) t) × EndsBelow (A .free) (infoOf l′ (set ts (length Γ) t₁) t)
+  told-types : (t : ℕ) → Tells s l′ (infoOf l′ (set ts (length Γ) t₁) t) (infoAt (Γ ++ (typeSortOf Γ (enum v vs) ∷ [])) t) × EndsBelow (A .free) (infoOf l′ (set ts (length Γ) t₁) t)
   unfolding enumInfo
-  told-types = types-more (H .scene) same₀ (A .free) t₁ (rw free-is (omega arith)) (info-room .start) (omega (arith, H .types-are, number-low, H .long-notes)) (typeInfoOf Γ (enum v vs))
-      (describes-tells s l′ (enumInfo (st .types) n) t₁ (typeInfoOf Γ (enum v vs)) described info-held)
+  told-types = types-more (H .scene) same₀ (A .free) t₁ (rw free-is (omega arith)) (info-room .start) (omega (arith, H .types-are, number-low, H .long-notes)) (typeSortOf Γ (enum v vs))
+      (describes-tells s l′ (enumInfo (st .types) n) t₁ (facts (typeSortOf Γ (enum v vs))) described info-held)
       (rw (read-numbers (enumInfo (st .types) n) t₁ l′ info-held, top₁, free-is) (record { end-below = λ _. omega arith; within = omega arith }))
 
   enum-scene : Scene s l′ (set ts (length Γ) t₁) (scoped (suc (n + st .scope .count)) (st .top)) (A .free) (ks .env) bs
-  unfolding declareLine declNames extendTypes typeInfoOf
+  unfolding declareLine declNames extendTypes typeSortOf
   enum-scene =
       let K = type-keeps H w (enum v vs) f e g b sn nn in
       record {
@@ -184,7 +185,7 @@ module _ {s l ts : List ℕ} {st : State} {k : Declared} {bs : List ℕ} (H : Ho
         table = K .table;
         fair = rw (H .bodies-are) (K .names);
         cells = keeps-cells ks K (omega (arith, H .cells-are, H .few-cells));
-        fieldless = by-number Γ (typeInfoOf Γ (enum v vs)) (λ t j. isRecord (j .shape) ≡ false → j .fields ≡ []) (λ t _. H .scene .fieldless t) (λ _. refl) (λ t _ _. refl);
+        fieldless = by-number Γ (typeSortOf Γ (enum v vs)) (λ t j. isRecord (j .shape) ≡ false → j .fields ≡ []) (λ t _. H .scene .fieldless t) (λ _. refl) (λ t _ _. refl);
         above = λ x c i. values-above (length Γ) (k .env .names) (H .scene .table .two) (H .scene .above) (v ∷ vs) 0 x c
             (value-find w x (aType (length Γ)) (enumNames (length Γ) 0 (v ∷ vs) ++ k .env .names) c (type-value (length Γ)) i);
         once = λ x y c i j. values-once (length Γ) (k .env .names) (value-kind (H .scene .fair)) (H .scene .once) (v ∷ vs) 0 x y c
@@ -193,13 +194,13 @@ module _ {s l ts : List ℕ} {st : State} {k : Declared} {bs : List ℕ} (H : Ho
       }
 
   pub enum-holds : Holds s l′ ts′ (typeState st (counted n) (st .top) 1 (A .free)) ks bs
-  unfolding extendTypes typeInfoOf
+  unfolding extendTypes typeSortOf
   enum-holds =
       let c : suc (n + st .scope .count) ≡ st .scope .count + (n + 1) = omega arith in
-      let m : length (Γ ++ (typeInfoOf Γ (enum v vs) ∷ [])) ≡ length Γ + 1 = length-append Γ (typeInfoOf Γ (enum v vs) ∷ []) in
+      let m : length (Γ ++ (typeSortOf Γ (enum v vs) ∷ [])) ≡ length Γ + 1 = length-append Γ (typeSortOf Γ (enum v vs) ∷ []) in
       let d : n + 1 ≡ counted n = counted-more n (omega (arith, few)) in
       rw (A .places, ← d) (subst (λ (m : ℕ). Holds s l′ (set ts m t₁) (typeState st (n + 1) (st .top) 1 (A .free)) ks bs) (sym (H .types-are)) (type-holds H w (enum v vs) f e g b sn nn (n + 1) (st .top) 1 (A .free) l′ (set ts (length Γ) t₁) (omega arith) m (rw c at enum-scene)
-      (by-number Γ (typeInfoOf Γ (enum v vs)) (λ t j. length (cellsBy (j .shape) t (j .cells)) ≤ 2048) (λ t _. H .small-types t) (omega arith) (λ t _. omega arith))
+      (by-number Γ (typeSortOf Γ (enum v vs)) (λ t j. length (cellsBy (j .shape) t (j .cells)) ≤ 2048) (λ t _. H .small-types t) (omega arith) (λ t _. omega arith))
       (rw free-is (omega (arith, H .few-names))) (rw free-is (omega arith)) (rw free-is room) (rw (A .values .long, long₂) (H .long-list)) (rw (length-set ts (length Γ) t₁) (H .long-notes))))
 
   pub enum-top : A .free ≡ st .top + (12 + 4 * n)

@@ -12,7 +12,8 @@ use Rattle.law.specs.Environment.{Environment, NameSort}
 use Rattle.law.specs.Forms.{Item, free, some?, madeType}
 use Rattle.law.specs.Names.{listedIn, isKnown, distinct, noneKnown, newNames}
 use Rattle.law.specs.Syntax.{enum}
-use Rattle.law.specs.Trees.{Trees, end, _then_, Run, first, later, wordAt, stackAt, list}
+use Rattle.law.specs.Trees.{Trees, end, _then_, Run, first, later, list, wordAt}
+use Rattle.law_theorems.specs.Readings.{stackAt}
 use Rattle.law.specs.Words.{Word, worded, wordedAll}
 use Rattle.law_theorems.proofs.Inversion.{none-some, some-inj, bind-some}
 use mir.Syntax.{w32}

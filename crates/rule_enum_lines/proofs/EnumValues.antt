@@ -17,7 +17,8 @@ use Rattle.law.specs.Base.{Name, find}
 use Rattle.law.specs.Environment.{Environment, NameSort, aValue, enumNames}
 use Rattle.code.specs.Layout.{lay}
 use Rattle.law.specs.Script.{Const}
-use Rattle.law.specs.Trees.{first, wordAt, stackAt}
+use Rattle.law.specs.Trees.{first, wordAt}
+use Rattle.law_theorems.specs.Readings.{stackAt}
 use Rattle.law.specs.Types.{Types}
 use Rattle.law_theorems.proofs.Inversion.{some-inj, bind-some}
 use Rattle.code.proofs.LayoutRegions.{Has, lay-g, lay-l}

@@ -12,7 +12,8 @@ use Rattle.law.specs.Environment.{Environment}
 use Rattle.law.specs.Forms.{free, madeType, mEnum}
 use Rattle.law.specs.Names.{listedIn, isKnown}
 use Rattle.law.specs.Syntax.{TypeForm}
-use Rattle.law.specs.Trees.{Trees, list, end, _then_, Run, first, later, wordAt, stackAt}
+use Rattle.law.specs.Trees.{Trees, list, end, _then_, Run, first, later, wordAt}
+use Rattle.law_theorems.specs.Readings.{stackAt}
 use Rattle.law.specs.Words.{worded, wordedAll}
 use Rattle.table_scope.specs.declared.Scope.{Scope}
 use Rattle.rule_faults.specs.declared.Fault.{Fault}

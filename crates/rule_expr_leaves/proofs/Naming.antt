@@ -9,7 +9,8 @@ use Rattle.leaf_bytes.specs.Bytes.{small}
 use Rattle.leaf_words.specs.Words.{wordOf}
 use Rattle.law.specs.Base as Base
 use Rattle.law.specs.Base.{_>>=_}
-use Rattle.law.specs.Trees.{word, Trees, end, _then_, Run, first, later, wordAt, stackAt}
+use Rattle.law.specs.Trees.{word, Trees, end, _then_, Run, first, later, wordAt}
+use Rattle.law_theorems.specs.Readings.{stackAt}
 use Rattle.text_heads.specs.declared.Atom.{Atom}
 use Rattle.text_heads.specs.declared.Atom.the-variants as AT
 use Rattle.text_heads.specs.Heads.{atomOf, atomName}

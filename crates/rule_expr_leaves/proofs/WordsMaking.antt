@@ -19,7 +19,8 @@ use Rattle.leaf_integers.proofs.Machine.{wire}
 use Rattle.leaf_words.specs.declared.words.Word.{Word}
 use Rattle.leaf_words.specs.Words.{wordOf}
 use Rattle.code.specs.Layout.{lay, flag}
-use Rattle.law.specs.Trees.{end, word, first, later, wordAt, stackAt}
+use Rattle.law.specs.Trees.{end, word, first, later, wordAt}
+use Rattle.law_theorems.specs.Readings.{stackAt}
 use Rattle.text_heads.specs.Heads.{atomOf, atomNumber}
 use Rattle.text_heads.specs.Parts.{rest, numberIn, partOf}
 use Rattle.text_heads.specs.declared.Atom.{Atom}

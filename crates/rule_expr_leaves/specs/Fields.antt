@@ -7,7 +7,8 @@ use Prim.Native.Nat.{ℕ}
 use Rattle.leaf_words.specs.declared.words.Word.{Word}
 use Rattle.leaf_bytes.specs.Bytes.{small}
 use Rattle.law.specs.Base.{_>>=_}
-use Rattle.law.specs.Trees.{end, first, later, wordAt, stackAt}
+use Rattle.law.specs.Trees.{end, first, later, wordAt}
+use Rattle.law_theorems.specs.Readings.{stackAt}
 use Rattle.text_heads.specs.declared.Atom.{Atom}
 use Rattle.text_heads.specs.declared.Atom.the-variants as AT
 use Rattle.text_heads.specs.Heads.{atomOf}

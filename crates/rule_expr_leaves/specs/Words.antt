@@ -8,7 +8,8 @@ use lib.Dec.{eqb}
 use lib.IntN.{ℤ}
 use Rattle.leaf_words.specs.declared.words.Word.{Word}
 use Rattle.code.specs.Layout.{lay, flag}
-use Rattle.law.specs.Trees.{end, first, later, stackAt}
+use Rattle.law.specs.Trees.{end, first, later}
+use Rattle.law_theorems.specs.Readings.{stackAt}
 use Rattle.text_heads.specs.Heads.{atomOf, atomNumber}
 use Rattle.text_heads.specs.Parts.{rest, numberIn}
 use Rattle.text_heads.specs.declared.Atom.{Atom}

@@ -2,7 +2,8 @@
 use mathlib.Core.List.{List}
 use mathlib.Core.Path.{_≡_}
 use Prim.Native.Nat.{ℕ}
-use Rattle.law.specs.Trees.{end, first, stackAt}
+use Rattle.law.specs.Trees.{end, first}
+use Rattle.law_theorems.specs.Readings.{stackAt}
 use Rattle.rule_faults.specs.declared.Fault.the-variants.{Form}
 use Rattle.rule_faults.specs.declared.Got.{Got}
 use Rattle.rule_faults.specs.Got.{failedGot, pastBracket}

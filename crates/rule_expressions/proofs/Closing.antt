@@ -8,7 +8,8 @@ use native.Mathlib.Omega.{arith}
 use Rattle.law.specs.Base.{_>>=_}
 use Rattle.code.specs.Layout.{Out, lay}
 use Rattle.rule_stages.specs.Stages.{Staged, wrong, unnamed, unfit, fits, ruled, named, staged}
-use Rattle.law.specs.Trees.{Tree, Trees, end, _then_, Run, first, later, stackAt}
+use Rattle.law.specs.Trees.{Tree, Trees, end, _then_, Run, first, later}
+use Rattle.law_theorems.specs.Readings.{stackAt}
 use Rattle.code.proofs.LayoutRegions.{lay-g}
 use Rattle.code.specs.LayoutRegions.{Same}
 use Rattle.text_heads.specs.Parts.{rest, closed}

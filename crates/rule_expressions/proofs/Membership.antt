@@ -18,7 +18,8 @@ use Rattle.law.specs.Names.{exprsOf, typeOf}
 use Rattle.law.specs.Rules.{plainExprs}
 use Rattle.rule_stages.specs.Stages.{Staged, wrong, unnamed, unfit, fits, staged, named, ruled, join, onFits, orUnfit, unknown, exprStaged, membersStaged}
 use Rattle.law.specs.Syntax as Syntax
-use Rattle.law.specs.Trees.{Tree, Trees, end, _then_, Run, first, later, stackAt}
+use Rattle.law.specs.Trees.{Tree, Trees, end, _then_, Run, first, later}
+use Rattle.law_theorems.specs.Readings.{stackAt}
 use Rattle.law.specs.Types.{Types, infoAt, set?, baseOf, hostOf}
 use Rattle.law.specs.Words.{worded}
 use Rattle.law_theorems.proofs.Inversion.{none-some, some-inj}

@@ -14,7 +14,8 @@ use Rattle.law.specs.Base.{_>>=_}
 use Rattle.law.specs.Forms.{exprForm}
 use Rattle.law.specs.Operators as Operators
 use Rattle.law.specs.Syntax as Syntax
-use Rattle.law.specs.Trees.{Tree, Trees, end, _then_, Run, first, stackAt}
+use Rattle.law.specs.Trees.{Tree, Trees, end, _then_, Run, first}
+use Rattle.law_theorems.specs.Readings.{stackAt}
 use Rattle.text_heads.specs.declared.ExprHead.{ExprHead}
 use Rattle.text_heads.specs.declared.ExprHead.the-variants as EH
 use Rattle.text_heads.specs.Parts.{rest, closed, exprIn, numberIn}

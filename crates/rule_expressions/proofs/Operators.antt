@@ -18,7 +18,8 @@ use Rattle.law.specs.Operators.{Op, plus, minus, times, power, divide, modulo, 
 use Rattle.law.specs.Rules.{plainExpr}
 use Rattle.rule_stages.specs.Stages.{Staged, wrong, fits, join, onFits, orUnfit, exprStaged}
 use Rattle.law.specs.Syntax as Syntax
-use Rattle.law.specs.Trees.{Trees, Run, first, stackAt, list}
+use Rattle.law.specs.Trees.{Trees, Run, first, list}
+use Rattle.law_theorems.specs.Readings.{stackAt}
 use Rattle.law.specs.Types.{Types, infoAt, ordinal?, set?}
 use Rattle.law.specs.Words.{wordedAll}
 use Rattle.law.specs.Elaborate.{elabExpr}

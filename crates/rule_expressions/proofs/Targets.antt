@@ -21,7 +21,8 @@ use Rattle.law.specs.Rules.{plainTarget}
 use Rattle.law.specs.Script as Script
 use Rattle.rule_stages.specs.Stages.{Staged, wrong, unnamed, unfit, fits, ruled, named, staged, join, onFits, orUnfit, dotted, exprStaged, targetStaged, targetName, targetType, typeBy}
 use Rattle.law.specs.Syntax as Syntax
-use Rattle.law.specs.Trees.{Trees, end, Run, first, wordAt, stackAt}
+use Rattle.law.specs.Trees.{Trees, end, Run, first, wordAt}
+use Rattle.law_theorems.specs.Readings.{stackAt}
 use Rattle.law.specs.Types.{Types, Field, infoAt, hostOf, sizeOf, array?, record?, fieldOf}
 use Rattle.law_theorems.proofs.Inversion.{none-some, some-inj, bind-some, both-some, given-some}
 use Rattle.code.specs.LayoutRegions.{Same}

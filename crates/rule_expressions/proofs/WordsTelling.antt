@@ -31,7 +31,8 @@ use Rattle.law.specs.Script as Script
 use Rattle.law.specs.Script.{Const}
 use Rattle.rule_stages.specs.Stages.{Staged, ruled, named, staged, exprStaged, targetName, targetStaged}
 use Rattle.law.specs.Syntax as Syntax
-use Rattle.law.specs.Trees.{Trees, Run, first, later, wordAt, stackAt}
+use Rattle.law.specs.Trees.{Trees, Run, first, later, wordAt}
+use Rattle.law_theorems.specs.Readings.{stackAt}
 use Rattle.law.specs.Types.{Var, variable, infoAt, hostOf, sizeOf, ordinal?}
 use Rattle.law_theorems.proofs.Inversion.{none-some, some-inj, and-true}
 use Rattle.law_theorems.proofs.LinesKeep.{find-fair}

@@ -7,7 +7,8 @@ use Rattle.law.specs.Code.{Codes}
 use Rattle.law.specs.Environment.{Environment}
 use Rattle.code.specs.Layout.{layCodes}
 use Rattle.rule_stages.specs.Stages.{fits, membersStaged}
-use Rattle.law.specs.Trees.{Trees, end, _then_, Run, first, later, stackAt}
+use Rattle.law.specs.Trees.{Trees, end, _then_, Run, first, later}
+use Rattle.law_theorems.specs.Readings.{stackAt}
 use Rattle.code.specs.LayoutRegions.{Same}
 use Rattle.text_heads.specs.Parts.{exprsIn}
 use Rattle.table_scope.specs.declared.Scope.{Scope}

@@ -6,7 +6,8 @@ use Prim.Native.Nat.{ℕ}
 use Rattle.law.specs.Base.{_>>=_}
 use Rattle.law.specs.Environment.{Environment}
 use Rattle.law.specs.Syntax.{Expr, binary, shortCircuit}
-use Rattle.law.specs.Trees.{Trees, Run, first, stackAt}
+use Rattle.law.specs.Trees.{Trees, Run, first}
+use Rattle.law_theorems.specs.Readings.{stackAt}
 use Rattle.table_kinds.specs.Kinds.{TwoSided, strict, lazy, rowNumber}
 use Rattle.text_heads.specs.Parts.{rest, closed, exprIn}
 use Rattle.rule_faults.specs.declared.Got.{Got}

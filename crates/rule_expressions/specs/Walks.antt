@@ -11,7 +11,8 @@ use Rattle.leaf_words.specs.Words.{wordOf}
 use Rattle.law.specs.Base.{_>>=_}
 use Rattle.law.specs.Syntax as Syntax
 use Rattle.law.specs.Forms.{Head, expr, target, exprForm}
-use Rattle.law.specs.Trees.{Tree, form, Trees, end, _then_, Run, first, later, wordAt, stackAt, list}
+use Rattle.law.specs.Trees.{Tree, form, Trees, end, _then_, Run, first, later, list, wordAt}
+use Rattle.law_theorems.specs.Readings.{stackAt}
 use Rattle.law.specs.Words.{wordedAll}
 use Rattle.law.specs.Environment.{Environment}
 use Rattle.law.specs.Elaborate.{Elaborated, Located}

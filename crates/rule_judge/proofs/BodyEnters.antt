@@ -28,7 +28,8 @@ use Rattle.code.specs.LayoutSize.{symbolSize, sizeBody, sizeBodies, BodyFits}
 use Rattle.law.specs.Script.{Body, Entry, newProc, newMain}
 use Rattle.rule_stages.specs.Stages.{fits, bodyStaged}
 use Rattle.law.specs.Syntax as Syntax
-use Rattle.law.specs.Trees.{nodesIn, first, wordAt, stackAt}
+use Rattle.law.specs.Trees.{nodesIn, first, wordAt}
+use Rattle.law_theorems.specs.Readings.{stackAt}
 use Rattle.law.specs.Verdict.{Read}
 use Rattle.law_theorems.proofs.Bodies.{body-at}
 use Rattle.code.proofs.LayoutActs.{laid-body}

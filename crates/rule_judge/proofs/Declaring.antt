@@ -17,7 +17,8 @@ use Rattle.law.specs.Rules.{keepsRules}
 use Rattle.law.specs.Script.{Entry, newType, newVar, newProc, newMain}
 use Rattle.rule_stages.specs.Stages.{Staged, wrong, unnamed, unfit, fits, ruled, named, staged, onFits}
 use Rattle.law.specs.Syntax.{LineForm, typeLine, varLine, procLine, mainLine}
-use Rattle.law.specs.Trees.{Trees, Run, list, first, stackAt, nodesIn}
+use Rattle.law.specs.Trees.{Trees, Run, list, first, nodesIn}
+use Rattle.law_theorems.specs.Readings.{stackAt}
 use Rattle.law.specs.Verdict.{Read, strictly}
 use Rattle.law.specs.Words.{Word, wordedAll}
 use Rattle.law_theorems.proofs.Inversion.{none-some, some-inj, bind-some, given-some}

@@ -13,7 +13,8 @@ use Rattle.law.specs.Forms.{isType, isVar, isProc, isMain}
 use Rattle.law.specs.Lines.{Line}
 use Rattle.rule_stages.specs.Stages.{wrong, staged}
 use Rattle.law.specs.Syntax as Syntax
-use Rattle.law.specs.Trees.{word, form, Trees, _then_, Run, nodes, nodesIn, first, later, wordAt, stackAt}
+use Rattle.law.specs.Trees.{word, form, Trees, _then_, Run, nodes, nodesIn, first, later, wordAt}
+use Rattle.law_theorems.specs.Readings.{stackAt}
 use Rattle.law.specs.Verdict.{Read, bad, strictly, judgeLine}
 use Rattle.rule_stages.proofs.OnePassLines.{judgedBy}
 use Rattle.table_names.specs.Keys.{keyed}

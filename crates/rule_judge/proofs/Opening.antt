@@ -9,7 +9,8 @@ use lib.ListN.{length, drop}
 use Rattle.leaf_words.specs.declared.words.Word as Kind
 use Rattle.law.specs.Environment.{Declared}
 use Rattle.law.specs.Lines.{Line}
-use Rattle.law.specs.Trees.{Tree, word, form, Trees, end, _then_, Run, nodes, formOf, first, later, before, wordAt, stackAt}
+use Rattle.law.specs.Trees.{Tree, word, form, Trees, end, _then_, Run, nodes, formOf, first, later, before, wordAt}
+use Rattle.law_theorems.specs.Readings.{stackAt}
 use Rattle.law.specs.Verdict.{Read, Fitting, Judged, bad, _>>=_, orBad, must, strictly, judgeLine}
 use Rattle.law.specs.Words.{Word, worded}
 use Rattle.law_theorems.proofs.TextsAgree.{stage-on}

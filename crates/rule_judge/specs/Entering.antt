@@ -14,7 +14,8 @@ use Rattle.code.specs.LayoutSize.{symbolSize, sizeBodies}
 use Rattle.law.specs.Script.{Entry}
 use Rattle.rule_stages.specs.Stages.{fits}
 use Rattle.law.specs.Syntax.{LineForm}
-use Rattle.law.specs.Trees.{nodesIn, first, stackAt}
+use Rattle.law.specs.Trees.{nodesIn, first}
+use Rattle.law_theorems.specs.Readings.{stackAt}
 use Rattle.law.specs.Verdict.{Read}
 use Rattle.code.specs.LayoutBodies.{Bodies}
 use Rattle.code.specs.LinesMeasured.{Measured}

@@ -7,7 +7,8 @@ use Prim.Native.Nat.{ℕ, _≤_}
 use lib.ListN.{drop}
 use Rattle.law.specs.Environment.{Declared}
 use Rattle.law.specs.Lines.{Line}
-use Rattle.law.specs.Trees.{Tree, form, nodes, formOf, first, stackAt, before}
+use Rattle.law.specs.Trees.{Tree, form, nodes, formOf, first, before}
+use Rattle.law_theorems.specs.Readings.{stackAt}
 use Rattle.law.specs.Verdict.{Read, strictly, judgeLine}
 use Rattle.law.specs.Words.{Word, worded}
 use Rattle.text_lines.specs.Passes.{lineAt, balancedFrom}

@@ -17,7 +17,8 @@ use Rattle.code.specs.LayoutSize.{symbolSize}
 use Rattle.law.specs.Names.{bodyOf, newNames}
 use Rattle.law.specs.Script.{Body, Entry, newProc, newMain}
 use Rattle.law.specs.Syntax as Syntax
-use Rattle.law.specs.Trees.{nodesIn, first, wordAt, stackAt}
+use Rattle.law.specs.Trees.{nodesIn, first, wordAt}
+use Rattle.law_theorems.specs.Readings.{stackAt}
 use Rattle.code.proofs.LayoutRegions.{lay-l}
 use Rattle.code.specs.LayoutRegions.{Same}
 use Rattle.law_theorems.specs.LinesKeep.{Keeps}

@@ -12,7 +12,8 @@ use Rattle.law.specs.Names.{entryOf}
 use Rattle.law.specs.Script.{Entry}
 use Rattle.rule_stages.specs.Stages.{fits, staged}
 use Rattle.law.specs.Syntax.{LineForm}
-use Rattle.law.specs.Trees.{first, stackAt}
+use Rattle.law.specs.Trees.{first}
+use Rattle.law_theorems.specs.Readings.{stackAt}
 use Rattle.law_theorems.proofs.Inversion.{bind-some, given-some, some-inj}
 use Rattle.law_theorems.proofs.LinesKeep.{declared-more}
 use Rattle.law_theorems.specs.LinesKeep.{Extends}

@@ -16,7 +16,8 @@ use Rattle.code.specs.Layout.{lay}
 use Rattle.law.specs.Lines.{Line}
 use Rattle.rule_stages.specs.Stages.{staged}
 use Rattle.law.specs.Syntax as Syntax
-use Rattle.law.specs.Trees.{word, form, Trees, end, _then_, Run, nodes, first, later, before, wordAt, stackAt}
+use Rattle.law.specs.Trees.{word, form, Trees, end, _then_, Run, nodes, first, later, before, wordAt}
+use Rattle.law_theorems.specs.Readings.{stackAt}
 use Rattle.law.specs.Verdict.{bad, loosely, judgeLine}
 use Rattle.law.specs.Words.{worded}
 use Rattle.rule_stages.proofs.OnePassLines.{judgedBy}

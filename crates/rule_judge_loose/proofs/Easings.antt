@@ -14,7 +14,8 @@ use Rattle.law.specs.Rules.{keptBody}
 use Rattle.law.specs.Script.{Body}
 use Rattle.rule_stages.specs.Stages.{ruled, named, staged, bodyStaged}
 use Rattle.law.specs.Syntax as Syntax
-use Rattle.law.specs.Trees.{first, stackAt}
+use Rattle.law.specs.Trees.{first}
+use Rattle.law_theorems.specs.Readings.{stackAt}
 use Rattle.text_heads.specs.Parts.{bodyIn}
 use Rattle.rule_faults.specs.declared.Fault.{Fault}
 use Rattle.rule_faults.specs.declared.Got.{Got}

@@ -1,5 +1,5 @@
 -- The bodies stand on after a line: what lies below the free place stays, and the types that a body sees are the first of all.
-use mathlib.Core.Path.{_≡_, refl, _∙_}
+use mathlib.Core.Path.{_≡_, refl, ap, _∙_}
 use mathlib.Core.List.{List, [], _∷_, _++_}
 use mathlib.Core.Logic.{_⊎_, inl, inr}
 use Prim.Native.Nat.{ℕ, _+_, _<_, _≤_}
@@ -9,7 +9,7 @@ use lib.ListN.{length, getD, List·getD-eq-default}
 use Rattle.leaf_integers.proofs.Order.{le-or-lt}
 use Rattle.law.specs.Environment.{Environment, PlacedBody}
 use Rattle.code.specs.Layout.{bits}
-use Rattle.law.specs.Types.{Types, infoAt, undeclared}
+use Rattle.law.specs.Types.{Types, facts, infoAt, undeclared}
 use Rattle.code.specs.LayoutRegions.{Same}
 use Rattle.law_theorems.specs.LinesKeep.{Extends}
 use Rattle.table_scope.specs.declared.Scope.{Scope}
@@ -30,7 +30,7 @@ extends-self Γ = record { keeps = λ t h. refl; longer = omega arith }
 pub extends-on : {Γ Γ′ Γ″ : Types} → Extends Γ Γ′ → Extends Γ′ Γ″ → Extends Γ Γ″
 extends-on X Y = record { keeps = λ t h. Y .keeps t (omega (arith, X .longer)) ∙ X .keeps t h; longer = omega (arith, X .longer, Y .longer) }
 
-nothing-tells : (s l : List ℕ) → Tells s l noInfo undeclared
+nothing-tells : (s l : List ℕ) → Tells s l noInfo (facts undeclared)
 unfolding noInfo shapeNumber bits fieldsAt
 nothing-tells s l = record { shape-is = refl; host-is = refl; low-is = refl; high-is = refl; size-is = λ t. refl; index-is = refl; element-is = refl; fields-are = refl }
 
@@ -62,7 +62,7 @@ module _ {s l ts : List ℕ} {top : ℕ} {Γ : Types} (T : Telling s l ts top Γ
       go : (n ≤ k) ⊎ (k < n) → Tells s l (infoOf l (clip n ts) k) (infoAt Γ₀ k)
       go (inl h) =
           let g : length Γ₀ ≤ k = omega arith in
-          let d : infoAt Γ₀ k ≡ undeclared = List·getD-eq-default Γ₀ undeclared g in
+          let d : infoAt Γ₀ k ≡ facts undeclared = ap facts (List·getD-eq-default Γ₀ undeclared g) in
           rw (clipped-high l ts n k (omega arith) h, d) (nothing-tells s l)
       go (inr h) = rw (clipped-low l ts n k h, ← X .keeps k (omega arith)) (T .tells k)
 

@@ -11,7 +11,8 @@ use Rattle.law.specs.Rules.{keptBody}
 use Rattle.law.specs.Script.{Body}
 use Rattle.rule_stages.specs.Stages.{Staged, staged}
 use Rattle.law.specs.Syntax as Syntax
-use Rattle.law.specs.Trees.{first, stackAt, nodesIn}
+use Rattle.law.specs.Trees.{first, nodesIn}
+use Rattle.law_theorems.specs.Readings.{stackAt}
 use Rattle.code.specs.LayoutRegions.{Same}
 use Rattle.text_heads.specs.Parts.{bodyIn}
 use Rattle.rule_faults.specs.declared.Fault.{Fault}

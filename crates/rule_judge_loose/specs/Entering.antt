@@ -15,7 +15,8 @@ use Rattle.code.specs.LayoutSize.{symbolSize}
 use Rattle.law.specs.Script.{Entry}
 use Rattle.rule_stages.specs.Stages.{fits}
 use Rattle.law.specs.Syntax.{LineForm, procLine}
-use Rattle.law.specs.Trees.{first, stackAt, nodesIn, wordAt}
+use Rattle.law.specs.Trees.{first, nodesIn, wordAt}
+use Rattle.law_theorems.specs.Readings.{stackAt}
 use Rattle.law_theorems.specs.LinesKeep.{Keeps}
 use Rattle.text_heads.specs.declared.LineHead.{LineHead}
 use Rattle.text_heads.specs.Heads.{lineHeadMeant}

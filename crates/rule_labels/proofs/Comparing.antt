@@ -21,7 +21,8 @@ use Rattle.law.specs.Rules.{plain, allPlain, differ, labelsOf}
 use Rattle.law.specs.Script as Script
 use Rattle.law.specs.Script.{Const}
 use Rattle.law.specs.Syntax.{Constant, Arms}
-use Rattle.law.specs.Trees.{first, wordAt, stackAt}
+use Rattle.law.specs.Trees.{first, wordAt}
+use Rattle.law_theorems.specs.Readings.{stackAt}
 use Rattle.law_theorems.proofs.Inversion.{none-some, some-inj, bind-some, and-true}
 use Rattle.text_words.specs.Passes.{nodesAll}
 use Rattle.text_heads.specs.Parts.{armsIn}

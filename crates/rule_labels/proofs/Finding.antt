@@ -23,7 +23,8 @@ use Rattle.law.specs.Script as Script
 use Rattle.law.specs.Script.{Const, arm, elseArm, noElse}
 use Rattle.rule_stages.specs.Stages.{fits, ruled, named, staged, armsStaged}
 use Rattle.law.specs.Syntax.{Constant, Arms}
-use Rattle.law.specs.Trees.{first, stackAt}
+use Rattle.law.specs.Trees.{first}
+use Rattle.law_theorems.specs.Readings.{stackAt}
 use Rattle.law_theorems.proofs.Inversion.{some-inj, bind-some, and-true, and-both}
 use Rattle.text_words.specs.Passes.{nodesAll}
 use Rattle.text_heads.specs.Parts.{armsIn}

@@ -11,7 +11,8 @@ use Rattle.leaf_words.specs.declared.words.Word.{Word}
 use Rattle.law.specs.Base.{_>>=_}
 use Rattle.law.specs.Forms.{constant}
 use Rattle.law.specs.Syntax.{Constant}
-use Rattle.law.specs.Trees.{Tree, word, form, Trees, end, _then_, Run, first, later, wordAt, stackAt}
+use Rattle.law.specs.Trees.{Tree, word, form, Trees, end, _then_, Run, first, later, wordAt}
+use Rattle.law_theorems.specs.Readings.{stackAt}
 use Rattle.law.specs.Words.{worded}
 use Rattle.text_words.specs.Passes.{nodesAll}
 use Rattle.text_heads.specs.Heads.{atomOf, atomConstant}

@@ -3,7 +3,8 @@ use mathlib.Core.Path.{_≡_, refl, ap, _∙_}
 use mathlib.Core.List.{List, [], _∷_}
 use Prim.Native.Nat.{ℕ, _+_, _<_, _≤_}
 use native.Mathlib.Omega.{arith}
-use Rattle.law.specs.Trees.{Tree, word, form, Trees, _then_, nodes, nodesIn, Run, first, later, stackAt}
+use Rattle.law.specs.Trees.{Tree, word, form, Trees, _then_, nodes, nodesIn, Run, first, later}
+use Rattle.law_theorems.specs.Readings.{stackAt}
 use Rattle.text_words.specs.Passes.{nodesAll}
 use Rattle.text_parts.specs.Parts.{Before, FormAt, ShutAt}
 use Rattle.text_skips.specs.Skips.{Past}

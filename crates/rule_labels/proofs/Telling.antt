@@ -25,7 +25,8 @@ use Rattle.law.specs.Script.{Const}
 use Rattle.rule_stages.specs.Stages.{fits, ruled, named, staged}
 use Rattle.law.specs.Syntax as Syntax
 use Rattle.law.specs.Syntax.{Constant, number, minus}
-use Rattle.law.specs.Trees.{word, form, Trees, end, _then_, Run, first, wordAt, stackAt}
+use Rattle.law.specs.Trees.{word, form, Trees, end, _then_, Run, first, wordAt}
+use Rattle.law_theorems.specs.Readings.{stackAt}
 use Rattle.law_theorems.proofs.Inversion.{none-some, some-inj, bind-some}
 use Rattle.text_heads.specs.Heads.{atomOf, atomConstant, exprHeadOf, minusPick}
 use Rattle.text_heads.specs.Parts.{rest, closed, numberIn, constantBy}

@@ -13,7 +13,7 @@ use Rattle.law.specs.Names.{constantOf}
 use Rattle.law.specs.Rules.{plain, allPlain}
 use Rattle.law.specs.Script.{Const}
 use Rattle.law.specs.Syntax.{Constant}
-use Rattle.law.specs.Trees.{stackAt}
+use Rattle.law_theorems.specs.Readings.{stackAt}
 use Rattle.text_words.specs.Passes.{nodesAll}
 use Rattle.table_scope.specs.declared.Scope.{Scope}
 use Rattle.rule_faults.specs.declared.Fault.{Fault}

@@ -9,7 +9,8 @@ use Rattle.law.specs.Names.{armsOf}
 use Rattle.law.specs.Rules.{allPlain, differ, labelsOf}
 use Rattle.law.specs.Script as Script
 use Rattle.law.specs.Syntax.{Arms}
-use Rattle.law.specs.Trees.{first, stackAt}
+use Rattle.law.specs.Trees.{first}
+use Rattle.law_theorems.specs.Readings.{stackAt}
 use Rattle.text_heads.specs.Parts.{armsIn}
 use Rattle.table_scope.specs.declared.Scope.{Scope}
 use Rattle.table_scope.specs.Scene.{Scene}

@@ -14,7 +14,8 @@ use Rattle.law.specs.Names.{constantOf, constOf}
 use Rattle.law.specs.Rules.{plain}
 use Rattle.law.specs.Script.{Const}
 use Rattle.law.specs.Syntax.{Constant}
-use Rattle.law.specs.Trees.{form, Trees, end, _then_, Run, first, later, wordAt, stackAt}
+use Rattle.law.specs.Trees.{form, Trees, end, _then_, Run, first, later, wordAt}
+use Rattle.law_theorems.specs.Readings.{stackAt}
 use Rattle.text_words.specs.Passes.{nodesAll}
 use Rattle.rule_labels.specs.Marks.{marksIn, marksOf}
 use Rattle.rule_labels.specs.declared.Mark.{Mark}

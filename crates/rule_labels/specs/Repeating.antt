@@ -10,7 +10,8 @@ use Rattle.law.specs.Names.{armsOf}
 use Rattle.law.specs.Rules.{differ, labelsOf}
 use Rattle.rule_stages.specs.Stages.{fits, armsStaged}
 use Rattle.law.specs.Syntax.{Arms}
-use Rattle.law.specs.Trees.{first, stackAt}
+use Rattle.law.specs.Trees.{first}
+use Rattle.law_theorems.specs.Readings.{stackAt}
 use Rattle.text_heads.specs.Parts.{armsIn}
 use Rattle.table_scope.specs.declared.Scope.{Scope}
 use Rattle.rule_faults.specs.declared.Fault.{Fault}

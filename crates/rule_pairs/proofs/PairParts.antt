@@ -20,7 +20,8 @@ use Rattle.law.specs.Names.{typeOf, distinct}
 use Rattle.rule_stages.specs.Stages as Stages
 use Rattle.rule_stages.specs.Stages.{staged, ruled, fits}
 use Rattle.law.specs.Syntax.{TypeName}
-use Rattle.law.specs.Trees.{Tree, word, form, Trees, end, _then_, Run, first, later, wordAt, stackAt, list}
+use Rattle.law.specs.Trees.{Tree, word, form, Trees, end, _then_, Run, first, later, list, wordAt}
+use Rattle.law_theorems.specs.Readings.{stackAt}
 use Rattle.law.specs.Types.{sizeOf}
 use Rattle.law.specs.Words.{Word, worded, wordedAll, wordBy}
 use Rattle.law_theorems.proofs.Inversion.{none-some, some-inj, bind-some, and-true}

@@ -12,7 +12,8 @@ use Rattle.law.specs.Ceilings.{fieldSizes}
 use Rattle.law.specs.Environment.{Environment}
 use Rattle.law.specs.Names.{typeOf, distinct}
 use Rattle.law.specs.Syntax.{TypeName}
-use Rattle.law.specs.Trees.{Tree, word, form, Trees, end, _then_, Run, first, later, wordAt, stackAt}
+use Rattle.law.specs.Trees.{Tree, word, form, Trees, end, _then_, Run, first, later, wordAt}
+use Rattle.law_theorems.specs.Readings.{stackAt}
 use Rattle.table_scope.specs.declared.Scope.{Scope}
 use Rattle.rule_faults.specs.declared.Fault.{Fault}
 use Rattle.rule_faults.specs.declared.Fault.the-variants as fault

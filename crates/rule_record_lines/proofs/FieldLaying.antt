@@ -18,7 +18,8 @@ use Rattle.law.specs.Environment.{Environment, layFields}
 use Rattle.code.specs.Layout.{lay}
 use Rattle.law.specs.Names.{typeOf}
 use Rattle.law.specs.Syntax.{TypeName}
-use Rattle.law.specs.Trees.{first, wordAt, stackAt}
+use Rattle.law.specs.Trees.{first, wordAt}
+use Rattle.law_theorems.specs.Readings.{stackAt}
 use Rattle.law.specs.Types.{sizeOf}
 use Rattle.law_theorems.proofs.Inversion.{none-some, some-inj, bind-some}
 use Rattle.code.proofs.LayoutRegions.{Has, lay-g, lay-l}

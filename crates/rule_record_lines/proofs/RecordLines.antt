@@ -12,7 +12,7 @@ use lib.ListN.{length, set, length-append, length-set}
 use Rattle.leaf_bytes.specs.Bytes.{small}
 use Rattle.law.specs.Base.{Name, _>>=_, each, given, find}
 use Rattle.law.specs.Ceilings.{lineBounded, typeBounded, fieldSizes}
-use Rattle.law.specs.Environment.{Declared, Environment, aType, declareLine, extendTypes, declNames, typeInfoOf, layFields, fieldCells}
+use Rattle.law.specs.Environment.{Declared, Environment, aType, declareLine, extendTypes, declNames, typeSortOf, layFields, fieldCells}
 use Rattle.law.specs.Forms.{field, some?, madeType}
 use Rattle.code.specs.Layout.{bits, lay}
 use Rattle.code.specs.LayoutSize.{symbolSize, sizeDecl}
@@ -23,8 +23,9 @@ use Rattle.rule_stages.specs.Stages as Stages
 use Rattle.rule_stages.specs.Stages.{Staged, unnamed, fits, ruled, staged, onFits, unknown}
 use Rattle.law.specs.Syntax as Syntax
 use Rattle.law.specs.Syntax.{LineForm, TypeForm, TypeName, typeLine}
-use Rattle.law.specs.Trees.{Trees, Run, end, list, first, later, wordAt, stackAt}
-use Rattle.law.specs.Types.{Types, infoAt, cellsBy, isRecord, sizeOf, cellsOf}
+use Rattle.law.specs.Trees.{Trees, Run, end, list, first, later, wordAt}
+use Rattle.law_theorems.specs.Readings.{stackAt}
+use Rattle.law.specs.Types.{Types, facts, infoAt, cellsBy, isRecord, sizeOf, cellsOf}
 use Rattle.law.specs.Words.{Word, wordedAll}
 use Rattle.law_theorems.proofs.Inversion.{and-true}
 use Rattle.code.proofs.LayoutRegions.{Has, lay-g, lay-l}
@@ -216,8 +217,8 @@ module _ {s l ts : List ℕ} {st : State} {k : Declared} {bs : List ℕ} (H : Ho
   unfolding infoNumbers
   info-held = lay-l (infoNumbers (recordInfo n size)) t₁ l₁ .held info-room l′ (record { at = λ i a c. A .fields .below .at i (omega arith) c })
 
-  record-tells : Tells s l′ (readInfo l′ t₁) (typeInfoOf Γ (recordOf gs))
-  unfolding recordInfo typeInfoOf shapeNumber bits
+  record-tells : Tells s l′ (readInfo l′ t₁) (facts (typeSortOf Γ (recordOf gs)))
+  unfolding recordInfo typeSortOf shapeNumber bits
   record-tells = rw (read-numbers (recordInfo n size) t₁ l′ info-held) (record {
     shape-is = refl;
     host-is = refl;
@@ -237,13 +238,13 @@ module _ {s l ts : List ℕ} {st : State} {k : Declared} {bs : List ℕ} (H : Ho
       (chained-more p (4 * st .types) 0 (aType (st .types)) (omega (arith, H .short-text)) (record { start = H .start; fits = omega arith; long = H .long-list }) (type-means (ks .env) bs (st .types) 0)
       (chained-env {σ′ = ks .env} (means-same refl) (scene-chained (H .scene))))))
 
-  told-types : (t : ℕ) → Tells s l′ (infoOf l′ (set ts (length Γ) t₁) t) (infoAt (Γ ++ (typeInfoOf Γ (recordOf gs) ∷ [])) t) × EndsBelow (A .free) (infoOf l′ (set ts (length Γ) t₁) t)
+  told-types : (t : ℕ) → Tells s l′ (infoOf l′ (set ts (length Γ) t₁) t) (infoAt (Γ ++ (typeSortOf Γ (recordOf gs) ∷ [])) t) × EndsBelow (A .free) (infoOf l′ (set ts (length Γ) t₁) t)
   unfolding recordInfo
-  told-types = types-more (H .scene) same₀ (A .free) t₁ (rw free-is (omega arith)) (info-room .start) (omega (arith, H .types-are, number-low, H .long-notes)) (typeInfoOf Γ (recordOf gs))
+  told-types = types-more (H .scene) same₀ (A .free) t₁ (rw free-is (omega arith)) (info-room .start) (omega (arith, H .types-are, number-low, H .long-notes)) (typeSortOf Γ (recordOf gs))
       record-tells (rw (read-numbers (recordInfo n size) t₁ l′ info-held, top₁, free-is) (record { end-below = λ _. omega arith; within = omega arith }))
 
   record-scene : Scene s l′ (set ts (length Γ) t₁) (scoped (suc (st .scope .count)) (st .top)) (A .free) (ks .env) bs
-  unfolding declareLine declNames extendTypes typeInfoOf
+  unfolding declareLine declNames extendTypes typeSortOf
   record-scene =
       let K = type-keeps H w (recordOf gs) f e g b sn nn in
       record {
@@ -254,19 +255,19 @@ module _ {s l ts : List ℕ} {st : State} {k : Declared} {bs : List ℕ} (H : Ho
         table = K .table;
         fair = rw (H .bodies-are) (K .names);
         cells = keeps-cells ks K (omega (arith, H .cells-are, H .few-cells));
-        fieldless = by-number Γ (typeInfoOf Γ (recordOf gs)) (λ t j. isRecord (j .shape) ≡ false → j .fields ≡ []) (λ t _. H .scene .fieldless t) (λ q. absurd (false≢true (sym q))) (λ t _ _. refl);
+        fieldless = by-number Γ (typeSortOf Γ (recordOf gs)) (λ t j. isRecord (j .shape) ≡ false → j .fields ≡ []) (λ t _. H .scene .fieldless t) (λ q. absurd (false≢true (sym q))) (λ t _ _. refl);
         above = λ x c i. H .scene .above x c (value-find w x (aType (length Γ)) (k .env .names) c (type-value (length Γ)) i);
         once = λ x y c i j. H .scene .once x y c (value-find w x (aType (length Γ)) (k .env .names) c (type-value (length Γ)) i) (value-find w y (aType (length Γ)) (k .env .names) c (type-value (length Γ)) j);
       }
 
   pub record-holds : Holds s l′ ts′ (typeState st 1 (st .top) 1 (A .free)) ks bs
-  unfolding extendTypes typeInfoOf
+  unfolding extendTypes typeSortOf
   record-holds =
       let c : suc (st .scope .count) ≡ st .scope .count + 1 = omega arith in
-      let m : length (Γ ++ (typeInfoOf Γ (recordOf gs) ∷ [])) ≡ length Γ + 1 = length-append Γ (typeInfoOf Γ (recordOf gs) ∷ []) in
+      let m : length (Γ ++ (typeSortOf Γ (recordOf gs) ∷ [])) ≡ length Γ + 1 = length-append Γ (typeSortOf Γ (recordOf gs) ∷ []) in
       rw (A .places) (subst (λ (z : ℕ). Holds s l′ (set ts z t₁) (typeState st 1 (st .top) 1 (A .free)) ks bs) (sym (H .types-are))
       (type-holds H w (recordOf gs) f e g b sn nn 1 (st .top) 1 (A .free) l′ (set ts (length Γ) t₁) (omega arith) m (rw c at record-scene)
-      (by-number Γ (typeInfoOf Γ (recordOf gs)) (λ t j. length (cellsBy (j .shape) t (j .cells)) ≤ 2048) (λ t _. H .small-types t) (rw (cells-length Γ gs) few-cells) (λ t _. omega arith))
+      (by-number Γ (typeSortOf Γ (recordOf gs)) (λ t j. length (cellsBy (j .shape) t (j .cells)) ≤ 2048) (λ t _. H .small-types t) (rw (cells-length Γ gs) few-cells) (λ t _. omega arith))
       (rw free-is (omega (arith, H .few-names))) (rw free-is (omega arith)) (rw free-is room) (rw (A .fields .long, long₂) (H .long-list)) (rw (length-set ts (length Γ) t₁) (H .long-notes))))
 
   pub record-top : A .free ≡ st .top + (12 + 4 * n)

@@ -12,7 +12,8 @@ use Rattle.law.specs.Environment.{Environment, layFields}
 use Rattle.law.specs.Forms.{madeType, mRecord}
 use Rattle.code.specs.Layout.{Out, lay}
 use Rattle.law.specs.Syntax.{TypeName, TypeForm}
-use Rattle.law.specs.Trees.{list, Trees, Run, first, stackAt}
+use Rattle.law.specs.Trees.{list, Trees, Run, first}
+use Rattle.law_theorems.specs.Readings.{stackAt}
 use Rattle.law.specs.Words.{wordedAll}
 use Rattle.code.specs.LayoutRegions.{Same, Room}
 use Rattle.table_names.specs.Keys.{keyed}

@@ -10,7 +10,8 @@ use Rattle.leaf_words.specs.declared.words.Word as Kind
 use Rattle.leaf_words.specs.Words.{wordOf}
 use Rattle.law.specs.Base.{Name, _>>=_}
 use Rattle.law.specs.Forms.{free}
-use Rattle.law.specs.Trees.{Tree, word, form, Trees, Run, first, later, wordAt, stackAt}
+use Rattle.law.specs.Trees.{Tree, word, form, Trees, Run, first, later, wordAt}
+use Rattle.law_theorems.specs.Readings.{stackAt}
 use Rattle.law.specs.Words.{Word, wordBy, worded, wordedAll}
 use Rattle.law_theorems.proofs.Inversion.{none-some, some-inj}
 use Rattle.law_theorems.proofs.Reading.{none-word}

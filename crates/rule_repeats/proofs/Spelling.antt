@@ -6,7 +6,8 @@ use lib.ListN.{length, getD}
 use Rattle.leaf_bytes.specs.declared.bytes.Class.{Class}
 use Rattle.leaf_bytes.specs.declared.bytes.Class.the-variants.{Feed, Space, Open, Close, Visible, Refused}
 use Rattle.leaf_bytes.specs.Bytes.{classOf, small}
-use Rattle.law.specs.Trees.{Run, wordAt, restAt}
+use Rattle.law.specs.Trees.{Run, wordAt}
+use Rattle.law_theorems.specs.Readings.{restAt}
 use Rattle.law_theorems.proofs.Reading.{none-word, wordless, word-rest, word-word, space-word, open-word, close-word, feed-word, refused-word}
 use Rattle.rule_repeats.specs.declared.keys.Keyed.{Keyed}
 use Rattle.rule_repeats.specs.Keys.{keyWith, keyFrom, lowFactor, highFactor, lowOf, highOf, nameAt, keyedBy, KeyedAt}

@@ -4,7 +4,8 @@ use mathlib.Core.Path.{_≡_}
 use Prim.Native.Nat.{ℕ, _+_, _*_, _%_}
 use Rattle.leaf_bytes.specs.Bytes.{small}
 use Rattle.law.specs.Base.{Name}
-use Rattle.law.specs.Trees.{wordAt, restAt, stackAt}
+use Rattle.law.specs.Trees.{wordAt}
+use Rattle.law_theorems.specs.Readings.{restAt, stackAt}
 use Rattle.rule_repeats.specs.declared.keys.Keyed.{Keyed}
 
 -- a number with one more letter

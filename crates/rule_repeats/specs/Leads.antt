@@ -4,7 +4,8 @@ use mathlib.Core.Path.{_≡_}
 use Prim.Native.Nat.{ℕ}
 use Rattle.leaf_bytes.specs.Bytes.{small}
 use Rattle.law.specs.Base.{Name}
-use Rattle.law.specs.Trees.{Tree, word, form, Trees, end, _then_, Run, first, stackAt}
+use Rattle.law.specs.Trees.{Tree, word, form, Trees, end, _then_, Run, first}
+use Rattle.law_theorems.specs.Readings.{stackAt}
 use Rattle.rule_repeats.specs.Keys.{lowOf, highOf, nameAt}
 use Rattle.rule_repeats.specs.declared.keys.Keyed.{Keyed}
 use Rattle.rule_repeats.specs.declared.leads.Lead.{Lead}

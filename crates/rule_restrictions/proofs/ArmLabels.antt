@@ -9,7 +9,8 @@ use Rattle.law.specs.Base.{_>>=_, each}
 use Rattle.law.specs.Forms.{constant, stmt}
 use Rattle.law.specs.Rules.{allPlain}
 use Rattle.law.specs.Syntax.{Constant, Stmt}
-use Rattle.law.specs.Trees.{Tree, Trees, end, _then_, Run, first, stackAt}
+use Rattle.law.specs.Trees.{Tree, Trees, end, _then_, Run, first}
+use Rattle.law_theorems.specs.Readings.{stackAt}
 use Rattle.law.specs.Words.{worded}
 use Rattle.law_theorems.proofs.Inversion.{none-some, some-inj, bind-some}
 use Rattle.text_heads.specs.Parts.{partOf, constantIn, stmtIn, armIn}

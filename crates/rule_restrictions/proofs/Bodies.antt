@@ -13,7 +13,8 @@ use Rattle.law.specs.Names.{stmtOf, stmtsOf, bodyOf}
 use Rattle.law.specs.Rules.{keptStmt, keptStmts, keptBody}
 use Rattle.law.specs.Script as Script
 use Rattle.law.specs.Syntax as Syntax
-use Rattle.law.specs.Trees.{Tree, word, form, Trees, end, _then_, Run, first, later, stackAt}
+use Rattle.law.specs.Trees.{Tree, word, form, Trees, end, _then_, Run, first, later}
+use Rattle.law_theorems.specs.Readings.{stackAt}
 use Rattle.law_theorems.proofs.Inversion.{none-some, some-inj, bind-some}
 use Rattle.text_heads.specs.Heads.{isException}
 use Rattle.text_heads.specs.Parts.{partOf, stmtIn, stmtsIn, bodyIn, handlerIn, handlerLast, handling, withFirst}

@@ -13,7 +13,8 @@ use Rattle.law.specs.Rules.{allPlain, differ, labelsOf, keptStmt, keptArms}
 use Rattle.law.specs.Script as Script
 use Rattle.law.specs.Syntax as Syntax
 use Rattle.law.specs.Syntax.{Constant}
-use Rattle.law.specs.Trees.{word, form, Trees, end, _then_, Run, first, later, stackAt}
+use Rattle.law.specs.Trees.{word, form, Trees, end, _then_, Run, first, later}
+use Rattle.law_theorems.specs.Readings.{stackAt}
 use Rattle.law_theorems.proofs.Inversion.{none-some, some-inj, bind-some}
 use Rattle.text_heads.specs.declared.Verb.the-variants as VB
 use Rattle.text_heads.specs.Parts.{rest, stmtIn, armIn, armsIn, armHeadIn, elseArmIn}

@@ -16,7 +16,8 @@ use Rattle.law.specs.Names.{Reached, asVar, varOf, exprOf, targetOf, stmtOf}
 use Rattle.law.specs.Rules.{looping, steers, plainExpr, plainTarget, keptStmt}
 use Rattle.law.specs.Script as Script
 use Rattle.law.specs.Syntax as Syntax
-use Rattle.law.specs.Trees.{word, form, Trees, end, _then_, Run, first, later, wordAt, stackAt}
+use Rattle.law.specs.Trees.{word, form, Trees, end, _then_, Run, first, later, wordAt}
+use Rattle.law_theorems.specs.Readings.{stackAt}
 use Rattle.law.specs.Types.{Var}
 use Rattle.law_theorems.proofs.Inversion.{none-some, some-inj, bind-some}
 use Rattle.text_heads.specs.declared.Atom.{Atom}

@@ -11,7 +11,8 @@ use Rattle.law.specs.Names.{Reached, exprOf, targetOf}
 use Rattle.law.specs.Rules.{plainExpr, plainTarget}
 use Rattle.law.specs.Script as Script
 use Rattle.law.specs.Syntax as Syntax
-use Rattle.law.specs.Trees.{Tree, Trees, end, _then_, Run, first, stackAt}
+use Rattle.law.specs.Trees.{Tree, Trees, end, _then_, Run, first}
+use Rattle.law_theorems.specs.Readings.{stackAt}
 use Rattle.law_theorems.proofs.Inversion.{none-some, some-inj}
 use Rattle.text_heads.specs.Parts.{rest, closed, exprIn, targetIn, stmtIn}
 use Rattle.text_heads.proofs.Expressions.{expr-end, target-end}

@@ -11,7 +11,8 @@ use Rattle.law.specs.Names.{exprOf, stmtOf, stmtsOf}
 use Rattle.law.specs.Rules.{plainExpr, keptStmt, keptStmts}
 use Rattle.law.specs.Script as Script
 use Rattle.law.specs.Syntax as Syntax
-use Rattle.law.specs.Trees.{Tree, form, Trees, end, _then_, Run, first, later, wordAt, stackAt}
+use Rattle.law.specs.Trees.{Tree, form, Trees, end, _then_, Run, first, later, wordAt}
+use Rattle.law_theorems.specs.Readings.{stackAt}
 use Rattle.law_theorems.proofs.Inversion.{none-some, some-inj, bind-some}
 use Rattle.text_heads.specs.declared.Verb.{Verb}
 use Rattle.text_heads.specs.declared.Verb.the-variants as VB

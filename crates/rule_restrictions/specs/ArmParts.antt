@@ -10,7 +10,8 @@ use Rattle.law.specs.Names.{constantOf}
 use Rattle.law.specs.Rules.{allPlain}
 use Rattle.law.specs.Script.{Const}
 use Rattle.law.specs.Syntax.{Constant, Stmt}
-use Rattle.law.specs.Trees.{Tree, Trees, end, _then_, Run, first, stackAt}
+use Rattle.law.specs.Trees.{Tree, Trees, end, _then_, Run, first}
+use Rattle.law_theorems.specs.Readings.{stackAt}
 use Rattle.law_theorems.specs.LinesKeep.{AllFair}
 use Rattle.law_theorems.specs.TypeTables.{Table}
 use Rattle.text_heads.specs.Parts.{stmtIn}

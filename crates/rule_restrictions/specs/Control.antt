@@ -10,7 +10,8 @@ use Rattle.law.specs.Names.{Reached, targetOf, stmtOf}
 use Rattle.law.specs.Rules.{steers, keptStmt}
 use Rattle.law.specs.Script as Script
 use Rattle.law.specs.Syntax as Syntax
-use Rattle.law.specs.Trees.{Tree, Trees, _then_, Run, first, stackAt}
+use Rattle.law.specs.Trees.{Tree, Trees, _then_, Run, first}
+use Rattle.law_theorems.specs.Readings.{stackAt}
 use Rattle.text_heads.specs.declared.Verb.the-variants as VB
 use Rattle.text_heads.specs.Parts.{targetIn, stmtIn}
 use Rattle.table_scope.specs.declared.Scope.{Scope}

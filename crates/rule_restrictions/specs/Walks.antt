@@ -12,7 +12,8 @@ use Rattle.law.specs.Rules.{allPlain, differ, labelsOf, keptStmt, keptStmts, ke
 use Rattle.law.specs.Script as Script
 use Rattle.law.specs.Syntax as Syntax
 use Rattle.law.specs.Syntax.{Constant}
-use Rattle.law.specs.Trees.{form, end, _then_, first, stackAt}
+use Rattle.law.specs.Trees.{form, end, _then_, first}
+use Rattle.law_theorems.specs.Readings.{stackAt}
 use Rattle.text_heads.specs.declared.Verb.{Verb}
 use Rattle.text_heads.specs.declared.Verb.the-variants as VB
 use Rattle.text_heads.specs.Parts.{rest, stmtIn, stmtsIn, elseIn, armIn, armsIn, bodyIn}

@@ -17,7 +17,8 @@ use Rattle.law.specs.Names.{stmtsOf, bodyOf}
 use Rattle.law.specs.Rules.{keptStmts, keptBody}
 use Rattle.rule_stages.specs.Stages.{Staged, wrong, fits, staged, named, ruled, join, orUnfit, stmtsStaged, bodyStaged}
 use Rattle.law.specs.Syntax as Syntax
-use Rattle.law.specs.Trees.{Tree, word, form, Trees, end, _then_, Run, first, later, stackAt, nodes, nodesIn}
+use Rattle.law.specs.Trees.{Tree, word, form, Trees, end, _then_, Run, first, later, nodes, nodesIn}
+use Rattle.law_theorems.specs.Readings.{stackAt}
 use Rattle.law_theorems.proofs.Inversion.{none-some, some-inj, bind-some}
 use Rattle.code.proofs.LayoutRegions.{lay-g}
 use Rattle.code.specs.LayoutRegions.{Same}

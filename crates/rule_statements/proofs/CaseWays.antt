@@ -14,7 +14,8 @@ use Rattle.law.specs.Forms.{armsFirst}
 use Rattle.code.specs.Layout.{Out, out, lay, layCode, layAct, layCases}
 use Rattle.rule_stages.specs.Stages.{Staged, wrong, unnamed, unfit, fits, staged, join, onFits, orUnfit, selected, exprStaged, stmtStaged, armsStaged, casesStaged}
 use Rattle.law.specs.Syntax as Syntax
-use Rattle.law.specs.Trees.{first, stackAt}
+use Rattle.law.specs.Trees.{first}
+use Rattle.law_theorems.specs.Readings.{stackAt}
 use Rattle.law.specs.Types.{ordinal?}
 use Rattle.law_theorems.proofs.Inversion.{none-some, some-inj, bind-some}
 use Rattle.code.proofs.LayoutRegions.{lay-g}

@@ -16,7 +16,8 @@ use Rattle.law.specs.Names.{stmtsOf}
 use Rattle.law.specs.Rules.{keptStmts}
 use Rattle.rule_stages.specs.Stages.{Staged, fits, staged, named, ruled, join, onFits, orUnfit, stmtStaged, stmtsStaged}
 use Rattle.law.specs.Syntax as Syntax
-use Rattle.law.specs.Trees.{Tree, Trees, end, _then_, Run, first, stackAt, nodesIn}
+use Rattle.law.specs.Trees.{Tree, Trees, end, _then_, Run, first, nodesIn}
+use Rattle.law_theorems.specs.Readings.{stackAt}
 use Rattle.law_theorems.proofs.Inversion.{none-some, some-inj, bind-some}
 use Rattle.code.proofs.LayoutRegions.{lay-g}
 use Rattle.code.specs.LayoutRegions.{Same}

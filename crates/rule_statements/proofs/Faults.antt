@@ -14,7 +14,8 @@ use Rattle.code.specs.Layout.{Out, out, lay, layCode, layAct}
 use Rattle.law.specs.Names.{exprOf}
 use Rattle.rule_stages.specs.Stages.{Staged, wrong, unnamed, unfit, fits, ruled, named, staged, join, onFits, orUnfit, exprStaged, wantedStaged, stmtStaged}
 use Rattle.law.specs.Syntax as Syntax
-use Rattle.law.specs.Trees.{Trees, end, _then_, Tree, Run, first, later, stackAt}
+use Rattle.law.specs.Trees.{Trees, end, _then_, Tree, Run, first, later}
+use Rattle.law_theorems.specs.Readings.{stackAt}
 use Rattle.code.proofs.LayoutRegions.{lay-g}
 use Rattle.code.specs.LayoutRegions.{Same}
 use Rattle.law_theorems.proofs.Inversion.{none-some}

@@ -18,7 +18,8 @@ use Rattle.law.specs.Rules.{keptStmt, keptStmts, keptBody}
 use Rattle.law.specs.Script as Script
 use Rattle.rule_stages.specs.Stages.{Staged, fits, staged, named, ruled, join, orUnfit, stmtStaged, bodyStaged}
 use Rattle.law.specs.Syntax as Syntax
-use Rattle.law.specs.Trees.{Tree, Trees, _then_, Run, first, stackAt, nodesIn}
+use Rattle.law.specs.Trees.{Tree, Trees, _then_, Run, first, nodesIn}
+use Rattle.law_theorems.specs.Readings.{stackAt}
 use Rattle.law_theorems.proofs.Inversion.{none-some, some-inj, bind-some}
 use Rattle.code.proofs.LayoutRegions.{lay-g}
 use Rattle.code.specs.LayoutRegions.{Same}

@@ -24,7 +24,8 @@ use Rattle.law.specs.Rules.{plain, allPlain}
 use Rattle.law.specs.Script.{Const}
 use Rattle.rule_stages.specs.Stages.{Staged, wrong, fits, staged, named, ruled, join, orUnfit, labelsStaged}
 use Rattle.law.specs.Syntax.{Constant, Stmt}
-use Rattle.law.specs.Trees.{Tree, Trees, end, _then_, Run, first, stackAt, nodes, nodesIn}
+use Rattle.law.specs.Trees.{Tree, Trees, end, _then_, Run, first, nodes, nodesIn}
+use Rattle.law_theorems.specs.Readings.{stackAt}
 use Rattle.law.specs.Words.{worded}
 use Rattle.law_theorems.proofs.Inversion.{none-some, some-inj}
 use Rattle.code.proofs.LayoutRegions.{lay-g}

@@ -15,7 +15,8 @@ use Rattle.law.specs.Environment.{Environment}
 use Rattle.code.specs.Layout.{Out, out, lay, layAct, layActs}
 use Rattle.rule_stages.specs.Stages.{Staged, fits, onFits, orUnfit, stmtStaged, stmtsStaged}
 use Rattle.law.specs.Syntax as Syntax
-use Rattle.law.specs.Trees.{word, _then_, first, later, wordAt, stackAt, nodes, nodesIn}
+use Rattle.law.specs.Trees.{word, _then_, first, later, nodes, nodesIn, wordAt}
+use Rattle.law_theorems.specs.Readings.{stackAt}
 use Rattle.law.specs.Types.{Var, hostOf}
 use Rattle.law_theorems.proofs.Inversion.{none-some, some-inj, bind-some}
 use Rattle.code.proofs.LayoutRegions.{lay-g}

@@ -19,7 +19,8 @@ use Rattle.law.specs.Rules.{looping, steers}
 use Rattle.law.specs.Script as Script
 use Rattle.rule_stages.specs.Stages.{Staged, wrong, unnamed, unfit, fits, staged, named, keptIf, targetName, targetStaged, assignedStaged}
 use Rattle.law.specs.Syntax as Syntax
-use Rattle.law.specs.Trees.{word, form, Trees, end, _then_, Run, first, later, wordAt, stackAt}
+use Rattle.law.specs.Trees.{word, form, Trees, end, _then_, Run, first, later, wordAt}
+use Rattle.law_theorems.specs.Readings.{stackAt}
 use Rattle.law.specs.Types.{Var, variable}
 use Rattle.law_theorems.proofs.Inversion.{none-some, some-inj, bind-some}
 use Rattle.code.proofs.LayoutRegions.{lay-g}

@@ -13,7 +13,8 @@ use Rattle.law.specs.Base.{Name, _>>=_}
 use Rattle.law.specs.Environment.{Environment}
 use Rattle.rule_stages.specs.Stages.{staged, wantedStaged, exprStaged, stmtStaged}
 use Rattle.law.specs.Syntax as Syntax
-use Rattle.law.specs.Trees.{word, form, Trees, end, _then_, Run, first, later, wordAt, stackAt, nodes, nodesIn}
+use Rattle.law.specs.Trees.{word, form, Trees, end, _then_, Run, first, later, nodes, nodesIn, wordAt}
+use Rattle.law_theorems.specs.Readings.{stackAt}
 use Rattle.text_heads.specs.declared.Atom.{Atom}
 use Rattle.text_heads.specs.declared.Atom.the-variants as AT
 use Rattle.text_heads.specs.declared.Verb.{Verb}

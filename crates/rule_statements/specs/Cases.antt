@@ -13,7 +13,8 @@ use Rattle.law.specs.Forms.{ArmHead, isArm, isElse, armsFirst, constant, stmt}
 use Rattle.code.specs.Layout.{Out, lay, link, layLabels, layCases}
 use Rattle.rule_stages.specs.Stages.{fits, labelsStaged, armsStaged}
 use Rattle.law.specs.Syntax.{Constant, Stmt, Arms}
-use Rattle.law.specs.Trees.{word, form, Trees, end, _then_, Run, first, later, stackAt, nodesIn}
+use Rattle.law.specs.Trees.{word, form, Trees, end, _then_, Run, first, later, nodesIn}
+use Rattle.law_theorems.specs.Readings.{stackAt}
 use Rattle.law.specs.Words.{worded}
 use Rattle.code.specs.LayoutRegions.{Same}
 use Rattle.text_heads.specs.Parts.{rest, closed, stmtIn, armIn, armsIn, armHeadIn}

@@ -9,7 +9,8 @@ use Rattle.law.specs.Environment.{Environment}
 use Rattle.code.specs.Layout.{layActs}
 use Rattle.rule_stages.specs.Stages.{fits, stmtsStaged}
 use Rattle.law.specs.Syntax.{Stmts}
-use Rattle.law.specs.Trees.{Trees, end, _then_, Run, first, later, stackAt, nodesIn}
+use Rattle.law.specs.Trees.{Trees, end, _then_, Run, first, later, nodesIn}
+use Rattle.law_theorems.specs.Readings.{stackAt}
 use Rattle.code.specs.LayoutRegions.{Same}
 use Rattle.text_heads.specs.Parts.{stmtsIn}
 use Rattle.table_scope.specs.declared.Scope.{Scope}

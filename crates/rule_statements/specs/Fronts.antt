@@ -10,7 +10,8 @@ use Rattle.law.specs.Environment.{Environment}
 use Rattle.code.specs.Layout.{Out, out, lay, layActs, flag}
 use Rattle.rule_stages.specs.Stages.{fits, bodyStaged}
 use Rattle.law.specs.Syntax.{Body}
-use Rattle.law.specs.Trees.{first, later, stackAt, nodesIn}
+use Rattle.law.specs.Trees.{first, later, nodesIn}
+use Rattle.law_theorems.specs.Readings.{stackAt}
 use Rattle.code.specs.LayoutRegions.{Same}
 use Rattle.text_heads.specs.Parts.{bodyIn}
 use Rattle.table_scope.specs.declared.Scope.{Scope}

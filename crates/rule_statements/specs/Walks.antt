@@ -16,7 +16,8 @@ use Rattle.law.specs.Names.{varOf}
 use Rattle.law.specs.Types.{Var, variable, hostOf}
 use Rattle.rule_stages.specs.Stages.{fits, wantedStaged, assignedStaged, stmtStaged, stmtsStaged, bodyStaged}
 use Rattle.law.specs.Syntax.{Expr, Target, Stmt, Stmts, Body, ifElse, for, call}
-use Rattle.law.specs.Trees.{form, Trees, end, _then_, Run, first, later, wordAt, stackAt, nodesIn, list}
+use Rattle.law.specs.Trees.{form, Trees, end, _then_, Run, first, later, nodesIn, list, wordAt}
+use Rattle.law_theorems.specs.Readings.{stackAt}
 use Rattle.law.specs.Words.{wordedAll}
 use Rattle.code.specs.LayoutRegions.{Same}
 use Rattle.leaf_bytes.specs.Bytes.{small}

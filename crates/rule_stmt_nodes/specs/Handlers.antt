@@ -5,7 +5,8 @@ use mathlib.Core.Option.{none}
 use mathlib.Core.Path.{_≡_}
 use Prim.Native.Nat.{ℕ}
 use Rattle.leaf_words.specs.Words.{wordOf}
-use Rattle.law.specs.Trees.{Tree, word, form, Trees, end, _then_, Run, first, later, stackAt}
+use Rattle.law.specs.Trees.{Tree, word, form, Trees, end, _then_, Run, first, later}
+use Rattle.law_theorems.specs.Readings.{stackAt}
 use Rattle.text_heads.specs.Heads.{isException}
 use Rattle.text_heads.specs.Parts.{handlerIn}
 use Rattle.text_parts.specs.Parts.{ShutAt}

@@ -12,7 +12,8 @@ use Rattle.law.specs.Base.{Name, _>>=_}
 use Rattle.law.specs.Forms.{Item, free, typeName, constant, typeForm, madeType, among, makers, lineBy, isType}
 use Rattle.law.specs.Forms as Forms
 use Rattle.law.specs.Syntax.{LineForm, TypeForm, TypeName, Constant, typeLine, alias, setOf, arrayOf, range}
-use Rattle.law.specs.Trees.{word, form, Trees, end, _then_, Run, first, later, wordAt, stackAt, list}
+use Rattle.law.specs.Trees.{word, form, Trees, end, _then_, Run, first, later, list, wordAt}
+use Rattle.law_theorems.specs.Readings.{stackAt}
 use Rattle.law.specs.Words.{Word, worded, wordedAll, wordBy}
 use Rattle.text_parts.specs.Parts.{LeafAt, FormAt, ShutAt, Stands}
 use Rattle.text_parts.specs.declared.Part.{Part}

@@ -5,7 +5,8 @@ use Prim.Native.Nat.{ℕ, _<_}
 use lib.ListN.{length}
 use Rattle.leaf_bytes.specs.Bytes.{small}
 use Rattle.law.specs.Syntax.{TypeForm}
-use Rattle.law.specs.Trees.{Trees, Run, first, wordAt, stackAt}
+use Rattle.law.specs.Trees.{Trees, Run, first, wordAt}
+use Rattle.law_theorems.specs.Readings.{stackAt}
 use Rattle.text_parts.specs.Parts.{FormAt}
 use Rattle.text_heads.specs.declared.Maker.{Maker}
 use Rattle.text_heads.specs.declared.Maker.the-variants as MK

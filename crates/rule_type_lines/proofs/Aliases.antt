@@ -20,7 +20,8 @@ use Rattle.law.specs.Script.{Entry, newType, Decl, alias}
 use Rattle.rule_stages.specs.Stages.{Staged, fits, ruled, staged, onFits}
 use Rattle.law.specs.Syntax as Syntax
 use Rattle.law.specs.Syntax.{LineForm, TypeName, typeLine}
-use Rattle.law.specs.Trees.{Trees, Run, first, wordAt, stackAt}
+use Rattle.law.specs.Trees.{Trees, Run, first, wordAt}
+use Rattle.law_theorems.specs.Readings.{stackAt}
 use Rattle.code.proofs.LayoutRegions.{lay-g, lay-l}
 use Rattle.code.specs.LayoutRegions.{Same}
 use Rattle.law_theorems.specs.LinesKeep.{AllFair, type, name, Keeps}

@@ -16,7 +16,7 @@ use Rattle.leaf_integers.specs.Integers.{least, most}
 use Rattle.law.specs.Base.{Name, _>>=_, given}
 use Rattle.law.specs.Calculate.{natOf}
 use Rattle.law.specs.Ceilings.{typeBounded}
-use Rattle.law.specs.Environment.{Declared, Environment, typeInfoOf, valueCount}
+use Rattle.law.specs.Environment.{Declared, Environment, typeSortOf, valueCount}
 use Rattle.code.specs.Layout.{bits}
 use Rattle.law.specs.Names.{typeOf, isKnown, newNames, declOf, entryOf}
 use Rattle.law.specs.Rules.{keptDecl}
@@ -24,7 +24,8 @@ use Rattle.law.specs.Script.{Decl, newType, arrayOf}
 use Rattle.rule_stages.specs.Stages.{Staged, wrong, fits, ruled, staged, join}
 use Rattle.law.specs.Syntax as Syntax
 use Rattle.law.specs.Syntax.{TypeName, TypeForm, typeLine}
-use Rattle.law.specs.Trees.{Tree, Trees, Run, first, stackAt}
+use Rattle.law.specs.Trees.{Tree, Trees, Run, first}
+use Rattle.law_theorems.specs.Readings.{stackAt}
 use Rattle.law.specs.Types.{infoAt, ordinal?, sizeOf, cellsOf}
 use Rattle.law_theorems.proofs.Inversion.{and-true}
 use Rattle.rule_faults.specs.declared.Fault.{Fault}
@@ -221,7 +222,7 @@ module _ (s l ts : List ℕ) (st : State) (at : ℕ) (i : Typed) (G : GivesType 
       toldE = E .says ts (st .top) (k .env) bs (H .scene)
 
       array-told : ShapeTold k (arrayIn us) (arrayShaped f g x y (i .kind) (e .kind) (e .next))
-      unfolding arrayShaped typeInfoOf typeBounded shapeNumber keptDecl ordinalFault
+      unfolding arrayShaped typeSortOf typeBounded shapeNumber keptDecl ordinalFault
       array-told = record {
         stage = join S T (λ (a c : ℕ). ruled (ordinal? (k .env .types) a) (some (arrayOf a c)));
         stage-is = λ w.

@@ -22,7 +22,7 @@ use Rattle.leaf_integers.proofs.Machine.{wire}
 use Rattle.leaf_sets.specs.Sets.{patternOf}
 use Rattle.law.specs.Base.{Name, _>>=_, given}
 use Rattle.law.specs.Ceilings.{typeBounded}
-use Rattle.law.specs.Environment.{Declared, Environment, typeInfoOf}
+use Rattle.law.specs.Environment.{Declared, Environment, typeSortOf}
 use Rattle.code.specs.Layout.{bits}
 use Rattle.law.specs.Names.{constantOf, newNames, declOf, entryOf}
 use Rattle.law.specs.Rules.{keptDecl, plain}
@@ -31,7 +31,8 @@ use Rattle.rule_stages.specs.Stages as Stages
 use Rattle.rule_stages.specs.Stages.{Staged, fits, ruled, staged, join}
 use Rattle.law.specs.Syntax as Syntax
 use Rattle.law.specs.Syntax.{Constant, TypeForm, typeLine}
-use Rattle.law.specs.Trees.{Tree, Trees, end, Run, first, stackAt}
+use Rattle.law.specs.Trees.{Tree, Trees, end, Run, first}
+use Rattle.law_theorems.specs.Readings.{stackAt}
 use Rattle.law_theorems.proofs.Inversion.{and-true}
 use Rattle.table_scope.specs.declared.Scope.{Scope}
 use Rattle.rule_faults.specs.declared.Fault.{Fault}
@@ -252,7 +253,7 @@ module _ (s l ts : List ℕ) (st : State) (at : ℕ) (a : Valued) (G : GivesCons
       toldB = E .says ts (st .top) (k .env) bs (H .scene)
 
       range-told : ShapeTold k (rangeIn us) (rangeShaped f g (a .kind) (a .value) (b .kind) (b .value) m n (b .next))
-      unfolding rangeShaped typeInfoOf typeBounded shapeNumber keptDecl rangeFault plain
+      unfolding rangeShaped typeSortOf typeBounded shapeNumber keptDecl rangeFault plain
       range-told = record {
         stage = join S T (λ (x y : Const). ruled (rule x y) (some (range x y)));
         stage-is = λ w.

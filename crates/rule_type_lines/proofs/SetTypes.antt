@@ -13,7 +13,7 @@ use lib.Signed.{leZ}
 use Rattle.leaf_integers.specs.Integers.{least, most}
 use Rattle.law.specs.Base.{Name, _>>=_, given}
 use Rattle.law.specs.Ceilings.{typeBounded}
-use Rattle.law.specs.Environment.{Declared, Environment, typeInfoOf}
+use Rattle.law.specs.Environment.{Declared, Environment, typeSortOf}
 use Rattle.code.specs.Layout.{bits}
 use Rattle.law.specs.Names.{typeOf, isKnown, newNames, declOf, entryOf}
 use Rattle.law.specs.Rules.{keepsRules, keptDecl}
@@ -21,7 +21,8 @@ use Rattle.law.specs.Script.{Decl, Entry, newType, setOf}
 use Rattle.rule_stages.specs.Stages.{Staged, wrong, unnamed, unfit, fits, ruled, staged, onFits, unknown}
 use Rattle.law.specs.Syntax as Syntax
 use Rattle.law.specs.Syntax.{TypeName, TypeForm, typeLine}
-use Rattle.law.specs.Trees.{Trees, Run, first, stackAt}
+use Rattle.law.specs.Trees.{Trees, Run, first}
+use Rattle.law_theorems.specs.Readings.{stackAt}
 use Rattle.law.specs.Types.{infoAt, ordinal?}
 use Rattle.rule_faults.specs.declared.Fault.{Fault}
 use Rattle.rule_faults.specs.declared.Fault.the-variants.{Clear, Kind, Form}
@@ -171,7 +172,7 @@ pub set-is : (s l ts : List ℕ) (st : State) (at : ℕ) (t : Typed) → GivesLa
     → (x : Info) → x ≡ infoOf l ts (t .kind) → (o : Fault) → o ≡ ordinalFault (x .shape) → (v : Fault) → v ≡ lowest f o → (b : Bool) → b ≡ baseFits (x .low) (x .high)
     → GivesShape s l ts st at (setIn (first (stackAt s at)))
     (record { fault = v; info = record { shape = 1; host = 0; low = x .low; high = x .high; size = 1; index = 0; element = t .kind; fields = 0; place = 0 }; within = b; next = t .next })
-unfolding shapeNumber typeInfoOf typeBounded ordinalFault
+unfolding shapeNumber typeSortOf typeBounded ordinalFault
 set-is s l ts st at t G f e x hx o ho v hv b hb = record {
   goes = λ q. G .goes (ap isForm (sym e) ∙ lowest-form f o (ap isForm (sym hv) ∙ q));
   says = λ k bs H.

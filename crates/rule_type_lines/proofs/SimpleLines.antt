@@ -12,7 +12,7 @@ use lib.ListN.{length, getD, set, length-append, length-set}
 use Rattle.leaf_bytes.specs.Bytes.{small}
 use Rattle.law.specs.Base.{Name, _>>=_, find}
 use Rattle.law.specs.Ceilings.{lineBounded, typeBounded}
-use Rattle.law.specs.Environment.{Declared, Environment, NameSort, aType, declareLine, extendTypes, declNames, typeInfoOf, copies, valueCount}
+use Rattle.law.specs.Environment.{Declared, Environment, NameSort, aType, declareLine, extendTypes, declNames, typeSortOf, copies, valueCount}
 use Rattle.code.specs.Layout.{lay}
 use Rattle.code.specs.LayoutSize.{symbolSize, sizeDecl}
 use Rattle.law.specs.Names.{isKnown, entryOf}
@@ -20,8 +20,9 @@ use Rattle.law.specs.Rules.{keepsRules}
 use Rattle.law.specs.Script.{Entry, newType, Decl}
 use Rattle.rule_stages.specs.Stages.{Staged, wrong, unnamed, unfit, fits, staged, onFits, unknown}
 use Rattle.law.specs.Syntax.{LineForm, TypeForm, typeLine}
-use Rattle.law.specs.Trees.{end, first, later, wordAt, stackAt}
-use Rattle.law.specs.Types.{Types, TypeInfo, infoAt, sizeOf, cellsBy, cellsOf, isRecord}
+use Rattle.law.specs.Trees.{end, first, later, wordAt}
+use Rattle.law_theorems.specs.Readings.{stackAt}
+use Rattle.law.specs.Types.{Types, TypeInfo, facts, infoAt, sizeOf, cellsBy, cellsOf, isRecord}
 use Rattle.law_theorems.proofs.Inversion.{and-true, none-some}
 use Rattle.code.proofs.LayoutRegions.{Has, lay-g, lay-l}
 use Rattle.code.specs.LayoutRegions.{Same, Room}
@@ -62,7 +63,7 @@ use Rattle.rule_type_lines.proofs.Aliases.{entry-is, lines-bounded}
 -- ---- simple declarations
 
 module _ (Γ : Types) where
-  pub simple-extends : {d : Decl} → Simple d → extendTypes Γ d ≡ Γ ++ (typeInfoOf Γ d ∷ [])
+  pub simple-extends : {d : Decl} → Simple d → extendTypes Γ d ≡ Γ ++ (typeSortOf Γ d ∷ [])
   unfolding extendTypes
   simple-extends simple-range = refl
   simple-extends simple-array = refl
@@ -74,8 +75,8 @@ module _ (Γ : Types) where
   simple-names w simple-array = refl
   simple-names w simple-set = refl
 
-  pub simple-fields : {d : Decl} → Simple d → typeInfoOf Γ d .fields ≡ []
-  unfolding typeInfoOf
+  pub simple-fields : {d : Decl} → Simple d → facts (typeSortOf Γ d) .fields ≡ []
+  unfolding typeSortOf
   simple-fields simple-range = refl
   simple-fields simple-array = refl
   simple-fields simple-set = refl
@@ -85,8 +86,8 @@ module _ (Γ : Types) where
   copies-length zero cs = sym (zero-mul (length cs))
   copies-length (suc n) cs = rw (length-append, copies-length n cs, suc-mul n (length cs)) (add-comm (length cs) (n * length cs))
 
-  pub simple-small : {d : Decl} → Simple d → typeBounded Γ d ≡ true → (t : ℕ) → length (cellsBy (typeInfoOf Γ d .shape) t (typeInfoOf Γ d .cells)) ≤ 2048
-  unfolding typeInfoOf typeBounded
+  pub simple-small : {d : Decl} → Simple d → typeBounded Γ d ≡ true → (t : ℕ) → length (cellsBy (facts (typeSortOf Γ d) .shape) t (facts (typeSortOf Γ d) .cells)) ≤ 2048
+  unfolding typeSortOf typeBounded
   simple-small simple-range b t = omega arith
   simple-small (simple-array {i} {e}) b t =
       rw (copies-length (valueCount Γ i) (cellsOf Γ e)) (leb-true (valueCount Γ i * sizeOf Γ e) 2048 (and-true (leb (valueCount Γ i) 256) (leb (valueCount Γ i * sizeOf Γ e) 2048) b .1))
@@ -125,7 +126,7 @@ describes-tells s l x q i D h = rw (read-numbers x q l h) (record {
 -- ---- what is held
 
 module _ {s l ts : List ℕ} {st : State} {k : Declared} {bs : List ℕ} (H : Holds s l ts st k bs) (p : ℕ) (hp : p < length s) (x : Info) {d : Decl} (D : Simple d)
-    (X : Describes x (typeInfoOf (k .env .types) d)) (f : LineForm) (e : entryOf (k .env) f ≡ some (newType (map small (wordAt s p)) d))
+    (X : Describes x (facts (typeSortOf (k .env .types) d))) (f : LineForm) (e : entryOf (k .env) f ≡ some (newType (map small (wordAt s p)) d))
     (r : keepsRules (k .env .types) (newType (map small (wordAt s p)) d) ≡ true) (b : lineBounded k (newType (map small (wordAt s p)) d) ≡ true)
     (room : st .top + 12 ≤ 16384) (sn nn : ℕ) where
   abbrev ws : Name
@@ -188,9 +189,9 @@ module _ {s l ts : List ℕ} {st : State} {k : Declared} {bs : List ℕ} (H : Ho
       (chained-more p (4 * st .types) 0 (aType (st .types)) (omega (arith, H .short-text)) (record { start = H .start; fits = omega arith; long = H .long-list }) (type-means (ks .env) bs (st .types) 0)
       (chained-env {σ′ = ks .env} (means-same refl) (scene-chained (H .scene))))))
 
-  told-types : (t : ℕ) → Tells s l₂ (infoOf l₂ (set ts (length Γ) t₁) t) (infoAt (Γ ++ (typeInfoOf Γ d ∷ [])) t) × EndsBelow (st .top + 12) (infoOf l₂ (set ts (length Γ) t₁) t)
-  told-types = types-more (H .scene) simple-same (st .top + 12) t₁ (omega arith) (place-room .start) (omega (arith, H .types-are, number-low, H .long-notes)) (typeInfoOf Γ d)
-      (describes-tells s l₂ x t₁ (typeInfoOf Γ d) X has)
+  told-types : (t : ℕ) → Tells s l₂ (infoOf l₂ (set ts (length Γ) t₁) t) (infoAt (Γ ++ (typeSortOf Γ d ∷ [])) t) × EndsBelow (st .top + 12) (infoOf l₂ (set ts (length Γ) t₁) t)
+  told-types = types-more (H .scene) simple-same (st .top + 12) t₁ (omega arith) (place-room .start) (omega (arith, H .types-are, number-low, H .long-notes)) (typeSortOf Γ d)
+      (describes-tells s l₂ x t₁ (facts (typeSortOf Γ d)) X has)
       (rw (read-numbers x t₁ l₂ has, X .fields-is, top₁) (record { end-below = λ _. omega arith; within = omega arith }))
 
   simple-scene : Scene s l₂ (set ts (length Γ) t₁) (scoped (suc (st .scope .count)) (st .top)) (st .top + 12) (ks .env) bs
@@ -205,7 +206,7 @@ module _ {s l ts : List ℕ} {st : State} {k : Declared} {bs : List ℕ} (H : Ho
         table = K .table;
         fair = rw (H .bodies-are) (K .names);
         cells = keeps-cells ks K (omega (arith, H .cells-are, H .few-cells));
-        fieldless = rw (simple-extends Γ D) (by-number Γ (typeInfoOf Γ d) (λ t j. isRecord (j .shape) ≡ false → j .fields ≡ []) (λ t _. H .scene .fieldless t) (λ _. simple-fields Γ D) (λ t _ _. refl));
+        fieldless = rw (simple-extends Γ D) (by-number Γ (typeSortOf Γ d) (λ t j. isRecord (j .shape) ≡ false → j .fields ≡ []) (λ t _. H .scene .fieldless t) (λ _. simple-fields Γ D) (λ t _ _. refl));
         above = rw (simple-names Γ ws D) (λ v c g. H .scene .above v c (value-find ws v (aType (length Γ)) (k .env .names) c (type-value (length Γ)) g));
         once = rw (simple-names Γ ws D) (λ v y c g h. H .scene .once v y c
             (value-find ws v (aType (length Γ)) (k .env .names) c (type-value (length Γ)) g) (value-find ws y (aType (length Γ)) (k .env .names) c (type-value (length Γ)) h));
@@ -214,10 +215,10 @@ module _ {s l ts : List ℕ} {st : State} {k : Declared} {bs : List ℕ} (H : Ho
   pub simple-holds : Holds s l₂ (set ts (st .types) t₁) (typeState st 1 (st .top) 1 (lay (infoNumbers x) t₁ l₁ .top)) ks bs
   simple-holds =
       let c : suc (st .scope .count) ≡ st .scope .count + 1 = omega arith in
-      let n : length (Γ ++ (typeInfoOf Γ d ∷ [])) ≡ length Γ + 1 = length-append Γ (typeInfoOf Γ d ∷ []) in
+      let n : length (Γ ++ (typeSortOf Γ d ∷ [])) ≡ length Γ + 1 = length-append Γ (typeSortOf Γ d ∷ []) in
       subst (λ (m : ℕ). Holds s l₂ (set ts m t₁) (typeState st 1 (st .top) 1 (lay (infoNumbers x) t₁ l₁ .top)) ks bs) (sym (H .types-are)) (rw simple-top (type-holds H ws d f e r b sn nn 1 (st .top) 1 (st .top + 12) l₂ (set ts (length Γ) t₁) (omega arith)
       (rw (simple-extends Γ D) n) (rw c at simple-scene)
-      (rw (simple-extends Γ D) (by-number Γ (typeInfoOf Γ d) (λ t j. length (cellsBy (j .shape) t (j .cells)) ≤ 2048) (λ t _. H .small-types t)
+      (rw (simple-extends Γ D) (by-number Γ (typeSortOf Γ d) (λ t j. length (cellsBy (j .shape) t (j .cells)) ≤ 2048) (λ t _. H .small-types t)
       (simple-small Γ D (type-within H ws d f e r b sn nn) (length Γ)) (λ t _. omega arith)))
       (omega (arith, H .few-names)) (omega arith) room (rw (lay-g (infoNumbers x) t₁ l₁ .long, long₁) (H .long-list)) (rw (length-set ts (length Γ) t₁) (H .long-notes))))
 
@@ -354,14 +355,14 @@ module _ (s l ts : List ℕ) (st : State) (p : ℕ) (g : Shaped) (h : Fault) (c 
               n ∙ ap (λ (x : Fault). newFault x (meaningHere s l (st .scope) p)) (q ∙ M .fault-is)
               ∙ decl-fault w (meaningHere s l (st .scope) p) meaning-told (M .stage) ∙ ap faultOf (sym (ap (entryStaged k) a ∙ M .stage-is w))
 
-      line-clear : b ≡ true → (d : Decl) × (entryStaged k after ≡ fits (newType w d)) × Simple d × (typeBounded (k .env .types) d ≡ true → Describes (g .info) (typeInfoOf (k .env .types) d)) × (g .within ≡ typeBounded (k .env .types) d)
+      line-clear : b ≡ true → (d : Decl) × (entryStaged k after ≡ fits (newType w d)) × Simple d × (typeBounded (k .env .types) d ≡ true → Describes (g .info) (facts (typeSortOf (k .env .types) d))) × (g .within ≡ typeBounded (k .env .types) d)
       unfolding newly onFits
       line-clear j = go comes
         where
           M : ShapeTold k o g
           M = G .says k bs H
 
-          go : Comes w o g after e → (d : Decl) × (entryStaged k after ≡ fits (newType w d)) × Simple d × (typeBounded (k .env .types) d ≡ true → Describes (g .info) (typeInfoOf (k .env .types) d)) × (g .within ≡ typeBounded (k .env .types) d)
+          go : Comes w o g after e → (d : Decl) × (entryStaged k after ≡ fits (newType w d)) × Simple d × (typeBounded (k .env .types) d ≡ true → Describes (g .info) (facts (typeSortOf (k .env .types) d))) × (g .within ≡ typeBounded (k .env .types) d)
           go (comes-none a q) = form-clear (sym (form-new (meaningHere s l (st .scope) p)) ∙ sym (n ∙ ap (λ (x : Fault). newFault x (meaningHere s l (st .scope) p)) q) ∙ clear-is f (sym i ∙ j))
           go (comes-made a q) =
               let x = decl-clear w (meaningHere s l (st .scope) p) meaning-told (M .stage)
@@ -404,7 +405,7 @@ module _ (s l ts : List ℕ) (st : State) (p : ℕ) (g : Shaped) (h : Fault) (c 
         told = λ k bs H.
             let m = line-clear at o G k bs H j in
             let u = entry-fits k (after at o G) (newType w (m .0)) (m .1) in
-            let D : Describes x (typeInfoOf (k .env .types) (m .0)) = rw q (m .3 (sym (m .4) ∙ and-true (leb (st .lines + 1) 64) (g .within) (sym y ∙ t) .1)) in
+            let D : Describes x (facts (typeSortOf (k .env .types) (m .0))) = rw q (m .3 (sym (m .4) ∙ and-true (leb (st .lines + 1) 64) (g .within) (sym y ∙ t) .1)) in
             let z : lineBounded k (newType w (m .0)) ≡ true = sym (lines-bounded H w (m .0) (g .within) (m .4)) ∙ sym y ∙ t in
             subst (λ (T : Staged Entry). LineTold s st k bs T r l′ ts′) (sym (m .1)) (rw (A .answer, A .list, A .places, c) (record {
               fault-is = refl;

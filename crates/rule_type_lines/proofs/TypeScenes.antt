@@ -1,5 +1,5 @@
 -- What is held after a `type` line, from what its form adds.
-use mathlib.Core.Path.{_≡_, refl}
+use mathlib.Core.Path.{_≡_, refl, ap}
 use mathlib.Core.Bool.{true}
 use mathlib.Core.List.{List, [], _∷_, _++_}
 use mathlib.Core.Option.{some}
@@ -19,7 +19,7 @@ use Rattle.law.specs.Names.{entryOf}
 use Rattle.law.specs.Rules.{keepsRules}
 use Rattle.law.specs.Script.{Const, Decl, newType}
 use Rattle.law.specs.Syntax.{LineForm}
-use Rattle.law.specs.Types.{Types, TypeInfo, undeclared, infoAt, sizeOf}
+use Rattle.law.specs.Types.{Types, TypeInfo, TypeSort, facts, undeclared, infoAt, sizeOf}
 use Rattle.law_theorems.proofs.Inversion.{and-true}
 use Rattle.code.specs.LayoutRegions.{Same}
 use Rattle.law_theorems.proofs.LinesKeep.{line-keeps}
@@ -36,20 +36,20 @@ use Rattle.rule_declarations.specs.declared.State.{State}
 
 -- ---- a table with one more type
 
-pub by-number : (Γ : Types) (i : TypeInfo) (P : ℕ → TypeInfo → Type 0) → ((t : ℕ) → t < length Γ → P t (infoAt Γ t)) → P (length Γ) i
-    → ((t : ℕ) → length Γ < t → P t undeclared) → (t : ℕ) → P t (infoAt (Γ ++ (i ∷ [])) t)
+pub by-number : (Γ : Types) (i : TypeSort) (P : ℕ → TypeInfo → Type 0) → ((t : ℕ) → t < length Γ → P t (infoAt Γ t)) → P (length Γ) (facts i)
+    → ((t : ℕ) → length Γ < t → P t (facts undeclared)) → (t : ℕ) → P t (infoAt (Γ ++ (i ∷ [])) t)
 by-number Γ i P a b c t = go (decLt t (length Γ)) (ℕ-discrete t (length Γ))
   where
     go : Dec (t < length Γ) → Dec (t ≡ length Γ) → P t (infoAt (Γ ++ (i ∷ [])) t)
     go (yes l) d = rw (old Γ i t l) (a t l)
     go (no nl) (yes q) = rw (q, new Γ i) b
     go (no nl) (no nq) =
-        let z : infoAt (Γ ++ (i ∷ [])) t ≡ undeclared = List·getD-eq-default (Γ ++ (i ∷ [])) undeclared (rw length-append (omega arith)) in
+        let z : infoAt (Γ ++ (i ∷ [])) t ≡ facts undeclared = ap facts (List·getD-eq-default (Γ ++ (i ∷ [])) undeclared (rw length-append (omega arith))) in
         rw z (c t (omega arith))
 
 -- past the table
-pub past-table : (Γ : Types) (t : ℕ) → length Γ ≤ t → infoAt Γ t ≡ undeclared
-past-table Γ t h = List·getD-eq-default Γ undeclared h
+pub past-table : (Γ : Types) (t : ℕ) → length Γ ≤ t → infoAt Γ t ≡ facts undeclared
+past-table Γ t h = ap facts (List·getD-eq-default Γ undeclared h)
 
 -- a description whose place is listed, and the others
 info-other : (l ts ts′ : List ℕ) (t : ℕ) → getD ts′ t 0 ≡ getD ts t 0 → infoOf l ts′ t ≡ infoOf l ts t
@@ -62,7 +62,7 @@ info-new l ts n place h g e = rw (ne-eqb n 0 (λ z. omega arith), ne-eqb n 1 (λ
 
 -- what is told of types, with a new one at a place
 pub types-more : {s l l′ ts : List ℕ} {scope : Scope} {top : ℕ} {σ : Environment} {bs : List ℕ} → Scene s l ts scope top σ bs → Same 0 top l′ l
-    → (top′ place : ℕ) → top ≤ top′ → 1 ≤ place → length (σ .types) < length ts → (i : TypeInfo) → Tells s l′ (readInfo l′ place) i → EndsBelow top′ (readInfo l′ place)
+    → (top′ place : ℕ) → top ≤ top′ → 1 ≤ place → length (σ .types) < length ts → (i : TypeSort) → Tells s l′ (readInfo l′ place) (facts i) → EndsBelow top′ (readInfo l′ place)
     → (t : ℕ) → Tells s l′ (infoOf l′ (set ts (length (σ .types)) place) t) (infoAt (σ .types ++ (i ∷ [])) t) × EndsBelow top′ (infoOf l′ (set ts (length (σ .types)) place) t)
 types-more {s} {l} {l′} {ts} {scope} {top} {σ} {bs} S E top′ place h g n i T B =
     by-number (σ .types) i (λ t j. Tells s l′ (infoOf l′ (set ts (length (σ .types)) place) t) j × EndsBelow top′ (infoOf l′ (set ts (length (σ .types)) place) t))

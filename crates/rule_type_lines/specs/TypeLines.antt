@@ -9,15 +9,16 @@ use lib.ListN.{length, set}
 use Rattle.leaf_bytes.specs.Bytes.{small}
 use Rattle.law.specs.Base.{Name, _>>=_}
 use Rattle.law.specs.Ceilings.{typeBounded}
-use Rattle.law.specs.Environment.{Declared, typeInfoOf}
+use Rattle.law.specs.Environment.{Declared, typeSortOf}
 use Rattle.law.specs.Forms.{typeForm}
 use Rattle.code.specs.Layout.{lay, bits}
 use Rattle.law.specs.Names.{isKnown}
 use Rattle.law.specs.Script.{Decl, newType, range, arrayOf, setOf, Const}
 use Rattle.rule_stages.specs.Stages.{Staged, fits}
 use Rattle.law.specs.Syntax.{LineForm, TypeForm, typeLine, alias}
-use Rattle.law.specs.Trees.{Trees, end, Run, first, later, wordAt, stackAt}
-use Rattle.law.specs.Types.{TypeInfo, cellsBy}
+use Rattle.law.specs.Trees.{Trees, end, Run, first, later, wordAt}
+use Rattle.law_theorems.specs.Readings.{stackAt}
+use Rattle.law.specs.Types.{TypeInfo, facts, cellsBy}
 use Rattle.table_scope.specs.Descriptions.{shapeNumber}
 use Rattle.rule_faults.specs.declared.Fault.{Fault}
 use Rattle.rule_faults.specs.declared.Fault.the-variants.{Clear, Form}
@@ -100,7 +101,7 @@ pub record ShapeTold (k : Declared) (o : Option TypeForm) (g : Shaped) : Type 0 
   pub stage : Staged Decl
   pub stage-is : (w : Name) → entryStaged k (o >>= λ t. some (typeLine w t)) ≡ newly (isKnown (k .env) w) stage (λ d. fits (newType w d))
   pub fault-is : g .fault ≡ faultOf stage
-  pub made : (d : Decl) → stage ≡ fits d → Simple d × (typeBounded (k .env .types) d ≡ true → Describes (g .info) (typeInfoOf (k .env .types) d)) × (g .within ≡ typeBounded (k .env .types) d)
+  pub made : (d : Decl) → stage ≡ fits d → Simple d × (typeBounded (k .env .types) d ≡ true → Describes (g .info) (facts (typeSortOf (k .env .types) d))) × (g .within ≡ typeBounded (k .env .types) d)
 
 pub record GivesShape (s l ts : List ℕ) (st : State) (at : ℕ) (o : Option TypeForm) (g : Shaped) : Type 0 where
   pub goes : isForm (g .fault) ≡ false → later (stackAt s at) ≡ stackAt s (g .next)

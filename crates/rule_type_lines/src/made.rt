@@ -5,7 +5,8 @@ use crate::simple::array_of;
 use crate::simple::set_of;
 use rule_declarations::Lined;
 use rule_declarations::State;
-ghost use Rattle.law.specs.Trees.{first, stackAt};
+ghost use Rattle.law.specs.Trees.{first};
+ghost use Rattle.law_theorems.specs.Readings.{stackAt};
 ghost use Rattle.rule_type_lines.specs.TypeLines.{GivesMade};
 ghost use Rattle.rule_type_lines.specs.Simple.{setIn, arrayIn, rangeIn};
 

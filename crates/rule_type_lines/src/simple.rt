@@ -14,7 +14,8 @@ use table_scope::describe;
 use table_scope::no_info;
 ghost use mathlib.Core.Path.{_≡_};
 ghost use Prim.Native.Nat.{_+_, _*_, _%_};
-ghost use Rattle.law.specs.Trees.{first, stackAt};
+ghost use Rattle.law.specs.Trees.{first};
+ghost use Rattle.law_theorems.specs.Readings.{stackAt};
 ghost use Rattle.rule_type_lines.specs.TypeLines.{GivesShape};
 ghost use Rattle.rule_type_lines.specs.Simple.{setIn, arrayIn, baseFits, ordinalFault, spanOf, arrayFits, noShape, arrayShaped};
 

@@ -9,7 +9,8 @@ use lib.ListN.{length, getD, take}
 use Rattle.law.specs.Environment.{Environment, PlacedBody}
 use Rattle.law.specs.Names.{bodyOf}
 use Rattle.law.specs.Syntax as Syntax
-use Rattle.law.specs.Trees.{first, stackAt}
+use Rattle.law.specs.Trees.{first}
+use Rattle.law_theorems.specs.Readings.{stackAt}
 use Rattle.law_theorems.specs.TypeSizes.{SmallTypes}
 use Rattle.text_heads.specs.Parts.{bodyIn}
 use Rattle.table_scope.specs.declared.Scope.{Scope}

@@ -12,7 +12,9 @@ use lib.Seq.{drop-cons}
 use Rattle.leaf_bytes.specs.Bytes.{classOf}
 use Rattle.law.specs.Base.{_>>=_, given}
 use Rattle.law.specs.Lines.{Line, line, inFront, linesOf}
-use Rattle.law.specs.Trees.{Tree, form, Trees, end, _then_, Run, Place, before, isAfter, past, balanced, Reading, reading, first, ended, withByte, readBytes, treesOf, single, formOf, wordAt, restAt, stackAt}
+use Rattle.law.specs.Trees.{Tree, form, Trees, end, _then_, Run, Place, before, isAfter, past, balanced, first, single, formOf}
+use Rattle.law_theorems.specs.Readings.{Reading, reading, ended, withByte, readBytes, restAt, stackAt}
+use Rattle.law_theorems.proofs.Reading.{trees-read}
 use Rattle.law_theorems.proofs.Balance.{Reads, one, reads}
 use Rattle.text_lines.specs.Passes.{lineAt, afterLine, balancedFrom}
 
@@ -69,7 +71,7 @@ module _ (s : List ℕ) (p : ℕ) where
 
   -- the line's one form is all that stands there
   pub formed : balancedFrom (drop p s) before ≡ true → (f : Trees Run) × (formOf here ≡ some (form f)) × (stackAt s p ≡ (form f then end) ∷ [])
-  unfolding formOf treesOf single given _>>=_ stackAt wordAt restAt
+  unfolding formOf single given _>>=_ stackAt restAt
   formed h = go (here .fed) (balanced (here .bytes) before) refl refl (balanced-line (drop p s) before ∙ h)
     where
       read : (r : Reading) → readBytes (here .bytes) ≡ r → Reads before r
@@ -78,7 +80,7 @@ module _ (s : List ℕ) (p : ℕ) where
 
       go : (a b : Bool) → here .fed ≡ a → balanced (here .bytes) before ≡ b → (here .fed && balanced (here .bytes) before) ≡ true
           → (f : Trees Run) × (formOf here ≡ some (form f)) × (ended (readBytes (drop p s) .begun) (readBytes (drop p s) .stack) ≡ (form f then end) ∷ [])
-      go true true e g k = rw (e, g) (read (readBytes (here .bytes)) refl (reads (here .bytes) before g))
+      go true true e g k = rw (e, g, trees-read (here .bytes)) (read (readBytes (here .bytes)) refl (reads (here .bytes) before g))
       go true false e g k = absurd (let z : false ≡ true = rw (e, g) at k in let y : _≡_ {A = ℕ} 0 1 = cc in omega arith)
       go false b e g k = absurd (let z : false ≡ true = rw e at k in let y : _≡_ {A = ℕ} 0 1 = cc in omega arith)
 

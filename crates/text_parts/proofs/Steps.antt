@@ -4,7 +4,8 @@ use mathlib.Core.List.{List}
 use Prim.Native.Nat.{ℕ}
 use Rattle.leaf_words.specs.declared.words.Word.{Word}
 use Rattle.leaf_words.specs.Words.{wordOf}
-use Rattle.law.specs.Trees.{Tree, word, form, Trees, end, _then_, Run, first, later, push, wordAt, restAt, stackAt}
+use Rattle.law.specs.Trees.{Tree, word, form, Trees, end, _then_, Run, first, later, push, wordAt}
+use Rattle.law_theorems.specs.Readings.{restAt, stackAt}
 use Rattle.text_words.specs.declared.sight.Sight.{Sight}
 use Rattle.text_words.specs.declared.sight.Sight.the-variants as sight
 use Rattle.text_words.specs.declared.sight.Seen.{Seen}

@@ -7,7 +7,8 @@ use lib.ListN.{length, drop, length-drop}
 use Rattle.leaf_bytes.specs.declared.bytes.Class.{Class}
 use Rattle.leaf_bytes.specs.declared.bytes.Class.the-variants.{Feed, Space, Open, Close, Visible, Refused}
 use Rattle.leaf_bytes.specs.Bytes.{classOf}
-use Rattle.law.specs.Trees.{Tree, word, form, Trees, nodes, nodesIn, Run, Reading, first, later, push, ended, withByte, readBytes, wordAt, restAt, stackAt}
+use Rattle.law.specs.Trees.{Tree, word, form, Trees, nodes, nodesIn, Run, first, later, push}
+use Rattle.law_theorems.specs.Readings.{Reading, ended, withByte, readBytes, restAt, stackAt}
 use Rattle.text_words.specs.Passes.{nodesAll}
 
 pub all-first : (k : List (Trees Run)) → nodesAll k ≡ nodesIn (first k) + nodesAll (later k)
@@ -48,5 +49,5 @@ nodes-read [] = omega arith
 nodes-read (b ∷ bs) = let e = byte-more (classOf b) b (readBytes bs) in let f = nodes-read bs in omega arith
 
 pub nodes-short : (s : List ℕ) (p : ℕ) → nodesAll (stackAt s p) ≤ length s
-unfolding stackAt wordAt restAt
+unfolding stackAt restAt
 nodes-short s p = let e = nodes-read (drop p s) in let f = length-drop p s in omega arith

@@ -5,7 +5,8 @@ use Prim.Native.Nat.{ℕ, zero, suc, _+_, _*_, _-_, _<_, _≤_}
 use native.Mathlib.Numerals.{add-one}
 use native.Mathlib.Omega.{arith}
 use lib.ListN.{length}
-use Rattle.law.specs.Trees.{Tree, word, form, Trees, end, _then_, nodes, nodesIn, Run, first, later, push, wordAt, stackAt}
+use Rattle.law.specs.Trees.{Tree, word, form, Trees, end, _then_, nodes, nodesIn, Run, first, later, push, wordAt}
+use Rattle.law_theorems.specs.Readings.{stackAt}
 use Rattle.text_words.specs.Passes.{nodesAll}
 use Rattle.text_words.specs.declared.sight.Sight.{Sight}
 use Rattle.text_words.specs.declared.sight.Sight.the-variants as sight

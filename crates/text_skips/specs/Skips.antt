@@ -2,7 +2,8 @@
 use mathlib.Core.List.{List}
 use mathlib.Core.Path.{_≡_}
 use Prim.Native.Nat.{ℕ, zero, suc, _+_, _*_, _<_, _≤_}
-use Rattle.law.specs.Trees.{Tree, Trees, _then_, Run, first, later, stackAt}
+use Rattle.law.specs.Trees.{Tree, Trees, _then_, Run, first, later}
+use Rattle.law_theorems.specs.Readings.{stackAt}
 use Rattle.text_words.specs.Passes.{nodesAll}
 use Rattle.text_parts.specs.Parts.{Before}
 use Rattle.text_skips.specs.declared.Move.{Move}

@@ -5,7 +5,7 @@ use text_words::sight::word_end;
 ghost use mathlib.Core.Path.{_≡_};
 ghost use Prim.Native.Nat.{_+_, _≤_};
 ghost use lib.ListN.{length};
-ghost use Rattle.law.specs.Trees.{stackAt};
+ghost use Rattle.law_theorems.specs.Readings.{stackAt};
 ghost use Rattle.text_words.specs.Passes.{nodesAll};
 ghost use Rattle.text_skips.specs.Skips.{outFrom, Moves, Past, Skips};
 

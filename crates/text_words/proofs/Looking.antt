@@ -15,7 +15,8 @@ use Rattle.leaf_bytes.specs.Names.{isName}
 use Rattle.leaf_words.specs.Numbers.{numberOf}
 use Rattle.leaf_reserved.specs.Table.{placeOf, position, fixed, reserved, operators}
 use Rattle.leaf_words.specs.Words.{wordOf, named, placed}
-use Rattle.law.specs.Trees.{Trees, Run, wordAt, restAt, stackAt}
+use Rattle.law.specs.Trees.{Trees, Run, wordAt}
+use Rattle.law_theorems.specs.Readings.{restAt, stackAt}
 use Rattle.law_theorems.proofs.Reading.{none-stack, none-word, wordless, space-stack, open-stack, close-stack, feed-stack, refused-stack, word-stack, word-rest, word-word, space-word, open-word, close-word, feed-word, refused-word}
 use Rattle.text_words.specs.declared.sight.Sight.the-variants.{Form, Leaf, Shut}
 use Rattle.text_words.specs.Sights.{Looks, Ends, Reads}

@@ -10,7 +10,8 @@ use Rattle.leaf_bytes.specs.declared.bytes.Class.{Class}
 use Rattle.leaf_bytes.specs.declared.bytes.Class.the-variants.{Feed, Space, Open, Close, Visible, Refused}
 use Rattle.leaf_bytes.specs.Bytes.{classOf}
 use Rattle.leaf_words.specs.Words.{wordOf}
-use Rattle.law.specs.Trees.{Tree, word, form, Trees, end, nodes, nodesIn, Run, first, later, push, wordAt, restAt, stackAt}
+use Rattle.law.specs.Trees.{Tree, word, form, Trees, end, nodes, nodesIn, Run, first, later, push, wordAt}
+use Rattle.law_theorems.specs.Readings.{restAt, stackAt}
 use Rattle.law_theorems.proofs.Reading.{none-stack, space-stack, open-stack, close-stack, feed-stack, refused-stack, word-stack, word-word}
 use Rattle.text_words.specs.declared.sight.Seen.{Seen}
 use Rattle.text_words.specs.declared.lines.Hop.{Hop}

@@ -7,7 +7,8 @@ use lib.ListN.{length}
 use Rattle.leaf_words.specs.declared.words.Word.{Word}
 use Rattle.leaf_words.specs.declared.words.Word.the-variants.{Number, Name, Reserved, Operator, Unknown}
 use Rattle.leaf_words.specs.Words.{wordOf}
-use Rattle.law.specs.Trees.{Tree, word, form, Trees, end, _then_, nodesIn, Run, wordAt, restAt, stackAt}
+use Rattle.law.specs.Trees.{Tree, word, form, Trees, end, _then_, nodesIn, Run, wordAt}
+use Rattle.law_theorems.specs.Readings.{restAt, stackAt}
 use Rattle.text_words.specs.declared.lines.Hop.{Hop}
 use Rattle.text_words.specs.declared.lines.Hop.the-variants as hop
 

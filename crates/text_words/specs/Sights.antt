@@ -3,7 +3,8 @@ use mathlib.Core.Path.{_≡_}
 use mathlib.Core.List.{List, []}
 use Prim.Native.Nat.{ℕ, _-_, _<_, _≤_}
 use lib.ListN.{length, take, drop}
-use Rattle.law.specs.Trees.{word, form, Trees, end, Run, first, later, push, wordAt, restAt, stackAt}
+use Rattle.law.specs.Trees.{word, form, Trees, end, Run, first, later, push, wordAt}
+use Rattle.law_theorems.specs.Readings.{restAt, stackAt}
 use Rattle.leaf_words.specs.Words.{wordOf}
 use Rattle.text_words.specs.declared.sight.Seen.{Seen}
 use Rattle.text_words.specs.declared.sight.Sight as sight

@@ -5,7 +5,7 @@ use leaf_bytes::bytes::Class;
 use leaf_bytes::bytes::class_of;
 use leaf_words::words::Word;
 ghost use mathlib.Core.Path.{_≡_};
-ghost use Rattle.law.specs.Trees.{stackAt};
+ghost use Rattle.law_theorems.specs.Readings.{stackAt};
 ghost use Rattle.text_words.specs.Passes.{isKnown, LeafAt, Hops, isStop, weightOf, fineOf, nextOf, knownAll, nodesAll};
 
 // The next thing on a line: a word and whether it is of some kind, an opening bracket, a gap, or the line's end.

@@ -7,7 +7,8 @@ ghost use mathlib.Core.Path.{_≡_};
 ghost use Prim.Native.Nat.{_-_, _≤_};
 ghost use lib.ListN.{take, drop, length};
 ghost use Rattle.leaf_words.specs.Words.{wordOf};
-ghost use Rattle.law.specs.Trees.{wordAt, restAt, stackAt};
+ghost use Rattle.law.specs.Trees.{wordAt};
+ghost use Rattle.law_theorems.specs.Readings.{restAt, stackAt};
 ghost use Rattle.text_words.specs.Sights.{Looks, Ends, Reads};
 
 // What stands at an offset, spaces passed over: a form (the offset past its bracket), a word (its offset), or nothing more at this level

@@ -1,6 +1,7 @@
 use mir.Syntax.{w64}
 use mir.Val.{toZ}
-use Rattle.law.specs.Trees.{first, stackAt}
+use Rattle.law.specs.Trees.{first}
+use Rattle.law_theorems.specs.Readings.{stackAt}
 use Rattle.mark_arms.specs.Arms.{many}
 use Rattle.mark_arms.proofs.Meeting.{Meeting}
 use borrow.Author.Needs.{needs}

@@ -1,4 +1,5 @@
-use Rattle.law.specs.Trees.{first, stackAt}
+use Rattle.law.specs.Trees.{first}
+use Rattle.law_theorems.specs.Readings.{stackAt}
 use Rattle.mark_arms.specs.Arms.{many}
 use Rattle.mark_arms.proofs.Reading.{Passing}
 use borrow.Author.Needs.{needs}

@@ -1,4 +1,4 @@
-use Rattle.law.specs.Trees.{stackAt}
+use Rattle.law_theorems.specs.Readings.{stackAt}
 use Rattle.text_words.specs.Passes.{nodesAll}
 use Rattle.mark_counts.proofs.Counting.{Counting}
 use borrow.Author.Needs.{needs}

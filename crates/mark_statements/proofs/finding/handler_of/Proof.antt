@@ -1,4 +1,5 @@
-use Rattle.law.specs.Trees.{first, stackAt}
+use Rattle.law.specs.Trees.{first}
+use Rattle.law_theorems.specs.Readings.{stackAt}
 use Rattle.rule_expressions.specs.Members.{many}
 use Rattle.mark_statements.proofs.Seeking.{Behind}
 use borrow.Author.Needs.{needs}

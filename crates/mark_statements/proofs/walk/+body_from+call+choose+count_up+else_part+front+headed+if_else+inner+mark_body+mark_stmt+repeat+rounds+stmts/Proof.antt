@@ -1,7 +1,8 @@
 use mir.Syntax.{w64}
 use mir.Val.{toZ}
 use borrow.Author.Needs.{sfits-of}
-use Rattle.law.specs.Trees.{first, stackAt}
+use Rattle.law.specs.Trees.{first}
+use Rattle.law_theorems.specs.Readings.{stackAt}
 use Rattle.text_heads.specs.Parts.{stmtsIn}
 use Rattle.rule_expressions.specs.Members.{many}
 use Rattle.mark_statements.specs.Marks.{frontIn}

@@ -1,4 +1,5 @@
-use Rattle.law.specs.Trees.{first, stackAt}
+use Rattle.law.specs.Trees.{first}
+use Rattle.law_theorems.specs.Readings.{stackAt}
 use Rattle.rule_enum_lines.specs.Enums.{many}
 use Rattle.rule_enum_lines.proofs.EnumNames.{Scanning}
 use borrow.Author.Needs.{needs}

@@ -1,5 +1,6 @@
 use native.Mathlib.Omega.{arith}
-use Rattle.law.specs.Trees.{first, stackAt}
+use Rattle.law.specs.Trees.{first}
+use Rattle.law_theorems.specs.Readings.{stackAt}
 use Rattle.rule_expressions.specs.Members.{many}
 use Rattle.rule_expressions.proofs.Membership.{Sofar}
 use borrow.Author.Needs.{sfits-of}

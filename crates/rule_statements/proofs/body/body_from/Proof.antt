@@ -1,6 +1,7 @@
 use lib.ListN.{length}
 use mathlib.Core.Path.{_≡_, refl}
-use Rattle.law.specs.Trees.{first, stackAt}
+use Rattle.law.specs.Trees.{first}
+use Rattle.law_theorems.specs.Readings.{stackAt}
 use Rattle.rule_statements.specs.Chains.{many}
 use Rattle.rule_statements.specs.Fronts.{Fronting}
 use borrow.Author.Needs.{needs}

@@ -1,7 +1,7 @@
 use mathlib.Core.Path.{_≡_, refl}
 use native.Mathlib.Omega.{arith}
 use lib.ListN.{length}
-use Rattle.law.specs.Trees.{stackAt}
+use Rattle.law_theorems.specs.Readings.{stackAt}
 use borrow.Author.Needs.{needs}
 use Rattle.text_words.proofs.Looking.{look-laws}
 use Prim.Native.Nat.{ℕ, _<_, _≤_, _+_, _*_, _-_}
