@@ -35,6 +35,9 @@ ghost use lib.ListN.{length};
 // How many cells a script has at most.
 const CELLS: usize = MOST_CELLS as usize;
 
+// How many bytes the cases may have together, and one more.
+const CASES_LENGTH: usize = 524288;
+
 // How many bytes a report may have.
 const OUT_LENGTH: usize = 131072;
 
@@ -354,7 +357,7 @@ fn serve(text: &mut [u8], work: &mut [u32], out: &mut [u8]) {
 }
 
 fn main() {
-    let mut text = [0u8; 262144];
+    let mut text = [0u8; CASES_LENGTH];
     let mut work = [0u32; WORK_LENGTH];
     let mut out = [0u8; OUT_LENGTH];
     serve(&mut text, &mut work, &mut out);

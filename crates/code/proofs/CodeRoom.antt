@@ -15,10 +15,11 @@ use Rattle.law.specs.Types.{Types, Vars, ordinal?, sizeOf}
 use Rattle.law.specs.Script.{Const, Expr, Exprs, Target, Stmt, Stmts, Arms, Body, const, read, var}
 use Rattle.law.specs.Environment.{Environment, NameSort, aProc, aType, aValue, aVar}
 use Rattle.law.specs.Names.{Reached, asExpr, atomOf, constantOf, exprOf, targetOf, exprsOf, stmtOf, stmtsOf, armsOf, bodyOf}
-use Rattle.law.specs.Code.{Code, load, assignOrdinal, assignWhole, Place, Codes, Act, Acts, Cases, BodyCode}
-use Rattle.law.specs.Elaborate.{Elaborated, Located, assigning, elabExpr, elabTarget, elabMembers, expects, elabLabels, elabStmt, elabStmts, elabArms, elabBody}
-use Rattle.code.specs.LayoutSize.{sizeLoad, sizeCode, sizePlace, sizeAct, sizeBody}
+use Rattle.law.specs.Code.{Code, load, assignOrdinal, assignWhole, Place, Codes, Act, Acts, Cases, Frame, BodyCode}
+use Rattle.law.specs.Elaborate.{Elaborated, Located, assigning, elabExpr, elabTarget, elabMembers, expects, elabLabels, elabArguments, elabStmt, elabStmts, elabArms, elabBody}
+use Rattle.code.specs.LayoutSize.{sizeLoad, sizeCode, sizePlace, sizeAct, sizeParameters, sizeBody}
 use Rattle.law_theorems.proofs.Inversion.{none-some, some-inj, both-some, bind-some, given-some}
+use Rattle.law_theorems.proofs.TextsAgree.{body-frame}
 use Rattle.code.proofs.Measure.{Measure, inLayout}
 use Rattle.law_theorems.proofs.Weights.{weightE, weightT, weightEs, weightS, weightSs, weightA, weightB, expr-weighs, target-weighs, stmt-weighs}
 
@@ -40,7 +41,7 @@ module _ (M : Measure) (σ : Environment) (Γ : Types) (Δ : Vars) where
   name-room : (s : NameSort) {x : Expr} {r : Elaborated} → asExpr s ≡ some x → elabExpr Γ Δ x ≡ some r → M .code (r .code) + 2 ≤ 4
   name-room (aType t) h k = none-some h
   name-room (aVar i) h k = variable-room i (rw (← some-inj h) at k)
-  name-room (aProc p) h k = none-some h
+  name-room (aProc p ts) h k = none-some h
   name-room (aValue c) h k = literal-room c (rw (← some-inj h) at k)
 
   atom-room : (c : Syntax.Constant) {x : Expr} {r : Elaborated} → atomOf σ c ≡ some x → elabExpr Γ Δ x ≡ some r → M .code (r .code) + 2 ≤ 4
@@ -94,6 +95,14 @@ module _ (M : Measure) (σ : Environment) (Γ : Types) (Δ : Vars) where
   unfolding expects
   wanted-room n e x c h k = bind-some k λ r hr k. given-some k λ _ k. rw (← k) (expr-room e x r h hr)
 
+  arguments-room : (es : Syntax.Exprs) (xs : Exprs) (ts : List ℕ) (cs : Codes) → exprsOf σ es ≡ some xs → elabArguments Γ Δ ts xs ≡ some cs → M .arguments cs ≤ 4 * weightEs es
+  unfolding exprsOf elabArguments weightEs
+  arguments-room Syntax.nil xs [] cs h k = rw (← some-inj (rw (← some-inj h) at k)) (omega (arith, M .no-arguments))
+  arguments-room Syntax.nil xs (t ∷ ts) cs h k = none-some (rw (← some-inj h) at k)
+  arguments-room (Syntax._and_ e es) xs [] cs h k = bind-some h λ y _ h. bind-some h λ ys _ h. none-some (rw (← some-inj h) at k)
+  arguments-room (Syntax._and_ e es) xs (t ∷ ts) cs h k = bind-some h λ y hy h. bind-some h λ ys hys h. both-some (rw (← some-inj h) at k) λ c ds hc hds k.
+      rw (← some-inj k) (let l = wanted-room _ e y c hy hc in let m = arguments-room es ys ts ds hys hds in omega (arith, M .one-argument c ds))
+
   assigning-size : (n : ℕ) (w : Located) (c : Code) → M .act (assigning Γ Δ n w c) ≤ M .place (w .place) + M .code c + 10
   assigning-size n w c = go (ordinal? Γ (w .type)) _ _
     where
@@ -125,7 +134,8 @@ module _ (M : Measure) (σ : Environment) (Γ : Types) (Δ : Vars) where
         rw (← k) (let l = wanted-room _ e y c hy hc in let o = wanted-room _ f z d hz hd in let m = stmt-room s u b hu hb in under (M .of-for n _ _ _ c d b) (omega arith))
     stmt-room (Syntax.case n e bs) x a h k = bind-some h λ y hy h. bind-some h λ ys hys h. bind-some (rw (← some-inj h) at k) λ c hc k. bind-some k λ cs hcs k. given-some k λ _ k.
         rw (← k) (let l = expr-room e y c hy hc in let m = arms-room bs ys _ cs hys hcs in omega (arith, M .of-case n (c .code) cs))
-    stmt-room (Syntax.call n w) x a h k = bind-some h λ p _ h. rw (← some-inj (rw (← some-inj h) at k)) (omega (arith, M .of-call n p))
+    stmt-room (Syntax.call n w es) x a h k = bind-some h λ p _ h. bind-some h λ xs hxs h. bind-some (rw (← some-inj h) at k) λ cs hcs k.
+        rw (← some-inj k) (let l = arguments-room es xs (p .1) cs hxs hcs in omega (arith, M .of-call n (p .0) cs))
     stmt-room (Syntax.raise n e) x a h k = bind-some h λ y hy h. bind-some (rw (← some-inj h) at k) λ c hc k.
         rw (← some-inj k) (let l = wanted-room _ e y c hy hc in omega (arith, M .of-raise n c))
     stmt-room Syntax.skip x a h k = rw (← some-inj (rw (← some-inj h) at k)) (omega (arith, M .of-nothing))
@@ -144,18 +154,20 @@ module _ (M : Measure) (σ : Environment) (Γ : Types) (Δ : Vars) where
         rw (← some-inj k) (let o = labels-room ls zs n ns hzs hns in let l = stmt-room s y a hy ha in let m = arms-room bs ys n ds hys hds in omega (arith, M .one-arm ns a ds))
 
   -- the statements of a body
-  pub body-takes : (b : Syntax.Body) (x : Body) (c : BodyCode) → bodyOf σ b ≡ some x → elabBody Γ Δ x ≡ some c → M .acts (c .acts) + M .acts (c .handler) ≤ 4 * weightB b
+  pub body-takes : (q : Frame) (b : Syntax.Body) (x : Body) (c : BodyCode) → bodyOf σ b ≡ some x → elabBody Γ Δ q x ≡ some c → M .acts (c .acts) + M .acts (c .handler) ≤ 4 * weightB b
   unfolding bodyOf elabBody weightB
-  body-takes b x c h k = bind-some h λ y hy h. bind-some h λ z hz h. both-some (rw (← some-inj h) at k) λ d e hd he k.
+  body-takes q b x c h k = bind-some h λ y hy h. bind-some h λ z hz h. both-some (rw (← some-inj h) at k) λ d e hd he k.
       rw (← some-inj k) (let l = stmts-room (b .stmts) y d hy hd in let m = stmts-room (b .handler) z e hz he in omega arith)
 
 -- ---- the layout
 
 module _ (σ : Environment) (Γ : Types) (Δ : Vars) where
-  -- a body: 6 numbers beside its statements
-  pub body-room : (b : Syntax.Body) (x : Body) (c : BodyCode) → bodyOf σ b ≡ some x → elabBody Γ Δ x ≡ some c → sizeBody c ≤ 4 * weightB b + 6
+  -- a body: 7 numbers beside its statements and parameters
+  pub body-room : (q : Frame) (b : Syntax.Body) (x : Body) (c : BodyCode) → bodyOf σ b ≡ some x → elabBody Γ Δ q x ≡ some c → sizeBody c ≤ 4 * weightB b + 7 + sizeParameters (q .wants)
   unfolding sizeBody inLayout
-  body-room b x c h k = let l = body-takes inLayout σ Γ Δ b x c h k in omega arith
+  body-room q b x c h k =
+      let l = body-takes inLayout σ Γ Δ q b x c h k in
+      rw (← body-frame (record { types = Γ; vars = Δ; frame = q; body = x }) c k) (omega arith)
 
   -- ---- from the trees: what a checker lays for a part of a line
 

@@ -1,6 +1,6 @@
 -- Code elaborated with formed tables of small types is ready for an engine (CodeReady), where its expressions were read with so many brackets.
 use mathlib.Core.Path.{_≡_, refl}
-use mathlib.Core.Bool.{Bool, true, false, cond, _&&_, not}
+use mathlib.Core.Bool.{Bool, true, false, cond, _&&_, _||_, not}
 use mathlib.Core.List.{List, [], _∷_}
 use mathlib.Core.Option.{some}
 use Prim.Native.Nat.{ℕ, suc, _+_, _≤_}
@@ -9,26 +9,32 @@ use lib.Dec.{eqb}
 use borrow.Author.Tests.{eqb-true}
 use Rattle.leaf_integers.proofs.Order.{leZ-refl}
 use Rattle.leaf_integers.proofs.Ranges.{inside-both}
+use Rattle.law.specs.Base.{Name, find}
 use Rattle.law.specs.Code as C
-use Rattle.law.specs.Elaborate.{Elaborated, Located, elabArms, elabBody, elabExpr, elabMembers, elabStmt, elabStmts, elabTarget, expects}
+use Rattle.law.specs.Elaborate.{Elaborated, Located, elabArguments, elabArms, elabBody, elabExpr, elabMembers, elabStmt, elabStmts, elabTarget, expects}
 use Rattle.law.specs.Environment.{Environment, NameSort, aProc, aType, aValue, aVar}
+use Rattle.law.specs.Machine.{storeCells}
 use Rattle.law.specs.Names.{Reached, armsOf, asExpr, atomOf, bodyOf, exprOf, exprsOf, stmtOf, stmtsOf, targetOf}
 use Rattle.law.specs.Rules.{allPlain, differ, keptArms, keptBody, keptStmt, keptStmts, labelsOf, looping, plainExpr}
 use Rattle.law.specs.Script as X
 use Rattle.law.specs.Syntax as S
-use Rattle.law.specs.Types.{Types, Vars, array?, baseOf, hostOf, infoAt, ordinal?, sizeOf}
+use Rattle.law.specs.Types.{Types, Vars, array?, baseOf, hostOf, infoAt, ordinal?, set?, sizeOf}
 use Rattle.law_theorems.proofs.Inversion.{none-some, and-true, some-inj, both-some, bind-some, given-some}
 use Rattle.law_theorems.proofs.ValuesInRange.{ord-layout, own-host}
 use Rattle.law_theorems.specs.ValuesInRange.{Formed, Test}
 use Rattle.law_theorems.proofs.CodeSized.{Limits, for-cell, int-between, labels-sized, operation-sized, pick-int}
 use Rattle.law_theorems.proofs.ElaboratedSafe.{One, argument, one-boolean, one-integer, one-ordinal, one-set, operands, single-cells}
+use Rattle.law_theorems.specs.LinesKeep.{Simple}
+use Rattle.law_theorems.proofs.ScriptCalls.{proc-is}
 use Rattle.law_theorems.proofs.Depths as Deep
 use Rattle.law_theorems.proofs.Depths.{DeepE, DeepEs, DeepT}
 use Rattle.law_theorems.proofs.StatementNumbers as Counted
 use Rattle.law_theorems.proofs.StatementNumbers.{Counted, CountedAll, CountedArms, CountedBody}
 use Rattle.code.specs.CodeReady.{Element, ReadyCode, literal, variable, at, lastNumber, makeSet, calculate, shortCut, calculate1, ReadyPlace, cell, index, shift, ReadyCodes, noCodes, _with_, ReadyAct, assignOrdinal, assignSet, copyCells, sequence, branchOn, whileLoop, forLoop, caseOf, callTo, raiseWith, noAct, ReadyActs, stop, _also_, ReadyCases, elseCase, noCase, oneCase, ReadyBody}
 
-module _ (σ : Environment) (xs : List Test) (𝓕 : Formed (σ .types) (σ .vars) xs) (𝓛 : Limits (σ .types) (σ .vars)) where
+-- with tables that are formed, and procedures whose parameters are of one cell
+module _ (σ : Environment) (xs : List Test) (𝓕 : Formed (σ .types) (σ .vars) xs) (𝓛 : Limits (σ .types) (σ .vars))
+    (procs : (w : Name) (p : ℕ) (ts : List ℕ) → find (σ .names) w ≡ some (aProc p ts) → Simple (σ .types) ts) where
   abbrev Γ : Types
   Γ = σ .types
 
@@ -42,10 +48,10 @@ module _ (σ : Environment) (xs : List Test) (𝓕 : Formed (σ .types) (σ .var
 
   data Valued : ℕ → C.Code → ℕ → Type 0 where
     single : {d : ℕ} {c : C.Code} {k : ℕ} → Sole k → ReadyCode d c → Valued d c k
-    cells : {d a k : ℕ} → a + sizeOf Γ k ≤ 2048 → Valued d (C.load (C.cell a) (sizeOf Γ k)) k
+    cells : {d a k : ℕ} → a + sizeOf Γ k ≤ storeCells → Valued d (C.load (C.cell a) (sizeOf Γ k)) k
     copied : {d : ℕ} {q : C.Place} {k : ℕ} → ReadyPlace d q (sizeOf Γ k) → Valued (suc d) (C.load q (sizeOf Γ k)) k
 
-  one-cell : (a n : ℕ) {d : ℕ} → n ≡ 1 → a + n ≤ 2048 → ReadyCode d (C.load (C.cell a) n)
+  one-cell : (a n : ℕ) {d : ℕ} → n ≡ 1 → a + n ≤ storeCells → ReadyCode d (C.load (C.cell a) n)
   one-cell a n e l = rw e (variable {a = a} (omega arith))
 
   one-place : {d : ℕ} {p : C.Place} (n : ℕ) → n ≡ 1 → ReadyPlace d p n → ReadyCode (suc d) (C.load p n)
@@ -67,7 +73,7 @@ module _ (σ : Environment) (xs : List Test) (𝓕 : Formed (σ .types) (σ .var
   ordinal-of n k e o v = one-of v (rw (← eqb-true n k e) (one-ordinal Γ Δ xs 𝓕 n o))
 
   -- what is read of a variable, of a place
-  read-cells : {d : ℕ} (b : Bool) (a t : ℕ) → ordinal? Γ t ≡ b → a + sizeOf Γ t ≤ 2048 → Valued d (C.load (C.cell a) (sizeOf Γ t)) (hostOf Γ t)
+  read-cells : {d : ℕ} (b : Bool) (a t : ℕ) → ordinal? Γ t ≡ b → a + sizeOf Γ t ≤ storeCells → Valued d (C.load (C.cell a) (sizeOf Γ t)) (hostOf Γ t)
   read-cells true a t o l = single (one-ordinal Γ Δ xs 𝓕 (hostOf Γ t) (𝓕 .hosts t o)) (one-cell a (sizeOf Γ t) (one-size t (one-ordinal Γ Δ xs 𝓕 t o)) l)
   read-cells false a t o l = rw (own-host _ t _ o) (cells l)
 
@@ -97,7 +103,7 @@ module _ (σ : Environment) (xs : List Test) (𝓕 : Formed (σ .types) (σ .var
     name-ready : (s : NameSort) {x : X.Expr} {r : Elaborated} → asExpr s ≡ some x → elabExpr Γ Δ x ≡ some r → Valued d (r .code) (r .kind)
     name-ready (aType t) h k = none-some h
     name-ready (aVar i) h k = variable-ready i (rw (← some-inj h) at k)
-    name-ready (aProc p) h k = none-some h
+    name-ready (aProc p ts) h k = none-some h
     name-ready (aValue c) h k = literal-ready c (rw (← some-inj h) at k)
 
     atom-ready : (c : S.Constant) {x : X.Expr} {r : Elaborated} → atomOf σ c ≡ some x → elabExpr Γ Δ x ≡ some r → Valued d (r .code) (r .kind)
@@ -155,6 +161,21 @@ module _ (σ : Environment) (xs : List Test) (𝓕 : Formed (σ .types) (σ .var
   wanted-boolean : {d : ℕ} {e : S.Expr} → DeepE d e → (x : X.Expr) (c : C.Code) → exprOf σ e ≡ some x → expects Γ Δ 1 x ≡ some c → ReadyCode d c
   wanted-boolean e x c h k = wanted-ordinal e 1 (𝓕 .booleans .0) x c h k
 
+  -- ---- arguments, for ordinals and sets
+
+  wanted-argument : {d : ℕ} {e : S.Expr} → DeepE d e → (b : Bool) (t : ℕ) → ordinal? Γ t ≡ b → (b || set? Γ t) ≡ true → (x : X.Expr) (c : C.Code) → exprOf σ e ≡ some x → expects Γ Δ (hostOf Γ t) x ≡ some c
+      → ReadyCode d c
+  wanted-argument e true t o s x c h k = wanted-ordinal e (hostOf Γ t) (𝓕 .hosts t o) x c h k
+  wanted-argument e false t o s x c h k = one-of (rw (own-host _ t _ o) at (wanted e (hostOf Γ t) x c h k)) (one-set Γ Δ xs 𝓕 t s)
+
+  ready-arguments : {d : ℕ} {es : S.Exprs} → DeepEs d es → (ys : X.Exprs) (ts : List ℕ) → Simple Γ ts → (cs : C.Codes) → exprsOf σ es ≡ some ys → elabArguments Γ Δ ts ys ≡ some cs → ReadyCodes d cs
+  unfolding exprsOf elabArguments
+  ready-arguments Deep.nil ys [] s cs h k = rw (← some-inj (rw (← some-inj h) at k)) noCodes
+  ready-arguments Deep.nil ys (t ∷ ts) s cs h k = none-some (rw (← some-inj h) at k)
+  ready-arguments (Deep._and_ e es) ys [] s cs h k = bind-some h λ y _ h. bind-some h λ zs _ h. none-some (rw (← some-inj h) at k)
+  ready-arguments (Deep._and_ e es) ys (t ∷ ts) s cs h k = bind-some h λ y hy h. bind-some h λ zs hzs h. both-some (rw (← some-inj h) at k) λ c ds hc hds k.
+      rw (← some-inj k) (wanted-argument e _ t refl (s 0 (omega arith)) y c hy hc with ready-arguments es zs ts (λ j l. s (suc j) (omega arith)) ds hzs hds)
+
   -- to a target that is no ordinal
   putting-whole : {d : ℕ} {c : C.Code} (n k : ℕ) {p : C.Place} → n ≤ 4096 → ReadyPlace d p (sizeOf Γ k) → Valued (suc d) c k → ReadyAct d (C.assignWhole n p c)
   putting-whole n k l p (single o c) = assignSet l (rw (single-cells _ o k _) at p) c
@@ -189,7 +210,8 @@ module _ (σ : Environment) (xs : List Test) (𝓕 : Formed (σ .types) (σ .var
     ready-s (Counted.case n e bs) x js a h p k = bind-some h λ y hy h. bind-some h λ ys hys h. bind-some (rw (← some-inj h) at k) λ c hc k. bind-some k λ cs hcs k. given-some k λ o k.
         let q = and-true (plainExpr y && differ (labelsOf ys)) (keptArms ys js) (rw (← some-inj h) at p) in
         rw (← k) (caseOf (n .to) (one-of (ready-e e y c hy hc) (one-ordinal Γ Δ xs 𝓕 (c .kind) o)) (ready-a bs ys js _ cs hys (q .1) hcs))
-    ready-s (Counted.call n) x js a h p k = bind-some h λ i _ h. rw (← some-inj (rw (← some-inj h) at k)) (callTo (n .to))
+    ready-s (Counted.call {w = w} n es) x js a h p k = bind-some h λ i hi h. bind-some h λ ys hys h. bind-some (rw (← some-inj h) at k) λ cs hcs k. bind-some hi λ m hm q.
+        rw (← some-inj k) (callTo (n .to) (ready-arguments es ys (i .1) (procs w (i .0) (i .1) (rw (proc-is m i q) at hm)) cs hys hcs))
     ready-s (Counted.raise n e) x js a h p k = bind-some h λ y hy h. bind-some (rw (← some-inj h) at k) λ c hc k.
         rw (← some-inj k) (raiseWith (n .to) (wanted-ordinal e 0 (𝓕 .integers .0) y c hy hc))
     ready-s Counted.skip x js a h p k = rw (← some-inj (rw (← some-inj h) at k)) noAct
@@ -209,8 +231,8 @@ module _ (σ : Environment) (xs : List Test) (𝓕 : Formed (σ .types) (σ .var
         let q = and-true (allPlain ls && keptStmt y js) (keptArms zs js) (rw (← some-inj h) at p) in let q′ = and-true (allPlain ls) (keptStmt y js) (q .0) in
         rw (← some-inj k) (oneCase (labels-sized Γ Δ 𝓛 n ls (q′ .0) ns hns) (ready-s s y js a hy (q′ .1) ha) (ready-a bs zs js n ds hzs (q .1) hds))
 
-  pub body-ready : {b : S.Body} → CountedBody 4096 b → (x : X.Body) (c : C.BodyCode) → bodyOf σ b ≡ some x → keptBody x ≡ true → elabBody Γ Δ x ≡ some c → ReadyBody 31 c
+  pub body-ready : {b : S.Body} → CountedBody 4096 b → (f : C.Frame) (x : X.Body) (c : C.BodyCode) → bodyOf σ b ≡ some x → keptBody x ≡ true → elabBody Γ Δ f x ≡ some c → ReadyBody 31 c
   unfolding bodyOf elabBody keptBody
-  body-ready w x c h p k = bind-some h λ y hy h. bind-some h λ z hz h. both-some (rw (← some-inj h) at k) λ d e hd he k.
+  body-ready w f x c h p k = bind-some h λ y hy h. bind-some h λ z hz h. both-some (rw (← some-inj h) at k) λ d e hd he k.
       let q = and-true (keptStmts y []) (keptStmts z []) (rw (← some-inj h) at p) in
       rw (← some-inj k) (record { acts = ready-b (w .stmts) y [] d hy (q .0) hd; handler = ready-b (w .handler) z [] e hz (q .1) he })

@@ -9,12 +9,13 @@ use borrow.Author.Tests.{ltb-true, ltb-false, ne-eqb}
 use lib.Dec.{eqb, ltb}
 use lib.IntN.{ℤ}
 use lib.ListN.{length, getD, List·getD-eq-default}
-use Rattle.law.specs.Code.{Code, Place, Act, assignOrdinal, assignWhole, sequence, branchOn, whileLoop, forLoop, caseOf, callTo, raiseWith, noAct, Acts, stop, _also_, Cases, elseCase, noCase, oneCase, BodyCode}
-use Rattle.code.specs.Layout.{lay, link, bits, layLabels, layAct, layActs, layCases, flag, layBody}
-use Rattle.code.specs.Readback.{actOp, actOpUnless, actOpAt, integerAt, labelsFrom, readLabels, actFrom, actsFrom, armFrom, casesFrom, readAct, readActs, readCases, readBody, atPlaces, allAtPlaces, casesAtPlaces, bodyAtPlaces}
+use Rattle.law.specs.Code.{Code, Codes, Place, Act, assignOrdinal, assignWhole, sequence, branchOn, whileLoop, forLoop, caseOf, callTo, raiseWith, noAct, Acts, stop, _also_, Cases, elseCase, noCase, oneCase, BodyCode}
+use Rattle.code.specs.Layout.{lay, link, bits, layLabels, layAct, layActs, layCases, flag, layFrame, layBody}
+use Rattle.code.specs.Readback.{actOp, actOpUnless, actOpAt, integerAt, labelsFrom, readLabels, actFrom, actsFrom, armFrom, casesFrom, readAct, readActs, readCases, frameOfBody, readBody, atPlaces, allAtPlaces, casesAtPlaces, bodyAtPlaces}
 use Rattle.code.specs.LayoutSize.{sizeLabels, sizeAct, sizeActs, sizeCases, sizeBody, LabelsFit, label-fits, ActFits, ordinal-fits, whole-fits, sequence-fits, branch-fits, while-fits, for-fits, case-fits, call-fits, raise-fits, ActsFit, also-fit, CasesFit, else-fits, one-case-fits, BodyFits}
 use Rattle.code.proofs.LayoutRegions.{Lays, Chains, Has, Linked, lay-pos, lay-l, none-l, end-c, map-l, map-c, _next_, slot-l, link-c}
-use Rattle.code.proofs.LayoutCode.{signed-bits, first, CodeAt, PlaceAt, laid-code, laid-place}
+use Rattle.code.proofs.LayoutCode.{signed-bits, first, CodeAt, CodesAt, PlaceAt, laid-code, laid-codes, laid-place}
+use Rattle.code.proofs.LayoutFrame.{FrameAt, laid-frame}
 use Rattle.code.specs.LayoutActs.{Begins}
 
 unfoldable reading : Unit {0}
@@ -127,10 +128,11 @@ module _ (bodies : List ℕ) where
       read-case h C A (case-fits f g) (suc d) e =
           rw (act-op _ _ _ _ h, h .at 1 (omega arith), h .at 2 (omega arith), h .at 3 (omega arith), C .read f d (omega arith), A .read g places N d (omega arith))
 
-      read-call : {n k : ℕ} → Has (50 ∷ n ∷ getD bodies k 0 ∷ []) p l → ActFits (length bodies) (callTo n k) → (d : ℕ) → sizeAct (callTo n k) ≤ d → readAct d l p ≡ atPlaces places (callTo n k)
+      read-call : {n k s : ℕ} {cs : Codes} → Has (50 ∷ n ∷ getD bodies k 0 ∷ s ∷ []) p l → CodesAt l s cs
+          → ActFits (length bodies) (callTo n k cs) → (d : ℕ) → sizeAct (callTo n k cs) ≤ d → readAct d l p ≡ atPlaces places (callTo n k cs)
       unfolding reading
-      read-call h f zero e = absurd (omega arith)
-      read-call {k} h (call-fits i) (suc d) e = rw (act-op _ _ _ _ h, h .at 1 (omega arith), h .at 2 (omega arith), N .at k i)
+      read-call h A f zero e = absurd (omega arith)
+      read-call {k} h A (call-fits i f) (suc d) e = rw (act-op _ _ _ _ h, h .at 1 (omega arith), h .at 2 (omega arith), h .at 3 (omega arith), N .at k i, A .read f d (omega arith))
 
   -- place 0
   read-none : (l : List ℕ) (d : ℕ) → readAct d l 0 ≡ noAct
@@ -192,7 +194,8 @@ module _ (bodies : List ℕ) where
         (λ l′ h. record { read = λ f P N. read-for P N (h .1) (h .0 .0 .0) (h .0 .0 .1) (h .0 .1) f })
     laid-act (caseOf n c cs) t l =
         map-l (laid-code c t l next slot-l (laid-cases cs _ _ _) next lay-l _ _ _) (λ l′ h. record { read = λ f P N. read-case P N (h .1) (h .0 .0) (h .0 .1 .1) f })
-    laid-act (callTo n p) t l = map-l (lay-l (50 ∷ n ∷ getD bodies p 0 ∷ []) t l) (λ l′ h. record { read = λ f P N. read-call P N h f })
+    laid-act (callTo n p cs) t l =
+        map-l (slot-l (laid-codes cs t _ _) next lay-l _ _ _) (λ l′ h. record { read = λ f P N. read-call P N (h .1) (h .0 .1) f })
     laid-act (raiseWith n c) t l = map-l (laid-code c t l next lay-l _ _ _) (λ l′ h. record { read = λ f P N. read-raise (h .1) (h .0) f })
     laid-act noAct t l = map-l (none-l {p = 0}) (λ l′ h. record { read = λ f P N d e. read-none l′ d })
 
@@ -227,23 +230,24 @@ module _ (bodies : List ℕ) where
   flag-back true = refl
   flag-back false = refl
 
-  read-body : {l : List ℕ} {p k s h : ℕ} (b : BodyCode) → Has (k ∷ s ∷ flag (b .handles) ∷ h ∷ []) p l → ActsAt l s (b .acts) → ActsAt l h (b .handler)
+  read-body : {l : List ℕ} {p k s h q : ℕ} (b : BodyCode) → Has (k ∷ s ∷ flag (b .handles) ∷ h ∷ q ∷ []) p l → FrameAt l q (b .frame) → ActsAt l s (b .acts) → ActsAt l h (b .handler)
       → BodyFits (length bodies) b → (places : List ℕ) → Begins bodies places → (d : ℕ) → sizeBody b ≤ d → readBody d l p ≡ bodyAtPlaces places b
-  unfolding readBody bodyAtPlaces sizeBody
-  read-body b n A H f places N d e =
-      rw (n .at 1 (omega arith), n .at 2 (omega arith), n .at 3 (omega arith), flag-back (b .handles), A .read (f .acts-fit) places N d (omega arith), H .read (f .handler-fits) places N d (omega arith))
+  unfolding readBody frameOfBody bodyAtPlaces sizeBody
+  read-body b n F A H f places N d e =
+      rw (n .at 4 (omega arith), F .read (f .frame-fits), n .at 1 (omega arith), n .at 2 (omega arith), n .at 3 (omega arith), flag-back (b .handles), A .read (f .acts-fit) places N d (omega arith), H .read (f .handler-fits) places N d (omega arith))
 
   pub laid-body : (k : ℕ) (b : BodyCode) (t : ℕ) (l : List ℕ) → Lays (sizeBody b) t l (layBody bodies k b t l) (λ l′. BodyAt k l′ (layBody bodies k b t l .pos) b)
   unfolding layBody sizeBody lay link
   laid-body k b t l =
-      let s = lay (0 ∷ []) t l in
-      let m = layActs bodies (b .acts) t (s .top) (s .list) in
-      map-l (slot-l (laid-acts (b .acts) t _ _) next slot-l (laid-acts (b .handler) _ _ _) next lay-l (k ∷ t ∷ flag (b .handles) ∷ m .top ∷ []) _ _)
+      let f = layFrame (b .frame) t l in
+      let s = lay (0 ∷ []) (f .top) (f .list) in
+      let m = layActs bodies (b .acts) (f .top) (s .top) (s .list) in
+      map-l (laid-frame (b .frame) t l next slot-l (laid-acts (b .acts) _ _ _) next slot-l (laid-acts (b .handler) _ _ _) next lay-l (k ∷ f .top ∷ flag (b .handles) ∷ m .top ∷ f .pos ∷ []) _ _)
       (λ l′ h. record {
         later = h .1 .later;
-        inside = has-inside (h .1) (h .0 .0 .0);
+        inside = has-inside (h .1) (h .0 .0 .1 .0);
         number = first _ _ _ _ (h .1);
-        read = read-body b (h .1) (h .0 .0 .1) (h .0 .1 .1);
+        read = read-body b (h .1) (h .0 .0 .0) (h .0 .0 .1 .1) (h .0 .1 .1);
       })
 
   -- ---- where it stands: at or below the free place
@@ -257,7 +261,7 @@ module _ (bodies : List ℕ) where
   act-pos (whileLoop n c a) t l = lay-pos _ _ _
   act-pos (forLoop n i lo hi c d a) t l = lay-pos _ _ _
   act-pos (caseOf n c cs) t l = lay-pos _ _ _
-  act-pos (callTo n p) t l = lay-pos _ _ _
+  act-pos (callTo n p cs) t l = lay-pos _ _ _
   act-pos (raiseWith n c) t l = lay-pos _ _ _
   act-pos noAct t l = omega arith
 

@@ -12,7 +12,7 @@ use Rattle.law.specs.Code as C
 use Rattle.law.specs.Code.{BodyCode}
 use Rattle.law.specs.Operators.{Operation1}
 use Rattle.code.specs.Layout.{layBody, layBodies}
-use Rattle.code.specs.LayoutSize.{IsInteger, Fits1, negate-fits, not-fits, abs-fits, sqr-fits, odd-fits, ord-fits, card-fits, least-fits, greatest-fits, pred-fits, succ-fits, CodeFits, literal-fits, load-fits, last-fits, set-fits, calculate-fits, short-fits, calculate1-fits, PlaceFits, cell-fits, index-fits, shift-fits, CodesFit, none-fit, with-fit, LabelsFit, no-labels-fit, label-fits, ActFits, ordinal-fits, whole-fits, sequence-fits, branch-fits, while-fits, for-fits, case-fits, call-fits, raise-fits, no-act-fits, ActsFit, stop-fits, also-fit, CasesFit, else-fits, no-case-fits, one-case-fits, BodyFits, sizeBody, sizeBodies}
+use Rattle.code.specs.LayoutSize.{IsInteger, Fits1, negate-fits, not-fits, abs-fits, sqr-fits, odd-fits, ord-fits, card-fits, least-fits, greatest-fits, pred-fits, succ-fits, CodeFits, literal-fits, load-fits, last-fits, set-fits, calculate-fits, short-fits, calculate1-fits, PlaceFits, cell-fits, index-fits, shift-fits, CodesFit, none-fit, with-fit, LabelsFit, no-labels-fit, label-fits, ActFits, ordinal-fits, whole-fits, sequence-fits, branch-fits, while-fits, for-fits, case-fits, call-fits, raise-fits, no-act-fits, ActsFit, stop-fits, also-fit, CasesFit, else-fits, no-case-fits, one-case-fits, WantsFit, no-wants-fit, ranged-fits, set-want-fits, BodyFits, sizeBody, sizeBodies}
 use Rattle.law_theorems.specs.Bodies as Numbered
 use Rattle.law_theorems.specs.CodeCalls as Calls
 use Rattle.law_theorems.specs.CodeCalls.{CallsBody}
@@ -65,9 +65,14 @@ labels-fit : {zs : List ℤ} → Sized.SizedLabels zs → LabelsFit zs
 labels-fit Sized.noLabels = no-labels-fit
 labels-fit (Sized.label z zs) = label-fits (z .ok) (labels-fit zs)
 
-module _ {k : ℕ} where
+wants-fit : {ws : List C.Want} → Sized.SizedWants ws → WantsFit ws
+wants-fit Sized.noWants = no-wants-fit
+wants-fit (Sized.ranged lo hi e ws) = ranged-fits (lo .ok) (hi .ok) e (wants-fit ws)
+wants-fit (Sized.anySet ws) = set-want-fits (wants-fit ws)
+
+module _ {qs : ℕ → C.Frame} {k : ℕ} where
   mutual
-    act-fits : {a : C.Act} → Sized.SizedAct a → Calls.Calls k a → ActFits k a
+    act-fits : {a : C.Act} → Sized.SizedAct a → Calls.Calls qs k a → ActFits k a
     act-fits (Sized.assignOrdinal n p a b c) h = ordinal-fits (place-fits p) (a .ok) (b .ok) (code-fits c)
     act-fits (Sized.assignWhole n p c) h = whole-fits (place-fits p) (code-fits c)
     act-fits (Sized.sequence n bs) (Calls.sequence h) = sequence-fits (all-fit bs h)
@@ -75,23 +80,23 @@ module _ {k : ℕ} where
     act-fits (Sized.whileLoop n c a) (Calls.whileLoop h) = while-fits (code-fits c) (act-fits a h)
     act-fits (Sized.forLoop n i lo hi c d a) (Calls.forLoop h) = for-fits (lo .ok) (hi .ok) (code-fits c) (code-fits d) (act-fits a h)
     act-fits (Sized.caseOf n c cs) (Calls.caseOf h) = case-fits (code-fits c) (cases-fit cs h)
-    act-fits (Sized.callTo n) (Calls.callTo h) = call-fits h
+    act-fits (Sized.callTo n cs) (Calls.callTo h c) = call-fits h (codes-fit cs)
     act-fits (Sized.raiseWith n c) h = raise-fits (code-fits c)
     act-fits Sized.noAct h = no-act-fits
 
-    all-fit : {bs : C.Acts} → Sized.SizedActs bs → Calls.CallsAll k bs → ActsFit k bs
+    all-fit : {bs : C.Acts} → Sized.SizedActs bs → Calls.CallsAll qs k bs → ActsFit k bs
     all-fit Sized.stop h = stop-fits
     all-fit (Sized._also_ a bs) (Calls._also_ h g) = also-fit (act-fits a h) (all-fit bs g)
 
-    cases-fit : {cs : C.Cases} → Sized.SizedCases cs → Calls.CallsCases k cs → CasesFit k cs
+    cases-fit : {cs : C.Cases} → Sized.SizedCases cs → Calls.CallsCases qs k cs → CasesFit k cs
     cases-fit (Sized.elseCase a) (Calls.elseCase h) = else-fits (act-fits a h)
     cases-fit Sized.noCase h = no-case-fits
     cases-fit (Sized.oneCase ls a cs) (Calls.oneCase h g) = one-case-fits (labels-fit ls) (act-fits a h) (cases-fit cs g)
 
-  pub body-fits : {b : BodyCode} → SizedBody b → CallsBody k b → BodyFits k b
-  body-fits s c = record { acts-fit = all-fit (s .acts) (c .acts); handler-fits = all-fit (s .handler) (c .handler) }
+  pub body-fits : {b : BodyCode} → SizedBody b → CallsBody qs k b → BodyFits k b
+  body-fits s c = record { frame-fits = record { wants-fit = wants-fit (s .frame .wants); empty-fits = s .frame .none }; acts-fit = all-fit (s .acts) (c .acts); handler-fits = all-fit (s .handler) (c .handler) }
 
-pub bodies-fit : {k : ℕ} {bs : List BodyCode} → Numbered.Bodies (λ _. SizedBody) k bs → Numbered.Bodies CallsBody k bs → Numbered.Bodies BodyFits k bs
+pub bodies-fit : {qs : ℕ → C.Frame} {k : ℕ} {bs : List BodyCode} → Numbered.Bodies (λ _. SizedBody) k bs → Numbered.Bodies (CallsBody qs) k bs → Numbered.Bodies BodyFits k bs
 bodies-fit Numbered.none c = Numbered.none
 bodies-fit (Numbered.body s ss) (Numbered.body c cs) = Numbered.body (body-fits s c) (bodies-fit ss cs)
 

@@ -14,11 +14,11 @@ use Rattle.code.specs.LayoutRegions.{Room, Same}
 
 -- ---- numbers written in a row
 
-sets-below : (ns : List ℕ) (l : List ℕ) (t i : ℕ) → i < t → getD (Seq.sets l t ns) i 0 ≡ getD l i 0
+pub sets-below : (ns : List ℕ) (l : List ℕ) (t i : ℕ) → i < t → getD (Seq.sets l t ns) i 0 ≡ getD l i 0
 sets-below [] l t i h = refl
 sets-below (n ∷ ns) l t i h = sets-below ns (set l t n) (suc t) i (omega arith) ∙ getD-set-other l t i n 0 (omega arith)
 
-sets-at : (ns : List ℕ) (l : List ℕ) (t i : ℕ) → t + length ns ≤ length l → i < length ns → getD (Seq.sets l t ns) (t + i) 0 ≡ getD ns i 0
+pub sets-at : (ns : List ℕ) (l : List ℕ) (t i : ℕ) → t + length ns ≤ length l → i < length ns → getD (Seq.sets l t ns) (t + i) 0 ≡ getD ns i 0
 sets-at [] l t i g h = absurd (omega arith)
 sets-at (n ∷ ns) l t zero g h =
     ap (λ k. getD (Seq.sets (set l t n) (suc t) ns) k 0) (omega arith)
@@ -157,6 +157,14 @@ end-c {s} {t} {l} = record {
 
 pub map-l : {n t : ℕ} {l : List ℕ} {o : Out} {Q R : List ℕ → Type 0} → Lays n t l o Q → ((l′ : List ℕ) → Q l′ → R l′) → Lays n t l o R
 map-l a f = record { grows = a .grows; top-is = a .top-is; held = λ r l′ e. f l′ (a .held r l′ e) }
+
+-- with where it ends
+pub top-l : {n t : ℕ} {l : List ℕ} {o : Out} {Q : List ℕ → Type 0} → Lays n t l o Q → Lays n t l o (λ l′. Q l′ × (o .top ≡ t + n))
+top-l a = record { grows = a .grows; top-is = a .top-is; held = λ r l′ e. (a .held r l′ e, a .top-is (r .fits)) }
+
+-- what it gives as its place is of no matter
+pub moved-l : {n t p : ℕ} {l : List ℕ} {o : Out} {Q : List ℕ → Type 0} → Lays n t l o Q → Lays n t l (out p (o .top) (o .list)) Q
+moved-l a = record { grows = record { up = a .grows .up; low = a .grows .low; long = a .grows .long; below = a .grows .below }; top-is = a .top-is; held = a .held }
 
 pub map-c : {n s t : ℕ} {l : List ℕ} {o : Out} {Q R : List ℕ → Type 0} → Chains n s t l o Q → ((l′ : List ℕ) → Q l′ → R l′) → Chains n s t l o R
 map-c a f = record { grows = a .grows; top-is = a .top-is; held = λ r g l′ h e. f l′ (a .held r g l′ h e) }

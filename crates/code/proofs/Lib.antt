@@ -1,5 +1,6 @@
 pub mod LayoutRegions
 pub mod LayoutCode
+pub mod LayoutFrame
 pub mod LayoutFits
 pub mod LayoutActs
 pub mod LayoutBodies

@@ -13,6 +13,7 @@ pub record Measure : Type 0 where
   pub code : Code → ℕ
   pub place : Place → ℕ
   pub codes : Codes → ℕ
+  pub arguments : Codes → ℕ
   pub labels : List ℤ → ℕ
   pub act : Act → ℕ
   pub acts : Acts → ℕ
@@ -32,6 +33,8 @@ pub record Measure : Type 0 where
   pub load-shift : (p : Place) (k n : ℕ) → code (load (shift p k) n) ≤ place p + 12
   pub no-codes : codes noCodes ≤ 0
   pub one-code : (c : Code) (cs : Codes) → codes (c with cs) ≤ code c + 2 + codes cs
+  pub no-arguments : arguments noCodes ≤ 0
+  pub one-argument : (c : Code) (cs : Codes) → arguments (c with cs) ≤ code c + 2 + arguments cs
   pub no-labels : labels [] ≤ 0
   pub one-label : (z : ℤ) (zs : List ℤ) → labels (z ∷ zs) ≤ 4 + labels zs
   pub of-ordinal : (n : ℕ) (p : Place) (lo hi : ℤ) (c : Code) → act (assignOrdinal n p lo hi c) ≤ place p + code c + 10
@@ -41,7 +44,7 @@ pub record Measure : Type 0 where
   pub of-while : (n : ℕ) (c : Code) (a : Act) → act (whileLoop n c a) ≤ code c + act a + 10
   pub of-for : (n i : ℕ) (lo hi : ℤ) (x y : Code) (a : Act) → act (forLoop n i lo hi x y a) ≤ code x + code y + act a + 16
   pub of-case : (n : ℕ) (c : Code) (cs : Cases) → act (caseOf n c cs) ≤ code c + cases cs + 8
-  pub of-call : (n p : ℕ) → act (callTo n p) ≤ 10
+  pub of-call : (n p : ℕ) (cs : Codes) → act (callTo n p cs) ≤ arguments cs + 10
   pub of-raise : (n : ℕ) (c : Code) → act (raiseWith n c) ≤ code c + 8
   pub of-nothing : act noAct ≤ 2
   pub no-acts : acts stop ≤ 0
@@ -50,7 +53,7 @@ pub record Measure : Type 0 where
   pub no-arms : cases noCase ≤ 0
   pub one-arm : (ls : List ℤ) (a : Act) (cs : Cases) → cases (oneCase ls a cs) ≤ labels ls + act a + cases cs + 10
 
--- bodies, with 8 numbers beside the statements of each: what the brackets and words of `(main)` pay for
+-- bodies, with 8 numbers beside the statements of each: what the brackets and words of `(main)` pay for. What parameters' pay for is left
 unfoldable pub total : Measure → List BodyCode → ℕ
 total M [] = 0
 total M (b ∷ bs) = M .acts (b .acts) + M .acts (b .handler) + 8 + total M bs
@@ -77,6 +80,7 @@ inLayout = record {
   code = sizeCode;
   place = sizePlace;
   codes = sizeCodes;
+  arguments = sizeCodes;
   labels = sizeLabels;
   act = sizeAct;
   acts = sizeActs;
@@ -95,6 +99,8 @@ inLayout = record {
   load-shift = λ p k n. omega arith;
   no-codes = omega arith;
   one-code = λ c cs. omega arith;
+  no-arguments = omega arith;
+  one-argument = λ c cs. omega arith;
   no-labels = omega arith;
   one-label = λ z zs. omega arith;
   of-ordinal = λ n p lo hi c. omega arith;
@@ -104,7 +110,7 @@ inLayout = record {
   of-while = λ n c a. omega arith;
   of-for = λ n i lo hi x y a. omega arith;
   of-case = λ n c cs. omega arith;
-  of-call = λ n p. omega arith;
+  of-call = λ n p cs. omega arith;
   of-raise = λ n c. omega arith;
   of-nothing = omega arith;
   no-acts = omega arith;

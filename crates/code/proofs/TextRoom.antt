@@ -2,21 +2,21 @@
 -- any measure (Measure), where nothing but code is laid.
 use mathlib.Core.Path.{_≡_, refl, ap, _∙_}
 use mathlib.Core.Bool.{Bool, true, false, not}
-use mathlib.Core.List.{List, [], _∷_, _++_}
+use mathlib.Core.List.{List, [], _∷_, _++_, map}
 use mathlib.Core.Option.{Option, some}
 use Prim.Native.Nat.{ℕ, suc, _+_, _*_, _≤_}
 use native.Mathlib.Omega.{arith}
 use borrow.Author.Tests.{leb-true}
 use lib.Dec.{leb}
-use lib.ListN.{length, length-append, drop}
+use lib.ListN.{length, length-append, length-map, drop}
 use Rattle.law.specs.Base.{Name, each}
 use Rattle.law.specs.Syntax as Syntax
 use Rattle.law.specs.Types.{Types, TypeSort, facts}
 use Rattle.law.specs.Script.{Decl, Entry, alias, arrayOf, enum, newMain, newProc, newType, newVar, range, recordOf, setOf}
-use Rattle.law.specs.Environment.{Declared, Environment, declNames, declareLine, enumNames, extendTypes, layFields, nothingDeclared, typeSortOf}
+use Rattle.law.specs.Environment.{Declared, Environment, declNames, declareLine, enumNames, extendTypes, frameOf, layFields, nothingDeclared, parameterTypes, typeSortOf, wantOf, within}
 use Rattle.law.specs.Names.{declOf, entryOf}
-use Rattle.law.specs.Code.{BodyCode}
-use Rattle.code.specs.LayoutSize.{sizeBodies, sizeDecl, sizeSymbols, sizeTypes, symbolSize}
+use Rattle.law.specs.Code.{BodyCode, Want, noFrame}
+use Rattle.code.specs.LayoutSize.{sizeBodies, sizeDecl, sizeParameters, sizeSymbols, sizeTypes, sizeWants, symbolSize}
 use Rattle.law.specs.Ceilings.{lineBounded}
 use Rattle.law.specs.Lines.{Line, linesOf}
 use Rattle.law.specs.Rules.{keepsRules}
@@ -25,7 +25,8 @@ use Rattle.law.specs.Verdict.{must, Read, Verdict, accepted, good, has, judge, 
 use Rattle.law.specs.Whole.{verdictOf}
 use Rattle.law_theorems.proofs.Inversion.{some-inj, bind-some, given-some, and-true}
 use Rattle.law_theorems.proofs.TextsAgree.{bad-good, accepted-inj, good-inj, musted, onward-is, opening-is, refused-accepted, stage}
-use Rattle.law_theorems.proofs.Weights.{line-weighs, weightD, weightL, worded-nodes}
+use Rattle.law_theorems.proofs.Weights.{line-weighs, weightD, weightL, weightP, worded-nodes}
+use Rattle.law_theorems.proofs.LinesKeep.{within-parameters}
 use Rattle.code.proofs.Measure.{Measure, total}
 use Rattle.code.proofs.CodeRoom.{body-room, body-takes}
 use Rattle.code.specs.TextRoom.{Room, spare}
@@ -46,17 +47,33 @@ decl-room σ w (Syntax.arrayOf i e) d h = bind-some h λ x _ h. bind-some h λ y
 decl-room σ w (Syntax.recordOf fs) d h = bind-some h λ gs hgs h. given-some h λ _ e. rw (← e) (let l = each-length _ fs hgs in omega arith)
 decl-room σ w (Syntax.setOf b) d h = bind-some h λ x _ h. given-some h λ _ e. rw (← e) (omega arith)
 
--- a line's symbol entries and its body's code; two numbers are left over
+-- parameters, with their types
+wants-size : (ws : List Want) → sizeWants ws ≡ 2 * length ws
+unfolding sizeWants
+wants-size [] = refl
+wants-size (w ∷ ws) = rw (wants-size ws) (omega arith)
+
+frame-room : (σ : Environment) (qs : List (Name × ℕ)) (ps : List (Name × Syntax.TypeName)) → length qs ≡ length ps → length qs + sizeParameters (frameOf σ qs .wants) ≤ 4 * weightP ps
+unfolding frameOf sizeParameters weightP
+frame-room σ [] ps h = omega arith
+frame-room σ (q ∷ qs) [] h = absurd (omega arith)
+frame-room σ (q ∷ qs) (p ∷ ps) h =
+    let e = wants-size (map (wantOf (σ .types)) (parameterTypes (q ∷ qs))) in
+    let l : length (map (wantOf (σ .types)) (parameterTypes (q ∷ qs))) ≡ length (q ∷ qs) = length-map (parameterTypes (q ∷ qs)) (wantOf (σ .types)) ∙ length-map (q ∷ qs) (λ (p : Name × ℕ). p .1) in
+    omega arith
+
+-- a line's symbol entries and its body's code; one number is left over
 pub entry-room : (σ : Environment) (f : Syntax.LineForm) (e : Entry) (cs : List BodyCode) → entryOf σ f ≡ some e → strictly σ e ≡ some cs
-    → symbolSize e + sizeBodies cs + 2 ≤ 4 * weightL f
-unfolding entryOf strictly symbolSize sizeBodies weightL
+    → symbolSize e + sizeBodies cs + 1 ≤ 4 * weightL f
+unfolding entryOf strictly symbolSize sizeBodies sizeParameters weightL
 entry-room σ (Syntax.typeLine w t) e cs h k = bind-some h λ d hd h.
     rw (← some-inj h, ← some-inj (rw (← some-inj h) at k)) (let l = decl-room σ w t d hd in omega arith)
 entry-room σ (Syntax.varLine w t) e cs h k = bind-some h λ n _ h. given-some h λ _ h. rw (← h, ← some-inj (rw (← h) at k)) (omega arith)
-entry-room σ (Syntax.procLine w b) e cs h k = bind-some h λ x hx h. given-some h λ _ h. bind-some (rw (← h) at k) λ c hc k.
-    rw (← h, ← some-inj k) (let l = body-room σ (σ .types) (σ .vars) b x c hx hc in omega arith)
+entry-room σ (Syntax.procLine w ps b) e cs h k = bind-some h λ qs hqs h. bind-some h λ x hx h. given-some h λ _ h. bind-some (rw (← h) at k) λ c hc k.
+    rw (← h, ← some-inj k) (let l = body-room (within σ qs) (within σ qs .types) (within σ qs .vars) (frameOf σ qs) b x c hx hc in
+    let m = each-length _ ps hqs in let n = frame-room σ qs ps m in omega arith)
 entry-room σ (Syntax.mainLine b) e cs h k = bind-some h λ x hx h. bind-some (rw (← some-inj h) at k) λ c hc k.
-    rw (← some-inj h, ← some-inj k) (let l = body-room σ (σ .types) (σ .vars) b x c hx hc in omega arith)
+    rw (← some-inj h, ← some-inj k) (let l = body-room σ (σ .types) (σ .vars) noFrame b x c hx hc in omega arith)
 
 -- ---- what all lines so far take
 
@@ -97,7 +114,7 @@ pub line-symbols : (k : Declared) (e : Entry) (s n : ℕ) → 2 ≤ length (k .e
 unfolding declareLine sizeSymbols symbolSize
 line-symbols k (newType w d) s n h = rw length-append (let l = decl-symbols (k .env .types) w d h in omega arith)
 line-symbols k (newVar w t) s n h = omega arith
-line-symbols k (newProc w b) s n h = omega arith
+line-symbols k (newProc w ps b) s n h = rw (within-parameters (k .env) ps, length-append, length-map) (omega arith)
 line-symbols k (newMain b) s n h = omega arith
 
 -- the built-in types stay
@@ -114,14 +131,14 @@ pub line-types : (k : Declared) (e : Entry) (s n : ℕ) → length (k .env .type
 unfolding declareLine
 line-types k (newType w d) s n = extend-length (k .env .types) d
 line-types k (newVar w t) s n = omega arith
-line-types k (newProc w b) s n = omega arith
+line-types k (newProc w ps b) s n = omega arith
 line-types k (newMain b) s n = omega arith
 
 pub declared-nodes : (k : Declared) (e : Entry) (s n : ℕ) → declareLine k e s n .nodes ≡ n
 unfolding declareLine
 declared-nodes k (newType w d) s n = refl
 declared-nodes k (newVar w t) s n = refl
-declared-nodes k (newProc w b) s n = refl
+declared-nodes k (newProc w ps b) s n = refl
 declared-nodes k (newMain b) s n = refl
 
 pub bodies-append : (bs cs : List BodyCode) → sizeBodies (bs ++ cs) ≡ sizeBodies bs + sizeBodies cs
@@ -142,12 +159,12 @@ line-weight k l p h c =
     (leb-true _ _ (and-true (lineBounded k e) (leb (k .nodes + nodes t) 4096) h₉ .1))
 
 pub line-room : {P : Type 0} (k : Declared) (l : Line) (p : Declared × List BodyCode) → judgeLine strictly k l ≡ good p
-    → ((e : Entry) (s n : ℕ) → declareLine k e s (k .nodes + n) ≡ p .0 → symbolSize e + sizeBodies (p .1) + 2 ≤ 4 * n → k .nodes + n ≤ 4096 → P) → P
+    → ((e : Entry) (s n : ℕ) → declareLine k e s (k .nodes + n) ≡ p .0 → symbolSize e + sizeBodies (p .1) + 1 ≤ 4 * n → k .nodes + n ≤ 4096 → P) → P
 line-room k l p h c = line-weight k l p h λ f e s n h₇ h₈ hp w hn. c e s n hp (let d = entry-room (k .env) f e (p .1) h₇ h₈ in omega arith) hn
 
 -- ---- lines and texts
 
-spare-few : (b : Bool) → spare b ≤ 2
+spare-few : (b : Bool) → spare b ≤ 1
 spare-few true = omega arith
 spare-few false = omega arith
 
@@ -186,7 +203,7 @@ pub text-within : (text : List ℕ) (work : ℕ) (r : Read) → verdictOf text w
 unfolding verdictOf judge
 text-within text work r h =
     let m : r .known .ended ≡ true = opening-is _ _ _ _ _ h λ h _. main-came 1 (linesOf text) _ r h in
-    let w : sizeSymbols (r .known .env) + sizeBodies (r .codes) + 2 ≤ 4 * r .known .nodes = rw m at (room-text text work r h .within) in
+    let w : sizeSymbols (r .known .env) + sizeBodies (r .codes) + 1 ≤ 4 * r .known .nodes = rw m at (room-text text work r h .within) in
     omega arith
 
 -- so 16,384 are
@@ -216,10 +233,10 @@ module _ (M : Measure) where
   unfolding entryOf strictly total weightL
   entry-total σ (Syntax.typeLine w t) e cs h k = bind-some h λ d hd h. rw (← some-inj (rw (← some-inj h) at k)) (omega arith)
   entry-total σ (Syntax.varLine w t) e cs h k = bind-some h λ n _ h. given-some h λ _ h. rw (← some-inj (rw (← h) at k)) (omega arith)
-  entry-total σ (Syntax.procLine w b) e cs h k = bind-some h λ x hx h. given-some h λ _ h. bind-some (rw (← h) at k) λ c hc k.
-      rw (← some-inj k) (let l = body-takes M σ (σ .types) (σ .vars) b x c hx hc in omega arith)
+  entry-total σ (Syntax.procLine w ps b) e cs h k = bind-some h λ qs _ h. bind-some h λ x hx h. given-some h λ _ h. bind-some (rw (← h) at k) λ c hc k.
+      rw (← some-inj k) (let l = body-takes M (within σ qs) (within σ qs .types) (within σ qs .vars) (frameOf σ qs) b x c hx hc in omega arith)
   entry-total σ (Syntax.mainLine b) e cs h k = bind-some h λ x hx h. bind-some (rw (← some-inj h) at k) λ c hc k.
-      rw (← some-inj k) (let l = body-takes M σ (σ .types) (σ .vars) b x c hx hc in omega arith)
+      rw (← some-inj k) (let l = body-takes M σ (σ .types) (σ .vars) noFrame b x c hx hc in omega arith)
 
   line-total : (k : Declared) (cs : List BodyCode) (l : Line) (p : Declared × List BodyCode) → judgeLine strictly k l ≡ good p → total M cs ≤ 4 * k .nodes → total M (cs ++ p .1) ≤ 4 * p .0 .nodes
   line-total k cs l p h t = line-weight k l p h λ f e s n h₇ h₈ hp w hn.

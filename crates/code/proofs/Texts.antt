@@ -1,18 +1,18 @@
 -- The code of an accepted text, for those who lay it down and run it: facts about it, its layout, and the machine over the working list.
-use mathlib.Core.Path.{_≡_, refl}
+use mathlib.Core.Path.{_≡_, refl, sym, _∙_}
 use mathlib.Core.Bool.{false}
-use mathlib.Core.List.{List, [], map}
+use mathlib.Core.List.{List, [], _∷_, _++_, append-assoc, map}
 use mathlib.Core.Option.{none}
 use Prim.Native.Nat.{ℕ, _+_, _*_, _-_, _<_, _≤_}
 use native.Mathlib.Omega.{arith}
 use lib.IntN.{ℤ}
-use lib.ListN.{length, getD}
+use lib.ListN.{List·getD-append, length, getD}
 use Rattle.law.specs.Environment.{PlacedBody}
-use Rattle.law.specs.Code.{BodyCode, stop}
+use Rattle.law.specs.Code.{BodyCode, Frame, noFrame, stop}
 use Rattle.code.specs.Layout.{Laid, layBodies}
 use Rattle.code.specs.LayoutSize.{sizeBody, sizeBodies, sizeSymbols}
 use Rattle.code.specs.Readback.{readBody, bodyAtPlaces}
-use Rattle.law.specs.Machine.{normal}
+use Rattle.law.specs.Machine.{Proc, normal}
 use Rattle.law.specs.Store.{storeFault}
 use Rattle.law.specs.Verdict.{Read, accepted}
 use Rattle.law.specs.Whole.{fresh, runAll, verdictOf}
@@ -20,8 +20,8 @@ use Rattle.code.specs.ListMachine.{called}
 use Rattle.law_theorems.proofs.TextsAgree.{Paired, empty, more, judged-agree}
 use Rattle.law_theorems.proofs.ValuesInRange.{Sound}
 use Rattle.law_theorems.specs.ValuesInRange.{Test}
-use Rattle.law_theorems.proofs.LinesKeep.{text-keeps}
-use Rattle.law_theorems.specs.LinesKeep.{AllFormed, body as formed, tests}
+use Rattle.law_theorems.proofs.LinesKeep.{text-keeps, text-stand}
+use Rattle.law_theorems.specs.LinesKeep.{AllFormed, body as formed, framesOf, storeTests}
 use Rattle.law_theorems.proofs.BodiesInRange.{store-sound}
 use Rattle.law_theorems.proofs.Programs.{no-procs}
 use Rattle.law_theorems.proofs.StatementsNoted.{all-n, answer-n}
@@ -29,10 +29,11 @@ use Rattle.law_theorems.specs.StatementsNoted.{Notes}
 use Rattle.law_theorems.specs.Bodies as Numbered
 use Rattle.law_theorems.specs.Bodies.{Bodies}
 use Rattle.law_theorems.proofs.CodeSafe.{SafeBody}
-use Rattle.law_theorems.specs.CodeCalls.{CallsBody}
+use Rattle.law_theorems.specs.CodeCalls.{CallsBody, frameBy}
 use Rattle.law_theorems.specs.CodeSized.{SizedBody}
 use Rattle.code.specs.CodeReady.{ReadyBody}
 use Rattle.law_theorems.proofs.ElaboratedSafe.{body-safe}
+use Rattle.law_theorems.proofs.ScriptCalls.{body-calling-also}
 use Rattle.code.proofs.LinesMeasured.{text-measured}
 use Rattle.code.proofs.TextRoom.{text-within, text-room, total-room}
 use Rattle.code.proofs.Measure.{Measure, total}
@@ -44,30 +45,37 @@ use Rattle.code.proofs.LayoutFits.{all-laid, bodies-fit}
 use Rattle.code.proofs.ListMachineRuns.{bodies-run}
 
 no-body : BodyCode
-no-body = record { acts = stop; handles = false; handler = stop }
+no-body = record { frame = noFrame; acts = stop; handles = false; handler = stop }
 
 -- ---- the code of an accepted text, for those who lay it down and run it. The predicates are in CodeSafe, CodeCalls, CodeSized and CodeReady;
 -- bodies are counted from 0, main's is the last
 
-all-safe : {xs : List Test} {k : ℕ} {bs : List PlacedBody} {cs : List BodyCode} → Paired bs cs → AllFormed xs bs → Bodies (λ _. SafeBody xs) k cs
-all-safe empty a = Numbered.none
-all-safe {xs} (more {b} {c} h p) (formed 𝓕 a) = Numbered.body (body-safe (b .types) (b .vars) xs 𝓕 (b .body) c h) (all-safe p a)
+-- after bodies with the frames qs
+all-safe : {xs : List Test} {k : ℕ} {bs : List PlacedBody} {cs : List BodyCode} (all qs : List Frame) → all ≡ qs ++ framesOf bs → Paired bs cs → AllFormed xs qs bs
+    → Bodies (λ _. SafeBody xs (λ p. getD all p noFrame)) k cs
+all-safe all qs e empty a = Numbered.none
+all-safe {xs} all qs e (more {b} {c} {bs} h p) (formed 𝓕 j a) = Numbered.body
+    (body-safe (b .types) (b .vars) xs 𝓕 (λ p. getD all p noFrame) (b .frame) (b .body) c h
+    (body-calling-also (λ p ts K. rw (e, List·getD-append qs (framesOf (b ∷ bs)) noFrame p (K .below)) (K .framed)) j))
+    (all-safe all (qs ++ (b .frame ∷ [])) (e ∙ sym (append-assoc qs (b .frame ∷ []) (framesOf bs))) p a)
 
 module _ (text : List ℕ) (work : ℕ) (r : Read) (accept : verdictOf text work ≡ accepted r) where
   -- a test for each cell: what it may hold when it is defined
   abbrev pub cellTests : List Test
-  cellTests = tests (r .known .env .types) (r .known .cells)
+  cellTests = storeTests (r .known .env .types) (r .known .cells) (r .known .env .parameters)
 
   -- in every sound store, each expression's value is of its kind, each place lies in the store, each statement leaves a sound store
-  pub code-safe : Bodies (λ _. SafeBody cellTests) 0 (r .codes)
-  code-safe = judged-agree text work r accept λ es _ p. all-safe p (text-keeps text work r accept .bodies)
+  pub code-safe : Bodies (λ _. SafeBody cellTests (frameBy (r .codes))) 0 (r .codes)
+  code-safe = judged-agree text work r accept λ es _ p.
+      let K = text-keeps text work r accept in
+      all-safe (map (λ (c : BodyCode). c .frame) (r .codes)) [] (text-measured text work r accept .0 .frames) p (K .bodies cellTests (text-stand (r .known) K))
 
   -- an accepted store is sound
   pub store-is-sound : (vs : List ℤ) (ms : List ℕ) → storeFault (r .known .env .types) (r .known .cells) vs ms ≡ none → Sound cellTests (fresh vs ms)
-  store-is-sound vs ms h = store-sound (r .known .env .types) (r .known .cells) vs ms h
+  store-is-sound vs ms h = let K = text-keeps text work r accept in store-sound (r .known .env .types) (r .known .cells) (r .known .env .parameters) (K .lent) (K .stored) vs ms h
 
-  -- body number k calls only bodies below k
-  pub code-calls : Bodies CallsBody 0 (r .codes)
+  -- body number k calls only bodies below k, with as many arguments as these have parameters
+  pub code-calls : Bodies (CallsBody (frameBy (r .codes))) 0 (r .codes)
   code-calls = text-measured text work r accept .0 .calls
 
   -- the numbers in the code are small
@@ -80,7 +88,7 @@ module _ (text : List ℕ) (work : ℕ) (r : Read) (accept : verdictOf text work
 
   -- the statement of the last exception is one of the script's
   pub statement-noted : Notes (runAll (r .codes) [])
-  statement-noted = all-n code-sized [] (no-procs Notes (answer-n normal))
+  statement-noted = all-n code-sized [] (no-procs (λ (f : Proc). Notes (f .run)) (answer-n normal))
 
   -- how many cells, and how many bodies
   pub cell-count : length (r .known .cells) ≤ 2048

@@ -4,13 +4,14 @@ use mathlib.Core.List.{List, [], _∷_}
 use mathlib.Core.Path.{_≡_}
 use Prim.Native.Nat.{ℕ, suc, _+_, _*_, _<_}
 use lib.IntN.{ℤ}
+use lib.Signed.{leZ}
 use lib.ListN.{length, drop}
 use Rattle.leaf_integers.specs.Integers.{least, most, inside}
 use Rattle.law.specs.Operators.{Operation, Operation1, intNegate, boolNot, intAbs, intSqr, intOdd, ordinalOf, predIn, succIn, setCard, setLeast, setGreatest}
 use Rattle.law.specs.Types.{Types, facts}
 use Rattle.law.specs.Script.{Decl, Entry, alias, arrayOf, enum, newMain, newProc, newType, newVar, range, recordOf, setOf}
 use Rattle.law.specs.Environment.{Environment}
-use Rattle.law.specs.Code.{Code, literal, load, lastNumber, makeSet, calculate, shortCut, calculate1, Place, cell, index, shift, Codes, noCodes, _with_, Act, assignOrdinal, assignWhole, sequence, branchOn, whileLoop, forLoop, caseOf, callTo, raiseWith, noAct, Acts, stop, _also_, Cases, elseCase, noCase, oneCase, BodyCode}
+use Rattle.law.specs.Code.{Code, literal, load, lastNumber, makeSet, calculate, shortCut, calculate1, Place, cell, index, shift, Codes, noCodes, _with_, Act, assignOrdinal, assignWhole, sequence, branchOn, whileLoop, forLoop, caseOf, callTo, raiseWith, noAct, Acts, stop, _also_, Cases, elseCase, noCase, oneCase, Want, ranged, anySet, Frame, BodyCode}
 
 -- ---- sizes
 
@@ -67,7 +68,7 @@ unfoldable mutual
   sizeAct (whileLoop n c a) = sizeCode c + sizeAct a + 4
   sizeAct (forLoop n i lo hi c d a) = sizeCode c + sizeCode d + sizeAct a + 8
   sizeAct (caseOf n c cs) = sizeCode c + (1 + sizeCases cs) + 4
-  sizeAct (callTo n p) = 3
+  sizeAct (callTo n p cs) = 1 + sizeCodes cs + 4
   sizeAct (raiseWith n c) = sizeCode c + 3
   sizeAct noAct = 0
 
@@ -80,8 +81,17 @@ unfoldable mutual
   sizeCases noCase = 0
   sizeCases (oneCase ls a cs) = 1 + sizeLabels ls + sizeAct a + 3 + sizeCases cs
 
+unfoldable pub sizeWants : List Want → ℕ
+sizeWants [] = 0
+sizeWants (w ∷ ws) = 2 + sizeWants ws
+
+-- of parameters, where there are any
+unfoldable pub sizeParameters : List Want → ℕ
+sizeParameters [] = 0
+sizeParameters (w ∷ ws) = 2 + sizeWants (w ∷ ws)
+
 unfoldable pub sizeBody : BodyCode → ℕ
-sizeBody b = 1 + sizeActs (b .acts) + (1 + sizeActs (b .handler)) + 4
+sizeBody b = sizeParameters (b .frame .wants) + (1 + sizeActs (b .acts)) + (1 + sizeActs (b .handler)) + 5
 
 -- ---- code that numbers of 32 bits can hold
 
@@ -140,7 +150,7 @@ mutual
     for-fits : {n i : ℕ} {lo hi : ℤ} {c d : Code} {a : Act} → IsInteger lo → IsInteger hi → CodeFits c → CodeFits d → ActFits bodies a
         → ActFits bodies (forLoop n i lo hi c d a)
     case-fits : {n : ℕ} {c : Code} {cs : Cases} → CodeFits c → CasesFit bodies cs → ActFits bodies (caseOf n c cs)
-    call-fits : {n p : ℕ} → p < bodies → ActFits bodies (callTo n p)
+    call-fits : {n p : ℕ} {cs : Codes} → p < bodies → CodesFit cs → ActFits bodies (callTo n p cs)
     raise-fits : {n : ℕ} {c : Code} → CodeFits c → ActFits bodies (raiseWith n c)
     no-act-fits : ActFits bodies noAct
 
@@ -153,11 +163,23 @@ mutual
     no-case-fits : CasesFit bodies noCase
     one-case-fits : {ls : List ℤ} {a : Act} {cs : Cases} → LabelsFit ls → ActFits bodies a → CasesFit bodies cs → CasesFit bodies (oneCase ls a cs)
 
+-- bounds of parameters are integers, none of them reversed
+pub data WantsFit : List Want → Type 0 where
+  no-wants-fit : WantsFit []
+  ranged-fits : {lo hi : ℤ} {ws : List Want} → IsInteger lo → IsInteger hi → leZ lo hi ≡ true → WantsFit ws → WantsFit (ranged lo hi ∷ ws)
+  set-want-fits : {ws : List Want} → WantsFit ws → WantsFit (anySet ∷ ws)
+
+-- without parameters, a frame is that of none
+pub record FrameFits (q : Frame) : Type 0 where
+  pub wants-fit : WantsFit (q .wants)
+  pub empty-fits : q .wants ≡ [] → q .base ≡ 0
+
 pub record BodyFits (bodies : ℕ) (b : BodyCode) : Type 0 where
+  pub frame-fits : FrameFits (b .frame)
   pub acts-fit : ActsFit bodies (b .acts)
   pub handler-fits : ActsFit bodies (b .handler)
 
--- ---- symbol entries: 4 numbers for each name, 8 for each type's description, 4 for each field of a record
+-- ---- symbol entries: 4 numbers for each name, 8 for each type's description, 4 for each field of a record, 1 for each parameter's type
 
 -- of a `type` line; an alias is a name alone
 unfoldable pub sizeDecl : Decl → ℕ
@@ -172,7 +194,7 @@ sizeDecl (setOf b) = 4 + 8
 unfoldable pub symbolSize : Entry → ℕ
 symbolSize (newType w d) = sizeDecl d
 symbolSize (newVar w t) = 4
-symbolSize (newProc w b) = 4
+symbolSize (newProc w ps b) = 4 + length ps
 symbolSize (newMain b) = 0
 
 unfoldable pub sizeTypes : Types → ℕ
@@ -181,7 +203,7 @@ sizeTypes (t ∷ ts) = 8 + 4 * length (facts t .fields) + sizeTypes ts
 
 -- of all that the lines so far declared; the two built-in types take none
 unfoldable pub sizeSymbols : Environment → ℕ
-sizeSymbols σ = 4 * length (σ .names) + sizeTypes (drop 2 (σ .types))
+sizeSymbols σ = 4 * length (σ .names) + sizeTypes (drop 2 (σ .types)) + length (σ .parameters)
 
 -- ---- all bodies
 

@@ -10,7 +10,7 @@ use Rattle.law.specs.Trees.{nodes}
 
 -- what the last line leaves over
 abbrev pub spare : Bool → ℕ
-spare true = 2
+spare true = 1
 spare false = 0
 
 -- what is declared and the code of the bodies, within 4 numbers for each bracket and word; these within their ceiling

@@ -21,7 +21,7 @@ pub const FOR: u32 = 48;
 // `case`: the statement's number, the selector, the slot of the chain of its arms.
 pub const CASE: u32 = 49;
 
-// `call`: the statement's number, the place of the body's node.
+// `call`: the statement's number, the place of the body's node, the slot of the chain of its arguments.
 pub const CALL: u32 = 50;
 
 // `raise`: the statement's number, the exception's number.

@@ -57,11 +57,15 @@ places =
     mark "(type a (array boolean integer))\n(var x a)\n(main (:= (at x false) 1) (:= (at x true) 2) (for x x x (begin)) (exception))\n" "stuck 3\n1 x 1\n2 x 2\n" ∷  -- bounds of the control variable's type, which is no ordinal
     mark "(main (raise (card (members integer (div 1 0)))) (exception))\n" "stuck 1\n" ∷  -- before any member
     mark "(type r (range 1 1))\n(type a (array r integer))\n(var x a)\n(main (:= (at x 9) true))\n" "exception -103 1 1\n1 x -\n" ∷  -- value and indices first
+    mark "(proc p ((a boolean)))\n(main (call p 1) (exception))\n" "stuck 1\n" ∷  -- argument
+    mark "(type s (setof boolean))\n(type t (setof boolean))\n(proc p ((a s)))\n(main (call p (members t)) (exception))\n" "stuck 1\n" ∷
+    mark "(proc p ((a boolean) (b integer)))\n(main (call p 1 (div 1 0)) (exception))\n" "stuck 1\n" ∷  -- before the next is worked out
+    mark "(type r (range 1 4))\n(proc p ((a r) (b integer)))\n(main (call p 9 true))\n" "exception -103 1 1\n" ∷  -- tested before the next is met
     []
 
 pub places-stick : Marks places
 unfolding places everything
-places-stick = refl & refl & refl & refl & refl & refl & refl & refl & refl & refl & refl & refl & refl & refl & refl & refl & refl & refl & refl & refl & refl & refl & refl & refl & refl & refl & refl & refl & refl & refl & all
+places-stick = refl & refl & refl & refl & refl & refl & refl & refl & refl & refl & refl & refl & refl & refl & refl & refl & refl & refl & refl & refl & refl & refl & refl & refl & refl & refl & refl & refl & refl & refl & refl & refl & refl & refl & all
 
 -- outside its domain it gives the refusal that the other rules give, never "stuck"
 unfoldable pub outside : List Mark
@@ -74,11 +78,13 @@ outside =
     mark "(proc p (raise true))\n(main (call q))\n" "refused 7 2\n" ∷
     mark "(type s (setof integer))\n(main)\n" "refused 9 1\n" ∷
     mark "(type s (setof boolean))\n(main (raise (card (members s (- #80000000)))))\n" "refused 8 2\n" ∷
+    mark "(proc p ((a boolean)))\n(main (call p) (raise true))\n" "refused 8 2\n" ∷  -- a count meets no type
+    mark "(type t (array boolean integer))\n(proc p ((a t)))\n(main)\n" "refused 8 2\n" ∷
     []
 
 pub outside-refused : Marks outside
 unfolding outside everything
-outside-refused = refl & refl & refl & refl & refl & refl & refl & refl & all
+outside-refused = refl & refl & refl & refl & refl & refl & refl & refl & refl & refl & all
 
 -- ---- rows 1, 10 and 11: the store is left as lent
 

@@ -24,9 +24,16 @@ typeBounded Γ (arrayOf i e) = leb (valueCount Γ i) 256 && leb (valueCount Γ i
 typeBounded Γ (recordOf fs) = leb (length fs) 16 && leb (fieldSizes Γ fs) 2048
 typeBounded Γ (setOf b) = leZ (pos 0) (infoAt Γ b .low) && leZ (infoAt Γ b .high) (pos 31)
 
--- a line within its ceilings: declared types, variables and cells, procedures
+-- parameters "count among the 128 variables and 2,048 cells", those of all procedures, called or not
+abbrev pub variablesIn : Declared → ℕ
+variablesIn k = length (k .env .vars) + length (k .env .parameters)
+
+abbrev pub cellsIn : Declared → ℕ
+cellsIn k = length (k .cells) + length (k .env .parameters)
+
+-- a line within its ceilings: declared types, variables and cells, procedures and their parameters
 unfoldable pub lineBounded : Declared → Entry → Bool
 lineBounded k (newType w d) = leb (suc (k .typeLines)) 64 && typeBounded (k .env .types) d
-lineBounded k (newVar w t) = leb (suc (length (k .env .vars))) 128 && leb (length (k .cells) + sizeOf (k .env .types) t) 2048
-lineBounded k (newProc w b) = leb (suc (length (k .bodies))) 32
+lineBounded k (newVar w t) = leb (suc (variablesIn k)) 128 && leb (cellsIn k + sizeOf (k .env .types) t) 2048
+lineBounded k (newProc w ps b) = leb (suc (length (k .bodies))) 32 && leb (length ps) 8 && leb (variablesIn k + length ps) 128 && leb (cellsIn k + length ps) 2048
 lineBounded k (newMain b) = true

@@ -1,10 +1,27 @@
 -- Elaborated code: what the chair's machine runs. It has no types, only cells, bounds and sizes. The first number of an act is its
 -- statement's.
 use mathlib.Core.Bool.{Bool}
-use mathlib.Core.List.{List}
+use mathlib.Core.List.{List, []}
 use Prim.Native.Nat.{ℕ}
 use lib.IntN.{ℤ}
 use Rattle.law.specs.Operators.{Operation, Operation1}
+
+-- what a parameter takes: an ordinal within its type's bounds, or a set of its type
+pub data Want : Type 0 where
+  ranged : ℤ → ℤ → Want
+  anySet : Want
+
+-- a procedure's parameters: the first one's cell, after which the others' lie in order, and what each takes
+pub record Frame : Type 0 where
+  pub base : ℕ
+  pub wants : List Want
+
+abbrev pub frame : ℕ → List Want → Frame
+frame a ws = record { base = a; wants = ws }
+
+-- of a procedure without parameters, and of main
+abbrev pub noFrame : Frame
+noFrame = frame 0 []
 
 -- expressions; the places of targets
 mutual
@@ -37,7 +54,7 @@ mutual
     whileLoop : ℕ → Code → Act → Act
     forLoop : ℕ → ℕ → ℤ → ℤ → Code → Code → Act → Act  -- the control variable's cell and bounds
     caseOf : ℕ → Code → Cases → Act
-    callTo : ℕ → ℕ → Act  -- a procedure's number
+    callTo : ℕ → ℕ → Codes → Act  -- a procedure's number, the arguments
     raiseWith : ℕ → Code → Act
     noAct : Act  -- the missing third part of an `if`
 
@@ -51,8 +68,9 @@ mutual
     oneCase : List ℤ → Act → Cases → Cases
 
 infixr 40 _also_
--- a body, and its handler if it has one
+-- a body, its parameters, and its handler if it has one
 pub record BodyCode : Type 0 where
+  pub frame : Frame
   pub acts : Acts
   pub handles : Bool
   pub handler : Acts

@@ -1,7 +1,7 @@
 -- Row 8, its first part: the fitting of kinds inside a BODY. Elaboration is that rule: it gives code, or nothing exactly at a misfit.
 use mathlib.Core.Bool.{Bool, cond, _&&_}
 use mathlib.Core.List.{List, [], _∷_}
-use mathlib.Core.Option.{Option, some}
+use mathlib.Core.Option.{Option, none, some}
 use Prim.Native.Nat.{ℕ}
 use lib.IntN.{ℤ}
 use lib.Dec.{eqb}
@@ -10,7 +10,7 @@ use Rattle.law.specs.Base.{_>>=_, both, given, pick}
 use Rattle.law.specs.Types.{Types, infoAt, Vars, variable, hostOf, sizeOf, ordinal?, set?, array?, baseOf, fieldOf}
 use Rattle.law.specs.Operators.{bothBooleans, operatorRule, functionRule}
 use Rattle.law.specs.Script.{Const, Expr, const, read, errorNumber, members, endOf, binary, shortCircuit, unary, Target, var, at, dot, Exprs, nil, _and_, Stmt, assign, begin, ifElse, while, for, case, call, raise, skip, Stmts, done, _next_, Arms, elseArm, noElse, arm, Body}
-use Rattle.law.specs.Code.{Code, literal, load, lastNumber, makeSet, calculate, shortCut, calculate1, Place, cell, index, shift, Codes, noCodes, _with_, Act, assignOrdinal, assignWhole, sequence, branchOn, whileLoop, forLoop, caseOf, callTo, raiseWith, noAct, Acts, stop, _also_, Cases, elseCase, noCase, oneCase, BodyCode}
+use Rattle.law.specs.Code.{Code, literal, load, lastNumber, makeSet, calculate, shortCut, calculate1, Place, cell, index, shift, Codes, noCodes, _with_, Act, assignOrdinal, assignWhole, sequence, branchOn, whileLoop, forLoop, caseOf, callTo, raiseWith, noAct, Acts, stop, _also_, Cases, elseCase, noCase, oneCase, Frame, BodyCode}
 
 -- an expression's kind and code; a target's type and place
 pub record Elaborated : Type 0 where
@@ -67,6 +67,13 @@ module _ (Γ : Types) where
     elabLabels k [] = some []
     elabLabels k (c ∷ cs) = both (given (eqb k (c .kind)) (c .value)) (elabLabels k cs) λ z zs. some (z ∷ zs)
 
+    -- arguments: each of its parameter's host or set type (their count is a matter of Rules)
+    unfoldable pub elabArguments : List ℕ → Exprs → Option Codes
+    elabArguments [] nil = some noCodes
+    elabArguments [] (e and es) = none
+    elabArguments (t ∷ ts) nil = none
+    elabArguments (t ∷ ts) (e and es) = both (expects (hostOf Γ t) e) (elabArguments ts es) λ c cs. some (c with cs)
+
     unfoldable mutual
       pub elabStmt : Stmt → Option Act
       elabStmt (assign n g e) = elabTarget g >>= λ w. expects (hostOf Γ (w .type)) e >>= λ c. some (assigning n w c)
@@ -77,7 +84,7 @@ module _ (Γ : Types) where
           both (expects (hostOf Γ (v .type)) a) (expects (hostOf Γ (v .type)) b) λ x y. elabStmt s >>= λ z.
           given (ordinal? Γ (v .type)) (forLoop n (v .base) (infoAt Γ (v .type) .low) (infoAt Γ (v .type) .high) x y z)
       elabStmt (case n e bs) = elabExpr e >>= λ x. elabArms (x .kind) bs >>= λ cs. given (ordinal? Γ (x .kind)) (caseOf n (x .code) cs)
-      elabStmt (call n p) = some (callTo n p)
+      elabStmt (call n p ts es) = elabArguments ts es >>= λ cs. some (callTo n p cs)
       elabStmt (raise n e) = expects 0 e >>= λ c. some (raiseWith n c)
       elabStmt skip = some noAct
 
@@ -90,6 +97,6 @@ module _ (Γ : Types) where
       elabArms k noElse = some noCase
       elabArms k (arm ls s bs) = both (elabLabels k ls) (elabStmt s) λ zs x. elabArms k bs >>= λ y. some (oneCase zs x y)
 
-    -- a body's code
-    unfoldable pub elabBody : Body → Option BodyCode
-    elabBody b = both (elabStmts (b .stmts)) (elabStmts (b .handler)) λ x y. some (record { acts = x; handles = b .handles; handler = y })
+    -- a body's code, with its parameters
+    unfoldable pub elabBody : Frame → Body → Option BodyCode
+    elabBody q b = both (elabStmts (b .stmts)) (elabStmts (b .handler)) λ x y. some (record { frame = q; acts = x; handles = b .handles; handler = y })

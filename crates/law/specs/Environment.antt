@@ -1,18 +1,21 @@
 -- Document 01, "Names other than fields share one space": what the lines so far have declared.
-use mathlib.Core.Bool.{Bool, true, false}
-use mathlib.Core.List.{List, [], _∷_, _++_}
+use mathlib.Core.Bool.{Bool, true, false, cond}
+use mathlib.Core.List.{List, [], _∷_, _++_, map}
 use Prim.Native.Nat.{ℕ, zero, suc, _+_}
 use lib.IntN.{ℤ, pos, _-ℤ_, sucℤ}
 use lib.ListN.{length, getD, replicate}
 use Rattle.leaf_integers.specs.Integers.{least, most}
 use Rattle.law.specs.Base.{Name}
 use Rattle.law.specs.Calculate.{natOf}
+use Rattle.law.specs.Code.{Frame, Want, anySet, frame, noFrame, ranged}
+use Rattle.law.specs.Machine.{lentCells}
 use Rattle.law.specs.Script.{Body, Const, Decl, Entry, alias, arrayOf, enum, newMain, newProc, newType, newVar, range, recordOf, setOf}
-use Rattle.law.specs.Types.{Field, TypeSort, ordinalType, setType, arrayType, recordType, Types, undeclared, Vars, cellsOf, infoAt, sizeOf}
+use Rattle.law.specs.Types.{Field, TypeSort, ordinalType, setType, arrayType, recordType, Types, undeclared, Vars, cellsOf, infoAt, ordinal?, sizeOf}
 
 -- the sorts of name
 pub data NameSort : Type 0 where
-  aType aVar aProc : ℕ → NameSort
+  aType aVar : ℕ → NameSort
+  aProc : ℕ → List ℕ → NameSort  -- with its parameters' types
   aValue : Const → NameSort
 
 -- the environment: what a name means, and the types and variables that it may mean
@@ -20,11 +23,13 @@ pub record Environment : Type 0 where
   pub names : List (Name × NameSort)
   pub types : Types
   pub vars : Vars
+  pub parameters : List ℕ  -- the types of all procedures' parameters so far, each of one cell
 
 -- a body with the tables of its own line
 pub record PlacedBody : Type 0 where
   pub types : Types
   pub vars : Vars
+  pub frame : Frame
   pub body : Body
 
 -- all that the lines so far have declared
@@ -99,19 +104,40 @@ declNames Γ w (setOf b) = (w, aType (length Γ)) ∷ []
 
 -- ---- lines
 
-abbrev pub environment : List (Name × NameSort) → Types → Vars → Environment
-environment ns Γ Δ = record { names = ns; types = Γ; vars = Δ }
+abbrev pub environment : List (Name × NameSort) → Types → Vars → List ℕ → Environment
+environment ns Γ Δ ts = record { names = ns; types = Γ; vars = Δ; parameters = ts }
 
 abbrev pub nothingDeclared : Declared
-nothingDeclared = record { env = environment [] builtIn []; cells = []; owners = []; typeLines = 0; bodies = []; stmts = 0; nodes = 0; ended = false }
+nothingDeclared = record { env = environment [] builtIn [] []; cells = []; owners = []; typeLines = 0; bodies = []; stmts = 0; nodes = 0; ended = false }
 
-abbrev pub withBody : Environment → Body → PlacedBody
-withBody σ b = record { types = σ .types; vars = σ .vars; body = b }
+abbrev pub withBody : Environment → Frame → Body → PlacedBody
+withBody σ q b = record { types = σ .types; vars = σ .vars; frame = q; body = b }
+
+-- ---- parameters (Point 1): "cells of their own", past those that may be lent
+
+abbrev pub withParameter : Environment → Name × ℕ → Environment
+withParameter σ p =
+    environment ((p .0, aVar (length (σ .vars))) ∷ σ .names) (σ .types) (σ .vars ++ (record { type = p .1; base = lentCells + length (σ .parameters) } ∷ [])) (σ .parameters ++ (p .1 ∷ []))
+
+-- a procedure's own environment: "Their names are known in their procedure only"
+unfoldable pub within : Environment → List (Name × ℕ) → Environment
+within σ [] = σ
+within σ (p ∷ ps) = within (withParameter σ p) ps
+
+abbrev pub parameterTypes : List (Name × ℕ) → List ℕ
+parameterTypes ps = map (λ p. p .1) ps
+
+abbrev pub wantOf : Types → ℕ → Want
+wantOf Γ t = cond (ordinal? Γ t) (ranged (infoAt Γ t .low) (infoAt Γ t .high)) anySet
+
+unfoldable pub frameOf : Environment → List (Name × ℕ) → Frame
+frameOf σ [] = noFrame
+frameOf σ (p ∷ ps) = frame (lentCells + length (σ .parameters)) (map (wantOf (σ .types)) (parameterTypes (p ∷ ps)))
 
 -- what is known after a line, with the statements and nodes up to its end
 unfoldable pub declareLine : Declared → Entry → ℕ → ℕ → Declared
 declareLine k (newType w d) s n = record {
-  env = environment (declNames (k .env .types) w d ++ k .env .names) (extendTypes (k .env .types) d) (k .env .vars);
+  env = environment (declNames (k .env .types) w d ++ k .env .names) (extendTypes (k .env .types) d) (k .env .vars) (k .env .parameters);
   cells = k .cells;
   owners = k .owners;
   typeLines = suc (k .typeLines);
@@ -121,7 +147,7 @@ declareLine k (newType w d) s n = record {
   ended = false;
 }
 declareLine k (newVar w t) s n = record {
-  env = environment ((w, aVar (length (k .env .vars))) ∷ k .env .names) (k .env .types) (k .env .vars ++ (record { type = t; base = length (k .cells) } ∷ []));
+  env = environment ((w, aVar (length (k .env .vars))) ∷ k .env .names) (k .env .types) (k .env .vars ++ (record { type = t; base = length (k .cells) } ∷ [])) (k .env .parameters);
   cells = k .cells ++ cellsOf (k .env .types) t;
   owners = k .owners ++ replicate (sizeOf (k .env .types) t) w;
   typeLines = k .typeLines;
@@ -130,12 +156,12 @@ declareLine k (newVar w t) s n = record {
   nodes = n;
   ended = false;
 }
-declareLine k (newProc w b) s n = record {
-  env = environment ((w, aProc (length (k .bodies))) ∷ k .env .names) (k .env .types) (k .env .vars);
+declareLine k (newProc w ps b) s n = record {
+  env = environment ((w, aProc (length (k .bodies)) (parameterTypes ps)) ∷ k .env .names) (k .env .types) (k .env .vars) (within (k .env) ps .parameters);
   cells = k .cells;
   owners = k .owners;
   typeLines = k .typeLines;
-  bodies = k .bodies ++ (withBody (k .env) b ∷ []);
+  bodies = k .bodies ++ (withBody (within (k .env) ps) (frameOf (k .env) ps) b ∷ []);
   stmts = s;
   nodes = n;
   ended = false;
@@ -145,7 +171,7 @@ declareLine k (newMain b) s n = record {
   cells = k .cells;
   owners = k .owners;
   typeLines = k .typeLines;
-  bodies = k .bodies ++ (withBody (k .env) b ∷ []);
+  bodies = k .bodies ++ (withBody (k .env) noFrame b ∷ []);
   stmts = s;
   nodes = n;
   ended = true;

@@ -12,7 +12,7 @@ use Rattle.law.specs.Syntax as Syntax
 use Rattle.law.specs.Base.{Name, _>>=_, given, either, each}
 use Rattle.law.specs.Operators.{Fun, Op, abs, andBoth, atLeast, atMost, card, divide, equal, greater, less, member, minus, modulo, negate, notOf, odd, orBoth, ord, plus, power, pred, setmax, setmin, sqr, succ, times, unequal}
 use Rattle.law.specs.Syntax.{Arms, Body, Constant, Expr, Exprs, LineForm, Stmt, Stmts, Target, TypeForm, TypeName, _and_, _next_, alias, arm, arrayOf, assign, at, begin, binary, boolean, call, case, const, declared, done, dot, elseArm, endOf, enum, errorNumber, for, ifElse, integer, mainLine, members, named, nil, noElse, procLine, raise, range, read, recordOf, setOf, shortCircuit, skip, truth, typeLine, unary, var, varLine, while}
-use Rattle.law.specs.Trees.{Tree, word, form, list}
+use Rattle.law.specs.Trees.{Tree, word, form, end, _then_, list}
 use Rattle.law.specs.Words.{Word, number, name, key}
 
 abbrev pub Item : Type 0
@@ -277,7 +277,8 @@ stmtForm r vWhile n ts = do
   some (while n e a, m)
 stmtForm r vFor n ts = forForm r n ts
 stmtForm r vCase n ts = caseForm r n ts
-stmtForm r vCall n ts = one ts >>= free >>= λ p. some (call n p, n)
+stmtForm r vCall n [] = none
+stmtForm r vCall n (t ∷ ts) = free t >>= λ p. each exprAt ts >>= λ es. some (call n p (exprsOf es), n)
 stmtForm r vRaise n ts = one ts >>= exprAt >>= λ e. some (raise n e, n)
 
 unfoldable pub stmt : ℕ → Reader
@@ -305,7 +306,7 @@ body n (t ∷ ts) = elim (handlerOf t) [
 
 -- ---- lines
 
--- `(N E)`
+-- `(N T)`, of a record or of a parameter list
 unfoldable pub field : Item → Option (Name × TypeName)
 field (word w) = none
 field (form ts) = two (list ts) >>= λ p. free (p .0) >>= λ n. typeName (p .1) >>= λ t. some (n, t)
@@ -329,6 +330,18 @@ unfoldable pub typeForm : Item → Option TypeForm
 typeForm (word w) = typeName (word w) >>= λ t. some (alias t)
 typeForm (form ts) = first? (list ts) >>= λ p. among makers (p .0) >>= λ m. madeType m (p .1)
 
+-- Point 1, "written `((N T)..)` with at least one pair after its name": the part that begins with a bracket pair. No statement does
+unfoldable pub pairsOf : Item → Option (List Item)
+pairsOf (word w) = none
+pairsOf (form end) = none
+pairsOf (form (word w then ts)) = none
+pairsOf (form (form us then ts)) = some (form us ∷ list ts)
+
+-- the parameters, "or with no list", and the BODY's parts after them. A ninth parameter is a matter of row 9
+unfoldable pub parameters : List Item → Option (List (Name × TypeName) × List Item)
+parameters [] = some ([], [])
+parameters (t ∷ ts) = elim (pairsOf t) [ none ↦ some ([], t ∷ ts) | some ps ↦ each field ps >>= λ fs. some (fs, ts) ]
+
 pub data LineHead : Type 0 where
   isType isVar isProc isMain : LineHead
 
@@ -340,7 +353,7 @@ unfoldable pub lineBy : LineHead → ℕ → List Item → Option (LineForm × �
 lineBy isType n ts = two ts >>= λ p. free (p .0) >>= λ w. typeForm (p .1) >>= λ t. some (typeLine w t, n)
 lineBy isVar n ts = two ts >>= λ p. free (p .0) >>= λ w. typeName (p .1) >>= λ t. some (varLine w t, n)
 lineBy isProc n [] = none
-lineBy isProc n (t ∷ ts) = free t >>= λ w. body n ts >>= λ p. some (procLine w (p .0), p .1)
+lineBy isProc n (t ∷ ts) = free t >>= λ w. parameters ts >>= λ q. body n (q .1) >>= λ p. some (procLine w (q .0) (p .0), p .1)
 lineBy isMain n ts = body n ts >>= λ p. some (mainLine (p .0), p .1)
 
 -- row 6: what a line says, and the number of the last statement up to its end

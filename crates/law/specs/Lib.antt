@@ -22,4 +22,5 @@ pub mod Store
 pub mod Whole
 pub mod Rest
 pub mod Demands
+pub mod Parameters
 pub mod Print

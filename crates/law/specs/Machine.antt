@@ -10,7 +10,8 @@ use lib.Dec.{eqb}
 use lib.ListN.{getD, replicate, length}
 use Rattle.leaf_integers.specs.Integers.{inside, isZero}
 use Rattle.law.specs.Base.{pick}
-use Rattle.law.specs.Calculate.{natOf, Result, is, fails, stuck, _>>=_, systemError, rangeError, undefinedError}
+use Rattle.law.specs.Calculate.{natOf, Result, is, fails, stuck, _>>=_, systemError, rangeError, undefinedError, tested}
+use Rattle.law.specs.Code.{Frame, Want, anySet, noFrame, ranged}
 
 -- ---- the store
 
@@ -20,7 +21,10 @@ pub record Store : Type 0 where
   pub latest : ℤ  -- the last exception's number, 0 before any
   pub place : ℕ  -- and its statement
 
--- every store has so many cells: the 2,048 that may be lent, then 128 that no script of document 01 reaches
+-- every store has so many cells: the 2,048 that may be lent, then 128 for parameters, which "the starting store and the printed cells don't hold"
+abbrev pub lentCells : ℕ
+lentCells = 2048
+
 abbrev pub storeCells : ℕ
 storeCells = 2176
 
@@ -174,12 +178,44 @@ passOn n s = branch (isZero (s .store .latest)) (raising systemError n) (answer 
 unfoldable pub raiseNumber : ℕ → ℤ → State → Answer
 raiseNumber n z = branch (isZero z) (passOn n) (raising z n)
 
+-- ---- procedures
+
+-- its parameters, and the run of its body
+pub record Proc : Type 0 where
+  pub frame : Frame
+  pub run : State → Answer
+
+abbrev pub proc : Frame → (State → Answer) → Proc
+proc q f = record { frame = q; run = f }
+
 -- procedures by their number
 abbrev pub Procs : Type 0
-Procs = List (State → Answer)
+Procs = List Proc
 
-unfoldable pub procedureAt : Procs → ℕ → State → Answer
-procedureAt ps p = getD ps p (answer normal)
+unfoldable pub procedureAt : Procs → ℕ → Proc
+procedureAt ps p = getD ps p (proc noFrame (answer normal))
+
+-- "A value outside its parameter's type raises Range_Error"; a set is of its own type
+unfoldable pub admitted : Want → ℤ → Result ℤ
+admitted (ranged lo hi) z = tested rangeError lo hi z
+admitted anySet z = is z
+
+-- parameters are "gone at return", be it by a normal end or by an exception. A run that is spent or stuck does not return
+abbrev pub withoutFrame : Frame → State → State
+withoutFrame q s = state (forgotten (q .base) (length (q .wants)) (s .store)) (s .left)
+
+abbrev pub returning : Frame → Outcome → State → Answer
+returning q normal s = answer normal (withoutFrame q s)
+returning q spent s = answer spent s
+returning q sticks s = answer sticks s
+returning q (raised z n) s = answer (raised z n) (withoutFrame q s)
+
+abbrev pub returned : Frame → Answer → Answer
+returned q a = returning q (a .outcome) (a .state)
+
+-- a call, once its arguments are worked out and tested: they are the parameters' values as the body starts
+unfoldable pub entered : Proc → List ℤ → State → Answer
+entered q zs s = returned (q .frame) (q .run (state (stored (q .frame .base) zs (s .store)) (s .left)))
 
 -- `and_then` (true) and `or_else` (false): the right side is worked out only if the left leaves it open
 abbrev pub shortCircuited : Bool → Bool → Result (List ℤ) → Result (List ℤ)

@@ -11,8 +11,9 @@ use Rattle.law.specs.Types.{Types, infoAt, Var, Vars, variable, hostOf, 
 use Rattle.law.specs.Operators.{operatorRule, functionRule}
 use Rattle.law.specs.Script.{Const, Expr, const, read, errorNumber, members, endOf, binary, shortCircuit, unary, Target, var, at, dot, Exprs, nil, _and_, Stmt, assign, begin, ifElse, while, for, case, call, raise, skip, Stmts, done, _next_, Arms, elseArm, noElse, arm}
 use Rattle.law.specs.Elaborate.{inKind}
+use Rattle.law.specs.Code.{Want}
 use Rattle.law.specs.Calculate.{natOf, Result, is, fails, stuck, _>>=_, rangeError, caseError, tested, isTrue, equalZ, joined, compute, compute1}
-use Rattle.law.specs.Machine.{Store, State, Answer, answer, normal, readCells, sole, oneCell, andThen, withResult, step, branch, whileRounds, countUp, storeOrdinal, storeWhole, raiseNumber, raising, Procs, procedureAt, shortCircuited}
+use Rattle.law.specs.Machine.{Store, State, Answer, answer, normal, readCells, sole, oneCell, andThen, withResult, step, branch, whileRounds, countUp, storeOrdinal, storeWhole, raiseNumber, raising, Procs, procedureAt, admitted, entered, shortCircuited}
 
 -- a value with its kind; a place with its type
 pub record TypedValue : Type 0 where
@@ -78,6 +79,13 @@ module _ (Γ : Types) (Δ : Vars) where
     markMembers t (e and es) m = (markExpr e m >>= wanted (baseOf Γ t)) >>= λ u.
         tested rangeError (infoAt Γ t .low) (infoAt Γ t .high) (sole u) >>= λ z. markMembers t es m >>= λ zs. is (joined z zs)
 
+  -- the arguments of a call: each is worked out, its kind met, then tested, before the next
+  unfoldable pub markArguments : List Want → List ℕ → Exprs → Store → Result (List ℤ)
+  markArguments ws ts nil m = is []
+  markArguments ws [] (e and es) m = is []
+  markArguments [] (t ∷ ts) (e and es) m = is []
+  markArguments (w ∷ ws) (t ∷ ts) (e and es) m = (markExpr e m >>= wanted (hostOf Γ t)) >>= λ u. admitted w (sole u) >>= λ z. markArguments ws ts es m >>= λ zs. is (z ∷ zs)
+
   unfoldable pub markCondition : ℕ → Expr → State → (Bool → Answer) → Answer
   markCondition n e s f = withResult n s (markExpr e (s .store) >>= wanted 1) λ x. f (isTrue (sole x))
 
@@ -106,7 +114,7 @@ module _ (Γ : Types) (Δ : Vars) where
           withResult n s′ (markBounds x u v) λ p. countUp n (x .base) (infoAt Γ (x .type) .low) (infoAt Γ (x .type) .high) (p .0) (p .1) (markStmt c) s′
       markStmt (case n e bs) s = step s λ s′. withResult n s′ (markExpr e (s′ .store)) λ v.
           withResult n s′ (require (ordinal? Γ (v .kind)) (is v)) λ v. markArms n (v .kind) (sole (v .cells)) bs s′
-      markStmt (call n p) s = step s (procedureAt ps p)
+      markStmt (call n p ts es) s = step s λ s′. withResult n s′ (markArguments (procedureAt ps p .frame .wants) ts es (s′ .store)) λ zs. entered (procedureAt ps p) zs s′
       markStmt (raise n e) s = step s λ s′. withResult n s′ (markExpr e (s′ .store) >>= wanted 0) λ x. raiseNumber n (sole x) s′
       markStmt skip s = answer normal s
 

@@ -8,7 +8,7 @@ use Rattle.leaf_bytes.specs.Bytes.{same}
 use Rattle.law.specs.Calculate as Calculate
 use Rattle.law.specs.Syntax as Syntax
 use Rattle.law.specs.Base.{Name, _>>=_, each, find, given}
-use Rattle.law.specs.Environment.{Environment, NameSort, aProc, aType, aValue, aVar}
+use Rattle.law.specs.Environment.{Environment, NameSort, aProc, aType, aValue, aVar, within}
 use Rattle.law.specs.Script.{Arms, Body, Const, Decl, Entry, Expr, Exprs, Stmt, Stmts, Target, _and_, _next_, alias, arm, arrayOf, assign, at, begin, binary, call, case, const, done, dot, elseArm, endOf, enum, errorNumber, for, ifElse, members, newMain, newProc, newType, newVar, nil, noElse, raise, range, read, recordOf, setOf, shortCircuit, skip, unary, var, while}
 use Rattle.law.specs.Syntax.{Constant, LineForm, TypeForm, TypeName, boolean, declared, integer, mainLine, minus, named, number, procLine, truth, typeLine, varLine}
 use Rattle.law.specs.Types.{array?, fieldOf, infoAt, record?, variable}
@@ -18,32 +18,33 @@ use Rattle.law.specs.Types.{array?, fieldOf, infoAt, record?, variable}
 abbrev pub asType : NameSort → Option ℕ
 asType (aType t) = some t
 asType (aVar i) = none
-asType (aProc p) = none
+asType (aProc p ts) = none
 asType (aValue c) = none
 
 abbrev pub asVar : NameSort → Option ℕ
 asVar (aType t) = none
 asVar (aVar i) = some i
-asVar (aProc p) = none
+asVar (aProc p ts) = none
 asVar (aValue c) = none
 
-abbrev pub asProc : NameSort → Option ℕ
+-- its number and its parameters' types
+abbrev pub asProc : NameSort → Option (ℕ × List ℕ)
 asProc (aType t) = none
 asProc (aVar i) = none
-asProc (aProc p) = some p
+asProc (aProc p ts) = some (p, ts)
 asProc (aValue c) = none
 
 abbrev pub asValue : NameSort → Option Const
 asValue (aType t) = none
 asValue (aVar i) = none
-asValue (aProc p) = none
+asValue (aProc p ts) = none
 asValue (aValue c) = some c
 
 -- a name alone, as an expression: a variable or an enum name
 abbrev pub asExpr : NameSort → Option Expr
 asExpr (aType t) = none
 asExpr (aVar i) = some (read (var i))
-asExpr (aProc p) = none
+asExpr (aProc p ts) = none
 asExpr (aValue c) = some (const c)
 
 abbrev pub constOf : ℕ → ℤ → Const
@@ -115,7 +116,7 @@ module _ (σ : Environment) where
     stmtOf (Syntax.while n e a) = exprOf e >>= λ x. stmtOf a >>= λ y. some (while n x y)
     stmtOf (Syntax.for n w a b s) = varOf w >>= λ i. exprOf a >>= λ x. exprOf b >>= λ y. stmtOf s >>= λ z. some (for n i x y z)
     stmtOf (Syntax.case n e bs) = exprOf e >>= λ x. armsOf bs >>= λ ys. some (case n x ys)
-    stmtOf (Syntax.call n w) = find (σ .names) w >>= asProc >>= λ p. some (call n p)
+    stmtOf (Syntax.call n w es) = find (σ .names) w >>= asProc >>= λ p. exprsOf es >>= λ xs. some (call n (p .0) (p .1) xs)
     stmtOf (Syntax.raise n e) = exprOf e >>= λ x. some (raise n x)
     stmtOf Syntax.skip = some skip
 
@@ -155,17 +156,21 @@ module _ (σ : Environment) where
   fieldNames [] = []
   fieldNames (f ∷ fs) = f .0 ∷ fieldNames fs
 
+  -- a field's or a parameter's name with its type
+  abbrev pub pairOf : Name × TypeName → Option (Name × ℕ)
+  pairOf f = typeOf (f .1) >>= λ t. some (f .0, t)
+
   unfoldable pub declOf : Name → TypeForm → Option Decl
   declOf w (Syntax.alias t) = typeOf t >>= λ n. given (newNames (w ∷ [])) (alias n)
   declOf w (Syntax.enum v vs) = given (newNames (w ∷ v ∷ vs)) (enum v vs)
   declOf w (Syntax.range a b) = constantOf a >>= λ x. constantOf b >>= λ y. given (newNames (w ∷ [])) (range x y)
   declOf w (Syntax.arrayOf i e) = typeOf i >>= λ x. typeOf e >>= λ y. given (newNames (w ∷ [])) (arrayOf x y)
-  declOf w (Syntax.recordOf fs) = each (λ f. typeOf (f .1) >>= λ t. some (f .0, t)) fs >>= λ gs. given (newNames (w ∷ []) && distinct (fieldNames gs)) (recordOf gs)
+  declOf w (Syntax.recordOf fs) = each pairOf fs >>= λ gs. given (newNames (w ∷ []) && distinct (fieldNames gs)) (recordOf gs)
   declOf w (Syntax.setOf b) = typeOf b >>= λ x. given (newNames (w ∷ [])) (setOf x)
 
-  -- row 7: a line with its names resolved
-  unfoldable pub entryOf : LineForm → Option Entry
-  entryOf (typeLine w t) = declOf w t >>= λ d. some (newType w d)
-  entryOf (varLine w t) = typeOf t >>= λ n. given (newNames (w ∷ [])) (newVar w n)
-  entryOf (procLine w b) = bodyOf b >>= λ x. given (newNames (w ∷ [])) (newProc w x)
-  entryOf (mainLine b) = bodyOf b >>= λ x. some (newMain x)
+-- row 7: a line with its names resolved. Parameters "repeat no known name, one another's or the procedure's"
+unfoldable pub entryOf : Environment → LineForm → Option Entry
+entryOf σ (typeLine w t) = declOf σ w t >>= λ d. some (newType w d)
+entryOf σ (varLine w t) = typeOf σ t >>= λ n. given (newNames σ (w ∷ [])) (newVar w n)
+entryOf σ (procLine w ps b) = each (pairOf σ) ps >>= λ qs. bodyOf (within σ qs) b >>= λ x. given (newNames σ (w ∷ fieldNames σ qs)) (newProc w qs x)
+entryOf σ (mainLine b) = bodyOf σ b >>= λ x. some (newMain x)

@@ -1,14 +1,16 @@
 -- Row 8 but for the fitting of kinds inside a body: constants past the integers, repeated labels, assigned loop variables,
--- and in a `type` line its kinds and a reversed range. The marking machine runs what keeps these and breaks none but the kinds.
+-- another count of arguments than of parameters, and in a `type` line or a parameter list its kinds and a reversed range. The marking machine runs what keeps these and breaks none but the kinds.
 use mathlib.Core.Bool.{Bool, true, false, _&&_, _||_, not}
 use mathlib.Core.List.{List, [], _∷_, _++_}
-use Prim.Native.Nat.{ℕ}
+use Prim.Native.Nat.{ℕ, suc}
 use lib.Signed.{leZ}
 use lib.Dec.{eqb}
+use lib.ListN.{length}
 use Rattle.leaf_integers.specs.Integers.{inside, least, most}
+use Rattle.law.specs.Base.{Name}
 use Rattle.law.specs.Calculate.{equalZ}
 use Rattle.law.specs.Script.{Arms, Body, Const, Decl, Entry, Expr, Exprs, Stmt, Stmts, Target, _and_, _next_, alias, arm, arrayOf, assign, at, begin, binary, call, case, const, done, dot, elseArm, endOf, enum, errorNumber, for, ifElse, members, newMain, newProc, newType, newVar, nil, noElse, raise, range, read, recordOf, setOf, shortCircuit, skip, unary, var, while}
-use Rattle.law.specs.Types.{Types, ordinal?}
+use Rattle.law.specs.Types.{Types, ordinal?, set?}
 
 -- `(- number)` past the integers; enum names and truth values are never past them
 unfoldable pub plain : Const → Bool
@@ -70,6 +72,11 @@ unfoldable mutual
   plainExprs nil = true
   plainExprs (e and es) = plainExpr e && plainExprs es
 
+-- how many arguments a call has
+unfoldable pub howMany : Exprs → ℕ
+howMany nil = 0
+howMany (e and es) = suc (howMany es)
+
 unfoldable mutual
   pub keptStmt : Stmt → List ℕ → Bool
   keptStmt (assign n g e) js = plainTarget g && plainExpr e && not (steers g js)
@@ -78,7 +85,7 @@ unfoldable mutual
   keptStmt (while n e a) js = plainExpr e && keptStmt a js
   keptStmt (for n i a b s) js = plainExpr a && plainExpr b && not (looping i js) && keptStmt s (i ∷ js)
   keptStmt (case n e bs) js = plainExpr e && differ (labelsOf bs) && keptArms bs js
-  keptStmt (call n p) js = true
+  keptStmt (call n p ts es) js = plainExprs es && eqb (howMany es) (length ts)
   keptStmt (raise n e) js = plainExpr e
   keptStmt skip js = true
 
@@ -104,8 +111,14 @@ keptDecl Γ (arrayOf i e) = ordinal? Γ i
 keptDecl Γ (recordOf fs) = true
 keptDecl Γ (setOf b) = ordinal? Γ b
 
+-- ---- parameters: "each of an ordinal or set type"
+
+unfoldable pub keptParameters : Types → List (Name × ℕ) → Bool
+keptParameters Γ [] = true
+keptParameters Γ (p ∷ ps) = (ordinal? Γ (p .1) || set? Γ (p .1)) && keptParameters Γ ps
+
 unfoldable pub keepsRules : Types → Entry → Bool
 keepsRules Γ (newType w d) = keptDecl Γ d
 keepsRules Γ (newVar w t) = true
-keepsRules Γ (newProc w b) = keptBody b
+keepsRules Γ (newProc w ps b) = keptParameters Γ ps && keptBody b
 keepsRules Γ (newMain b) = keptBody b

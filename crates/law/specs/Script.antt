@@ -40,7 +40,7 @@ mutual
     while : ℕ → Expr → Stmt → Stmt
     for : ℕ → ℕ → Expr → Expr → Stmt → Stmt
     case : ℕ → Expr → Arms → Stmt
-    call : ℕ → ℕ → Stmt
+    call : ℕ → ℕ → List ℕ → Exprs → Stmt  -- a procedure's number, its parameters' types, the arguments
     raise : ℕ → Expr → Stmt
     skip : Stmt
 
@@ -73,5 +73,5 @@ pub data Decl : Type 0 where
 pub data Entry : Type 0 where
   newType : Name → Decl → Entry
   newVar : Name → ℕ → Entry
-  newProc : Name → Body → Entry
+  newProc : Name → List (Name × ℕ) → Body → Entry  -- its parameters with their types
   newMain : Body → Entry

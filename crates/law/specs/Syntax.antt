@@ -46,7 +46,7 @@ mutual
     while : ℕ → Expr → Stmt → Stmt
     for : ℕ → Name → Expr → Expr → Stmt → Stmt
     case : ℕ → Expr → Arms → Stmt
-    call : ℕ → Name → Stmt
+    call : ℕ → Name → Exprs → Stmt
     raise : ℕ → Expr → Stmt
     skip : Stmt  -- the missing third part of an `if`
 
@@ -76,5 +76,5 @@ pub data TypeForm : Type 0 where
 pub data LineForm : Type 0 where
   typeLine : Name → TypeForm → LineForm
   varLine : Name → TypeName → LineForm
-  procLine : Name → Body → LineForm
+  procLine : Name → List (Name × TypeName) → Body → LineForm  -- its parameters: none, or one or more
   mainLine : Body → LineForm

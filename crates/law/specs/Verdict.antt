@@ -7,9 +7,9 @@ use lib.Dec.{leb}
 use lib.ListN.{length}
 use Rattle.law.specs.Base as Base
 use Rattle.law.specs.Ceilings.{lineBounded}
-use Rattle.law.specs.Code.{BodyCode}
+use Rattle.law.specs.Code.{BodyCode, noFrame}
 use Rattle.law.specs.Elaborate.{elabBody}
-use Rattle.law.specs.Environment.{Declared, Environment, declareLine, nothingDeclared}
+use Rattle.law.specs.Environment.{Declared, Environment, declareLine, frameOf, nothingDeclared, within}
 use Rattle.law.specs.Forms.{lineForm}
 use Rattle.law.specs.Lines.{Line, linesOf, refusedAt}
 use Rattle.law.specs.Names.{entryOf}
@@ -46,8 +46,8 @@ Fitting = Environment → Entry → Option (List BodyCode)
 unfoldable pub strictly : Fitting
 strictly σ (newType w d) = some []
 strictly σ (newVar w t) = some []
-strictly σ (newProc w b) = Base._>>=_ (elabBody (σ .types) (σ .vars) b) λ c. some (c ∷ [])
-strictly σ (newMain b) = Base._>>=_ (elabBody (σ .types) (σ .vars) b) λ c. some (c ∷ [])
+strictly σ (newProc w ps b) = Base._>>=_ (elabBody (within σ ps .types) (within σ ps .vars) (frameOf σ ps) b) λ c. some (c ∷ [])
+strictly σ (newMain b) = Base._>>=_ (elabBody (σ .types) (σ .vars) noFrame b) λ c. some (c ∷ [])
 
 -- the marking machine's: kinds inside a body are left out
 unfoldable pub loosely : Fitting

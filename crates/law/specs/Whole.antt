@@ -8,7 +8,7 @@ use lib.ListN.{length, replicate, take, drop, getD}
 use Rattle.law.specs.Chair.{runActs}
 use Rattle.law.specs.Code.{BodyCode}
 use Rattle.law.specs.Environment.{Declared, PlacedBody}
-use Rattle.law.specs.Machine.{Answer, Outcome, Procs, State, Store, answer, handled, normal, state, storeCells, undefined}
+use Rattle.law.specs.Machine.{Answer, Outcome, Procs, State, Store, answer, handled, normal, proc, state, storeCells, undefined}
 use Rattle.law.specs.Marking.{markStmts}
 use Rattle.law.specs.Store.{storeFault}
 use Rattle.law.specs.Verdict.{Read, Verdict, accepted, judge, loosely, refused, strictly}
@@ -25,12 +25,12 @@ markBody b ps s = handled (b .body .handles) (markStmts (b .types) (b .vars) ps 
 unfoldable pub runAll : List BodyCode → Procs → State → Answer
 runAll [] ps = answer normal
 runAll (b ∷ []) ps = runBody b ps
-runAll (b ∷ (c ∷ bs)) ps = runAll (c ∷ bs) (ps ++ (runBody b ps ∷ []))
+runAll (b ∷ (c ∷ bs)) ps = runAll (c ∷ bs) (ps ++ (proc (b .frame) (runBody b ps) ∷ []))
 
 unfoldable pub markAll : List PlacedBody → Procs → State → Answer
 markAll [] ps = answer normal
 markAll (b ∷ []) ps = markBody b ps
-markAll (b ∷ (c ∷ bs)) ps = markAll (c ∷ bs) (ps ++ (markBody b ps ∷ []))
+markAll (b ∷ (c ∷ bs)) ps = markAll (c ∷ bs) (ps ++ (proc (b .frame) (markBody b ps) ∷ []))
 
 -- ---- reports: a refusal with its number and line, or an outcome with its steps; and the store
 

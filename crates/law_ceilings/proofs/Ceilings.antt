@@ -81,6 +81,25 @@ pub cells :
 unfolding everything times numbered
 cells = (refl, refl, refl)
 
+-- parameters: 128 with the variables, those of all procedures; 2,048 cells with those of the variables. A line of many is judged by rows 6 to 8 first
+abbrev ramps : ℕ → List ℕ
+ramps n = numbered (bytes "(proc p") (bytes " ((a integer)(b integer)(c integer)(d integer)(e integer)(f integer)(g integer)(h integer)))\n") 0 n
+
+abbrev many : List ℕ → List ℕ
+many more = bytes "(proc p (" ++ (numbered (bytes "(a") (bytes " integer)") 0 600 ++ (more ++ bytes "))\n(main)\n"))
+
+pub parameters :
+    (isAccepted (judged (ramps 16 ++ main)) ≡ true)
+    × (judged (ramps 16 ++ bytes "(proc q ((a integer)))\n(main)\n") ≡ refused 9 17)
+    × (judged (ramps 16 ++ bytes "(var x integer)\n(main)\n") ≡ refused 9 17)
+    × (judged (bytes "(var x integer)\n" ++ (ramps 16 ++ main)) ≡ refused 9 17)
+    × (judged (table (bytes "8") ++ bytes "(var x b)\n(proc p ((z integer)))\n(main)\n") ≡ refused 9 6)
+    × (judged (table (bytes "8") ++ bytes "(proc p ((z integer)))\n(var x b)\n(main)\n") ≡ refused 9 6)
+    × (judged (many []) ≡ refused 9 1)
+    × (judged (many (bytes "(A599 integer)")) ≡ refused 7 1)
+unfolding everything times numbered
+parameters = (refl, refl, refl, refl, refl, refl, refl, refl)
+
 -- 16,384 working numbers, then 32,768 bytes, before anything else
 pub lengths :
     (verdictOf (replicate 32769 0) 16383 ≡ refused 1 0)

@@ -8,15 +8,15 @@ use lib.IntN.{ℤ, _-ℤ_}
 use lib.Dec.{eqb}
 use Rattle.law.specs.Base.{Name, pick}
 use Rattle.law.specs.Calculate.{Result, _>>=_, compute, compute1, equalZ, fails, is, isTrue, natOf, rangeError, stuck, tested}
-use Rattle.law.specs.Chair.{condition, evalCode, gatherCodes, matches, placeCode, runAct, runActs, runCases}
-use Rattle.law.specs.Code.{Act, Acts, Cases, Code, Codes, assignOrdinal, assignWhole}
-use Rattle.law.specs.Elaborate.{Elaborated, Located, assigning, elabArms, elabExpr, elabLabels, elabMembers, elabStmt, elabStmts, elabTarget, expects}
-use Rattle.law.specs.Machine.{Answer, Procs, State, Store, branch, countUp, oneCell, readCells, shortCircuited, sole, step, storeOrdinal, storeWhole, withResult}
-use Rattle.law.specs.Marking.{TypedValue, markArms, markBounds, markCondition, markExpr, markLabels, markMembers, markStmt, markStmts, markStore, markTarget, orStuck, placedAs, require, typedAs, typedPlace, typedValue, wanted}
+use Rattle.law.specs.Chair.{condition, evalCode, gatherCodes, matches, placeCode, runAct, runActs, runArguments, runCases}
+use Rattle.law.specs.Code.{Act, Acts, Cases, Code, Codes, Want, assignOrdinal, assignWhole}
+use Rattle.law.specs.Elaborate.{Elaborated, Located, assigning, elabArguments, elabArms, elabExpr, elabLabels, elabMembers, elabStmt, elabStmts, elabTarget, expects}
+use Rattle.law.specs.Machine.{Answer, Procs, State, Store, branch, countUp, oneCell, procedureAt, readCells, shortCircuited, sole, step, storeOrdinal, storeWhole, withResult}
+use Rattle.law.specs.Marking.{TypedValue, markArguments, markArms, markBounds, markCondition, markExpr, markLabels, markMembers, markStmt, markStmts, markStore, markTarget, orStuck, placedAs, require, typedAs, typedPlace, typedValue, wanted}
 use Rattle.law.specs.Operators.{Fun, Op, Rule, Rule1, functionRule, operatorRule}
 use Rattle.law.specs.Script.{Arms, Const, Expr, Exprs, Stmt, Stmts, Target, _and_, _next_, arm, assign, at, begin, binary, call, case, const, done, dot, elseArm, endOf, errorNumber, for, ifElse, members, nil, noElse, raise, read, shortCircuit, skip, unary, var, while}
 use Rattle.law.specs.Types.{Field, Types, Var, Vars, array?, baseOf, fieldOf, hostOf, infoAt, ordinal?, sizeOf}
-use Rattle.law_theorems.proofs.Inversion.{some-inj, both-some, bind-some, given-some, and-true}
+use Rattle.law_theorems.proofs.Inversion.{none-some, some-inj, both-some, bind-some, given-some, and-true}
 
 -- ---- values with their kinds
 
@@ -159,6 +159,16 @@ module _ (Γ : Types) (Δ : Vars) where
   sim-labels k z (l ∷ ls) zs h = both-some h λ x xs hx hxs e. given-some hx λ p v.
       rw (← some-inj e, p, sim-labels k z ls xs hxs, v) (cond-is (equalZ x z) true (matches z xs))
 
+  -- arguments, tested by what the parameters take. More parameters than arguments, or fewer, elaborate to nothing
+  sim-args : (ts : List ℕ) (es : Exprs) (cs : Codes) → elabArguments Γ Δ ts es ≡ some cs → (ws : List Want) (m : Store) → markArguments Γ Δ ws ts es m ≡ runArguments ws cs m
+  unfolding elabArguments markArguments runArguments
+  sim-args [] nil cs h ws m = rw (← some-inj h)
+  sim-args [] (e and es) cs h ws m = none-some h
+  sim-args (t ∷ ts) nil cs h ws m = none-some h
+  sim-args (t ∷ ts) (e and es) cs h [] m = both-some h λ c ds hc hds e′. rw (← some-inj e′)
+  sim-args (t ∷ ts) (e and es) cs h (w ∷ ws) m = both-some h λ c ds hc hds e′.
+      rw (← some-inj e′, sim-want e (hostOf Γ t) c hc m, sim-args ts es ds hds ws m)
+
   module _ (ps : Procs) where
     mutual
       unfolding elabStmt runAct markStmt expects
@@ -180,7 +190,7 @@ module _ (Γ : Types) (Δ : Vars) where
       sim-s (case n e bs) c h = bind-some h λ x hx h′. bind-some h′ λ cs hcs e′. given-some e′ λ p v.
           rw (← v) (fun-ext λ s. ap (step s) (fun-ext λ s′. rw (sim-e e x hx (s′ .store)) (after-tag n s′ (x .kind) (evalCode (x .code) (s′ .store)) _
           ∙ rw p (ap (withResult n s′ (evalCode (x .code) (s′ .store))) (fun-ext λ zs. rw (sim-a bs (x .kind) cs hcs n (sole zs)))))))
-      sim-s (call n p) c h = rw (← some-inj h)
+      sim-s (call n p ts es) c h = bind-some h λ cs hcs e. rw (← some-inj e) (fun-ext λ s. ap (step s) (fun-ext λ s′. rw (sim-args ts es cs hcs (procedureAt ps p .frame .wants) (s′ .store))))
       sim-s (raise n e) c h = bind-some h λ d hd e′. rw (← some-inj e′) (fun-ext λ s. simp (sim-want e 0 d hd))
       sim-s skip c h = rw (← some-inj h)
 

@@ -12,7 +12,7 @@ use Rattle.leaf_integers.specs.Integers.{inside, least, most}
 use Rattle.leaf_sets.specs.Sets.{liesIn}
 use Rattle.law.specs.Calculate.{Result, is}
 use Rattle.law.specs.Code as C
-use Rattle.law.specs.Chair.{evalCode, placeCode, runAct, runActs}
+use Rattle.law.specs.Chair.{evalCode, placeCode, runAct, runActs, runArguments}
 use Rattle.law.specs.Machine.{Procs, Store, procedureAt, sole, stored}
 use Rattle.law.specs.Operators as O
 use Rattle.law.specs.Operators.{Operation, Operation1}
@@ -85,8 +85,17 @@ pub record Gives (xs : List Test) (c : C.Code) (k : Kind) : Type 0 where
 pub record Reaches (xs : List Test) (p : C.Place) (n : ℕ) : Type 0 where
   pub at : (m : Store) → Sound xs m → Good (λ a. a + n ≤ length (m .values)) (placeCode p m)
 
-pub record Leaves (xs : List Test) (a : C.Act) : Type 0 where
-  pub at : (ps : Procs) → ((i : ℕ) → Safely xs (procedureAt ps i)) → Safely xs (runAct ps a)
+-- procedures with the frames qs, which do so
+pub record Called (xs : List Test) (qs : ℕ → C.Frame) (ps : Procs) : Type 0 where
+  pub frames : (i : ℕ) → procedureAt ps i .frame ≡ qs i
+  pub runs : (i : ℕ) → Safely xs (procedureAt ps i .run)
+
+pub record Leaves (xs : List Test) (qs : ℕ → C.Frame) (a : C.Act) : Type 0 where
+  pub at : (ps : Procs) → Called xs qs ps → Safely xs (runAct ps a)
+
+-- arguments that a frame takes leave a sound store when they are put into it
+pub record Enters (xs : List Test) (q : C.Frame) (cs : C.Codes) : Type 0 where
+  pub at : (m : Store) → Sound xs m → Good (λ zs. Sound xs (stored (q .base) zs m)) (runArguments (q .wants) cs m)
 
 -- a control variable's cell takes any value of lo to hi
 pub record Controls (xs : List Test) (a : ℕ) (lo hi : ℤ) : Type 0 where
@@ -116,21 +125,29 @@ module _ (xs : List Test) where
       _with_ : {c : C.Code} {cs : C.Codes} {i j : ℤ} → SafeCode c (ordinals i j) → SafeCodes cs → SafeCodes (C._with_ c cs)
 
   infixr 40 _with_
+  -- arguments of a call, each for what its parameter takes
+  pub data SafeArguments : List C.Want → C.Codes → Type 0 where
+    noArguments : SafeArguments [] C.noCodes
+    ordinalArgument : {lo hi i j : ℤ} {ws : List C.Want} {c : C.Code} {cs : C.Codes} → SafeCode c (ordinals i j) → SafeArguments ws cs → SafeArguments (C.ranged lo hi ∷ ws) (C._with_ c cs)
+    setArgument : {lo hi : ℤ} {ws : List C.Want} {c : C.Code} {cs : C.Codes} → SafeCode c (sets lo hi) → SafeArguments ws cs → SafeArguments (C.anySet ∷ ws) (C._with_ c cs)
+
+-- statements, that call procedures with the frames qs
+module _ (xs : List Test) (qs : ℕ → C.Frame) where
   mutual
     pub data SafeAct : C.Act → Type 0 where
-      assignOrdinal : {n : ℕ} {p : C.Place} {lo hi i j : ℤ} {c : C.Code} → SafePlace p 1 → SafeCode c (ordinals i j) → Leaves xs (C.assignOrdinal n p lo hi c) → SafeAct (C.assignOrdinal n p lo hi c)
+      assignOrdinal : {n : ℕ} {p : C.Place} {lo hi i j : ℤ} {c : C.Code} → SafePlace xs p 1 → SafeCode xs c (ordinals i j) → Leaves xs qs (C.assignOrdinal n p lo hi c) → SafeAct (C.assignOrdinal n p lo hi c)
       -- of a set; of an array or a record, whose value can only be another's
-      assignSet : {n : ℕ} {p : C.Place} {lo hi : ℤ} {c : C.Code} → SafePlace p 1 → SafeCode c (sets lo hi) → Leaves xs (C.assignWhole n p c) → SafeAct (C.assignWhole n p c)
-      copyCells : {n s : ℕ} {p q : C.Place} → SafePlace p s → SafePlace q s → Leaves xs (C.assignWhole n p (C.load q s)) → SafeAct (C.assignWhole n p (C.load q s))
-      sequence : {n : ℕ} {bs : C.Acts} → SafeActs bs → Leaves xs (C.sequence n bs) → SafeAct (C.sequence n bs)
-      branchOn : {n : ℕ} {c : C.Code} {a b : C.Act} → SafeCode c booleans → SafeAct a → SafeAct b → Leaves xs (C.branchOn n c a b) → SafeAct (C.branchOn n c a b)
-      whileLoop : {n : ℕ} {c : C.Code} {a : C.Act} → SafeCode c booleans → SafeAct a → Leaves xs (C.whileLoop n c a) → SafeAct (C.whileLoop n c a)
-      forLoop : {n a : ℕ} {lo hi i j : ℤ} {x y : C.Code} {b : C.Act} → Controls xs a lo hi → SafeCode x (ordinals i j) → SafeCode y (ordinals i j) → SafeAct b
-          → Leaves xs (C.forLoop n a lo hi x y b) → SafeAct (C.forLoop n a lo hi x y b)
-      caseOf : {n : ℕ} {c : C.Code} {i j : ℤ} {bs : C.Cases} → SafeCode c (ordinals i j) → SafeCases bs → Leaves xs (C.caseOf n c bs) → SafeAct (C.caseOf n c bs)
-      callTo : {n p : ℕ} → Leaves xs (C.callTo n p) → SafeAct (C.callTo n p)
-      raiseWith : {n : ℕ} {c : C.Code} → SafeCode c integers → Leaves xs (C.raiseWith n c) → SafeAct (C.raiseWith n c)
-      noAct : Leaves xs C.noAct → SafeAct C.noAct
+      assignSet : {n : ℕ} {p : C.Place} {lo hi : ℤ} {c : C.Code} → SafePlace xs p 1 → SafeCode xs c (sets lo hi) → Leaves xs qs (C.assignWhole n p c) → SafeAct (C.assignWhole n p c)
+      copyCells : {n s : ℕ} {p q : C.Place} → SafePlace xs p s → SafePlace xs q s → Leaves xs qs (C.assignWhole n p (C.load q s)) → SafeAct (C.assignWhole n p (C.load q s))
+      sequence : {n : ℕ} {bs : C.Acts} → SafeActs bs → Leaves xs qs (C.sequence n bs) → SafeAct (C.sequence n bs)
+      branchOn : {n : ℕ} {c : C.Code} {a b : C.Act} → SafeCode xs c booleans → SafeAct a → SafeAct b → Leaves xs qs (C.branchOn n c a b) → SafeAct (C.branchOn n c a b)
+      whileLoop : {n : ℕ} {c : C.Code} {a : C.Act} → SafeCode xs c booleans → SafeAct a → Leaves xs qs (C.whileLoop n c a) → SafeAct (C.whileLoop n c a)
+      forLoop : {n a : ℕ} {lo hi i j : ℤ} {x y : C.Code} {b : C.Act} → Controls xs a lo hi → SafeCode xs x (ordinals i j) → SafeCode xs y (ordinals i j) → SafeAct b
+          → Leaves xs qs (C.forLoop n a lo hi x y b) → SafeAct (C.forLoop n a lo hi x y b)
+      caseOf : {n : ℕ} {c : C.Code} {i j : ℤ} {bs : C.Cases} → SafeCode xs c (ordinals i j) → SafeCases bs → Leaves xs qs (C.caseOf n c bs) → SafeAct (C.caseOf n c bs)
+      callTo : {n p : ℕ} {cs : C.Codes} → SafeArguments xs (qs p .wants) cs → Enters xs (qs p) cs → Leaves xs qs (C.callTo n p cs) → SafeAct (C.callTo n p cs)
+      raiseWith : {n : ℕ} {c : C.Code} → SafeCode xs c integers → Leaves xs qs (C.raiseWith n c) → SafeAct (C.raiseWith n c)
+      noAct : Leaves xs qs C.noAct → SafeAct C.noAct
 
     pub data SafeActs : C.Acts → Type 0 where
       stop : SafeActs C.stop
@@ -163,7 +180,7 @@ module _ {xs : List Test} where
   reaches (index p c g) = g
   reaches (shift p g) = g
 
-  pub leaves : {a : C.Act} → SafeAct xs a → Leaves xs a
+  pub leaves : {qs : ℕ → C.Frame} {a : C.Act} → SafeAct xs qs a → Leaves xs qs a
   leaves (assignOrdinal p c g) = g
   leaves (assignSet p c g) = g
   leaves (copyCells p q g) = g
@@ -172,17 +189,17 @@ module _ {xs : List Test} where
   leaves (whileLoop c a g) = g
   leaves (forLoop l x y b g) = g
   leaves (caseOf c bs g) = g
-  leaves (callTo g) = g
+  leaves (callTo cs e g) = g
   leaves (raiseWith c g) = g
   leaves (noAct g) = g
 
-  module _ (ps : Procs) (hp : (i : ℕ) → Safely xs (procedureAt ps i)) where
-    pub acts-leave : {bs : C.Acts} → SafeActs xs bs → Safely xs (runActs ps bs)
+  module _ {qs : ℕ → C.Frame} (ps : Procs) (hp : Called xs qs ps) where
+    pub acts-leave : {bs : C.Acts} → SafeActs xs qs bs → Safely xs (runActs ps bs)
     unfolding runAct
     acts-leave stop = answer-s normally
     acts-leave (a also bs) = then-s (leaves a .at ps hp) (acts-leave bs)
 
-    pub body-leaves : {b : C.BodyCode} → SafeBody xs b → Safely xs (runBody b ps)
+    pub body-leaves : {b : C.BodyCode} → SafeBody xs qs b → Safely xs (runBody b ps)
     unfolding runBody
     body-leaves {b} h = handled-s (b .handles) (acts-leave (h .acts)) (acts-leave (h .handler))
 

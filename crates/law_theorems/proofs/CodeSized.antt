@@ -1,26 +1,28 @@
--- Code whose numbers are small: literals, labels and bounds are integers, bounds of members are 0 to 31, cells are below 2,048, and statements
+-- Code whose numbers are small: literals, labels and bounds are integers, bounds of members are 0 to 31, cells are a store's, and statements
 -- are 1 to 4,096. So a node of code can be laid down in numbers of 32 bits.
-use mathlib.Core.Path.{_≡_, refl}
+use mathlib.Core.Path.{_≡_, refl, ap, _∙_}
 use mathlib.Core.Bool.{Bool, true, false, cond, _&&_, not}
-use mathlib.Core.List.{List, [], _∷_}
+use mathlib.Core.List.{List, [], _∷_, map}
 use mathlib.Core.Option.{some}
 use Prim.Native.Nat.{ℕ, _+_, _≤_, _<_}
 use native.Mathlib.Omega.{arith}
 use lib.IntN.{ℤ, pos}
-use lib.ListN.{length}
+use lib.ListN.{length, length-map}
 use lib.Signed.{leZ}
 use Rattle.leaf_integers.specs.Integers.{inside, least, most}
 use Rattle.leaf_integers.proofs.Order.{leZ-trans}
 use Rattle.leaf_integers.proofs.Ranges.{inside-both, inside-is}
 use Rattle.law.specs.Base.{Name, pick}
 use Rattle.law.specs.Code as C
-use Rattle.law.specs.Elaborate.{Elaborated, Located, elabArms, elabBody, elabExpr, elabLabels, elabMembers, elabStmt, elabStmts, elabTarget, expects}
+use Rattle.law.specs.Machine.{lentCells, storeCells}
+use Rattle.law.specs.Elaborate.{Elaborated, Located, elabArguments, elabArms, elabBody, elabExpr, elabLabels, elabMembers, elabStmt, elabStmts, elabTarget, expects}
+use Rattle.law.specs.Environment.{Environment, frameOf, parameterTypes, wantOf}
 use Rattle.law.specs.Operators as O
 use Rattle.law.specs.Operators.{Fun, Operation, Operation1, Rule1, abs, card, functionRule, negate, notOf, odd, ord, pred, setmax, setmin, sqr, succ}
 use Rattle.law.specs.Rules.{allPlain, differ, keptArms, keptBody, keptStmt, keptStmts, labelsOf, looping, plain, plainExpr}
 use Rattle.law.specs.Script as X
 use Rattle.law.specs.Types.{Field, Types, Var, Vars, fieldOf, infoAt, ordinal?, set?, sizeOf, variable}
-use Rattle.law_theorems.proofs.Inversion.{and-true, some-inj, both-some, bind-some, given-some}
+use Rattle.law_theorems.proofs.Inversion.{none-some, and-true, some-inj, both-some, bind-some, given-some}
 use Rattle.law_theorems.proofs.ValuesInRange.{ends-in, ord-layout}
 use Rattle.law_theorems.specs.ValuesInRange.{InInt, Test, Formed}
 use Rattle.law_theorems.proofs.TypeSizes.{small-size}
@@ -28,12 +30,12 @@ use Rattle.law_theorems.specs.TypeSizes.{SmallTypes}
 use Rattle.law_theorems.specs.StatementNumbers.{Number}
 use Rattle.law_theorems.proofs.ScriptNumbers as Within
 use Rattle.law_theorems.proofs.ScriptNumbers.{Within, WithinAll, WithinArms, WithinBody}
-use Rattle.law_theorems.specs.CodeSized.{InSet, SizedAct, SizedActs, SizedBody, SizedCases, SizedCode, SizedCodes, SizedLabels, SizedOperation, SizedPlace, _also_, _with_, assignOrdinal, assignWhole, boolNot, branchOn, calculate, calculate1, callTo, caseOf, cell, elseCase, forLoop, index, intAbs, intNegate, intOdd, intSqr, label, lastNumber, literal, load, makeSet, noAct, noCase, noCodes, noLabels, oneCase, ordinalOf, predIn, raiseWith, sequence, setCard, setGreatest, setLeast, shift, shortCut, stop, succIn, whileLoop}
+use Rattle.law_theorems.specs.CodeSized.{anySet, InSet, SizedAct, SizedActs, SizedBody, SizedCases, SizedCode, SizedCodes, SizedFrame, SizedLabels, SizedOperation, SizedPlace, SizedWants, _also_, _with_, assignOrdinal, assignWhole, boolNot, branchOn, calculate, calculate1, callTo, caseOf, cell, elseCase, forLoop, index, intAbs, intNegate, intOdd, intSqr, label, lastNumber, literal, load, makeSet, noAct, noCase, noCodes, noLabels, noWants, oneCase, ordinalOf, predIn, raiseWith, ranged, sequence, setCard, setGreatest, setLeast, shift, shortCut, stop, succIn, whileLoop}
 
--- a place's cells are at most 2,048
-pub place-cells : {p : C.Place} {n : ℕ} → SizedPlace p n → n ≤ 2048
+-- a place's cells are at most those of a store
+pub place-cells : {p : C.Place} {n : ℕ} → SizedPlace p n → n ≤ storeCells
 place-cells (cell l) = omega arith
-place-cells (index p c a b l) = l
+place-cells (index p c a b l) = omega arith
 place-cells (shift p m l) = omega arith
 
 -- ---- elaborated code
@@ -45,9 +47,10 @@ pub record Limits (Γ : Types) (Δ : Vars) : Type 0 where
   pub bases : (t : ℕ) → set? Γ t ≡ true → InSet (infoAt Γ t .low) × InSet (infoAt Γ t .high)
   pub size : (t : ℕ) → sizeOf Γ t ≤ 2048
   pub fields : (t : ℕ) (n : Name) (f : Field) → fieldOf (infoAt Γ t .fields) n ≡ some f → f .offset + sizeOf Γ (f .type) ≤ sizeOf Γ t
-  pub vars : (i : ℕ) (v : Var) → variable Δ i ≡ some v → v .base + sizeOf Γ (v .type) ≤ 2048
+  pub vars : (i : ℕ) (v : Var) → variable Δ i ≡ some v → v .base + sizeOf Γ (v .type) ≤ storeCells
+  pub filled : (t : ℕ) → ordinal? Γ t ≡ true → leZ (infoAt Γ t .low) (infoAt Γ t .high) ≡ true
 
-pub limits : (Γ : Types) (Δ : Vars) (xs : List Test) → Formed Γ Δ xs → SmallTypes Γ → length xs ≤ 2048 → Limits Γ Δ
+pub limits : (Γ : Types) (Δ : Vars) (xs : List Test) → Formed Γ Δ xs → SmallTypes Γ → length xs ≤ storeCells → Limits Γ Δ
 limits Γ Δ xs 𝓕 h l = record {
   low = λ t. h t .low;
   high = λ t. h t .high;
@@ -59,6 +62,7 @@ limits Γ Δ xs 𝓕 h l = record {
   size = small-size Γ h;
   fields = λ t n f e. 𝓕 .fields t n f e .short;
   vars = λ i v e. let s = 𝓕 .vars i v e .short in omega arith;
+  filled = 𝓕 .filled;
 }
 
 -- between two integers
@@ -113,6 +117,13 @@ module _ (Γ : Types) (Δ : Vars) (𝓛 : Limits Γ Δ) where
   unfolding expects
   expected-sized e k c h = bind-some h λ x hx e′. given-some e′ λ _ v. rw (← v) (sized-e e x hx)
 
+  arguments-sized : (ts : List ℕ) (es : X.Exprs) (cs : C.Codes) → elabArguments Γ Δ ts es ≡ some cs → SizedCodes cs
+  unfolding elabArguments
+  arguments-sized [] X.nil cs h = rw (← some-inj h) noCodes
+  arguments-sized [] (X._and_ e es) cs h = none-some h
+  arguments-sized (t ∷ ts) X.nil cs h = none-some h
+  arguments-sized (t ∷ ts) (X._and_ e es) cs h = both-some h λ c ds hc hds v. rw (← some-inj v) (expected-sized e _ c hc with arguments-sized ts es ds hds)
+
   pub labels-sized : (k : ℕ) (ls : List X.Const) → allPlain ls ≡ true → (zs : List ℤ) → elabLabels Γ Δ k ls ≡ some zs → SizedLabels zs
   unfolding elabLabels allPlain plain
   labels-sized k [] p zs h = rw (← some-inj h) noLabels
@@ -126,45 +137,62 @@ module _ (Γ : Types) (Δ : Vars) (𝓛 : Limits Γ Δ) where
   assign-sized true n w c o k p s = assignOrdinal k (rw (ord-layout _ (w .type) _ o) at p) (𝓛 .low (w .type)) (𝓛 .high (w .type)) s
   assign-sized false n w c o k p s = assignWhole k p s
 
-  pub for-cell : (i : ℕ) (v : Var) → variable Δ i ≡ some v → ordinal? Γ (v .type) ≡ true → v .base < 2048
-  for-cell i v h o = let l : v .base + 1 ≤ 2048 = rw (ord-layout _ (v .type) _ o) at (𝓛 .vars i v h) in omega arith
+  pub for-cell : (i : ℕ) (v : Var) → variable Δ i ≡ some v → ordinal? Γ (v .type) ≡ true → v .base < storeCells
+  for-cell i v h o = let l : v .base + 1 ≤ storeCells = rw (ord-layout _ (v .type) _ o) at (𝓛 .vars i v h) in omega arith
 
-  module _ {k : ℕ} where
-    mutual
-      unfolding elabStmt keptStmt
+  mutual
+    unfolding elabStmt keptStmt
 
-      sized-s : {s : X.Stmt} → Within 4096 k s → (js : List ℕ) → keptStmt s js ≡ true → (c : C.Act) → elabStmt Γ Δ s ≡ some c → SizedAct c
-      sized-s (Within.assign {g = g} {e = e} n) js p c h = bind-some h λ w hw h. bind-some h λ d hd v. rw (← some-inj v) (assign-sized _ _ w d refl n (sized-t g w hw) (expected-sized e _ d hd))
-      sized-s (Within.begin n ss) js p c h = bind-some h λ x hx v. rw (← some-inj v) (sequence n (sized-b ss js p x hx))
-      sized-s (Within.ifElse {e = e} {a = a} {b = b} n u w) js p c h =
-          let q = and-true _ (keptStmt b js) p in let q′ = and-true (plainExpr e) (keptStmt a js) (q .0) in
-          both-some h λ d x hd hx h. bind-some h λ y hy v. rw (← some-inj v) (branchOn n (expected-sized e 1 d hd) (sized-s u js (q′ .1) x hx) (sized-s w js (q .1) y hy))
-      sized-s (Within.while {e = e} {a = a} n u) js p c h =
-          both-some h λ d x hd hx v. rw (← some-inj v) (whileLoop n (expected-sized e 1 d hd) (sized-s u js (and-true (plainExpr e) (keptStmt a js) p .1) x hx))
-      sized-s (Within.for {i = i} {a = a} {b = b} {s = s} n u) js p c h =
-          bind-some h λ v hv h. both-some h λ x y hx hy h. bind-some h λ z hz e. given-some e λ o q.
-          rw (← q) (forLoop n (for-cell i v hv o) (𝓛 .low (v .type)) (𝓛 .high (v .type)) (expected-sized a _ x hx) (expected-sized b _ y hy) (sized-s u (i ∷ js) (and-true (plainExpr a && plainExpr b && not (looping i js)) (keptStmt s (i ∷ js)) p .1) z hz))
-      sized-s (Within.case {e = e} {bs = bs} n u) js p c h =
-          bind-some h λ x hx h. bind-some h λ y hy v. given-some v λ _ q. rw (← q) (caseOf n (sized-e e x hx) (sized-a u js (and-true (plainExpr e && differ (labelsOf bs)) (keptArms bs js) p .1) _ y hy))
-      sized-s (Within.call n q) js p c h = rw (← some-inj h) (callTo n)
-      sized-s (Within.raise {e = e} n) js p c h = bind-some h λ d hd v. rw (← some-inj v) (raiseWith n (expected-sized e 0 d hd))
-      sized-s Within.skip js p c h = rw (← some-inj h) noAct
+    sized-s : {s : X.Stmt} → Within 4096 s → (js : List ℕ) → keptStmt s js ≡ true → (c : C.Act) → elabStmt Γ Δ s ≡ some c → SizedAct c
+    sized-s (Within.assign {g = g} {e = e} n) js p c h = bind-some h λ w hw h. bind-some h λ d hd v. rw (← some-inj v) (assign-sized _ _ w d refl n (sized-t g w hw) (expected-sized e _ d hd))
+    sized-s (Within.begin n ss) js p c h = bind-some h λ x hx v. rw (← some-inj v) (sequence n (sized-b ss js p x hx))
+    sized-s (Within.ifElse {e = e} {a = a} {b = b} n u w) js p c h =
+        let q = and-true _ (keptStmt b js) p in let q′ = and-true (plainExpr e) (keptStmt a js) (q .0) in
+        both-some h λ d x hd hx h. bind-some h λ y hy v. rw (← some-inj v) (branchOn n (expected-sized e 1 d hd) (sized-s u js (q′ .1) x hx) (sized-s w js (q .1) y hy))
+    sized-s (Within.while {e = e} {a = a} n u) js p c h =
+        both-some h λ d x hd hx v. rw (← some-inj v) (whileLoop n (expected-sized e 1 d hd) (sized-s u js (and-true (plainExpr e) (keptStmt a js) p .1) x hx))
+    sized-s (Within.for {i = i} {a = a} {b = b} {s = s} n u) js p c h =
+        bind-some h λ v hv h. both-some h λ x y hx hy h. bind-some h λ z hz e. given-some e λ o q.
+        rw (← q) (forLoop n (for-cell i v hv o) (𝓛 .low (v .type)) (𝓛 .high (v .type)) (expected-sized a _ x hx) (expected-sized b _ y hy) (sized-s u (i ∷ js) (and-true (plainExpr a && plainExpr b && not (looping i js)) (keptStmt s (i ∷ js)) p .1) z hz))
+    sized-s (Within.case {e = e} {bs = bs} n u) js p c h =
+        bind-some h λ x hx h. bind-some h λ y hy v. given-some v λ _ q. rw (← q) (caseOf n (sized-e e x hx) (sized-a u js (and-true (plainExpr e && differ (labelsOf bs)) (keptArms bs js) p .1) _ y hy))
+    sized-s (Within.call {es = es} n) js p c h = bind-some h λ cs hcs v. rw (← some-inj v) (callTo n (arguments-sized _ es cs hcs))
+    sized-s (Within.raise {e = e} n) js p c h = bind-some h λ d hd v. rw (← some-inj v) (raiseWith n (expected-sized e 0 d hd))
+    sized-s Within.skip js p c h = rw (← some-inj h) noAct
 
-      sized-b : {ss : X.Stmts} → WithinAll 4096 k ss → (js : List ℕ) → keptStmts ss js ≡ true → (c : C.Acts) → elabStmts Γ Δ ss ≡ some c → SizedActs c
-      sized-b Within.done js p c h = rw (← some-inj h) stop
-      sized-b (Within._next_ {s = s} {ss = ss} u us) js p c h =
-          let q = and-true (keptStmt s js) (keptStmts ss js) p in
-          both-some h λ x y hx hy e. rw (← some-inj e) (sized-s u js (q .0) x hx also sized-b us js (q .1) y hy)
+    sized-b : {ss : X.Stmts} → WithinAll 4096 ss → (js : List ℕ) → keptStmts ss js ≡ true → (c : C.Acts) → elabStmts Γ Δ ss ≡ some c → SizedActs c
+    sized-b Within.done js p c h = rw (← some-inj h) stop
+    sized-b (Within._next_ {s = s} {ss = ss} u us) js p c h =
+        let q = and-true (keptStmt s js) (keptStmts ss js) p in
+        both-some h λ x y hx hy e. rw (← some-inj e) (sized-s u js (q .0) x hx also sized-b us js (q .1) y hy)
 
-      sized-a : {bs : X.Arms} → WithinArms 4096 k bs → (js : List ℕ) → keptArms bs js ≡ true → (j : ℕ) (c : C.Cases) → elabArms Γ Δ j bs ≡ some c → SizedCases c
-      sized-a (Within.elseArm u) js p j c h = bind-some h λ x hx e. rw (← some-inj e) (elseCase (sized-s u js p x hx))
-      sized-a Within.noElse js p j c h = rw (← some-inj h) noCase
-      sized-a (Within.arm {cs = cs} {s = s} {bs = bs} u us) js p j c h =
-          let q = and-true _ (keptArms bs js) p in let q′ = and-true (allPlain cs) (keptStmt s js) (q .0) in
-          both-some h λ zs x hzs hx h. bind-some h λ y hy e. rw (← some-inj e) (oneCase (labels-sized j cs (q′ .0) zs hzs) (sized-s u js (q′ .1) x hx) (sized-a us js (q .1) j y hy))
+    sized-a : {bs : X.Arms} → WithinArms 4096 bs → (js : List ℕ) → keptArms bs js ≡ true → (j : ℕ) (c : C.Cases) → elabArms Γ Δ j bs ≡ some c → SizedCases c
+    sized-a (Within.elseArm u) js p j c h = bind-some h λ x hx e. rw (← some-inj e) (elseCase (sized-s u js p x hx))
+    sized-a Within.noElse js p j c h = rw (← some-inj h) noCase
+    sized-a (Within.arm {cs = cs} {s = s} {bs = bs} u us) js p j c h =
+        let q = and-true _ (keptArms bs js) p in let q′ = and-true (allPlain cs) (keptStmt s js) (q .0) in
+        both-some h λ zs x hzs hx h. bind-some h λ y hy e. rw (← some-inj e) (oneCase (labels-sized j cs (q′ .0) zs hzs) (sized-s u js (q′ .1) x hx) (sized-a us js (q .1) j y hy))
 
-    pub body-sized : {b : X.Body} → WithinBody 4096 k b → keptBody b ≡ true → (c : C.BodyCode) → elabBody Γ Δ b ≡ some c → SizedBody c
-    unfolding elabBody keptBody
-    body-sized {b} w p c h =
-        let q = and-true (keptStmts (b .stmts) []) (keptStmts (b .handler) []) p in
-        both-some h λ x y hx hy e. rw (← some-inj e) (record { acts = sized-b (w .stmts) [] (q .0) x hx; handler = sized-b (w .handler) [] (q .1) y hy })
+  -- what parameters of the types ts take
+  pub wants-sized : (ts : List ℕ) → SizedWants (map (wantOf Γ) ts)
+  wants-sized [] = noWants
+  wants-sized (t ∷ ts) = go (ordinal? Γ t) refl (wants-sized ts)
+    where
+      go : (b : Bool) → ordinal? Γ t ≡ b → SizedWants (map (wantOf Γ) ts) → SizedWants (cond b (C.ranged (infoAt Γ t .low) (infoAt Γ t .high)) C.anySet ∷ map (wantOf Γ) ts)
+      go true o w = ranged (𝓛 .low t) (𝓛 .high t) (𝓛 .filled t o) w
+      go false o w = anySet w
+
+  pub body-sized : {b : X.Body} (f : C.Frame) → SizedFrame f → WithinBody 4096 b → keptBody b ≡ true → (c : C.BodyCode) → elabBody Γ Δ f b ≡ some c → SizedBody c
+  unfolding elabBody keptBody
+  body-sized {b} f F w p c h =
+      let q = and-true (keptStmts (b .stmts) []) (keptStmts (b .handler) []) p in
+      both-some h λ x y hx hy e. rw (← some-inj e) (record { frame = F; acts = sized-b (w .stmts) [] (q .0) x hx; handler = sized-b (w .handler) [] (q .1) y hy })
+
+-- a procedure's frame, with the parameters of those before it
+pub frame-sized : (σ : Environment) → Limits (σ .types) (σ .vars) → (ps : List (Name × ℕ)) → length ps ≤ 8 → lentCells + length (σ .parameters) + length ps ≤ storeCells
+    → SizedFrame (frameOf σ ps)
+unfolding frameOf
+frame-sized σ 𝓛 [] k l = record { cells = omega arith; few = omega arith; none = λ _. refl; wants = noWants }
+frame-sized σ 𝓛 (p ∷ ps) k l =
+    let e : length (map (wantOf (σ .types)) (parameterTypes (p ∷ ps))) ≡ length (p ∷ ps) = length-map (parameterTypes (p ∷ ps)) (wantOf (σ .types)) ∙ length-map (p ∷ ps) (λ (q : Name × ℕ). q .1) in
+    record { cells = omega arith; few = omega arith; none = λ h. absurd (omega (arith, ap length h)); wants = wants-sized (σ .types) (σ .vars) 𝓛 (parameterTypes (p ∷ ps)) }

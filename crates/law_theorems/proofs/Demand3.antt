@@ -3,7 +3,6 @@ use mathlib.Core.Path.{_≡_, ap, _∙_, sym, subst, fun-ext}
 use mathlib.Core.List.{List}
 use mathlib.Core.Option.{none}
 use Prim.Native.Nat.{ℕ, _+_}
-use native.Mathlib.Omega.{arith}
 use lib.IntN.{ℤ}
 use lib.ListN.{length}
 use Rattle.law.specs.Machine.{spent, state}
@@ -13,8 +12,8 @@ use Rattle.law.specs.Demands as Demands
 use Rattle.law.specs.Demands.{faultIn}
 use Rattle.law_theorems.proofs.TextsAgree as Texts
 use Rattle.law_theorems.proofs.StoreInRange.{Fine}
-use Rattle.law_theorems.specs.LinesKeep.{tests}
-use Rattle.law_theorems.proofs.BodiesInRange.{store-passes, store-sound, sound-store, text-safely}
+use Rattle.law_theorems.proofs.LinesKeep.{text-keeps}
+use Rattle.law_theorems.proofs.BodiesInRange.{store-passes, store-sound, sound-store, testsOf, text-safely}
 use Rattle.law_theorems.proofs.Reports.{ended, moved-on, at-most, all-spent, next-taken, same-report, spent-report, goes-on}
 
 -- an accepted text with a working list of that length, whose tables and code are r; an accepted store
@@ -29,8 +28,10 @@ module _ (text : List ℕ) (work : ℕ) (r : Read) (accept : verdictOf text work
   unfolding runOf onStore lent
   run-is budget = rw (accept, Texts.unless-on, sane)
 
-  ends-fine : (budget : ℕ) → Fine (tests (r .known .env .types) (r .known .cells)) (ended (r .codes) (fresh vs ms) budget)
-  ends-fine budget = text-safely text work r accept .at (state (fresh vs ms) budget) (store-sound (r .known .env .types) (r .known .cells) vs ms sane)
+  pub ends-fine : (budget : ℕ) → Fine (testsOf r) (ended (r .codes) (fresh vs ms) budget)
+  ends-fine budget =
+      let k = text-keeps text work r accept in
+      text-safely text work r accept .at (state (fresh vs ms) budget) (store-sound (r .known .env .types) (r .known .cells) (r .known .env .parameters) (k .lent) (k .stored) vs ms sane)
 
   pub agreement : Demands.Agreement text work vs ms
   agreement budget = Texts.agreement text work r accept vs ms budget
@@ -40,7 +41,7 @@ module _ (text : List ℕ) (work : ℕ) (r : Read) (accept : verdictOf text work
 
   pub in-range : Demands.InRange text work vs ms r
   unfolding report
-  in-range budget = rw (run-is budget) (sound-store (r .known .env .types) (r .known .cells) (length vs) _ (store-passes (r .known .env .types) (r .known .cells) vs ms sane .values) (ends-fine budget .sound))
+  in-range budget = rw (run-is budget) (sound-store (r .known .env .types) (r .known .cells) (r .known .env .parameters) (length vs) _ (store-passes (r .known .env .types) (r .known .cells) vs ms sane .values) (ends-fine budget .sound))
 
   -- ---- steps
 

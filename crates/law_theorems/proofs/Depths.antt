@@ -110,3 +110,6 @@ mutual
   target-deep (suc d) k (word w) s g h = bind-some h λ n _ h. rw (← some-inj h) var
   target-deep (suc d) k (form ts) (Depth.form s) g h = bind-some h λ p hp h.
       target-form-deep (λ t. expr d t) (λ t. target d t) k (λ t s e h. expr-deep d k t s e h) (λ t s g h. target-deep d k t (deeper s) g h) p (first-shallow (listed-shallow s) hp) h
+
+pub exprs-deep : (d k : ℕ) {ts : List Item} → Shallows k ts → {es : List S.Expr} → each (expr d) ts ≡ some es → DeepEs k (exprsOf es)
+exprs-deep d k s h = each-deep (λ t. expr d t) (λ t. target d t) k (λ t s e h. expr-deep d k t s e h) (λ t s g h. target-deep d k t (deeper s) g h) s h

@@ -1,9 +1,9 @@
 -- Code elaborated with formed tables is safe (CodeSafe).
 use mathlib.Core.Path.{_≡_, refl, sym, ap, _∙_}
-use mathlib.Core.Bool.{Bool, true, false, cond, _&&_}
-use mathlib.Core.List.{List, [], _∷_}
+use mathlib.Core.Bool.{Bool, true, false, cond, _&&_, _||_}
+use mathlib.Core.List.{List, [], _∷_, map}
 use mathlib.Core.Option.{some}
-use Prim.Native.Nat.{ℕ}
+use Prim.Native.Nat.{ℕ, suc}
 use native.Mathlib.Omega.{arith}
 use lib.IntN.{ℤ}
 use lib.Dec.{eqb}
@@ -11,17 +11,22 @@ use lib.ListN.{length}
 use borrow.Author.Tests.{eqb-true}
 use Rattle.law.specs.Base.{given}
 use Rattle.law.specs.Code as C
+use Rattle.law.specs.Environment.{wantOf}
 use Rattle.law.specs.Machine.{sole}
 use Rattle.law.specs.Operators as O
 use Rattle.law.specs.Operators.{Fun, Op, Operation, Operation1, Rule, Rule1, abs, andBoth, atLeast, atMost, bothBooleans, bothIntegers, card, divide, equal, functionRule, greater, less, member, minus, modulo, negate, notOf, odd, operatorRule, orBoth, ord, plus, power, pred, rule, rule1, sameOrdinals, sameSets, setmax, setmin, sqr, succ, times, unequal}
-use Rattle.law.specs.Elaborate.{Elaborated, Located, elabArms, elabBody, elabExpr, elabMembers, elabStmt, elabStmts, elabTarget, elaborated, expects}
+use Rattle.law.specs.Elaborate.{Elaborated, Located, elabArguments, elabArms, elabBody, elabExpr, elabMembers, elabStmt, elabStmts, elabTarget, elaborated, expects}
 use Rattle.law.specs.Script.{Arms, Body, Expr, Exprs, Stmt, Stmts, Target, _and_, _next_, arm, assign, at, begin, binary, call, case, const, done, dot, elseArm, endOf, errorNumber, for, ifElse, members, nil, noElse, raise, read, shortCircuit, skip, unary, var, while}
 use Rattle.law.specs.Types.{Shape, Types, Var, Vars, variable, array?, arrayShape, baseOf, cellsBy, cellsOf, hostBy, hostOf, sizeOf, infoAt, isOrdinal, isSet, ordinal?, ordinalShape, recordShape, setShape, set?}
 use Rattle.law_theorems.proofs.ValuesInRange.{wrong, Value-of, inside-wide, set-value, own-host, ord-layout, weaken, good-e, good-t, stored-all, no-ordinal}
 use Rattle.law_theorems.specs.ValuesInRange.{Test, Formed, Here}
-use Rattle.law_theorems.proofs.StoreInRange.{cell-fits, run-s}
-use Rattle.law_theorems.proofs.CodeSafe.{Kind, ordinals, sets, integers, booleans, Works, intAdd, intSub, intMul, intPower, intDiv, intMod, setUnion, setDifference, setIntersection, numEqual, numUnequal, numLess, numAtMost, numGreater, numAtLeast, setWithin, setHolds, memberOf, boolAnd, boolOr, Works1, intNegate, boolNot, intAbs, intSqr, intOdd, ordinalOf, predIn, succIn, setCard, setLeast, setGreatest, Has, ordinal, set, Gives, Reaches, Leaves, Controls, SafeCode, literal, load, lastNumber, makeSet, calculate, shortCut, calculate1, SafePlace, cell, index, shift, SafeCodes, noCodes, _with_, SafeAct, assignOrdinal, assignSet, copyCells, sequence, branchOn, whileLoop, forLoop, caseOf, callTo, raiseWith, noAct, SafeActs, stop, _also_, SafeCases, elseCase, noCase, oneCase, SafeBody}
-use Rattle.law_theorems.proofs.Inversion.{and-true, some-inj, both-some, bind-some, given-some, either-some}
+use Rattle.law_theorems.proofs.StoreInRange.{arguments-g, cell-fits, run-s}
+use Rattle.law_theorems.specs.LinesKeep.{Framed, Simple}
+use Rattle.law_theorems.specs.ScriptCalls as Calls
+use Rattle.law_theorems.specs.ScriptCalls.{Calling, CallingAll, CallingArms, CallingBody}
+use Rattle.law_theorems.proofs.ScriptCalls.{calling-also}
+use Rattle.law_theorems.proofs.CodeSafe.{Kind, ordinals, sets, integers, booleans, Works, intAdd, intSub, intMul, intPower, intDiv, intMod, setUnion, setDifference, setIntersection, numEqual, numUnequal, numLess, numAtMost, numGreater, numAtLeast, setWithin, setHolds, memberOf, boolAnd, boolOr, Works1, intNegate, boolNot, intAbs, intSqr, intOdd, ordinalOf, predIn, succIn, setCard, setLeast, setGreatest, Has, ordinal, set, Gives, Reaches, Leaves, Enters, Controls, SafeCode, literal, load, lastNumber, makeSet, calculate, shortCut, calculate1, SafePlace, cell, index, shift, SafeCodes, noCodes, _with_, SafeArguments, noArguments, ordinalArgument, setArgument, SafeAct, assignOrdinal, assignSet, copyCells, sequence, branchOn, whileLoop, forLoop, caseOf, callTo, raiseWith, noAct, SafeActs, stop, _also_, SafeCases, elseCase, noCase, oneCase, SafeBody}
+use Rattle.law_theorems.proofs.Inversion.{none-some, and-true, some-inj, both-some, bind-some, given-some, either-some}
 
 -- the shapes of types of one cell
 pub data Single : Shape → Type 0 where
@@ -333,47 +338,79 @@ module _ (Γ : Types) (Δ : Vars) (xs : List Test) (𝓕 : Formed Γ Δ xs) wher
         at = λ m s z p. stored-all Γ Δ xs 𝓕 (cellsOf Γ (v .type)) (z ∷ []) (v .base) f (cell-fits Γ Δ xs 𝓕 (v .type) (v .base) o f z p) s;
       }
 
-  -- to a target that is no ordinal
-  putting-whole : {c : C.Code} (n k : ℕ) (p : C.Place) → ordinal? Γ k ≡ false → Either c k → SafePlace xs p (sizeOf Γ k) → Leaves xs (C.assignWhole n p c) → SafeAct xs (C.assignWhole n p c)
-  putting-whole n k p e (single o s) g l = assignSet (rw (single-cells _ o k _) at g) (rw (kind-set _ _ _ e) at s) l
-  putting-whole n k p e (copied q) g l = copyCells g q l
+  -- a set
+  set-e : (e : Expr) (k : ℕ) (c : C.Code) → expects Γ Δ k e ≡ some c → set? Γ k ≡ true → SafeCode xs c (sets (infoAt Γ k .low) (infoAt Γ k .high))
+  unfolding expects
+  set-e e k c h o = bind-some h λ x hx e′. given-some e′ λ p v.
+      let o′ : set? Γ (x .kind) ≡ true = rw (← eqb-true k (x .kind) p) o in
+      rw (← v, eqb-true k (x .kind) p) (rw (of-set (x .kind) o′) at (safe-e e x hx (one-set (x .kind) o′)))
 
-  putting : (b : Bool) (n : ℕ) (g : Target) (w : Located) → elabTarget Γ Δ g ≡ some w → ordinal? Γ (w .type) ≡ b → (e : Expr) (c : C.Code) → expects Γ Δ (hostOf Γ (w .type)) e ≡ some c
-      → Leaves xs (cond b (C.assignOrdinal n (w .place) (infoAt Γ (w .type) .low) (infoAt Γ (w .type) .high) c) (C.assignWhole n (w .place) c))
-      → SafeAct xs (cond b (C.assignOrdinal n (w .place) (infoAt Γ (w .type) .low) (infoAt Γ (w .type) .high) c) (C.assignWhole n (w .place) c))
-  putting true n g w hw o e c hc l = assignOrdinal (rw (ord-layout _ (w .type) _ o) at (safe-t g w hw)) (ordinal-e e _ c hc (𝓕 .hosts (w .type) o)) l
-  putting false n g w hw o e c hc l = putting-whole n (w .type) (w .place) o (rw (own-host _ (w .type) _ o) at (expected-e e _ c hc)) (safe-t g w hw) l
+  -- ---- arguments
 
-  leaves-s : (s : Stmt) (c : C.Act) → elabStmt Γ Δ s ≡ some c → Leaves xs c
-  leaves-s s c h = record { at = λ ps hp. run-s Γ Δ xs 𝓕 ps hp s c h }
+  argument-safe : (b : Bool) (t : ℕ) → ordinal? Γ t ≡ b → (b || set? Γ t) ≡ true → (e : Expr) (c : C.Code) → expects Γ Δ (hostOf Γ t) e ≡ some c
+      → {ws : List C.Want} {cs : C.Codes} → SafeArguments xs ws cs → SafeArguments xs (cond b (C.ranged (infoAt Γ t .low) (infoAt Γ t .high)) C.anySet ∷ ws) (C._with_ c cs)
+  argument-safe true t o k e c h a = ordinalArgument (ordinal-e e _ c h (𝓕 .hosts t o)) a
+  argument-safe false t o k e c h a = setArgument (set-e e t c (rw (own-host _ t _ o) at h) k) a
 
-  mutual
-    unfolding elabStmt
+  arguments-safe : (ts : List ℕ) → Simple Γ ts → (es : Exprs) (cs : C.Codes) → elabArguments Γ Δ ts es ≡ some cs → SafeArguments xs (map (wantOf Γ) ts) cs
+  unfolding elabArguments
+  arguments-safe [] k nil cs h = rw (← some-inj h) noArguments
+  arguments-safe [] k (e and es) cs h = none-some h
+  arguments-safe (t ∷ ts) k nil cs h = none-some h
+  arguments-safe (t ∷ ts) k (e and es) cs h = both-some h λ c ds hc hds v.
+      rw (← some-inj v) (argument-safe (ordinal? Γ t) t refl (k 0 (omega arith)) e c hc (arguments-safe ts (λ j l. k (suc j) (omega arith)) es ds hds))
 
-    safe-s : (s : Stmt) (c : C.Act) → elabStmt Γ Δ s ≡ some c → SafeAct xs c
-    safe-s (assign n g e) c h = bind-some h λ w hw h′. bind-some h′ λ d hd e′. rw (← some-inj e′) (putting _ n g w hw refl e d hd (leaves-s (assign n g e) _ (h ∙ sym e′)))
-    safe-s (begin n ss) c h = bind-some h λ bs hbs e. rw (← some-inj e) (sequence (safe-b ss bs hbs) (leaves-s (begin n ss) _ (h ∙ sym e)))
-    safe-s (ifElse n e a b) c h = both-some h λ d x hd hx h′. bind-some h′ λ y hy e′.
-        rw (← some-inj e′) (branchOn (boolean-e e d hd) (safe-s a x hx) (safe-s b y hy) (leaves-s (ifElse n e a b) _ (h ∙ sym e′)))
-    safe-s (while n e a) c h = both-some h λ d x hd hx e′. rw (← some-inj e′) (whileLoop (boolean-e e d hd) (safe-s a x hx) (leaves-s (while n e a) _ (h ∙ sym e′)))
-    safe-s (for n i a b s) c h = bind-some h λ q hq g. both-some g λ x y hx hy h′. bind-some h′ λ z hz e′. given-some e′ λ p v.
-        let o = 𝓕 .hosts (q .type) p in
-        rw (← v) (forLoop (controls i q hq p) (ordinal-e a _ x hx o) (ordinal-e b _ y hy o) (safe-s s z hz) (leaves-s (for n i a b s) _ (h ∙ ap some (sym v))))
-    safe-s (case n e bs) c h = bind-some h λ x hx h′. bind-some h′ λ cs hcs e′. given-some e′ λ p v.
-        rw (← v) (caseOf (as-ordinal (x .kind) p (safe-e e x hx (one-ordinal (x .kind) p))) (safe-a bs (x .kind) cs hcs) (leaves-s (case n e bs) _ (h ∙ ap some (sym v))))
-    safe-s (call n p) c h = rw (← some-inj h) (callTo (leaves-s (call n p) _ refl))
-    safe-s (raise n e) c h = bind-some h λ d hd e′. rw (← some-inj e′) (raiseWith (integer-e e d hd) (leaves-s (raise n e) _ (h ∙ sym e′)))
-    safe-s skip c h = rw (← some-inj h) (noAct (leaves-s skip _ refl))
+  enters : (ts : List ℕ) (q : C.Frame) → Framed Γ xs ts q → (es : Exprs) (cs : C.Codes) → elabArguments Γ Δ ts es ≡ some cs → Enters xs q cs
+  enters ts q F es cs h = record { at = λ m s. rw (F .wants) (weaken (λ zs g. stored-all Γ Δ xs 𝓕 ts zs (q .base) (F .here) g s) (arguments-g Γ Δ xs 𝓕 ts (F .simple) es cs h m s)) }
 
-    safe-b : (ss : Stmts) (c : C.Acts) → elabStmts Γ Δ ss ≡ some c → SafeActs xs c
-    safe-b done c h = rw (← some-inj h) stop
-    safe-b (a next bs) c h = both-some h λ x y hx hy e. rw (← some-inj e) (safe-s a x hx also safe-b bs y hy)
+  -- ---- statements, that call procedures with the frames qs
 
-    safe-a : (bs : Arms) (k : ℕ) (c : C.Cases) → elabArms Γ Δ k bs ≡ some c → SafeCases xs c
-    safe-a (elseArm a) k c h = bind-some h λ x hx e. rw (← some-inj e) (elseCase (safe-s a x hx))
-    safe-a noElse k c h = rw (← some-inj h) noCase
-    safe-a (arm ls a bs) k c h = both-some h λ zs x hzs hx h′. bind-some h′ λ y hy e. rw (← some-inj e) (oneCase (safe-s a x hx) (safe-a bs k y hy))
+  module _ (qs : ℕ → C.Frame) where
+    abbrev Suits : ℕ → List ℕ → Type 0
+    Suits p ts = Framed Γ xs ts (qs p)
 
-  pub body-safe : (b : Body) (c : C.BodyCode) → elabBody Γ Δ b ≡ some c → SafeBody xs c
-  unfolding elabBody
-  body-safe b c h = both-some h λ x y hx hy e. rw (← some-inj e) (record { acts = safe-b (b .stmts) x hx; handler = safe-b (b .handler) y hy })
+    -- to a target that is no ordinal
+    putting-whole : {c : C.Code} (n k : ℕ) (p : C.Place) → ordinal? Γ k ≡ false → Either c k → SafePlace xs p (sizeOf Γ k) → Leaves xs qs (C.assignWhole n p c) → SafeAct xs qs (C.assignWhole n p c)
+    putting-whole n k p e (single o s) g l = assignSet (rw (single-cells _ o k _) at g) (rw (kind-set _ _ _ e) at s) l
+    putting-whole n k p e (copied q) g l = copyCells g q l
+
+    putting : (b : Bool) (n : ℕ) (g : Target) (w : Located) → elabTarget Γ Δ g ≡ some w → ordinal? Γ (w .type) ≡ b → (e : Expr) (c : C.Code) → expects Γ Δ (hostOf Γ (w .type)) e ≡ some c
+        → Leaves xs qs (cond b (C.assignOrdinal n (w .place) (infoAt Γ (w .type) .low) (infoAt Γ (w .type) .high) c) (C.assignWhole n (w .place) c))
+        → SafeAct xs qs (cond b (C.assignOrdinal n (w .place) (infoAt Γ (w .type) .low) (infoAt Γ (w .type) .high) c) (C.assignWhole n (w .place) c))
+    putting true n g w hw o e c hc l = assignOrdinal (rw (ord-layout _ (w .type) _ o) at (safe-t g w hw)) (ordinal-e e _ c hc (𝓕 .hosts (w .type) o)) l
+    putting false n g w hw o e c hc l = putting-whole n (w .type) (w .place) o (rw (own-host _ (w .type) _ o) at (expected-e e _ c hc)) (safe-t g w hw) l
+
+    leaves-s : (s : Stmt) (c : C.Act) → elabStmt Γ Δ s ≡ some c → Calling Suits s → Leaves xs qs c
+    leaves-s s c h k = record { at = λ ps hp. run-s Γ Δ xs 𝓕 ps (hp .runs) s c h (calling-also (λ p ts f. rw (hp .frames p) f) k) }
+
+    mutual
+      unfolding elabStmt
+
+      safe-s : (s : Stmt) (c : C.Act) → elabStmt Γ Δ s ≡ some c → Calling Suits s → SafeAct xs qs c
+      safe-s (assign n g e) c h j = bind-some h λ w hw h′. bind-some h′ λ d hd e′. rw (← some-inj e′) (putting _ n g w hw refl e d hd (leaves-s (assign n g e) _ (h ∙ sym e′) j))
+      safe-s (begin n ss) c h (Calls.begin j) = bind-some h λ bs hbs e. rw (← some-inj e) (sequence (safe-b ss bs hbs j) (leaves-s (begin n ss) _ (h ∙ sym e) (Calls.begin j)))
+      safe-s (ifElse n e a b) c h (Calls.ifElse i j) = both-some h λ d x hd hx h′. bind-some h′ λ y hy e′.
+          rw (← some-inj e′) (branchOn (boolean-e e d hd) (safe-s a x hx i) (safe-s b y hy j) (leaves-s (ifElse n e a b) _ (h ∙ sym e′) (Calls.ifElse i j)))
+      safe-s (while n e a) c h (Calls.while j) = both-some h λ d x hd hx e′. rw (← some-inj e′) (whileLoop (boolean-e e d hd) (safe-s a x hx j) (leaves-s (while n e a) _ (h ∙ sym e′) (Calls.while j)))
+      safe-s (for n i a b s) c h (Calls.for j) = bind-some h λ q hq g. both-some g λ x y hx hy h′. bind-some h′ λ z hz e′. given-some e′ λ p v.
+          let o = 𝓕 .hosts (q .type) p in
+          rw (← v) (forLoop (controls i q hq p) (ordinal-e a _ x hx o) (ordinal-e b _ y hy o) (safe-s s z hz j) (leaves-s (for n i a b s) _ (h ∙ ap some (sym v)) (Calls.for j)))
+      safe-s (case n e bs) c h (Calls.case j) = bind-some h λ x hx h′. bind-some h′ λ cs hcs e′. given-some e′ λ p v.
+          rw (← v) (caseOf (as-ordinal (x .kind) p (safe-e e x hx (one-ordinal (x .kind) p))) (safe-a bs (x .kind) cs hcs j) (leaves-s (case n e bs) _ (h ∙ ap some (sym v)) (Calls.case j)))
+      safe-s (call n p ts es) c h (Calls.call j) = bind-some h λ cs hcs e.
+          rw (← some-inj e) (callTo {p = p} {cs = cs} (rw (j .wants) (arguments-safe ts (j .simple) es cs hcs)) (enters ts (qs p) j es cs hcs) (leaves-s (call n p ts es) _ (h ∙ sym e) (Calls.call j)))
+      safe-s (raise n e) c h j = bind-some h λ d hd e′. rw (← some-inj e′) (raiseWith (integer-e e d hd) (leaves-s (raise n e) _ (h ∙ sym e′) j))
+      safe-s skip c h j = rw (← some-inj h) (noAct (leaves-s skip _ refl j))
+
+      safe-b : (ss : Stmts) (c : C.Acts) → elabStmts Γ Δ ss ≡ some c → CallingAll Suits ss → SafeActs xs qs c
+      safe-b done c h j = rw (← some-inj h) stop
+      safe-b (a next bs) c h (Calls._next_ i j) = both-some h λ x y hx hy e. rw (← some-inj e) (safe-s a x hx i also safe-b bs y hy j)
+
+      safe-a : (bs : Arms) (k : ℕ) (c : C.Cases) → elabArms Γ Δ k bs ≡ some c → CallingArms Suits bs → SafeCases xs qs c
+      safe-a (elseArm a) k c h (Calls.elseArm j) = bind-some h λ x hx e. rw (← some-inj e) (elseCase (safe-s a x hx j))
+      safe-a noElse k c h j = rw (← some-inj h) noCase
+      safe-a (arm ls a bs) k c h (Calls.arm i j) = both-some h λ zs x hzs hx h′. bind-some h′ λ y hy e. rw (← some-inj e) (oneCase (safe-s a x hx i) (safe-a bs k y hy j))
+
+    pub body-safe : (f : C.Frame) (b : Body) (c : C.BodyCode) → elabBody Γ Δ f b ≡ some c → CallingBody Suits b → SafeBody xs qs c
+    unfolding elabBody
+    body-safe f b c h j = both-some h λ x y hx hy e. rw (← some-inj e) (record { acts = safe-b (b .stmts) x hx (j .stmts); handler = safe-b (b .handler) y hy (j .handler) })

@@ -1,17 +1,19 @@
--- The demands' hypotheses can be met: two scripts that are accepted, each with a store that is accepted, and the theorems for them.
+-- The demands' hypotheses can be met: three scripts that are accepted, each with a store that is accepted, and the theorems for them.
 use mathlib.Core.Path.{_≡_, refl}
-use mathlib.Core.List.{List, []}
-use Prim.Native.Nat.{ℕ}
+use mathlib.Core.List.{List, [], _∷_}
+use Prim.Native.Nat.{ℕ, suc}
 use lib.IntN.{ℤ, pos}
-use lib.ListN.{length, replicate}
+use lib.ListN.{getD, length, replicate}
 use Rattle.leaf_bytes.specs.Bytes.{bytes}
 use Rattle.law.specs.Environment.{nothingDeclared}
 use Rattle.law.specs.Demands.{Accepted, OfAccepted}
-use Rattle.law.specs.Machine.{normal, undefined}
+use Rattle.law.specs.Machine.{Store, defined, lentCells, normal, undefined}
+use Rattle.law.specs.Parameters.{OfParameters, whole}
 use Rattle.law.proofs.Open.{everything}
 use Rattle.law.specs.Verdict.{Read, Verdict, accepted, has, refused}
 use Rattle.law.specs.Whole.{Report, ran, runOf, verdictOf}
 use Rattle.law_theorems.proofs.DemandsHold.{demands-hold}
+use Rattle.law_theorems.proofs.ParametersHold.{parameters-hold}
 
 -- what an accepted text gave, and of any other text nothing
 unfoldable pub readOf : Verdict Read → Read
@@ -75,3 +77,37 @@ mixed-holds = holds mixed mixed-met
 pub mixed-runs : run mixed 10000 .ending ≡ ran normal 20
 unfolding mixed read values marks readOf everything
 mixed-runs = refl
+
+-- ---- parameters, an ordinal's and a set's, of a procedure that one with a parameter of its own calls; an argument outside its parameter's type
+
+unfoldable pub ramps : List ℕ
+ramps = bytes "(type pace (range 1 4))\n(type paces (setof pace))\n(var sum integer)\n(proc more ((p pace) (known paces)) (if (in p known) (:= sum (+ sum p))))\n(proc twice ((q pace)) (call more q (members paces 1 3)) (:= q 3) (call more q (members paces q)))\n(main (:= sum 0) (call twice 1) (call twice sum) (call twice sum) (exception (:= sum error_number)))\n"
+
+pub ramps-met : Met ramps
+unfolding ramps read values marks readOf everything
+ramps-met = record { text-fits = refl; store-fits = refl }
+
+pub ramps-holds : Holds ramps
+ramps-holds = holds ramps ramps-met
+
+pub ramps-parameters : OfParameters ramps 16384 (values ramps) (marks ramps)
+ramps-parameters = parameters-hold ramps 16384 (values ramps) (marks ramps)
+
+pub ramps-runs : run ramps 10000 .ending ≡ ran normal 18
+unfolding ramps read values marks readOf everything
+ramps-runs = refl
+
+-- a budget of 4 is spent in `more`, where the parameters of both live; nothing is left of them at the end
+abbrev store-at : ℕ → Store
+store-at budget = whole ramps 16384 (values ramps) (marks ramps) (read ramps) budget .state .store
+
+abbrev alive : ℕ → List ℕ
+alive budget = getD (store-at budget .marks) lentCells 9 ∷ getD (store-at budget .marks) (suc lentCells) 9 ∷ getD (store-at budget .marks) (suc (suc lentCells)) 9 ∷ []
+
+pub ramps-alive : alive 4 ≡ defined ∷ defined ∷ defined ∷ []
+unfolding ramps read values marks readOf everything
+ramps-alive = refl
+
+pub ramps-gone : alive 10000 ≡ undefined ∷ undefined ∷ undefined ∷ []
+unfolding ramps read values marks readOf everything
+ramps-gone = refl

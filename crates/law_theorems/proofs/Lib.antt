@@ -15,6 +15,7 @@ pub mod ValuesInRange
 pub mod StoreInRange
 pub mod TypeTables
 pub mod TypeSizes
+pub mod ScriptCalls
 pub mod LinesKeep
 pub mod LinesCover
 pub mod Depths
@@ -30,4 +31,5 @@ pub mod StatementsNoted
 pub mod ElaboratedSafe
 pub mod Demand3
 pub mod DemandsHold
+pub mod ParametersHold
 pub mod Instance

@@ -179,7 +179,7 @@ unfolding entryOf keepsRules lineBounded declareLine
 line-covers k h c (typeLine w t) e p q b s n = bind-some p λ d hd v.
     rw (← some-inj v) (type-covers k h c w d (decl-valid (k .env) (h .table) (h .names) w t d hd (rw (← some-inj v) at q) (and-true (leb (suc (k .typeLines)) 64) (typeBounded (k .env .types) d) (rw (← some-inj v) at b) .1)) s n)
 line-covers k h c (varLine w t) e p q b s n = bind-some p λ m hm v. given-some v λ _ r. rw (← r) (var-covers k c w m s n)
-line-covers k h c (procLine w b) e p q o s n = bind-some p λ x hx v. given-some v λ _ r. rw (← r) (record { built = c .built; owned = owns-proc (c .owned); as-many = c .as-many })
+line-covers k h c (procLine w ps b) e p q o s n = bind-some p λ fs hfs p. bind-some p λ x hx v. given-some v λ _ r. rw (← r) (record { built = c .built; owned = owns-proc (c .owned); as-many = c .as-many })
 line-covers k h c (mainLine b) e p q o s n = bind-some p λ x hx v. rw (← some-inj v) (record { built = c .built; owned = c .owned; as-many = c .as-many })
 
 -- all lines, whatever fits

@@ -8,9 +8,9 @@ use native.Mathlib.Omega.{arith}
 use lib.IntN.{ℤ, sucℤ}
 use Rattle.leaf_integers.specs.Integers.{inside, isZero}
 use Rattle.law.specs.Calculate.{Result, fails, is, isTrue, stuck}
-use Rattle.law.specs.Chair.{condition, evalCode, matches, placeCode, runAct, runActs, runCases}
-use Rattle.law.specs.Code.{Act, Acts, Cases, Code, _also_, assignOrdinal, assignWhole, branchOn, callTo, caseOf, elseCase, forLoop, noCase, noAct, oneCase, raiseWith, sequence, stop, whileLoop}
-use Rattle.law.specs.Machine.{Answer, Outcome, Procs, State, Store, andThen, answer, branch, continued, Plan, countUp, forRounds, noRound, opened, outside, planned, rounds, normal, passOn, procedureAt, raiseNumber, raised, raising, setControl, sole, spent, state, step, stepIf, sticks, storeOrdinal, storeWhole, whileRounds, withResult}
+use Rattle.law.specs.Chair.{condition, evalCode, matches, placeCode, runAct, runActs, runArguments, runCases}
+use Rattle.law.specs.Code.{Act, Acts, Cases, Code, Frame, _also_, assignOrdinal, assignWhole, branchOn, callTo, caseOf, elseCase, forLoop, noCase, noAct, oneCase, raiseWith, sequence, stop, whileLoop}
+use Rattle.law.specs.Machine.{Answer, Outcome, Proc, Procs, State, Store, andThen, answer, branch, continued, Plan, countUp, entered, forRounds, noRound, opened, outside, planned, rounds, normal, passOn, procedureAt, raiseNumber, raised, raising, returning, setControl, sole, spent, state, step, stepIf, sticks, stored, storeOrdinal, storeWhole, whileRounds, withResult}
 
 abbrev pub more : ℕ → State → State
 more k s = state (s .store) (s .left + k)
@@ -123,7 +123,28 @@ module _ (k : ℕ) where
   unfolding countUp
   counting-f n a lo hi x y h = opened-f (planned lo hi x y) n a x h
 
-  module _ (ps : Procs) (hp : (p : ℕ) → Stable k (procedureAt ps p)) where
+  -- a call: what is left of the budget plays no part at its return
+  pub returning-f : (q : Frame) (o : Outcome) (s : State) → returning q o (more k s) ≡ moreA k (returning q o s)
+  returning-f q normal s = refl
+  returning-f q spent s = refl
+  returning-f q sticks s = refl
+  returning-f q (raised z n) s = refl
+
+  returning-ends : (q : Frame) (o : Outcome) (s : State) → Ends ((returning q o s) .outcome) → Ends o
+  returning-ends q normal s e = tt
+  returning-ends q spent s e = e
+  returning-ends q sticks s e = tt
+  returning-ends q (raised z n) s e = tt
+
+  pub entered-f : (f : Proc) (zs : List ℤ) → Stable k (f .run) → Stable k (entered f zs)
+  unfolding entered
+  entered-f f zs h = record {
+    at = λ s e.
+        let t = state (stored (f .frame .base) zs (s .store)) (s .left) in
+        rw (h .at t (returning-ends (f .frame) (f .run t .outcome) (f .run t .state) e)) (returning-f (f .frame) (f .run t .outcome) (f .run t .state));
+  }
+
+  module _ (ps : Procs) (hp : (p : ℕ) → Stable k (procedureAt ps p .run)) where
     mutual
       unfolding runAct
 
@@ -135,7 +156,7 @@ module _ (k : ℕ) where
       run-f (whileLoop n c a) = step-f (record { at = λ s. (rounds-f n c (runAct ps a) (run-f a) (s .left) (s .left + k) (omega arith)) .at s })
       run-f (forLoop n a lo hi x y b) = step-f (after-f n (evalCode x) λ u. after-f n (evalCode y) λ v. counting-f n a lo hi (sole u) (sole v) (run-f b))
       run-f (caseOf n c bs) = step-f (after-f n (evalCode c) λ x. picks-f bs n (sole x))
-      run-f (callTo n p) = step-f (hp p)
+      run-f (callTo n p cs) = step-f (after-f n (runArguments (procedureAt ps p .frame .wants) cs) λ zs. entered-f (procedureAt ps p) zs (hp p))
       run-f (raiseWith n c) = step-f (after-f n (evalCode c) λ x. raises-f n (sole x))
       run-f noAct = answer-f normal
 

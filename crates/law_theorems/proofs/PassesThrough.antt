@@ -8,11 +8,11 @@ use native.Mathlib.Omega.{arith}
 use lib.IntN.{ℤ, sucℤ}
 use Rattle.leaf_integers.specs.Integers.{inside, isZero}
 use Rattle.law.specs.Calculate.{Result, fails, is, isTrue, stuck}
-use Rattle.law.specs.Chair.{condition, evalCode, matches, placeCode, runAct, runActs, runCases}
-use Rattle.law.specs.Code.{Act, Acts, BodyCode, Cases, Code, _also_, assignOrdinal, assignWhole, branchOn, callTo, caseOf, elseCase, forLoop, noCase, noAct, oneCase, raiseWith, sequence, stop, whileLoop}
-use Rattle.law.specs.Machine.{Answer, Outcome, Procs, State, Store, andThen, answer, branch, caught, continued, Plan, countUp, forRounds, noRound, opened, outside, planned, rounds, handled, normal, passOn, procedureAt, raiseNumber, raised, raising, setControl, sole, spent, state, step, stepIf, sticks, storeOrdinal, storeWhole, whileRounds, withResult}
+use Rattle.law.specs.Chair.{condition, evalCode, matches, placeCode, runAct, runActs, runArguments, runCases}
+use Rattle.law.specs.Code.{Act, Acts, BodyCode, Cases, Code, Frame, _also_, assignOrdinal, assignWhole, branchOn, callTo, caseOf, elseCase, forLoop, noCase, noAct, oneCase, raiseWith, sequence, stop, whileLoop}
+use Rattle.law.specs.Machine.{Answer, Outcome, Proc, Procs, State, Store, andThen, answer, branch, caught, continued, Plan, countUp, entered, forRounds, noRound, opened, outside, planned, rounds, handled, normal, passOn, proc, procedureAt, raiseNumber, raised, raising, returned, returning, setControl, sole, spent, state, step, stepIf, sticks, stored, storeOrdinal, storeWhole, whileRounds, withResult}
 use Rattle.law.specs.Whole.{runAll, runBody}
-use Rattle.law.specs.Rest.{Rest, before, forFrom, handledBy, inBody, procsOf, resume, statement, statements, whileFrom}
+use Rattle.law.specs.Rest.{Rest, before, forFrom, handledBy, inBody, leaving, procsOf, resume, statement, statements, whileFrom}
 use Rattle.law_theorems.proofs.MoreBudget.{Ends, Stable, answer-f, more, moreA, run-f, runs-f, set-f, turns-f}
 use Rattle.law_theorems.proofs.SpentOnly as Spent
 use Rattle.law_theorems.proofs.SpentOnly.{Falls, answer-d, run-d}
@@ -194,10 +194,27 @@ module _ (bs : List BodyCode) where
       loop-p zero s h = level-p (s .left) 0 h (λ t k. absurd (omega arith)) (s .store)
       loop-p (suc b) s h = level-p (s .left) (suc b) h (λ t k. loop-p b t (omega arith)) (s .store)
 
+  -- ---- a call: where its body pauses, its parameters go after the rest of it
+
+  returning-p : (q : Frame) (F : ℕ → Answer) (o : Outcome) (t : State) → (o ≡ spent → Goes F (t .store)) → (returning q o t) .outcome ≡ spent → Goes (λ k. returned q (F k)) ((returning q o t) .state .store)
+  unfolding resume
+  returning-p q F normal t h e = not-normal e
+  returning-p q F spent t h e = let w = h refl in record { rest = leaving q (w .rest); goes = λ k. rw (w .goes k) }
+  returning-p q F sticks t h e = not-stuck e
+  returning-p q F (raised z n) t h e = not-raised e
+
+  entered-p : (f : Proc) (zs : List ℤ) → ((s : State) → Pauses (f .run) s) → (s : State) → Pauses (entered f zs) s
+  unfolding entered
+  entered-p f zs h s = record {
+    at = λ e.
+        let t = state (stored (f .frame .base) zs (s .store)) (s .left) in
+        returning-p (f .frame) (λ k. f .run (more k t)) (f .run t .outcome) (f .run t .state) (λ d. h t .at d) e;
+  }
+
   -- ---- the machine
 
-  module _ (hp : (p : ℕ) (s : State) → Pauses (procedureAt (procsOf bs) p) s) (hs : (p k : ℕ) → Stable k (procedureAt (procsOf bs) p))
-      (hd : (p b : ℕ) → Falls b (procedureAt (procsOf bs) p)) where
+  module _ (hp : (p : ℕ) (s : State) → Pauses (procedureAt (procsOf bs) p .run) s) (hs : (p k : ℕ) → Stable k (procedureAt (procsOf bs) p .run))
+      (hd : (p b : ℕ) → Falls b (procedureAt (procsOf bs) p .run)) where
     abbrev ps : Procs
     ps = procsOf bs
 
@@ -238,7 +255,7 @@ module _ (bs : List BodyCode) where
       run-p (forLoop n a lo hi x y b) = step-p (statement (forLoop n a lo hi x y b)) _ (λ t. refl) λ s.
           after-p n (evalCode x) _ s λ u. after-p n (evalCode y) _ s λ v. counting-p n a lo hi (sole u) (sole v) b (λ t. run-p b t) s
       run-p (caseOf n c cs) = step-p (statement (caseOf n c cs)) _ (λ t. refl) λ s. after-p n (evalCode c) _ s λ x. picks-p cs n (sole x) s
-      run-p (callTo n p) = step-p (statement (callTo n p)) _ (λ t. refl) λ s. hp p s
+      run-p (callTo n p cs) = step-p (statement (callTo n p cs)) _ (λ t. refl) λ s. after-p n (runArguments (procedureAt ps p .frame .wants) cs) _ s λ zs. entered-p (procedureAt ps p) zs (hp p) s
       run-p (raiseWith n c) = step-p (statement (raiseWith n c)) _ (λ t. refl) λ s. after-p n (evalCode c) _ s λ x. raises-p n (sole x) s
       run-p noAct = λ s. answer-p s
 
@@ -282,19 +299,19 @@ elsewhere : (bs cs : List BodyCode) {f : State → Answer} {s : State} → Pause
 unfolding resume
 elsewhere bs cs h = record { at = λ e. let g = h .at e in record { rest = inBody bs (g .rest); goes = λ k. g .goes k } }
 
-all-p : (bs : List BodyCode) → ((p : ℕ) (s : State) → Pauses bs (procedureAt (procsOf bs) p) s) → ((p : ℕ) → Kept (procedureAt (procsOf bs) p))
+all-p : (bs : List BodyCode) → ((p : ℕ) (s : State) → Pauses bs (procedureAt (procsOf bs) p .run) s) → ((p : ℕ) → Kept (procedureAt (procsOf bs) p .run))
     → (cs : List BodyCode) (s : State) → Pauses [] (runAll cs (procsOf bs)) s
 unfolding runAll procsOf
 all-p bs hp hk [] s = answer-p [] s
 all-p bs hp hk (b ∷ []) s = elsewhere bs [] (body-p bs hp (λ p. hk p .0) (λ p. hk p .1) b s)
 all-p bs hp hk (b ∷ (c ∷ cs)) s =
     all-p (b ∷ bs)
-    (calling-all (λ (f : State → Answer). (t : State) → Pauses (b ∷ bs) f t) (answer-p (b ∷ bs)) (procsOf bs) (runBody b (procsOf bs))
+    (calling-all (λ (f : Proc). (t : State) → Pauses (b ∷ bs) (f .run) t) (answer-p (b ∷ bs)) (procsOf bs) (proc (b .frame) (runBody b (procsOf bs)))
     (λ t. elsewhere bs (b ∷ bs) (body-p bs hp (λ p. hk p .0) (λ p. hk p .1) b t)) (λ p t. elsewhere bs (b ∷ bs) (hp p t)))
-    (calling-all Kept ((λ k. answer-f k normal), λ k. answer-d λ _. Spent.normally) (procsOf bs) (runBody b (procsOf bs))
+    (calling-all (λ (f : Proc). Kept (f .run)) ((λ k. answer-f k normal), λ k. answer-d λ _. Spent.normally) (procsOf bs) (proc (b .frame) (runBody b (procsOf bs)))
     ((λ k. body-f k b (procsOf bs) (λ p. hk p .0 k)), body-d b (procsOf bs) (λ p. hk p .1)) hk)
     (c ∷ cs) s
 
 pub program-p : (cs : List BodyCode) (s : State) → Pauses [] (runAll cs []) s
 unfolding procsOf
-program-p cs s = all-p [] (no-procs (λ (f : State → Answer). (t : State) → Pauses [] f t) (answer-p [])) (no-procs Kept ((λ k. answer-f k normal), λ k. answer-d λ _. Spent.normally)) cs s
+program-p cs s = all-p [] (no-procs (λ (f : Proc). (t : State) → Pauses [] (f .run) t) (answer-p [])) (no-procs (λ (f : Proc). Kept (f .run)) ((λ k. answer-f k normal), λ k. answer-d λ _. Spent.normally)) cs s

@@ -4,8 +4,8 @@ use mathlib.Core.Bool.{Bool, true, false}
 use mathlib.Core.List.{List, [], _∷_, _++_}
 use Prim.Native.Nat.{ℕ, zero, suc, _+_, _-_, _≤_}
 use native.Mathlib.Omega.{arith}
-use Rattle.law.specs.Code.{BodyCode}
-use Rattle.law.specs.Machine.{Answer, Outcome, Procs, State, answer, caught, handled, normal, procedureAt, raised, spent, state, sticks}
+use Rattle.law.specs.Code.{BodyCode, noFrame}
+use Rattle.law.specs.Machine.{Answer, Outcome, Proc, Procs, State, answer, caught, handled, normal, proc, procedureAt, raised, spent, state, sticks}
 use Rattle.law.specs.Whole.{runAll, runBody}
 use Rattle.law_theorems.proofs.SpentOnly as Spent
 use Rattle.law_theorems.proofs.MoreBudget.{Ends, more, moreA, Stable, runs-f, answer-f}
@@ -13,21 +13,21 @@ use Rattle.law_theorems.proofs.SpentOnly.{Falls, Used, Ended, used, wea
 
 -- ---- a property of every procedure, and of the whole
 
-pub calling-all : (P : (State → Answer) → Type 0) → P (answer normal) → (ps : Procs) (f : State → Answer) → P f → ((i : ℕ) → P (procedureAt ps i)) → (i : ℕ) → P (procedureAt (ps ++ (f ∷ [])) i)
+pub calling-all : (P : Proc → Type 0) → P (proc noFrame (answer normal)) → (ps : Procs) (f : Proc) → P f → ((i : ℕ) → P (procedureAt ps i)) → (i : ℕ) → P (procedureAt (ps ++ (f ∷ [])) i)
 unfolding procedureAt
 calling-all P d [] f hf h zero = hf
 calling-all P d [] f hf h (suc i) = d
 calling-all P d (p ∷ ps) f hf h zero = h zero
 calling-all P d (p ∷ ps) f hf h (suc i) = calling-all P d ps f hf (λ j. h (suc j)) i
 
-pub all-bodies : (P : (State → Answer) → Type 0) → P (answer normal) → ((b : BodyCode) (ps : Procs) → ((i : ℕ) → P (procedureAt ps i)) → P (runBody b ps))
-    → (bs : List BodyCode) (ps : Procs) → ((i : ℕ) → P (procedureAt ps i)) → P (runAll bs ps)
+pub all-bodies : (P : (State → Answer) → Type 0) → P (answer normal) → ((b : BodyCode) (ps : Procs) → ((i : ℕ) → P (procedureAt ps i .run)) → P (runBody b ps))
+    → (bs : List BodyCode) (ps : Procs) → ((i : ℕ) → P (procedureAt ps i .run)) → P (runAll bs ps)
 unfolding runAll
 all-bodies P d k [] ps h = d
 all-bodies P d k (b ∷ []) ps h = k b ps h
-all-bodies P d k (b ∷ (c ∷ bs)) ps h = all-bodies P d k (c ∷ bs) (ps ++ (runBody b ps ∷ [])) (calling-all P d ps (runBody b ps) (k b ps h) h)
+all-bodies P d k (b ∷ (c ∷ bs)) ps h = all-bodies P d k (c ∷ bs) (ps ++ (proc (b .frame) (runBody b ps) ∷ [])) (calling-all (λ f. P (f .run)) d ps _ (k b ps h) h)
 
-pub no-procs : (P : (State → Answer) → Type 0) → P (answer normal) → (i : ℕ) → P (procedureAt [] i)
+pub no-procs : (P : Proc → Type 0) → P (proc noFrame (answer normal)) → (i : ℕ) → P (procedureAt [] i)
 unfolding procedureAt
 no-procs P d i = d
 
@@ -53,13 +53,13 @@ module _ (k : ℕ) where
   }
   handled-f false hf hg = hf
 
-  pub body-f : (b : BodyCode) (ps : Procs) → ((i : ℕ) → Stable k (procedureAt ps i)) → Stable k (runBody b ps)
+  pub body-f : (b : BodyCode) (ps : Procs) → ((i : ℕ) → Stable k (procedureAt ps i .run)) → Stable k (runBody b ps)
   unfolding runBody
   body-f b ps h = handled-f (b .handles) (runs-f k ps h (b .acts)) (runs-f k ps h (b .handler))
 
   -- a run that ended goes the same way with k more steps to spare
   pub program-f : (bs : List BodyCode) → Stable k (runAll bs [])
-  program-f bs = all-bodies (Stable k) (answer-f k normal) body-f bs [] (no-procs (Stable k) (answer-f k normal))
+  program-f bs = all-bodies (Stable k) (answer-f k normal) body-f bs [] (no-procs (λ f. Stable k (f .run)) (answer-f k normal))
 
 -- ---- spent only with no step left
 
@@ -76,9 +76,9 @@ handled-d : (q : Bool) {f g : State → Answer} → D f → D g → D (λ st. ha
 handled-d true {f} hf hg b = record { at = λ st l. let u = (hf b) .at st l in caught-d hg ((f st) .state) (u .less) (u .ended) }
 handled-d false hf hg b = hf b
 
-pub body-d : (b : BodyCode) (ps : Procs) → ((i : ℕ) → D (procedureAt ps i)) → D (runBody b ps)
+pub body-d : (b : BodyCode) (ps : Procs) → ((i : ℕ) → D (procedureAt ps i .run)) → D (runBody b ps)
 unfolding runBody
 body-d b ps h = handled-d (b .handles) (runs-d ps h (b .acts)) (runs-d ps h (b .handler))
 
 pub program-d : (bs : List BodyCode) (b : ℕ) → Falls b (runAll bs [])
-program-d bs = all-bodies D (λ b. answer-d λ _. Spent.normally) body-d bs [] (no-procs D (λ b. answer-d λ _. Spent.normally))
+program-d bs = all-bodies D (λ b. answer-d λ _. Spent.normally) body-d bs [] (no-procs (λ f. D (f .run)) (λ b. answer-d λ _. Spent.normally))

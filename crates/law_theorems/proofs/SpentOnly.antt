@@ -7,9 +7,9 @@ use native.Mathlib.Omega.{arith}
 use lib.IntN.{ℤ, sucℤ}
 use Rattle.leaf_integers.specs.Integers.{inside, isZero}
 use Rattle.law.specs.Calculate.{Result, fails, is, isTrue, stuck}
-use Rattle.law.specs.Chair.{condition, evalCode, matches, placeCode, runAct, runActs, runCases}
-use Rattle.law.specs.Code.{Act, Acts, Cases, Code, _also_, assignOrdinal, assignWhole, branchOn, callTo, caseOf, elseCase, forLoop, noCase, noAct, oneCase, raiseWith, sequence, stop, whileLoop}
-use Rattle.law.specs.Machine.{Answer, Outcome, Procs, State, Store, andThen, answer, branch, continued, Plan, countUp, forRounds, noRound, opened, outside, planned, rounds, normal, passOn, procedureAt, raiseNumber, raised, raising, setControl, sole, spent, state, step, stepIf, sticks, storeOrdinal, storeWhole, whileRounds, withResult}
+use Rattle.law.specs.Chair.{condition, evalCode, matches, placeCode, runAct, runActs, runArguments, runCases}
+use Rattle.law.specs.Code.{Act, Acts, Cases, Code, Frame, _also_, assignOrdinal, assignWhole, branchOn, callTo, caseOf, elseCase, forLoop, noCase, noAct, oneCase, raiseWith, sequence, stop, whileLoop}
+use Rattle.law.specs.Machine.{Answer, Outcome, Proc, Procs, State, Store, andThen, answer, branch, continued, Plan, countUp, entered, forRounds, noRound, opened, outside, planned, rounds, normal, passOn, procedureAt, raiseNumber, raised, raising, returning, setControl, sole, spent, state, step, stepIf, sticks, stored, storeOrdinal, storeWhole, whileRounds, withResult}
 
 -- nothing is asked but of `spent`
 pub data Ended (n : ℕ) : Outcome → Type 0 where
@@ -115,7 +115,21 @@ raises-d : (b n : ℕ) (z : ℤ) → Falls b (raiseNumber n z)
 unfolding raiseNumber
 raises-d b n z = branch-d (isZero z) (passes-d b n) (raising-d z n)
 
-module _ (ps : Procs) (hp : (p b : ℕ) → Falls b (procedureAt ps p)) where
+-- a call takes no step of its own at its return
+returning-d : {n : ℕ} (q : Frame) {o : Outcome} (s : State) → s .left ≤ n → Ended (s .left) o → Used n (returning q o s)
+returning-d q s l normally = used l normally
+returning-d q s l stuckly = used l stuckly
+returning-d q s l exception = used l exception
+returning-d q s l (spending e) = used l (spending e)
+
+pub entered-d : {b : ℕ} (f : Proc) (zs : List ℤ) → Falls b (f .run) → Falls b (entered f zs)
+unfolding entered
+entered-d f zs h = record {
+  at = λ s l.
+      let t = state (stored (f .frame .base) zs (s .store)) (s .left) in let u = h .at t l in returning-d (f .frame) (f .run t .state) (u .less) (u .ended);
+}
+
+module _ (ps : Procs) (hp : (p b : ℕ) → Falls b (procedureAt ps p .run)) where
   mutual
     unfolding runAct
 
@@ -127,7 +141,7 @@ module _ (ps : Procs) (hp : (p b : ℕ) → Falls b (procedureAt ps p)) where
     run-d (whileLoop n c a) b = step-any (λ b. record { at = λ s l. (rounds-d (s .left) n c (λ k. run-d a k)) .at s (omega arith) }) b
     run-d (forLoop n a lo hi x y e) b = step-any (λ b. after-d n (evalCode x) λ u. after-d n (evalCode y) λ v. counting-d n a lo hi (sole u) (sole v) (λ k. run-d e k) b) b
     run-d (caseOf n c bs) b = step-any (λ b. after-d n (evalCode c) λ x. picks-d bs n (sole x) b) b
-    run-d (callTo n p) b = step-any (hp p) b
+    run-d (callTo n p cs) b = step-any (λ b. after-d n (runArguments (procedureAt ps p .frame .wants) cs) λ zs. entered-d (procedureAt ps p) zs (hp p b)) b
     run-d (raiseWith n c) b = step-any (λ b. after-d n (evalCode c) λ x. raises-d b n (sole x)) b
     run-d noAct b = answer-d λ _. normally
 

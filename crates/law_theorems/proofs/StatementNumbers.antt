@@ -6,13 +6,14 @@ use mathlib.Core.Option.{Option, none, some}
 use Prim.Native.Nat.{ℕ, zero, suc, _+_, _≤_}
 use native.Mathlib.Omega.{arith}
 use Rattle.law.specs.Base.{Name, _>>=_}
-use Rattle.law.specs.Forms.{ArmHead, Item, LineHead, Reader, Verb, arms, armsFirst, body, caseForm, elseOf, ending, expr, first?, forForm, handlerOf, headed, ifForm, isArm, isElse, isMain, isProc, isType, isVar, lineBy, lineForm, one, oneArm, stmt, stmtForm, stmts, two, vAssign, vBegin, vCall, vCase, vFor, vIf, vRaise, vWhile}
+use Rattle.law.specs.Forms.{ArmHead, Item, LineHead, Reader, Verb, arms, armsFirst, body, caseForm, elseOf, ending, expr, first?, forForm, handlerOf, headed, ifForm, isArm, isElse, isMain, isProc, isType, isVar, lineBy, lineForm, one, oneArm, pairsOf, parameters, stmt, stmtForm, stmts, two, vAssign, vBegin, vCall, vCase, vFor, vIf, vRaise, vWhile}
 use Rattle.law.specs.Syntax as S
 use Rattle.law.specs.Trees.{Trees, end, form, list, nodes, nodesIn, word, _then_}
 use Rattle.law.specs.Words.{Word}
+use Rattle.law_theorems.proofs.Weights.{by-handler}
 use Rattle.law_theorems.proofs.Inversion.{none-some, some-inj, bind-some, given-some}
-use Rattle.law_theorems.proofs.TreeDepth.{Shallow, Shallows, first, rest, ending-shallow, handler-shallow, headed-shallow, one-shallow, two-shallow}
-use Rattle.law_theorems.proofs.Depths.{DeepE, DeepT, expr-deep, target-deep}
+use Rattle.law_theorems.proofs.TreeDepth.{Shallow, Shallows, none as no-parts, more, first, rest, ending-shallow, handler-shallow, headed-shallow, one-shallow, two-shallow}
+use Rattle.law_theorems.proofs.Depths.{DeepE, DeepEs, DeepT, expr-deep, exprs-deep, target-deep}
 use Rattle.law_theorems.specs.StatementNumbers.{Number}
 
 -- ---- every statement number is from 1 to l; expressions are at most 32 brackets deep
@@ -25,7 +26,7 @@ mutual
     while : {n : ℕ} {e : S.Expr} {a : S.Stmt} → Number l n → DeepE 32 e → Counted l a → Counted l (S.while n e a)
     for : {n : ℕ} {w : Name} {a b : S.Expr} {s : S.Stmt} → Number l n → DeepE 32 a → DeepE 32 b → Counted l s → Counted l (S.for n w a b s)
     case : {n : ℕ} {e : S.Expr} {bs : S.Arms} → Number l n → DeepE 32 e → CountedArms l bs → Counted l (S.case n e bs)
-    call : {n : ℕ} {w : Name} → Number l n → Counted l (S.call n w)
+    call : {n : ℕ} {w : Name} {es : S.Exprs} → Number l n → DeepEs 32 es → Counted l (S.call n w es)
     raise : {n : ℕ} {e : S.Expr} → Number l n → DeepE 32 e → Counted l (S.raise n e)
     skip : Counted l S.skip
 
@@ -46,7 +47,7 @@ pub record CountedBody (l : ℕ) (b : S.Body) : Type 0 where
 pub data CountedLine (l : ℕ) : S.LineForm → Type 0 where
   typeLine : {w : Name} {t : S.TypeForm} → CountedLine l (S.typeLine w t)
   varLine : {w : Name} {t : S.TypeName} → CountedLine l (S.varLine w t)
-  procLine : {w : Name} {b : S.Body} → CountedBody l b → CountedLine l (S.procLine w b)
+  procLine : {w : Name} {ps : List (Name × S.TypeName)} {b : S.Body} → CountedBody l b → CountedLine l (S.procLine w ps b)
   mainLine : {b : S.Body} → CountedBody l b → CountedLine l (S.mainLine b)
 
 -- ---- the brackets and words of parts
@@ -195,7 +196,9 @@ module _ (r : Reader) (hr : (n : ℕ) (t : Item) (p : S.Stmt × ℕ) → r n t �
         rw (← some-inj e) (record { up = i .up; most = omega (arith, i .most); each = λ l k s. let o = two-shallow s hq in while (record { from = f; to = omega (arith, i .up) }) (deep (q .0) x hx (o .0)) (i .each l k (o .1)) })
     form-counts vFor ts p h = for-counts ts p h
     form-counts vCase ts p h = case-counts ts p h
-    form-counts vCall ts p h = bind-some h λ w hw e. rw (← some-inj e) (leaf _ _ (λ l k _. call (record { from = f; to = k })))
+    form-counts vCall [] p h = none-some h
+    form-counts vCall (t ∷ ts) p h = bind-some h λ w hw h. bind-some h λ es hes e.
+        rw (← some-inj e) (leaf _ _ (λ l k s. call (record { from = f; to = k }) (exprs-deep 33 32 (rest s) hes)))
     form-counts vRaise ts p h = bind-some h λ x hx e. bind-some hx λ t ht hx. rw (← some-inj e) (leaf _ _ (λ l k s. raise (record { from = f; to = k }) (deep t x hx (one-shallow s ht))))
 
 stmt-counts : (d n : ℕ) (t : Item) (p : S.Stmt × ℕ) → stmt d n t ≡ some p → Counts (Flat t) Counted n (nodes t) p
@@ -230,14 +233,25 @@ body-counts n (t ∷ ts) p h = by-handler (handlerOf t) refl ts h (λ m q hq. bo
           each = λ l g s. record { stmts = i .each l (omega (arith, j .up)) (first s) next j .each l g (rest s) .stmts; handler = j .each l g (rest s) .handler };
         })
 
+-- what comes after a list of parameters
+after-list : (ts : List Item) {q : List (Name × S.TypeName) × List Item} → parameters ts ≡ some q → weigh (q .1) ≤ weigh ts
+unfolding parameters weigh
+after-list [] h = rw (← some-inj h) (omega arith)
+after-list (t ∷ ts) h = by-handler (pairsOf t) h (λ ps _ h. bind-some h λ fs hfs h. rw (← some-inj h) (omega arith)) (λ h. rw (← some-inj h) (omega arith))
+
+list-shallow : {ts : List Item} → Flats ts → {q : List (Name × S.TypeName) × List Item} → parameters ts ≡ some q → Flats (q .1)
+unfolding parameters
+list-shallow no-parts h = rw (← some-inj h) no-parts
+list-shallow (more {t} s ss) h = by-handler (pairsOf t) h (λ ps _ h. bind-some h λ fs hfs h. rw (← some-inj h) ss) (λ h. rw (← some-inj h) (more s ss))
+
 by-counts : (d : LineHead) (n : ℕ) (ts : List Item) (p : S.LineForm × ℕ) → lineBy d n ts ≡ some p → Counts (Flats ts) CountedLine n (weigh ts) p
 unfolding lineBy weigh
 by-counts isType n ts p h = bind-some h λ q hq h. bind-some h λ w hw h. bind-some h λ t ht e. rw (← some-inj e) (record { up = omega arith; most = omega arith; each = λ l _ _. typeLine })
 by-counts isVar n ts p h = bind-some h λ q hq h. bind-some h λ w hw h. bind-some h λ t ht e. rw (← some-inj e) (record { up = omega arith; most = omega arith; each = λ l _ _. varLine })
 by-counts isProc n [] p h = none-some h
-by-counts isProc n (t ∷ ts) p h = bind-some h λ w hw h. bind-some h λ b hb e.
-    let i = body-counts n ts b hb in
-    rw (← some-inj e) (record { up = i .up; most = omega (arith, i .most); each = λ l k s. procLine (i .each l k (rest s)) })
+by-counts isProc n (t ∷ ts) p h = bind-some h λ w hw h. bind-some h λ q hq h. bind-some h λ b hb e.
+    let i = body-counts n (q .1) b hb in let m = after-list ts hq in
+    rw (← some-inj e) (record { up = i .up; most = omega (arith, i .most); each = λ l k s. procLine (i .each l k (list-shallow (rest s) hq)) })
 by-counts isMain n ts p h = bind-some h λ b hb e.
     let i = body-counts n ts b hb in
     rw (← some-inj e) (record { up = i .up; most = i .most; each = λ l k s. mainLine (i .each l k s) })

@@ -5,10 +5,10 @@ use Prim.Native.Nat.{ℕ, zero, suc, _≤_}
 use lib.IntN.{ℤ, sucℤ}
 use Rattle.leaf_integers.specs.Integers.{inside, isZero}
 use Rattle.law.specs.Calculate.{Result, caseError, fails, is, isTrue, rangeError, stuck, systemError}
-use Rattle.law.specs.Chair.{condition, evalCode, matches, placeCode, runAct, runActs, runCases}
+use Rattle.law.specs.Chair.{condition, evalCode, matches, placeCode, runAct, runActs, runArguments, runCases}
 use Rattle.law.specs.Code as C
 use Rattle.law.specs.Code.{BodyCode}
-use Rattle.law.specs.Machine.{Answer, Outcome, Plan, Procs, State, andThen, answer, branch, caught, continued, countUp, forRounds, handled, noRound, normal, opened, outside, passOn, planned, procedureAt, raiseNumber, raised, raising, rounds, setControl, sole, spent, state, step, stepIf, sticks, storeOrdinal, storeWhole, whileRounds, withResult}
+use Rattle.law.specs.Machine.{Answer, Outcome, Plan, Proc, Procs, State, andThen, answer, branch, caught, continued, countUp, entered, forRounds, handled, noRound, normal, opened, outside, passOn, planned, proc, procedureAt, raiseNumber, raised, raising, returning, rounds, setControl, sole, spent, state, step, stepIf, sticks, stored, storeOrdinal, storeWhole, whileRounds, withResult}
 use Rattle.law.specs.Whole.{runAll, runBody}
 use Rattle.law_theorems.specs.Bodies as Numbered
 use Rattle.law_theorems.specs.Bodies.{Bodies}
@@ -103,7 +103,17 @@ count-n : {n : ℕ} → Number 4096 n → (a : ℕ) (lo hi x y : ℤ) {body : St
 unfolding countUp
 count-n N a lo hi x y h = opened-n N a x h (planned lo hi x y)
 
-module _ (ps : Procs) (h : (i : ℕ) → Notes (procedureAt ps i)) where
+returning-n : (q : C.Frame) (o : Outcome) (s : State) → s .store .place ≤ 4096 → returning q o s .state .store .place ≤ 4096
+returning-n q normal s g = g
+returning-n q spent s g = g
+returning-n q sticks s g = g
+returning-n q (raised z n) s g = g
+
+entered-n : (f : Proc) → Notes (f .run) → (zs : List ℤ) → Notes (entered f zs)
+unfolding entered
+entered-n f h zs = record { at = λ s g. let t = state (stored (f .frame .base) zs (s .store)) (s .left) in returning-n (f .frame) (f .run t .outcome) (f .run t .state) (h .at t g) }
+
+module _ (ps : Procs) (h : (i : ℕ) → Notes (procedureAt ps i .run)) where
   mutual
     unfolding runAct runActs runCases
 
@@ -117,7 +127,8 @@ module _ (ps : Procs) (h : (i : ℕ) → Notes (procedureAt ps i)) where
     run-n (Sized.forLoop {i = i} {lo = lo} {hi = hi} {x = x} {y = y} N I L H X Y A) =
         step-n (after-n N (λ s. evalCode x (s .store)) λ u. after-n N (λ s. evalCode y (s .store)) λ v. count-n N i lo hi (sole u) (sole v) (run-n A))
     run-n (Sized.caseOf {c = c} N S B) = step-n (after-n N (λ s. evalCode c (s .store)) λ x. cases-n N (sole x) B)
-    run-n (Sized.callTo {p = p} N) = step-n (h p)
+    run-n (Sized.callTo {p = p} {cs = cs} N S) =
+        step-n (after-n N (λ s. runArguments (procedureAt ps p .frame .wants) cs (s .store)) λ zs. entered-n (procedureAt ps p) (h p) zs)
     run-n (Sized.raiseWith {c = c} N S) = step-n (after-n N (λ s. evalCode c (s .store)) λ x. raise-n N (sole x))
     run-n Sized.noAct = answer-n normal
 
@@ -134,8 +145,8 @@ module _ (ps : Procs) (h : (i : ℕ) → Notes (procedureAt ps i)) where
   unfolding runBody
   body-n {b} S = handled-n (b .handles) (runs-n (S .acts)) (runs-n (S .handler))
 
-pub all-n : {k : ℕ} {bs : List BodyCode} → Bodies (λ _. SizedBody) k bs → (ps : Procs) → ((i : ℕ) → Notes (procedureAt ps i)) → Notes (runAll bs ps)
+pub all-n : {k : ℕ} {bs : List BodyCode} → Bodies (λ _. SizedBody) k bs → (ps : Procs) → ((i : ℕ) → Notes (procedureAt ps i .run)) → Notes (runAll bs ps)
 unfolding runAll
 all-n Numbered.none ps h = answer-n normal
 all-n (Numbered.body S Numbered.none) ps h = body-n ps h S
-all-n (Numbered.body {b = b} S (Numbered.body T B)) ps h = all-n (Numbered.body T B) (ps ++ (runBody b ps ∷ [])) (calling-all Notes (answer-n normal) ps (runBody b ps) (body-n ps h S) h)
+all-n (Numbered.body {b = b} S (Numbered.body T B)) ps h = all-n (Numbered.body T B) (ps ++ (proc (b .frame) (runBody b ps) ∷ [])) (calling-all (λ f. Notes (f .run)) (answer-n normal) ps (proc (b .frame) (runBody b ps)) (body-n ps h S) h)

@@ -9,11 +9,11 @@ use native.Mathlib.Omega.{arith}
 use lib.IntN.{ℤ, sucℤ}
 use Rattle.leaf_integers.specs.Integers.{inside, isZero}
 use Rattle.law.specs.Calculate.{Result, fails, is, isTrue, stuck, systemError}
-use Rattle.law.specs.Chair.{condition, evalCode, matches, placeCode, runAct, runActs, runCases}
-use Rattle.law.specs.Code.{Act, Acts, BodyCode, Cases, Code, _also_, assignOrdinal, assignWhole, branchOn, callTo, caseOf, elseCase, forLoop, noCase, noAct, oneCase, raiseWith, sequence, stop, whileLoop}
-use Rattle.law.specs.Machine.{Answer, Outcome, Procs, State, Store, andThen, answer, branch, caught, continued, Plan, countUp, forRounds, noRound, opened, outside, planned, rounds, handled, normal, passOn, procedureAt, raiseNumber, raised, raising, setControl, sole, spent, state, step, stepIf, sticks, storeOrdinal, storeWhole, whileRounds, withResult}
+use Rattle.law.specs.Chair.{condition, evalCode, matches, placeCode, runAct, runActs, runArguments, runCases}
+use Rattle.law.specs.Code.{Act, Acts, BodyCode, Cases, Code, Frame, _also_, assignOrdinal, assignWhole, branchOn, callTo, caseOf, elseCase, forLoop, noCase, noAct, oneCase, raiseWith, sequence, stop, whileLoop}
+use Rattle.law.specs.Machine.{Answer, Outcome, Proc, Procs, State, Store, andThen, answer, branch, caught, continued, Plan, countUp, entered, forRounds, noRound, opened, outside, planned, rounds, handled, normal, passOn, procedureAt, raiseNumber, raised, raising, returning, setControl, sole, spent, state, step, stepIf, sticks, stored, storeOrdinal, storeWhole, whileRounds, withResult}
 use Rattle.law.specs.Whole.{runAll, runBody}
-use Rattle.law_theorems.proofs.MoreBudget.{more, moreA}
+use Rattle.law_theorems.proofs.MoreBudget.{more, moreA, returning-f}
 use Rattle.law_theorems.proofs.Programs.{all-bodies, no-procs}
 
 -- what is left never grows
@@ -158,7 +158,30 @@ raises-l b n z = branch-l (isZero z) (passes-l b n) (raising-l z n)
 abbrev L : (State → Answer) → Type 0
 L f = (b : ℕ) → Lower b f f
 
-module _ (ps : Procs) (hp : (p : ℕ) → L (procedureAt ps p)) where
+-- a call
+returning-left : (q : Frame) (o : Outcome) (s : State) → (returning q o s) .state .left ≡ s .left
+returning-left q normal s = refl
+returning-left q spent s = refl
+returning-left q sticks s = refl
+returning-left q (raised z n) s = refl
+
+entered-l : {b : ℕ} (f : Proc) (zs : List ℤ) → Lower b (f .run) (f .run) → Lower b (entered f zs) (entered f zs)
+unfolding entered
+entered-l f zs h = record {
+  less-f = record { by = less };
+  less-g = record { by = less };
+  at = λ s l e.
+      let t = state (stored (f .frame .base) zs (s .store)) (s .left) in
+      let q = h .at t l (omega (arith, returning-left (f .frame) (f .run (more 1 t) .outcome) (f .run (more 1 t) .state))) in
+      rw q (returning-f 1 (f .frame) (f .run t .outcome) (f .run t .state));
+}
+  where
+    less : (s : State) → (entered f zs s) .state .left ≤ s .left
+    less s =
+        let t = state (stored (f .frame .base) zs (s .store)) (s .left) in
+        let k = h .less-f .by t in omega (arith, returning-left (f .frame) (f .run t .outcome) (f .run t .state))
+
+module _ (ps : Procs) (hp : (p : ℕ) → L (procedureAt ps p .run)) where
   mutual
     unfolding runAct
 
@@ -174,7 +197,7 @@ module _ (ps : Procs) (hp : (p : ℕ) → L (procedureAt ps p)) where
     }) b
     run-l (forLoop n a lo hi x y e) b = step-any (λ b. after-l n (evalCode x) λ u. after-l n (evalCode y) λ v. counting-l n a lo hi (sole u) (sole v) (λ k. run-l e k) b) b
     run-l (caseOf n c bs) b = step-any (λ b. after-l n (evalCode c) λ x. picks-l bs n (sole x) b) b
-    run-l (callTo n p) b = step-any (hp p) b
+    run-l (callTo n p cs) b = step-any (λ b. after-l n (runArguments (procedureAt ps p .frame .wants) cs) λ zs. entered-l (procedureAt ps p) zs (hp p b)) b
     run-l (raiseWith n c) b = step-any (λ b. after-l n (evalCode c) λ x. raises-l b n (sole x)) b
     run-l noAct b = answer-l
 
@@ -216,9 +239,9 @@ handled-l true {b} {f} {g} hf hg = record {
     less : (s : State) → (handled true (f s) g) .state .left ≤ s .left
     less s = let k = hf .less-f .by s in let l = caught-less (hg .less-f) ((f s) .outcome) ((f s) .state) in omega arith
 
-body-l : (b : BodyCode) (ps : Procs) → ((i : ℕ) → L (procedureAt ps i)) → L (runBody b ps)
+body-l : (b : BodyCode) (ps : Procs) → ((i : ℕ) → L (procedureAt ps i .run)) → L (runBody b ps)
 unfolding runBody
 body-l b ps h k = handled-l (b .handles) (runs-l ps h (b .acts) k) (runs-l ps h (b .handler) k)
 
 pub program-l : (bs : List BodyCode) (b : ℕ) → Lower b (runAll bs []) (runAll bs [])
-program-l bs = all-bodies L (λ b. answer-l) body-l bs [] (no-procs L (λ b. answer-l))
+program-l bs = all-bodies L (λ b. answer-l) body-l bs [] (no-procs (λ f. L (f .run)) (λ b. answer-l))

@@ -1,25 +1,31 @@
 -- The code of an accepted script never sticks, and keeps each cell in its range.
 use mathlib.Core.Path.{_≡_, refl}
-use mathlib.Core.Bool.{Bool, true, false, cond, _&&_}
-use mathlib.Core.List.{List, [], _∷_}
+use mathlib.Core.Bool.{Bool, true, false, cond, _&&_, _||_}
+use mathlib.Core.List.{List, [], _∷_, map}
 use mathlib.Core.Option.{some}
 use Prim.Native.Nat.{ℕ, zero, suc, _+_, _<_}
 use native.Mathlib.Omega.{arith}
 use lib.IntN.{ℤ, pos, sucℤ, _+ℤ_, _-ℤ_, +ℤ-idr, sucℤ-+ℤ, +ℤ-sucℤ}
 use lib.Signed.{leZ}
 use borrow.Author.Tests.{eqb-true}
+use lib.ListN.{getD, length}
 use Rattle.leaf_integers.specs.Integers.{inside, isZero}
 use Rattle.law.specs.Base.{pick}
-use Rattle.law.specs.Calculate.{Result, caseError, isTrue, natOf, systemError}
-use Rattle.law.specs.Chair.{condition, evalCode, matches, placeCode, runAct, runActs, runCases}
-use Rattle.law.specs.Code.{Act, Acts, Cases, Code, assignOrdinal, assignWhole}
-use Rattle.law.specs.Elaborate.{Located, elabArms, elabStmt, elabStmts, expects}
-use Rattle.law.specs.Machine.{Answer, Outcome, Procs, State, Store, andThen, answer, branch, continued, countUp, forRounds, noRound, normal, opened, outside, passOn, planned, procedureAt, raiseNumber, raised, raising, rounds, setControl, sole, spent, state, step, stepIf, storeOrdinal, storeWhole, whileRounds, withResult}
-use Rattle.law.specs.Script.{Arms, Expr, Stmt, Stmts, _next_, arm, assign, begin, call, case, done, elseArm, for, ifElse, noElse, raise, skip, while}
-use Rattle.law.specs.Types.{Types, Vars, cellsOf, hostOf, infoAt, ordinal?}
-use Rattle.law_theorems.proofs.Inversion.{and-true, some-inj, both-some, bind-some, given-some}
+use Rattle.law.specs.Calculate.{Result, caseError, isTrue, natOf, systemError, tested}
+use Rattle.law.specs.Chair.{condition, evalCode, matches, placeCode, runAct, runActs, runArguments, runCases}
+use Rattle.law.specs.Code.{Act, Acts, Cases, Code, Codes, Frame, anySet, assignOrdinal, assignWhole, ranged}
+use Rattle.law.specs.Elaborate.{Located, elabArguments, elabArms, elabStmt, elabStmts, expects}
+use Rattle.law.specs.Environment.{wantOf}
+use Rattle.law.specs.Machine.{Answer, Outcome, Proc, Procs, State, Store, admitted, andThen, answer, branch, continued, countUp, entered, forRounds, forgotten, noRound, normal, opened, outside, passOn, planned, procedureAt, raiseNumber, raised, raising, returning, rounds, setControl, sole, spent, state, step, stepIf, stored, storeOrdinal, storeWhole, undefined, whileRounds, withResult}
+use Rattle.law.specs.Script.{Arms, Expr, Exprs, Stmt, Stmts, _and_, _next_, arm, assign, begin, call, case, done, elseArm, for, ifElse, nil, noElse, raise, skip, while}
+use Rattle.law.specs.Store.{cellFits}
+use Rattle.law.specs.Types.{Types, Vars, cellsOf, hostOf, infoAt, ordinal?, set?}
+use Rattle.law_theorems.proofs.Inversion.{and-true, none-some, some-inj, both-some, bind-some, given-some}
 use Rattle.law_theorems.proofs.Spans.{span-inside}
-use Rattle.law_theorems.proofs.ValuesInRange.{e-range, int-value, Good, value, failure, Sound, Fits, Value-of, good-e, good-t, stored-all, fits-cons, fits-none, ord-layout, own-host}
+use Rattle.law_theorems.proofs.ValuesInRange.{bind-g, e-range, int-value, Good, value, failure, Sound, Fits, Value-of, good-e, good-t, pick-g, put-one, set-value, stored-all, fits-cons, fits-none, ord-layout, own-host}
+use Rattle.law_theorems.specs.LinesKeep.{Framed, Simple}
+use Rattle.law_theorems.specs.ScriptCalls as Calls
+use Rattle.law_theorems.specs.ScriptCalls.{Calling, CallingAll, CallingArms}
 use Rattle.law_theorems.specs.ValuesInRange.{InInt, Test, Here, Formed}
 
 e-system : InInt systemError
@@ -88,6 +94,18 @@ module _ {tests : List Test} where
   unfolding raiseNumber
   raises-s n {z} i = branch-s (isZero z) (λ _. passes-s n) (λ _. raising-s i n)
 
+  -- ---- a call's return: its parameters are undefined
+
+  forgotten-all : (k : ℕ) {m : Store} (a : ℕ) → Sound tests m → Sound tests (forgotten a k m)
+  unfolding isZero
+  forgotten-all zero a s = record { long = s .long; enough = s .enough; each = s .each; number = s .number }
+  forgotten-all (suc k) {m} a s = forgotten-all k (suc a) (put-one tests m a (pos 0) undefined refl s)
+
+  returning-s : (q : Frame) {o : Outcome} (s : State) → Moved o → Sound tests (s .store) → Fine tests (returning q o s)
+  returning-s q s normally g = fine normally (forgotten-all (length (q .wants)) (q .base) g)
+  returning-s q s outOfSteps g = fine outOfSteps g
+  returning-s q s byException g = fine byException (forgotten-all (length (q .wants)) (q .base) g)
+
 module _ (Γ : Types) (Δ : Vars) (tests : List Test) (𝓕 : Formed Γ Δ tests) where
   -- the value of an expression that was expected to have a kind
   pub expected : (e : Expr) (k : ℕ) (c : Code) → expects Γ Δ k e ≡ some c → (m : Store) → Sound tests m → Good (Value-of Γ Δ tests 𝓕 k) (evalCode c m)
@@ -139,7 +157,47 @@ module _ (Γ : Types) (Δ : Vars) (tests : List Test) (𝓕 : Formed Γ Δ tests
       go true false e = raising-s e-range n
       go true true e = let w = and-true _ _ e in then-s (turns-s t a o h b _ x (λ i l. span-inside _ _ x y i (w .0) (w .1) l)) (answer-s normally)
 
-  module _ (ps : Procs) (hp : (p : ℕ) → Safely tests (procedureAt ps p)) where
+  -- ---- calls
+
+  -- an argument that was admitted is of its parameter's type
+  admitted-g : (t : ℕ) → (ordinal? Γ t || set? Γ t) ≡ true → (zs : List ℤ) → Value-of Γ Δ tests 𝓕 (hostOf Γ t) zs → Good (λ z. cellFits Γ t z ≡ true) (admitted (wantOf Γ t) (sole zs))
+  unfolding admitted tested
+  admitted-g t h zs v = go (ordinal? Γ t) refl h
+    where
+      go : (b : Bool) → ordinal? Γ t ≡ b → (b || set? Γ t) ≡ true
+          → Good (λ z. cellFits Γ t z ≡ true) (admitted (cond b (ranged (infoAt Γ t .low) (infoAt Γ t .high)) anySet) (sole zs))
+      go true o k = pick-g (inside (infoAt Γ t .low) (infoAt Γ t .high) (sole zs)) (λ i. value (rw o i)) (failure e-range)
+      go false o k = value {a = sole zs} (rw o (set-value Γ Δ tests 𝓕 k (rw (own-host _ t _ o) at v)))
+
+  pub arguments-g : (ts : List ℕ) → Simple Γ ts → (es : Exprs) (cs : Codes) → elabArguments Γ Δ ts es ≡ some cs
+      → (m : Store) → Sound tests m → Good (Fits Γ Δ tests 𝓕 ts) (runArguments (map (wantOf Γ) ts) cs m)
+  unfolding elabArguments runArguments
+  arguments-g [] k nil cs h m s = rw (← some-inj h) (value (fits-none Γ Δ tests 𝓕))
+  arguments-g [] k (e and es) cs h m s = none-some h
+  arguments-g (t ∷ ts) k nil cs h m s = none-some h
+  arguments-g (t ∷ ts) k (e and es) cs h m s = both-some h λ c ds hc hds e′.
+      rw (← some-inj e′) (bind-g (expected e (hostOf Γ t) c hc m s) λ x v. bind-g (admitted-g t (k 0 (omega arith)) x v) λ z f.
+      bind-g (arguments-g ts (λ j l. k (suc j) (omega arith)) es ds hds m s) λ zs g. value (fits-cons Γ Δ tests 𝓕 f g))
+
+  entered-s : (f : Proc) (ts : List ℕ) → Framed Γ tests ts (f .frame) → Safely tests (f .run) → (zs : List ℤ) → Fits Γ Δ tests 𝓕 ts zs → Safely tests (entered f zs)
+  unfolding entered
+  entered-s f ts q h zs g = record {
+    at = λ s i.
+        let t = state (stored (f .frame .base) zs (s .store)) (s .left) in
+        let a = h .at t (stored-all Γ Δ tests 𝓕 ts zs (f .frame .base) (q .here) g i) in
+        returning-s (f .frame) (f .run t .state) (a .moved) (a .sound);
+  }
+
+  module _ (ps : Procs) (hp : (p : ℕ) → Safely tests (procedureAt ps p .run)) where
+    -- a call in this body has the parameters that its procedure has
+    abbrev Suits : ℕ → List ℕ → Type 0
+    Suits p ts = Framed Γ tests ts (procedureAt ps p .frame)
+
+    call-s : (n p : ℕ) (ts : List ℕ) (es : Exprs) (cs : Codes) → elabArguments Γ Δ ts es ≡ some cs → Suits p ts
+        → Safely tests (λ s. withResult n s (runArguments (procedureAt ps p .frame .wants) cs (s .store)) (λ zs. entered (procedureAt ps p) zs s))
+    call-s n p ts es cs h q = after-s n {v = runArguments (procedureAt ps p .frame .wants) cs} (λ m s. rw (q .wants) (arguments-g ts (q .simple) es cs h m s))
+        λ zs g. entered-s (procedureAt ps p) ts q (hp p) zs g
+
     putting-s : (b : Bool) (n : ℕ) (w : Located) → ordinal? Γ (w .type) ≡ b → (e : Expr) (c : Code) → expects Γ Δ (hostOf Γ (w .type)) e ≡ some c
         → ((m : Store) → Sound tests m → Good (λ a. Here Γ tests a (cellsOf Γ (w .type))) (placeCode (w .place) m))
         → Safely tests (runAct ps (cond b (assignOrdinal n (w .place) (infoAt Γ (w .type) .low) (infoAt Γ (w .type) .high) c) (assignWhole n (w .place) c)))
@@ -150,27 +208,27 @@ module _ (Γ : Types) (Δ : Vars) (tests : List Test) (𝓕 : Formed Γ Δ tests
     mutual
       unfolding elabStmt runAct
 
-      pub run-s : (s : Stmt) (c : Act) → elabStmt Γ Δ s ≡ some c → Safely tests (runAct ps c)
-      run-s (assign n g e) c h = bind-some h λ w hw h′. bind-some h′ λ d hd e′. rw (← some-inj e′) (putting-s _ n w refl e d hd (λ m s. good-t Γ Δ tests 𝓕 g w hw s))
-      run-s (begin n ss) c h = bind-some h λ bs hbs e. rw (← some-inj e) (step-s (runs-s ss bs hbs))
-      run-s (ifElse n e a b) c h = both-some h λ d x hd hx h′. bind-some h′ λ y hy e′.
-          rw (← some-inj e′) (step-s (check-s n e d hd λ q. branch-s q (λ _. run-s a x hx) (λ _. run-s b y hy)))
-      run-s (while n e a) c h = both-some h λ d x hd hx e′.
-          rw (← some-inj e′) (step-s (record { at = λ s. (rounds-s n e d hd (run-s a x hx) (s .left)) .at s }))
-      run-s (for n i a b s) c h = bind-some h λ q hq g. both-some g λ x y hx hy h′. bind-some h′ λ z hz e′. given-some e′ λ p v.
-          rw (← v) (step-s (after-s n (expected a _ x hx) λ u _. after-s n (expected b _ y hy) λ w _. counting-s n (q .type) (q .base) p (𝓕 .vars i q hq) (sole u) (sole w) (run-s s z hz)))
-      run-s (case n e bs) c h = bind-some h λ x hx h′. bind-some h′ λ cs hcs e′. given-some e′ λ p v.
-          rw (← v) (step-s (after-s n (λ m s. good-e Γ Δ tests 𝓕 e x hx s) λ zs _. picks-s bs (x .kind) cs hcs n (sole zs)))
-      run-s (call n p) c h = rw (← some-inj h) (step-s (hp p))
-      run-s (raise n e) c h = bind-some h λ d hd e′. rw (← some-inj e′) (step-s (after-s n (expected e 0 d hd) λ x i. raises-s n (int-value Γ Δ tests 𝓕 i)))
-      run-s skip c h = rw (← some-inj h) (answer-s normally)
+      pub run-s : (s : Stmt) (c : Act) → elabStmt Γ Δ s ≡ some c → Calling Suits s → Safely tests (runAct ps c)
+      run-s (assign n g e) c h k = bind-some h λ w hw h′. bind-some h′ λ d hd e′. rw (← some-inj e′) (putting-s _ n w refl e d hd (λ m s. good-t Γ Δ tests 𝓕 g w hw s))
+      run-s (begin n ss) c h (Calls.begin k) = bind-some h λ bs hbs e. rw (← some-inj e) (step-s (runs-s ss bs hbs k))
+      run-s (ifElse n e a b) c h (Calls.ifElse j k) = both-some h λ d x hd hx h′. bind-some h′ λ y hy e′.
+          rw (← some-inj e′) (step-s (check-s n e d hd λ q. branch-s q (λ _. run-s a x hx j) (λ _. run-s b y hy k)))
+      run-s (while n e a) c h (Calls.while k) = both-some h λ d x hd hx e′.
+          rw (← some-inj e′) (step-s (record { at = λ s. (rounds-s n e d hd (run-s a x hx k) (s .left)) .at s }))
+      run-s (for n i a b s) c h (Calls.for k) = bind-some h λ q hq g. both-some g λ x y hx hy h′. bind-some h′ λ z hz e′. given-some e′ λ p v.
+          rw (← v) (step-s (after-s n (expected a _ x hx) λ u _. after-s n (expected b _ y hy) λ w _. counting-s n (q .type) (q .base) p (𝓕 .vars i q hq) (sole u) (sole w) (run-s s z hz k)))
+      run-s (case n e bs) c h (Calls.case k) = bind-some h λ x hx h′. bind-some h′ λ cs hcs e′. given-some e′ λ p v.
+          rw (← v) (step-s (after-s n (λ m s. good-e Γ Δ tests 𝓕 e x hx s) λ zs _. picks-s bs (x .kind) cs hcs k n (sole zs)))
+      run-s (call n p ts es) c h (Calls.call k) = bind-some h λ cs hcs e. rw (← some-inj e) (step-s (call-s n p ts es cs hcs k))
+      run-s (raise n e) c h k = bind-some h λ d hd e′. rw (← some-inj e′) (step-s (after-s n (expected e 0 d hd) λ x i. raises-s n (int-value Γ Δ tests 𝓕 i)))
+      run-s skip c h k = rw (← some-inj h) (answer-s normally)
 
-      pub runs-s : (ss : Stmts) (c : Acts) → elabStmts Γ Δ ss ≡ some c → Safely tests (runActs ps c)
-      runs-s done c h = rw (← some-inj h) (answer-s normally)
-      runs-s (a next bs) c h = both-some h λ x y hx hy e. rw (← some-inj e) (then-s (run-s a x hx) (runs-s bs y hy))
+      pub runs-s : (ss : Stmts) (c : Acts) → elabStmts Γ Δ ss ≡ some c → CallingAll Suits ss → Safely tests (runActs ps c)
+      runs-s done c h k = rw (← some-inj h) (answer-s normally)
+      runs-s (a next bs) c h (Calls._next_ j k) = both-some h λ x y hx hy e. rw (← some-inj e) (then-s (run-s a x hx j) (runs-s bs y hy k))
 
-      pub picks-s : (bs : Arms) (k : ℕ) (c : Cases) → elabArms Γ Δ k bs ≡ some c → (n : ℕ) (z : ℤ) → Safely tests (runCases ps n z c)
-      picks-s (elseArm a) k c h n z = bind-some h λ x hx e. rw (← some-inj e) (run-s a x hx)
-      picks-s noElse k c h n z = rw (← some-inj h) (raising-s e-case n)
-      picks-s (arm ls a bs) k c h n z = both-some h λ zs x hzs hx h′. bind-some h′ λ y hy e.
-          rw (← some-inj e) (branch-s (matches z zs) (λ _. run-s a x hx) (λ _. picks-s bs k y hy n z))
+      pub picks-s : (bs : Arms) (k : ℕ) (c : Cases) → elabArms Γ Δ k bs ≡ some c → CallingArms Suits bs → (n : ℕ) (z : ℤ) → Safely tests (runCases ps n z c)
+      picks-s (elseArm a) k c h (Calls.elseArm i) n z = bind-some h λ x hx e. rw (← some-inj e) (run-s a x hx i)
+      picks-s noElse k c h i n z = rw (← some-inj h) (raising-s e-case n)
+      picks-s (arm ls a bs) k c h (Calls.arm i j) n z = both-some h λ zs x hzs hx h′. bind-some h′ λ y hy e.
+          rw (← some-inj e) (branch-s (matches z zs) (λ _. run-s a x hx i) (λ _. picks-s bs k y hy j n z))

@@ -7,11 +7,11 @@ use Prim.Native.Nat.{ℕ, suc, _+_}
 use native.Mathlib.Omega.{arith}
 use lib.IntN.{ℤ}
 use Rattle.law.specs.Ceilings.{lineBounded}
-use Rattle.law.specs.Code.{BodyCode}
+use Rattle.law.specs.Code.{BodyCode, noFrame}
 use Rattle.law.specs.Elaborate.{elabBody}
-use Rattle.law.specs.Environment.{Declared, PlacedBody, declareLine, nothingDeclared, withBody}
+use Rattle.law.specs.Environment.{Declared, PlacedBody, declareLine, frameOf, nothingDeclared, withBody, within}
 use Rattle.law.specs.Lines.{Line, linesOf}
-use Rattle.law.specs.Machine.{Procs}
+use Rattle.law.specs.Machine.{Procs, proc}
 use Rattle.law.specs.Names.{entryOf}
 use Rattle.law.specs.Rules.{keepsRules}
 use Rattle.law.specs.Script.{Entry, newMain, newProc, newType, newVar}
@@ -85,9 +85,9 @@ opening-is true true none f ls h k = k h (λ g. refl)
 
 pub data Paired : List PlacedBody → List BodyCode → Type 0 where
   empty : Paired [] []
-  more : {b : PlacedBody} {c : BodyCode} {bs : List PlacedBody} {cs : List BodyCode} → elabBody (b .types) (b .vars) (b .body) ≡ some c → Paired bs cs → Paired (b ∷ bs) (c ∷ cs)
+  more : {b : PlacedBody} {c : BodyCode} {bs : List PlacedBody} {cs : List BodyCode} → elabBody (b .types) (b .vars) (b .frame) (b .body) ≡ some c → Paired bs cs → Paired (b ∷ bs) (c ∷ cs)
 
-paired-last : {bs : List PlacedBody} {cs : List BodyCode} (b : PlacedBody) (c : BodyCode) → elabBody (b .types) (b .vars) (b .body) ≡ some c → Paired bs cs → Paired (bs ++ (b ∷ [])) (cs ++ (c ∷ []))
+paired-last : {bs : List PlacedBody} {cs : List BodyCode} (b : PlacedBody) (c : BodyCode) → elabBody (b .types) (b .vars) (b .frame) (b .body) ≡ some c → Paired bs cs → Paired (bs ++ (b ∷ [])) (cs ++ (c ∷ []))
 paired-last b c h empty = more h empty
 paired-last b c h (more e p) = more e (paired-last b c h p)
 
@@ -99,8 +99,8 @@ entry-paired : (k : Declared) (e : Entry) (s n : ℕ) (cs ds : List BodyCode) �
 unfolding strictly declareLine
 entry-paired k (newType w d) s n cs ds h p = rw (← some-inj h) (paired-same p)
 entry-paired k (newVar w t) s n cs ds h p = rw (← some-inj h) (paired-same p)
-entry-paired k (newProc w b) s n cs ds h p = bind-some h λ c hc e. rw (← some-inj e) (paired-last (withBody (k .env) b) c hc p)
-entry-paired k (newMain b) s n cs ds h p = bind-some h λ c hc e. rw (← some-inj e) (paired-last (withBody (k .env) b) c hc p)
+entry-paired k (newProc w ps b) s n cs ds h p = bind-some h λ c hc e. rw (← some-inj e) (paired-last (withBody (within (k .env) ps) (frameOf (k .env) ps) b) c hc p)
+entry-paired k (newMain b) s n cs ds h p = bind-some h λ c hc e. rw (← some-inj e) (paired-last (withBody (k .env) noFrame b) c hc p)
 
 -- ---- a line, judged strictly, is judged loosely too, with the same tables
 
@@ -130,7 +130,12 @@ lines-agree n (l ∷ ls) k cs ds r h p c = onward-is n h λ q hq h′.
 
 -- ---- the machines
 
-body-agrees : (b : PlacedBody) (c : BodyCode) → elabBody (b .types) (b .vars) (b .body) ≡ some c → markBody b ≡ runBody c
+-- a body's code has its parameters
+pub body-frame : (b : PlacedBody) (c : BodyCode) → elabBody (b .types) (b .vars) (b .frame) (b .body) ≡ some c → b .frame ≡ c .frame
+unfolding elabBody
+body-frame b c h = both-some h λ x y hx hy e. rw (← some-inj e)
+
+pub body-agrees : (b : PlacedBody) (c : BodyCode) → elabBody (b .types) (b .vars) (b .frame) (b .body) ≡ some c → markBody b ≡ runBody c
 unfolding elabBody markBody runBody
 body-agrees b c h = both-some h λ x y hx hy e.
     rw (← some-inj e) (fun-ext λ ps. fun-ext λ s. rw (sim-b (b .types) (b .vars) ps (b .body .stmts) x hx, sim-b (b .types) (b .vars) ps (b .body .handler) y hy))
@@ -139,7 +144,7 @@ pub all-agree : {bs : List PlacedBody} {cs : List BodyCode} → Paired bs cs →
 unfolding markAll runAll
 all-agree empty ps = refl
 all-agree (more {b} {c} h empty) ps = rw (body-agrees b c h)
-all-agree (more {b} {c} h (more {b = b′} {c = c′} h′ p)) ps = rw (body-agrees b c h) (all-agree (more h′ p) (ps ++ (runBody c ps ∷ [])))
+all-agree (more {b} {c} h (more {b = b′} {c = c′} h′ p)) ps = rw (body-agrees b c h, body-frame b c h) (all-agree (more h′ p) (ps ++ (proc (c .frame) (runBody c ps) ∷ [])))
 
 -- ---- the text: for every store and budget, marking and run give one answer, with its steps and both lists
 

@@ -46,10 +46,10 @@ all-get (more k a) (suc j) l = all-get a j (omega arith)
 
 -- ---- lists in lists
 
-at-left : (xs ys : List ℕ) → At (xs ++ ys) 0 xs
+pub at-left : (xs ys : List ℕ) → At (xs ++ ys) 0 xs
 at-left xs ys = record { short = rw length-append (omega arith); each = λ j l. rw (zero-add, List·getD-append xs ys 0 j l) }
 
-at-right : (xs ys : List ℕ) → At (xs ++ ys) (length xs) ys
+pub at-right : (xs ys : List ℕ) → At (xs ++ ys) (length xs) ys
 at-right xs ys = record { short = rw length-append (omega arith); each = λ j l. getD-append-add xs ys j 0 }
 
 at-first : {xs zs : List ℕ} {a : ℕ} (ys : List ℕ) → At xs a zs → At (xs ++ ys) a zs

@@ -34,7 +34,7 @@ use Rattle.law.specs.Calculate.{Result, is, fails, _>>=_, natOf, numericError, 
 use Rattle.law.specs.Chair.{evalCode, gatherCodes, placeCode}
 use Rattle.law.specs.Code.{Codes}
 use Rattle.law.specs.Elaborate.{Elaborated, Located, elabExpr, elabMembers, elabTarget}
-use Rattle.law.specs.Machine.{Store, defined, isDefined, oneCell, readCell, readCells, shortCircuited, sole, stored}
+use Rattle.law.specs.Machine.{Store, defined, isDefined, oneCell, overwritten, readCell, readCells, shortCircuited, sole, stored}
 use Rattle.law.specs.Operators.{Fun, Op, Operation, Rule, Rule1, abs, andBoth, atLeast, atMost, bothIntegers as ints?, card, divide, equal, functionRule, greater, intDiv, intMod, intPower, less, member, minus, modulo, negate, notOf, odd, operatorRule, orBoth, ord, plus, power, pred, rule, sameSets as sets?, setmax, setmin, sqr, predIn, succIn, succ, times, unequal}
 use Rattle.law.specs.Script.{Expr, Exprs, Target, _and_, at, binary, const, dot, endOf, errorNumber, members, nil, read, shortCircuit, unary, var}
 use Rattle.law.specs.Store.{cellFits}
@@ -185,6 +185,20 @@ pub record Sound (tests : List Test) (m : Store) : Type 0 where
   pub each : (i : ℕ) → okBy (getD tests i any) (getD (m .values) i (pos 0)) (getD (m .marks) i 0) ≡ true
   pub number : InInt (m .latest)
 
+-- a cell is written with what it may hold; past the end nothing is
+pub put-one : (tests : List Test) (m : Store) (i : ℕ) (z : ℤ) (k : ℕ) → okBy (getD tests i any) z k ≡ true → Sound tests m → Sound tests (overwritten i (z ∷ []) (k ∷ []) m)
+put-one tests m i z k h s = record {
+  long = length-set (m .values) i z ∙ s .long ∙ sym (length-set (m .marks) i k);
+  enough = rw (length-set (m .values) i z) (s .enough);
+  each = λ j. here j (ℕ-discrete j i) (decLt i (length (m .values)));
+  number = s .number;
+}
+  where
+    here : (j : ℕ) → Dec (j ≡ i) → Dec (i < length (m .values)) → okBy (getD tests j any) (getD (set (m .values) i z) j (pos 0)) (getD (set (m .marks) i k) j 0) ≡ true
+    here j (no ne) d = rw (getD-set-other (m .values) i j z (pos 0) ne, getD-set-other (m .marks) i j k 0 ne) (s .each j)
+    here j (yes e) (yes l) = rw (e, getD-set-same (m .values) i z (pos 0) l, getD-set-same (m .marks) i k 0 (rw (← s .long) l)) h
+    here j (yes e) (no nl) = rw (set-out (m .values) i z (omega arith), set-out (m .marks) i k (omega (arith, s .long))) (s .each j)
+
 -- what the sorts say
 pub ord-layout : (s : Shape) (t : ℕ) (cs : List ℕ) → isOrdinal s ≡ true → cellsBy s t cs ≡ t ∷ []
 ord-layout ordinalShape t cs h = refl
@@ -192,7 +206,7 @@ ord-layout setShape t cs h = refl
 ord-layout arrayShape t cs h = cc
 ord-layout recordShape t cs h = cc
 
-set-layout : (s : Shape) (t : ℕ) (cs : List ℕ) → isSet s ≡ true → cellsBy s t cs ≡ t ∷ []
+pub set-layout : (s : Shape) (t : ℕ) (cs : List ℕ) → isSet s ≡ true → cellsBy s t cs ≡ t ∷ []
 set-layout ordinalShape t cs h = refl
 set-layout setShape t cs h = refl
 set-layout arrayShape t cs h = cc
@@ -249,17 +263,7 @@ module _ (Γ : Types) (Δ : Vars) (tests : List Test) (𝓕 : Formed Γ Δ tests
   -- ---- storing
 
   pub stored-one : {m : Store} (i : ℕ) (z : ℤ) → getD tests i any z ≡ true → Sound tests m → Sound tests (stored i (z ∷ []) m)
-  stored-one {m} i z h s = record {
-    long = length-set (m .values) i z ∙ s .long ∙ sym (length-set (m .marks) i 1);
-    enough = rw (length-set (m .values) i z) (s .enough);
-    each = λ j. here j (ℕ-discrete j i) (decLt i (length (m .values)));
-    number = s .number;
-  }
-    where
-      here : (j : ℕ) → Dec (j ≡ i) → Dec (i < length (m .values)) → okBy (getD tests j any) (getD (set (m .values) i z) j (pos 0)) (getD (set (m .marks) i 1) j 0) ≡ true
-      here j (no ne) d = rw (getD-set-other (m .values) i j z (pos 0) ne, getD-set-other (m .marks) i j 1 0 ne) (s .each j)
-      here j (yes e) (yes l) = rw (e, getD-set-same (m .values) i z (pos 0) l, getD-set-same (m .marks) i 1 0 (rw (← s .long) l)) h
-      here j (yes e) (no nl) = rw (set-out (m .values) i z (omega arith), set-out (m .marks) i 1 (omega (arith, s .long))) (s .each j)
+  stored-one {m} i z h s = put-one tests m i z defined h s
 
   pub stored-all : (ts : List ℕ) (zs : List ℤ) {m : Store} (a : ℕ) → Here Γ tests a ts → Fits ts zs → Sound tests m → Sound tests (stored a zs m)
   stored-all ts [] a h f s = record { long = s .long; enough = s .enough; each = s .each; number = s .number }

@@ -14,7 +14,7 @@ use Rattle.law.specs.Operators.{Fun, minus, negate}
 use Rattle.law.specs.Syntax.{Arms, Body, Constant, Expr, Exprs, LineForm, Stmt, Stmts, Target, TypeForm, TypeName, _and_, _next_, alias, arm, arrayOf, assign, at, begin, binary, call, case, const, done, dot, elseArm, endOf, enum, errorNumber, for, ifElse, mainLine, members, nil, noElse, procLine, raise, range, read, recordOf, setOf, shortCircuit, skip, typeLine, unary, var, varLine, while}
 use Rattle.law.specs.Trees.{Run, Tree, Trees, word, form, end, _then_, list, nodes, nodesIn}
 use Rattle.law.specs.Words.{Word, worded, wordedAll}
-use Rattle.law.specs.Forms.{Item, Head, hAt, hDot, hMembers, hMinus, hBound, hLazy, hOp, hFun, first?, headed, one, two, ending, some?, among, exprsOf, atom, atForm, dotForm, twoSided, oneSided, exprForm, targetForm, expr, target, constant, Reader, Verb, vAssign, vBegin, vIf, vWhile, vFor, vCase, vCall, vRaise, stmts, ArmHead, isArm, isElse, oneArm, arms, armsFirst, elseOf, ifForm, forForm, caseForm, stmtForm, stmt, handlerOf, body, field, Maker, mEnum, mRange, mArray, mRecord, mSet, madeType, typeForm, LineHead, isType, isVar, isProc, isMain, lineBy, lineForm, free}
+use Rattle.law.specs.Forms.{Item, Head, hAt, hDot, hMembers, hMinus, hBound, hLazy, hOp, hFun, first?, headed, one, two, ending, some?, among, exprsOf, atom, atForm, dotForm, twoSided, oneSided, exprForm, targetForm, expr, target, constant, Reader, Verb, vAssign, vBegin, vIf, vWhile, vFor, vCase, vCall, vRaise, stmts, ArmHead, isArm, isElse, oneArm, arms, armsFirst, elseOf, ifForm, forForm, caseForm, stmtForm, stmt, handlerOf, body, field, Maker, mEnum, mRange, mArray, mRecord, mSet, madeType, typeForm, pairsOf, parameters, LineHead, isType, isVar, isProc, isMain, lineBy, lineForm, free}
 use Rattle.law_theorems.proofs.Inversion.{none-some, some-inj, bind-some, given-some}
 
 -- ---- weights: at most the brackets and words that spell a thing. A constant weighs 1, `(- number)` too
@@ -48,7 +48,7 @@ unfoldable mutual
   weightS (while n e a) = 2 + (weightE e + weightS a)
   weightS (for n w a b s) = 3 + (weightE a + weightE b + weightS s)
   weightS (case n e bs) = 2 + (weightE e + weightA bs)
-  weightS (call n w) = 3
+  weightS (call n w es) = 3 + weightEs es
   weightS (raise n e) = 2 + weightE e
   weightS skip = 1
 
@@ -72,10 +72,15 @@ weightD (arrayOf i e) = 4
 weightD (recordOf fs) = 2 + 3 * length fs
 weightD (setOf b) = 3
 
+-- a list of parameters, which has its own bracket
+unfoldable pub weightP : List (Name × TypeName) → ℕ
+weightP [] = 0
+weightP (p ∷ ps) = 4 + 3 * length ps
+
 unfoldable pub weightL : LineForm → ℕ
 weightL (typeLine w t) = 3 + weightD t
 weightL (varLine w t) = 4
-weightL (procLine w b) = 3 + weightB b
+weightL (procLine w ps b) = 3 + (weightP ps + weightB b)
 weightL (mainLine b) = 2 + weightB b
 
 -- ---- sums over lists
@@ -303,7 +308,7 @@ module _ (r : Reader) (below : (n : ℕ) (t : Item) (p : Stmt × ℕ) → r n t 
       rw (← some-inj h, ← first-same (bs .0) hcs) (let l = expr-weighs 33 t e he in let m = arms-weigh n ts hbs in omega arith)
 
   stmt-form-weighs : (v : Verb) (n : ℕ) (ts : List Item) {p : Stmt × ℕ} → stmtForm r v n ts ≡ some p → weightS (p .0) ≤ 2 + total nodes ts
-  unfolding stmtForm weightS
+  unfolding stmtForm weightS total
   stmt-form-weighs vAssign n ts h = bind-some h λ q hq h. bind-some h λ g hg h. bind-some h λ e he h.
       rw (← some-inj h) (let l = two-nodes ts hq in let a = target-weighs 33 (q .0) g hg in let b = expr-weighs 33 (q .1) e he in omega arith)
   stmt-form-weighs vBegin n ts h = bind-some h λ ss hss h. rw (← some-inj h) (let l = stmts-weigh n ts hss in omega arith)
@@ -312,8 +317,9 @@ module _ (r : Reader) (below : (n : ℕ) (t : Item) (p : Stmt × ℕ) → r n t 
       rw (← some-inj h) (let l = two-nodes ts hq in let m = expr-weighs 33 (q .0) e he in let b = below n (q .1) a ha in omega arith)
   stmt-form-weighs vFor n ts h = for-weighs n ts h
   stmt-form-weighs vCase n ts h = case-weighs n ts h
-  stmt-form-weighs vCall n ts h = bind-some h λ w hw h. bind-some hw λ t ht _.
-      rw (← some-inj h) (let l = one-nodes ts ht in let m = at-least-one t in omega arith)
+  stmt-form-weighs vCall n [] h = none-some h
+  stmt-form-weighs vCall n (t ∷ ts) h = bind-some h λ w _ h. bind-some h λ es hes h.
+      rw (← some-inj h, weights-listed es) (let l = at-least-one t in let m = each-nodes (expr 33) weightE (expr-weighs 33) ts hes in omega arith)
   stmt-form-weighs vRaise n ts h = bind-some h λ e he h. bind-some he λ t ht he.
       rw (← some-inj h) (let l = one-nodes ts ht in let m = expr-weighs 33 t e he in omega arith)
 
@@ -329,7 +335,7 @@ handler-nodes : (t : Item) {hs : List Item} → handlerOf t ≡ some hs → 2 + 
 unfolding handlerOf
 handler-nodes t h = bind-some h λ p hp h. given-some h λ _ e. rw (← e) (headed-nodes t hp)
 
-by-handler : {A B P : Type 0} (o : Option A) {x : A → Option B} {y : Option B} {b : B} → elim o [ some a ↦ x a | none ↦ y ] ≡ some b
+pub by-handler : {A B P : Type 0} (o : Option A) {x : A → Option B} {y : Option B} {b : B} → elim o [ some a ↦ x a | none ↦ y ] ≡ some b
     → ((a : A) → o ≡ some a → x a ≡ some b → P) → (y ≡ some b → P) → P
 by-handler (some a) h f g = f a refl h
 by-handler none h f g = g h
@@ -370,6 +376,26 @@ type-weighs (word w) h = bind-some h λ n _ h. rw (← some-inj h) (omega arith)
 type-weighs (form ts) h = bind-some h λ p hp h. bind-some h λ m _ h.
     rw (listed ts) (let l = first-nodes (list ts) hp in let k = made-weighs m (p .1) h in omega arith)
 
+pairs-nodes : (t : Item) {ps : List Item} → pairsOf t ≡ some ps → suc (total nodes ps) ≤ nodes t
+unfolding pairsOf nodes list total
+pairs-nodes (word w) h = none-some h
+pairs-nodes (form end) h = none-some h
+pairs-nodes (form (word w then ts)) h = none-some h
+pairs-nodes (form (form us then ts)) h = rw (← some-inj h, listed ts) (omega arith)
+
+weightP-most : (ps : List (Name × TypeName)) → weightP ps ≤ 1 + 3 * length ps
+unfolding weightP
+weightP-most [] = omega arith
+weightP-most (p ∷ ps) = omega arith
+
+parameters-weigh : (ts : List Item) {q : List (Name × TypeName) × List Item} → parameters ts ≡ some q → weightP (q .0) + total nodes (q .1) ≤ total nodes ts
+unfolding parameters total weightP
+parameters-weigh [] h = rw (← some-inj h) (omega arith)
+parameters-weigh (t ∷ ts) h = by-handler (pairsOf t) h
+    (λ ps k h. bind-some h λ fs hfs h.
+    rw (← some-inj h) (let l = pairs-nodes t k in let e = each-nodes field (λ _. 3) field-nodes ps hfs in let f = total-same 3 fs in let g = weightP-most fs in omega arith))
+    (λ h. rw (← some-inj h) (omega arith))
+
 line-by-weighs : (k : LineHead) (n : ℕ) (ts : List Item) {p : LineForm × ℕ} → lineBy k n ts ≡ some p → weightL (p .0) ≤ 2 + total nodes ts
 unfolding lineBy weightL total
 line-by-weighs isType n ts h = bind-some h λ p hp h. bind-some h λ w _ h. bind-some h λ d hd h.
@@ -377,8 +403,8 @@ line-by-weighs isType n ts h = bind-some h λ p hp h. bind-some h λ w _ h. bind
 line-by-weighs isVar n ts h = bind-some h λ p hp h. bind-some h λ w _ h. bind-some h λ d _ h.
     rw (← some-inj h) (let l = two-nodes ts hp in let a = at-least-one (p .0) in let b = at-least-one (p .1) in omega arith)
 line-by-weighs isProc n [] h = none-some h
-line-by-weighs isProc n (t ∷ ts) h = bind-some h λ w _ h. bind-some h λ p hp h.
-    rw (← some-inj h) (let a = at-least-one t in let l = body-weighs n ts hp in omega arith)
+line-by-weighs isProc n (t ∷ ts) h = bind-some h λ w _ h. bind-some h λ q hq h. bind-some h λ p hp h.
+    rw (← some-inj h) (let a = at-least-one t in let l = body-weighs n (q .1) hp in let m = parameters-weigh ts hq in omega arith)
 line-by-weighs isMain n ts h = bind-some h λ p hp h. rw (← some-inj h) (let l = body-weighs n ts hp in omega arith)
 
 -- row 6: a line weighs at most its brackets and words

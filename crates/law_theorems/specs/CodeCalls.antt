@@ -1,10 +1,20 @@
--- Code that calls only procedures with numbers below k. The laws are in proofs/.
-use mathlib.Core.List.{List}
-use Prim.Native.Nat.{ℕ, _<_}
+-- Code that calls only procedures with numbers below k, each with as many arguments as it has parameters. The laws are in proofs/.
+use mathlib.Core.Path.{_≡_}
+use mathlib.Core.List.{List, map}
+use Prim.Native.Nat.{ℕ, suc, _<_}
 use lib.IntN.{ℤ}
+use lib.ListN.{getD, length}
 use Rattle.law.specs.Code as C
 
-module _ (k : ℕ) where
+unfoldable pub countCodes : C.Codes → ℕ
+countCodes C.noCodes = 0
+countCodes (C._with_ c cs) = suc (countCodes cs)
+
+-- the frames of bodies by their number
+abbrev pub frameBy : List C.BodyCode → ℕ → C.Frame
+frameBy bs p = getD (map (λ (b : C.BodyCode). b .frame) bs) p C.noFrame
+
+module _ (qs : ℕ → C.Frame) (k : ℕ) where
   mutual
     pub data Calls : C.Act → Type 0 where
       assignOrdinal : {n : ℕ} {p : C.Place} {lo hi : ℤ} {c : C.Code} → Calls (C.assignOrdinal n p lo hi c)
@@ -14,7 +24,7 @@ module _ (k : ℕ) where
       whileLoop : {n : ℕ} {c : C.Code} {a : C.Act} → Calls a → Calls (C.whileLoop n c a)
       forLoop : {n i : ℕ} {lo hi : ℤ} {x y : C.Code} {a : C.Act} → Calls a → Calls (C.forLoop n i lo hi x y a)
       caseOf : {n : ℕ} {c : C.Code} {bs : C.Cases} → CallsCases bs → Calls (C.caseOf n c bs)
-      callTo : {n p : ℕ} → p < k → Calls (C.callTo n p)
+      callTo : {n p : ℕ} {cs : C.Codes} → p < k → countCodes cs ≡ length (qs p .wants) → Calls (C.callTo n p cs)
       raiseWith : {n : ℕ} {c : C.Code} → Calls (C.raiseWith n c)
       noAct : Calls C.noAct
 

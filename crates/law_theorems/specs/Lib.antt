@@ -3,6 +3,7 @@ pub mod ValuesInRange
 pub mod TypeSizes
 pub mod Bodies
 pub mod StatementNumbers
+pub mod ScriptCalls
 pub mod LinesKeep
 pub mod TypeTables
 pub mod Readings

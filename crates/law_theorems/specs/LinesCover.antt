@@ -35,7 +35,7 @@ BuiltTypes Γ = (t : ℕ) → Built Γ t (infoAt Γ t)
 pub data Owns (Γ : Types) (Δ : Vars) (os : List Name) : List (Name × NameSort) → ℕ → Type 0 where
   owns-none : Owns Γ Δ os [] 0
   owns-type : {w : Name} {t n : ℕ} {ns : List (Name × NameSort)} → Owns Γ Δ os ns n → Owns Γ Δ os ((w, aType t) ∷ ns) n
-  owns-proc : {w : Name} {q n : ℕ} {ns : List (Name × NameSort)} → Owns Γ Δ os ns n → Owns Γ Δ os ((w, aProc q) ∷ ns) n
+  owns-proc : {w : Name} {q n : ℕ} {ts : List ℕ} {ns : List (Name × NameSort)} → Owns Γ Δ os ns n → Owns Γ Δ os ((w, aProc q ts) ∷ ns) n
   owns-value : {w : Name} {c : Const} {n : ℕ} {ns : List (Name × NameSort)} → Owns Γ Δ os ns n → Owns Γ Δ os ((w, aValue c) ∷ ns) n
   owns-var : {w : Name} {i n m : ℕ} {ns : List (Name × NameSort)} (v : Var) → variable Δ i ≡ some v → v .base ≡ n → m ≡ n + sizeOf Γ (v .type)
       → ((j : ℕ) → j < sizeOf Γ (v .type) → getD os (n + j) [] ≡ w) → Owns Γ Δ os ns n → Owns Γ Δ os ((w, aVar i) ∷ ns) m

@@ -3,3 +3,4 @@ pub mod Placing
 pub mod Acting
 pub mod Bounding
 pub mod Shapes
+pub mod Arguing

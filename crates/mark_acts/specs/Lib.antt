@@ -2,3 +2,4 @@ pub mod Ends
 pub mod Storing
 pub mod Acts
 pub mod Bounds
+pub mod Arguments

@@ -9,7 +9,7 @@ use borrow.Author.Needs.{sfits-of}
 use lib.IntN.{ℤ, pos, negsuc}
 use lib.Dec.{T}
 use lib.Signed.{leZ, ltZ}
-use lib.ListN.{length, getD, set, replicate, length-set, length-map, List·getD-eq-default}
+use lib.ListN.{length, getD, set, replicate, length-replicate, getD-replicate, length-set, length-map, List·getD-eq-default}
 use lib.Seq as Seq
 use lib.Seq.{getD-set-same, getD-set-other, length-sets}
 use mir.Syntax.{w64}
@@ -20,13 +20,13 @@ use Rattle.leaf_integers.proofs.Machine.{wire}
 use Rattle.leaf_integers.proofs.Order.{le-or-lt, le-not, not-le}
 use Rattle.law.specs.Base.{pick}
 use Rattle.law.specs.Calculate.{is, fails, rangeError, undefinedError}
-use Rattle.law.specs.Machine.{Store, State, state, answer, branch, normal, raising, overwritten, stored, readCell, readCells, defined, undefined, isDefined, storeCells, storeOrdinal, storeWhole}
+use Rattle.law.specs.Machine.{Store, State, state, answer, branch, normal, raising, forgotten, overwritten, stored, readCell, readCells, defined, undefined, isDefined, storeCells, storeOrdinal, storeWhole}
 use Rattle.code_calc.specs.Words.{greatest, storeWord, storeWords, latestAt, latestIn, placeAt, InRange, Exceptional, Ranged, wordOf, Means, Holds, allValues, cellsWord, undefinedWord, valueIn, markIn}
 use Rattle.code_calc.proofs.Loading.{past-word}
 use Rattle.code_calc.proofs.Ranging.{range-value}
 use Rattle.mark_steps.specs.Ends.{faultIn, Raises}
 use Rattle.mark_steps.specs.Stands.{Tidy, Stands, Ends}
-use Rattle.mark_cells.specs.Cells.{Addresses, Puts, Copies, Copying, CellsAre, StoresOrdinal, StoresOne, StoresCells}
+use Rattle.mark_cells.specs.Cells.{Addresses, Puts, Copies, Copying, CellsAre, Fills, Gives, Forgets, StoresOrdinal, StoresOne, StoresCells}
 use Rattle.mark_cells.proofs.Ending.{Value, Faulty, word-value, value-not-fault, left-most, normal-ends, raising-ends, raised-fewer, raised-low}
 
 -- ---- a list after a run of stores
@@ -56,12 +56,8 @@ map-at f (x ∷ us) zero d u h = refl
 map-at f (x ∷ us) (suc j) d u h = map-at f us j d u (omega arith)
 
 -- ---- the words of cells after a store of words, and the cells: each word is a value's, or that of an undefined cell
-pub record Written (ws : List ℤ) (a : ℕ) (us ws′ : List ℤ) : Type 0 where
-  pub here : (j : ℕ) → j < length us → a + j < storeCells → storeWord ws′ (a + j) ≡ getD us j (pos 0)
-  pub below : (i : ℕ) → i < a → storeWord ws′ i ≡ storeWord ws i
-  pub above : (i : ℕ) → a + length us ≤ i → storeWord ws′ i ≡ storeWord ws i
-  pub long : length ws′ ≡ length ws
-  pub beside : (i : ℕ) → storeCells ≤ i → getD ws′ i (pos 0) ≡ getD ws i (pos 0)
+abbrev pub Written : List ℤ → ℕ → List ℤ → List ℤ → Type 0
+Written ws a us ws′ = Fills ws a (λ j. getD us j (pos 0)) (length us) ws′
 
 abbrev CellWord : ℤ → Type 0
 CellWord w = InRange w ⊎ (w ≡ undefinedWord)
@@ -179,6 +175,55 @@ pub stored-stands : (ws : List ℤ) (s : ℕ) (m : Store) (a : ℕ) (zs ws′ : 
 stored-stands ws s m a zs ws′ S R W =
     subst (λ (ms : List ℕ). Stands ws′ s (overwritten a zs ms m)) (marks-same zs R)
     (subst (λ (vs : List ℤ). Stands ws′ s (overwritten a vs (map markIn zs) m)) (values-same zs R) (written-stands ws s m a zs ws′ S (λ j h. inl (R j h)) W))
+
+-- ---- the parameters of a call: its arguments, and nothing
+pub given-stands : (ws : List ℤ) (s : ℕ) (m : Store) (a k : ℕ) (us zs ws′ : List ℤ) → Stands ws s m → AllRanged zs → length zs ≡ k → ((j : ℕ) → j < k → getD us j (pos 0) ≡ getD zs j (pos 0)) → Gives ws a k us ws′
+    → Stands ws′ s (stored a zs m)
+given-stands ws s m a k us zs ws′ S R l e G = go (G .says (S .long))
+  where
+    go : Fills ws a (λ j. getD us j (pos 0)) k ws′ → Stands ws′ s (stored a zs m)
+    go F = stored-stands ws s m a zs ws′ S R (record {
+      here = λ j h g. F .here j (omega (arith, l, h)) g ∙ e j (omega (arith, l, h));
+      below = F .below;
+      above = λ i h. F .above i (omega (arith, l, h));
+      long = F .long;
+      beside = F .beside;
+    })
+
+undefined-values : (k : ℕ) → map valueIn (replicate k undefinedWord) ≡ replicate k (pos 0)
+unfolding valueIn pick
+undefined-values zero = refl
+undefined-values (suc k) = ap (λ (zs : List ℤ). pos 0 ∷ zs) (undefined-values k)
+
+undefined-marks : (k : ℕ) → map markIn (replicate k undefinedWord) ≡ replicate k undefined
+unfolding markIn pick
+undefined-marks zero = refl
+undefined-marks (suc k) = ap (λ (ms : List ℕ). undefined ∷ ms) (undefined-marks k)
+
+module _ (ws : List ℤ) (a k : ℕ) (ws′ : List ℤ) (F : Fills ws a (λ j. undefinedWord) k ws′) where
+  count : length (replicate k undefinedWord) ≡ k
+  count = length-replicate k undefinedWord
+
+  undefined-at : (j : ℕ) → j < length (replicate k undefinedWord) → getD (replicate k undefinedWord) j (pos 0) ≡ undefinedWord
+  undefined-at j h = getD-replicate k j undefinedWord (pos 0) (omega (arith, h, count))
+
+  undefined-written : Written ws a (replicate k undefinedWord) ws′
+  undefined-written = record {
+    here = λ j h g. F .here j (omega (arith, h, count)) g ∙ sym (undefined-at j h);
+    below = F .below;
+    above = λ i h. F .above i (omega (arith, h, count));
+    long = F .long;
+    beside = F .beside;
+  }
+
+  undefined-stands : (s : ℕ) (m : Store) → Stands ws s m → Stands ws′ s (forgotten a k m)
+  undefined-stands s m S =
+      subst (λ (ms : List ℕ). Stands ws′ s (overwritten a (replicate k (pos 0)) ms m)) (undefined-marks k)
+      (subst (λ (vs : List ℤ). Stands ws′ s (overwritten a vs (map markIn (replicate k undefinedWord)) m)) (undefined-values k)
+      (written-stands ws s m a (replicate k undefinedWord) ws′ S (λ j h. inr (undefined-at j h)) undefined-written))
+
+pub forgotten-stands : (ws : List ℤ) (s : ℕ) (m : Store) (a k : ℕ) (ws′ : List ℤ) → Stands ws s m → Forgets ws a k ws′ → Stands ws′ s (forgotten a k m)
+forgotten-stands ws s m a k ws′ S G = undefined-stands ws a k ws′ (G .says (S .long)) s m S
 
 -- ---- one cell; the place was capped, where no store has a cell
 module _ (ws : List ℤ) (a b : ℕ) (us ws′ : List ℤ) (e : b ≡ min a 4294967295) where

@@ -6,7 +6,7 @@ use Prim.Native.Nat.{ℕ, _+_, _-_, _<_, _≤_}
 use native.Mathlib.Omega.{arith}
 use lib.IntN.{ℤ, pos, negsuc, natAbs}
 use lib.Signed.{ltZ, nonNeg}
-use lib.ListN.{length, set, length-set}
+use lib.ListN.{length, getD, set, length-set, List·getD-eq-default}
 use lib.Seq.{getD-set-same, getD-set-other}
 use lib.Dec.{ltb, T}
 use mir.Syntax.{w32, w64}
@@ -20,7 +20,7 @@ use Rattle.leaf_integers.proofs.Machine.{wire}
 use Rattle.law.specs.Base.{pick}
 use Rattle.law.specs.Machine.{storeCells}
 use Rattle.code_calc.specs.Words.{undefinedWord, storeWord, storeWords}
-use Rattle.mark_cells.specs.Cells.{Addresses, Puts, Copies, Copying, CopyingUp, CopyingFrom, CopyingDown}
+use Rattle.mark_cells.specs.Cells.{Addresses, Puts, Copies, Copying, CopyingUp, CopyingFrom, CopyingDown, Fills, Filling, Gives, Forgets}
 
 -- ---- the word of a cell after a store
 word-same : (ws : List ℤ) (a : ℕ) (z : ℤ) → length ws ≡ storeWords → a < storeCells → storeWord (set ws a z) a ≡ z
@@ -50,14 +50,10 @@ module _ (ws : List ℤ) (a : ℕ) (z : ℤ) where
 pub ruleset put-laws = (put-set, put-past, sfits-of)
 
 -- ---- `copy_one`: the word is the callee's
-module _ (ws : List ℤ) (s a : ℕ) (z : ℤ) (e : z ≡ storeWord ws s) where
-  pub one-set : SFits w64 z → a < storeCells → Puts ws a (storeWord ws s) (set ws a (wire z))
-  one-set f g = puts-set ws a (storeWord ws s) (wire z) (toZ-ofZ f ∙ e) g
+pub one-put : (ws : List ℤ) (s a : ℕ) (z : ℤ) (ws′ : List ℤ) → z ≡ storeWord ws s → SFits w64 z → Puts ws a (wire z) ws′ → Puts ws a (storeWord ws s) ws′
+one-put ws s a z ws′ e f P = subst (λ (y : ℤ). Puts ws a y ws′) (toZ-ofZ f ∙ e) P
 
-  pub one-past : storeCells ≤ a → Puts ws a (storeWord ws s) ws
-  one-past h = put-past ws a (storeWord ws s) h
-
-pub ruleset one-laws = (one-set, one-past, sfits-of)
+pub ruleset one-laws = (one-put, sfits-of)
 
 -- ---- `copy_up`, `copy_down`
 none-copied : (ws : List ℤ) (s a i : ℕ) → Copies ws s a i i ws
@@ -129,6 +125,41 @@ module _ (ws : List ℤ) (s a i : ℕ) (us vs : List ℤ) where
   down-next k C h g P = record {
     says = λ l o. down-more ws s a (i - 1) us vs P k (omega arith) l o (subst (λ (x : ℕ). Copies ws s a x k us) (omega arith) (C .says l o));
   }
+
+-- ---- `word_at`, `give`, `forget`
+pub word-past : (zs : List ℤ) (i : ℕ) → length zs ≤ i → pos 0 ≡ getD zs i (pos 0)
+word-past zs i h = sym (List·getD-eq-default zs (pos 0) h)
+
+module _ (ws : List ℤ) (a : ℕ) (f : ℕ → ℤ) where
+  pub fill-start : Filling ws a f 0 ws
+  fill-start = record { says = λ l. record { here = λ j h g. absurd (omega arith); below = λ i h. refl; above = λ i h. refl; long = refl; beside = λ i h. refl } }
+
+  fill-more : (i : ℕ) (us vs : List ℤ) (z : ℤ) → Puts us (a + i) z vs → z ≡ f i → length ws ≡ storeWords → Fills ws a f i us → Fills ws a f (i + 1) vs
+  fill-more i us vs z P e l C = record {
+    here = λ j g o. here j (le-or-lt i j) g o;
+    below = λ j g. P .other j (λ e. absurd (omega (arith, e, g))) ∙ C .below j g;
+    above = λ j g. P .other j (λ e. absurd (omega (arith, e, g))) ∙ C .above j (omega (arith, g));
+    long = P .long ∙ C .long;
+    beside = λ j g. P .beside j g ∙ C .beside j g;
+  }
+    where
+      here : (j : ℕ) → (i ≤ j) ⊎ (j < i) → j < i + 1 → a + j < storeCells → storeWord vs (a + j) ≡ f j
+      here j (inr q) g o = P .other (a + j) (λ e. absurd (omega (arith, e, q))) ∙ C .here j q o
+      here j (inl q) g o =
+          subst (λ (x : ℕ). storeWord vs (a + x) ≡ f x) (omega (arith, q, g)) (P .at (C .long ∙ l) (omega (arith, q, g, o)) ∙ e)
+
+  fill-next : (i : ℕ) (us vs : List ℤ) (z : ℤ) → Filling ws a f i us → Puts us (a + i) z vs → z ≡ f i → Filling ws a f (i + 1) vs
+  fill-next i us vs z C P e = record { says = λ l. fill-more i us vs z P e l (C .says l) }
+
+  pub fill-end : (i k : ℕ) (us : List ℤ) → Filling ws a f i us → i ≤ k → k ≤ i → Filling ws a f k us
+  fill-end i k us C h g = subst (λ (x : ℕ). Filling ws a f x us) (omega arith) C
+
+-- the next cell
+pub give-next : (ws : List ℤ) (a : ℕ) (zs : List ℤ) (i : ℕ) (us vs : List ℤ) (z : ℤ) → Gives ws a i zs us → z ≡ getD zs i (pos 0) → SFits w64 z → Puts us (a + i) (wire z) vs → Gives ws a (i + 1) zs vs
+give-next ws a zs i us vs z C e f P = fill-next ws a (λ j. getD zs j (pos 0)) i us vs (wire z) C P (toZ-ofZ f ∙ e)
+
+pub forget-next : (ws : List ℤ) (a i : ℕ) (us vs : List ℤ) → Forgets ws a i us → Puts us (a + i) undefinedWord vs → Forgets ws a (i + 1) vs
+forget-next ws a i us vs C P = fill-next ws a (λ j. undefinedWord) i us vs undefinedWord C P refl
 
 -- ---- `address`
 module _ (w : ℤ) (f : SFits w64 w) where

@@ -5,7 +5,7 @@ use Prim.Native.Nat.{ℕ, _+_, _<_, _≤_, min}
 use lib.IntN.{ℤ, pos}
 use lib.ListN.{getD, length}
 use Rattle.law.specs.Machine.{storeCells, storeOrdinal, storeWhole}
-use Rattle.code_calc.specs.Words.{InRange, storeWord, storeWords}
+use Rattle.code_calc.specs.Words.{InRange, storeWord, storeWords, undefinedWord}
 use Rattle.mark_steps.specs.Ends.{leftIn}
 use Rattle.mark_steps.specs.Stands.{Runs}
 
@@ -42,6 +42,27 @@ pub record CopyingFrom (ws : List ℤ) (s a i k : ℕ) (ws′ : List ℤ) : Type
 
 pub record CopyingDown (ws : List ℤ) (s a k : ℕ) (ws′ : List ℤ) : Type 0 where
   pub says : length ws ≡ storeWords → s < a → Copies ws s a 0 k ws′
+
+-- ---- the parameters of a call
+
+-- the k cells from a on, as far as there are any, hold what f says
+pub record Fills (ws : List ℤ) (a : ℕ) (f : ℕ → ℤ) (k : ℕ) (ws′ : List ℤ) : Type 0 where
+  pub here : (j : ℕ) → j < k → a + j < storeCells → storeWord ws′ (a + j) ≡ f j
+  pub below : (i : ℕ) → i < a → storeWord ws′ i ≡ storeWord ws i
+  pub above : (i : ℕ) → a + k ≤ i → storeWord ws′ i ≡ storeWord ws i
+  pub long : length ws′ ≡ length ws
+  pub beside : (i : ℕ) → storeCells ≤ i → getD ws′ i (pos 0) ≡ getD ws i (pos 0)
+
+pub record Filling (ws : List ℤ) (a : ℕ) (f : ℕ → ℤ) (k : ℕ) (ws′ : List ℤ) : Type 0 where
+  pub says : length ws ≡ storeWords → Fills ws a f k ws′
+
+-- the first k of the words us
+abbrev pub Gives : List ℤ → ℕ → ℕ → List ℤ → List ℤ → Type 0
+Gives ws a k us ws′ = Filling ws a (λ j. getD us j (pos 0)) k ws′
+
+-- nothing
+abbrev pub Forgets : List ℤ → ℕ → ℕ → List ℤ → Type 0
+Forgets ws a k ws′ = Filling ws a (λ j. undefinedWord) k ws′
 
 -- ---- what statement n stores in the cells from a on, by the word w of that place; the end's word is none of sticking
 

@@ -3,10 +3,14 @@ use code_calc::cells::cell;
 use code_calc::words::CELLS;
 use code_calc::words::RANGE_ERROR;
 use code_calc::words::Store;
+use code_calc::words::UNDEFINED;
 use leaf_integers::in_range;
 use mark_steps::ends::raising;
+ghost use mathlib.Core.Path.{_≡_};
 ghost use Prim.Native.Nat.{_+_};
-ghost use Rattle.mark_cells.specs.Cells.{Puts, Copying, CopyingUp, CopyingDown, Addresses, StoresOrdinal, StoresOne, StoresCells};
+ghost use lib.IntN.{pos};
+ghost use lib.ListN.{getD};
+ghost use Rattle.mark_cells.specs.Cells.{Puts, Copying, CopyingUp, CopyingDown, Addresses, StoresOrdinal, StoresOne, StoresCells, Gives, Forgets};
 ghost use Rattle.code_calc.specs.Words.{storeWord};
 
 // A place's word as a number: what is no place is past every cell.
@@ -32,15 +36,22 @@ pub fn put(store: &mut Store, a: u32, z: i64)
     }
 }
 
+// z in cell a + i.
+fn put_after(store: &mut Store, a: u32, i: u32, z: i64)
+    ensures { λ r. ⌜ Puts (now (store .entry)) (a + i) z (now (store .exit)) ⌝ }
+{
+    let j = a as usize + i as usize;
+    if j < CELLS {
+        store[j] = z;
+    }
+}
+
 // One cell copied: that at s + i into that at a + i.
 fn copy_one(store: &mut Store, s: u32, a: u32, i: u32)
     ensures { λ r. ⌜ Puts (now (store .entry)) (a + i) (storeWord (now (store .entry)) (s + i)) (now (store .exit)) ⌝ }
 {
     let z = cell(store, s as usize + i as usize);
-    let j = a as usize + i as usize;
-    if j < CELLS {
-        store[j] = z;
-    }
+    put_after(store, a, i, z);
 }
 
 // k cells from s on to a on, the first first.
@@ -109,4 +120,37 @@ pub fn store_cells(store: &mut Store, left: u64, n: u32, from: u32, k: u32, a: i
 {
     copy(store, from, address(a), k);
     left
+}
+
+// Word i of a list; 0 past its end.
+fn word_at(words: &[i64], i: u32) -> i64
+    ensures { λ r. ⌜ r ≡ getD (now (words .entry)) i (pos 0) ⌝ }
+{
+    let j = i as usize;
+    if j < words.len() {
+        return words[j];
+    }
+    0
+}
+
+// The first k words in the cells from a on.
+pub fn give(store: &mut Store, a: u32, k: u32, words: &[i64])
+    ensures { λ r. ⌜ Gives (now (store .entry)) a k (now (words .entry)) (now (store .exit)) ⌝ }
+{
+    let mut i = 0;
+    while i < k {
+        put_after(store, a, i, word_at(words, i));
+        i += 1;
+    }
+}
+
+// k cells from a on undefined.
+pub fn forget(store: &mut Store, a: u32, k: u32)
+    ensures { λ r. ⌜ Forgets (now (store .entry)) a k (now (store .exit)) ⌝ }
+{
+    let mut i = 0;
+    while i < k {
+        put_after(store, a, i, UNDEFINED);
+        i += 1;
+    }
 }

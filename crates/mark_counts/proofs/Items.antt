@@ -308,6 +308,12 @@ module _ (r : Reader) (hr : (n : ℕ) (t : Item) (p : S.Stmt × ℕ) → r n t �
   case-next n (t ∷ ts) p h = bind-some h λ x hx h. bind-some h λ a ha h. bind-some h λ b hb e.
       let i = expr-none 33 t x hx in let j = arms-next n ts a ha in rw (← some-inj e) (omega arith)
 
+  call-next : (n : ℕ) (ts : List Item) (p : S.Stmt × ℕ) → stmtForm r vCall n ts ≡ some p → p .1 ≡ n + weigh ts
+  unfolding stmtForm weigh
+  call-next n [] p h = none-some h
+  call-next n (t ∷ ts) p h = bind-some h λ w hw h. bind-some h λ es he e.
+      let i = free-none t w hw in let j = weigh-each (expr 33) (expr-none 33) ts es he in rw (← some-inj e) (omega arith)
+
   form-next : (v : Verb) (n : ℕ) (ts : List Item) (p : S.Stmt × ℕ) → stmtForm r v n ts ≡ some p → p .1 ≡ n + weigh ts
   unfolding stmtForm
   form-next vAssign n ts p h = bind-some h λ q hq h. bind-some h λ g hg h. bind-some h λ x hx e.
@@ -318,8 +324,7 @@ module _ (r : Reader) (hr : (n : ℕ) (t : Item) (p : S.Stmt × ℕ) → r n t �
       let i = weigh-two ts hq in let j = expr-none 33 (q .0) x hx in let k = hr n (q .1) a ha in rw (← some-inj e) (omega arith)
   form-next vFor n ts p h = for-next n ts p h
   form-next vCase n ts p h = case-next n ts p h
-  form-next vCall n ts p h = bind-some h λ w hw e. bind-some hw λ u hu hw.
-      let i = weigh-one ts hu in let j = free-none u w hw in rw (← some-inj e) (omega arith)
+  form-next vCall n ts p h = call-next n ts p h
   form-next vRaise n ts p h = bind-some h λ x hx e. bind-some hx λ u hu hx.
       let i = weigh-one ts hu in let j = expr-none 33 u x hx in rw (← some-inj e) (omega arith)
 

@@ -46,32 +46,32 @@ use Rattle.table_scope.specs.declared.Scope.{Scope}
 -- ---- one member more
 
 -- a first member that was read
-exprs-parts : {P : Type 0} (d : ℕ) (us : Trees Run) (xs : Syntax.Exprs) → (us ≡ end → ⊥) → exprsIn d us ≡ some xs
+pub exprs-parts : {P : Type 0} (d : ℕ) (us : Trees Run) (xs : Syntax.Exprs) → (us ≡ end → ⊥) → exprsIn d us ≡ some xs
     → ((x : Syntax.Expr) (ys : Syntax.Exprs) → exprIn d us ≡ some x → exprsIn d (rest us) ≡ some ys → Syntax._and_ x ys ≡ xs → P) → P
 unfolding exprsIn exprIn partOf
 exprs-parts d end xs n h f = absurd (n refl)
 exprs-parts d (t then ts) xs n h f = bind-some h (λ x hx k. bind-some k (λ ys hy i. f x ys hx hy (some-inj i)))
 
-exprs-end : (d : ℕ) (us : Trees Run) (xs : Syntax.Exprs) → us ≡ end → exprsIn d us ≡ some xs → Syntax.nil ≡ xs
+pub exprs-end : (d : ℕ) (us : Trees Run) (xs : Syntax.Exprs) → us ≡ end → exprsIn d us ≡ some xs → Syntax.nil ≡ xs
 unfolding exprsIn
 exprs-end d us xs e h = some-inj (rw e at h)
 
-value-there : (z : ℤ) (q : Result ℤ) → MarkMeans z q → ltZ greatest z ≡ false → q ≡ is z
+pub value-there : (z : ℤ) (q : Result ℤ) → MarkMeans z q → ltZ greatest z ≡ false → q ≡ is z
 value-there z q h g = view-value z q (λ y. y) (subst (λ (v : Result ℤ). MarkMeans z v) (bind-id q) h) g (λ y e f i. e ∙ ap is (sym f))
 
-broken-there : (z : ℤ) (q : Result ℤ) → MarkMeans z q → ltZ greatest z ≡ true → Broken z q
+pub broken-there : (z : ℤ) (q : Result ℤ) → MarkMeans z q → ltZ greatest z ≡ true → Broken z q
 broken-there z q h g = view-broken z q (λ y. y) (subst (λ (v : Result ℤ). MarkMeans z v) (bind-id q) h) g
 
-module _ {A : Type 0} (v : A → Result ℤ) (f : ℤ → Result ℤ) where
-  through : (q : Result A) (z : ℤ) → (q >>= v) ≡ is z → (q >>= λ u. v u >>= f) ≡ f z
+module _ {A B : Type 0} (v : A → Result ℤ) (f : ℤ → Result B) where
+  pub through : (q : Result A) (z : ℤ) → (q >>= v) ≡ is z → (q >>= λ u. v u >>= f) ≡ f z
   through (is u) z e = ap (λ (x : Result ℤ). x >>= f) e
   through (fails x) z e = let y : _≡_ {A = ℕ} 0 1 = cc in absurd (omega arith)
   through stuck z e = let y : _≡_ {A = ℕ} 0 1 = cc in absurd (omega arith)
 
-  broken-through : (q : Result A) (z : ℤ) → Broken z (q >>= v) → Broken z (q >>= λ u. v u >>= f)
+  pub broken-through : (q : Result A) (z : ℤ) → Broken z (q >>= v) → Broken z (q >>= λ u. v u >>= f)
   broken-through (is u) z b = broken-bind f b
-  broken-through (fails x) z b = b
-  broken-through stuck z b = b
+  broken-through (fails x) z b = broken-bind f b
+  broken-through stuck z b = broken-bind f b
 
 -- ---- what the loop has done
 

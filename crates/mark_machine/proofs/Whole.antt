@@ -119,7 +119,7 @@ module _ (s l ts tb : List ℕ) (q : ℕ) (vs : List ℤ) (ms : List ℕ) (budge
       → MarksIn ws₀ s l ts tb q vs ms budget (record { steps = budget - k; ending = o }) vs′ ms′
   mark-is b L N W S e t = record {
     says = λ g. record {
-      says = λ pbs other A h H. answered pbs other H (W .runs pbs other A h (omega arith) .says (fresh vs ms) (fresh-stands vs ms ws₀ ws us H L N g budget (omega (arith, b .fits)))) S e t;
+      says = λ bs pbs other A h H. answered pbs other H (W .runs bs pbs other A h (omega arith) .says (fresh vs ms) (fresh-stands vs ms ws₀ ws us H L N g budget (omega (arith, b .fits)))) S e t;
     };
   }
 

@@ -23,5 +23,5 @@ pub record MarkAnswers (z : Machine.Answer) (n budget : ℕ) (r : Marked) (vs′
 
 -- the run of body q of the table, where all bodies stand
 pub record MarksLent (s l ts tb : List ℕ) (q : ℕ) (vs : List ℤ) (ms : List ℕ) (budget : ℕ) (r : Marked) (vs′ : List ℤ) (ms′ : List ℕ) : Type 0 where
-  pub says : (pbs : List PlacedBody) (other : PlacedBody) → AllStand s l ts tb pbs other → q < length pbs → Lent vs ms
+  pub says : (bs : List ℕ) (pbs : List PlacedBody) (other : PlacedBody) → AllStand s l ts tb bs pbs other → q < length pbs → Lent vs ms
       → MarkAnswers (markBody (getD pbs q other) (procsOf other pbs q) (state (fresh vs ms) budget)) (length vs) budget r vs′ ms′

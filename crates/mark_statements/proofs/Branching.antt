@@ -7,7 +7,7 @@ use Prim.Native.Nat.{ℕ, zero, suc, _+_, _-_, _<_, _≤_}
 use native.Mathlib.Omega.{arith}
 use borrow.Author.Needs.{sfits-of}
 use lib.IntN.{ℤ, pos, negsuc}
-use lib.ListN.{length, getD}
+use lib.ListN.{take}
 use lib.Signed.{ltZ}
 use mir.Syntax.{w64}
 use mir.Val.{SFits}
@@ -16,23 +16,18 @@ use Rattle.leaf_integers.specs.Integers.{inside}
 use Rattle.leaf_integers.proofs.Machine.{wire}
 use Rattle.leaf_words.specs.declared.words.Word.{Word}
 use Rattle.leaf_words.specs.Words.{wordOf}
-use Rattle.law.specs.Base as Base
-use Rattle.law.specs.Base.{Name}
 use Rattle.law.specs.Calculate.{Result, is, isTrue, caseError, _>>=_}
 use Rattle.law.specs.Environment.{Environment}
-use Rattle.law.specs.Machine.{Store, State, state, Answer, answer, normal, Procs, branch, procedureAt, sole, whileRounds, withResult}
+use Rattle.law.specs.Machine.{Store, State, state, Answer, answer, normal, Procs, branch, sole, whileRounds, withResult}
 use Rattle.law.specs.Marking.{TypedValue, markArms, markCondition, markExpr, markStmt, require, wanted}
-use Rattle.law.specs.Names as Names
-use Rattle.law.specs.Names.{stmtOf}
+use Rattle.law.specs.Names.{stmtOf, armsOf}
 use Rattle.law.specs.Script as Script
 use Rattle.law.specs.Syntax as Syntax
 use Rattle.law.specs.Syntax.{Stmt}
 use Rattle.law.specs.Trees.{word, form, Trees, end, _then_, Run, first, later, wordAt}
 use Rattle.law_theorems.specs.Readings.{stackAt}
 use Rattle.law.specs.Types.{ordinal?}
-use Rattle.law.specs.Whole.{markBody}
 use Rattle.law_theorems.proofs.Inversion.{none-some, some-inj, bind-some}
-use Rattle.law_theorems.proofs.LinesKeep.{proc-in}
 use Rattle.text_heads.specs.declared.Verb.{Verb}
 use Rattle.text_heads.specs.declared.Verb.the-variants as VB
 use Rattle.text_heads.specs.Heads.{verbOf}
@@ -67,11 +62,8 @@ use Rattle.mark_acts.specs.Acts.{Assigns, Raising, Conditions, Selects}
 use Rattle.mark_acts.proofs.Ending.{normal-marks, raising-marks, stuck-marks, stuck-fewer, halts-ends, goes-on}
 use Rattle.mark_acts.proofs.Shapes.{case-shape}
 use Rattle.table_bodies.specs.Procedures.{procsOf}
-use Rattle.table_bodies.specs.Table.{upTo}
-use Rattle.table_bodies.proofs.Calling.{length-up, at-up, procedure-is}
-use Rattle.mark_statements.specs.Finding.{Callee}
-use Rattle.mark_statements.specs.Marks.{Found, FoundAll, FoundExpr, Frame, machine, machines, testing, MarksStmt, MarksInner, MarksVerb, MarksElse, MarksWhile, MarksStmts, MarksBody}
-use Rattle.mark_statements.proofs.Founding.{found-as, assign-found, raise-found, call-found, begin-found, while-found, if-found, case-found, found-spent, stmt-higher, past}
+use Rattle.mark_statements.specs.Marks.{Found, FoundAll, FoundExpr, Setting, machine, machines, testing, MarksStmt, MarksInner, MarksVerb, MarksElse, MarksWhile, MarksStmts}
+use Rattle.mark_statements.proofs.Founding.{found-as, assign-found, raise-found, begin-found, while-found, if-found, case-found, found-spent, stmt-higher, past}
 use Rattle.mark_statements.proofs.Machines.{step-spends, step-takes}
 use Rattle.table_scope.specs.declared.Scope.{Scope}
 
@@ -88,12 +80,12 @@ stmt-alone d n us ts = refl
 pub runs-as : {f g : State → Answer} {ws ws′ : List ℤ} {left r : ℕ} → ((k : Store) → f (state k left) ≡ g (state k left)) → MarkRuns g ws left ws′ r → MarkRuns f ws left ws′ r
 runs-as {f} {g} {ws} {ws′} {left} {r} e R = record { says = λ k S. subst (λ (a : Answer). MarkEnds a ws′ r) (sym (e k)) (R .says k S) }
 
--- ---- the tables hold a frame's environment
-abbrev pub known : {s l us ts tb : List ℕ} {scope : Scope} {calls : ℕ} (F : Frame s l us ts tb scope calls) → Known s l ts scope (F .env)
-known F = record { top = F .top; bodies = upTo (F .before); scene = F .scene; small = F .small }
+-- ---- the tables hold a setting's environment
+abbrev pub known : {s l us ts tb : List ℕ} {scope : Scope} {calls : ℕ} (F : Setting s l us ts tb scope calls) → Known s l ts scope (F .env)
+known F = record { top = F .top; bodies = take (F .before) (F .places); scene = F .scene; small = F .small }
 
-abbrev held : {s l us ts tb : List ℕ} {scope : Scope} {calls : ℕ} (F : Frame s l us ts tb scope calls) → Held s l scope (F .env)
-held {s} {l} {us} {ts} F = record { ts = ts; top = F .top; bs = upTo (F .before); scene = F .scene }
+abbrev held : {s l us ts tb : List ℕ} {scope : Scope} {calls : ℕ} (F : Setting s l us ts tb scope calls) → Held s l scope (F .env)
+held {s} {l} {us} {ts} F = record { ts = ts; top = F .top; bs = take (F .before) (F .places); scene = F .scene }
 
 module _ (s l us ts tb : List ℕ) (scope : Scope) (calls d n at : ℕ) (ws : List ℤ) (left : ℕ) where
   -- ---- `mark_stmt`
@@ -163,7 +155,7 @@ pub ruleset stmt-laws = (stmt-deep, stmt-leaf, stmt-shut, stmt-inner)
 pub ruleset inner-laws = (inner-shut, inner-form, inner-spent, inner-verb)
 
 -- ---- the machine after the step
-module _ {s l us ts tb : List ℕ} {scope : Scope} {calls : ℕ} (F : Frame s l us ts tb scope calls) (n : ℕ) (k : Store) (left : ℕ) where
+module _ {s l us ts tb : List ℕ} {scope : Scope} {calls : ℕ} (F : Setting s l us ts tb scope calls) (n : ℕ) (k : Store) (left : ℕ) where
   begin-after : (ys : Script.Stmts) → after (machine F (Script.begin n ys)) (state k left) ≡ machines F ys (state k left)
   unfolding after markStmt
   begin-after ys = refl
@@ -175,10 +167,6 @@ module _ {s l us ts tb : List ℕ} {scope : Scope} {calls : ℕ} (F : Frame s l 
   if-after : (e : Script.Expr) (y z : Script.Stmt) → after (machine F (Script.ifElse n e y z)) (state k left) ≡ testing F n e (state k left) (λ q. branch q (machine F y) (machine F z) (state k left))
   unfolding after markStmt
   if-after e y z = refl
-
-  call-after : (p : ℕ) → after (machine F (Script.call n p)) (state k left) ≡ procedureAt (procsOf (F .other) (F .bodies) (F .before)) p (state k left)
-  unfolding after markStmt
-  call-after p = refl
 
 -- ---- `headed`
 module _ (s l us ts tb : List ℕ) (scope : Scope) (calls : ℕ) (v : Verb) (d n at : ℕ) (ws : List ℤ) (left : ℕ) (ws′ : List ℤ) (r : ℕ) where
@@ -222,7 +210,7 @@ verb-nothing s l us ts tb scope calls v d n at ws left h =
 pub ruleset verb-laws = (verb-as, verb-assign, verb-begin, verb-while, verb-raise, verb-nothing)
 
 -- ---- tests
-module _ {s l us ts tb : List ℕ} {scope : Scope} {calls : ℕ} (F : Frame s l us ts tb scope calls) (n c : ℕ) (E : FoundExpr (F .env) (exprIn 33 (first (stackAt s c)))) (ws : List ℤ) (t : ℕ) (x : ℤ)
+module _ {s l us ts tb : List ℕ} {scope : Scope} {calls : ℕ} (F : Setting s l us ts tb scope calls) (n c : ℕ) (E : FoundExpr (F .env) (exprIn 33 (first (stackAt s c)))) (ws : List ℤ) (t : ℕ) (x : ℤ)
     (C : Conditions s l ts ws scope c x) (k : Store) (S : Stands ws t k) where
   abbrev answered : Result (List ℤ)
   answered = markExpr (F .env .types) (F .env .vars) (E .expr) k >>= wanted 1
@@ -242,7 +230,7 @@ module _ {s l us ts tb : List ℕ} {scope : Scope} {calls : ℕ} (F : Frame s l 
 -- ---- `if`
 module _ (s l us ts tb : List ℕ) (scope : Scope) (calls d n at : ℕ) (ws : List ℤ) (left : ℕ) (x : ℤ) (C : Conditions s l ts ws scope at x) (fx : SFits w64 x) (ws′ : List ℤ) (r : ℕ) where
   if-from : leftIn r ≤ left
-      → ((F : Frame s l us ts tb scope calls) (E : FoundExpr (F .env) (exprIn 33 (first (stackAt s at)))) (A : Found (F .env) (stmtIn d n (rest (first (stackAt s at)))))
+      → ((F : Setting s l us ts tb scope calls) (E : FoundExpr (F .env) (exprIn 33 (first (stackAt s at)))) (A : Found (F .env) (stmtIn d n (rest (first (stackAt s at)))))
       (B : Found (F .env) (elseIn d (A .form .1) (rest (rest (first (stackAt s at)))))) (k : Store) → Stands ws left k
       → MarkEnds (testing F n (E .expr) (state k left) (λ q. branch q (machine F (A .stmt)) (machine F (B .stmt)) (state k left))) ws′ r)
       → MarksVerb s l us ts tb scope calls VB.If d n at ws left ws′ r
@@ -258,7 +246,7 @@ module _ (s l us ts tb : List ℕ) (scope : Scope) (calls d n at : ℕ) (ws : Li
 
   module _ (h : ltZ greatest (wire x) ≡ false) (q : ℕ) (Q : Skips s at q) where
     if-gives : (b : Bool) → isTrue x ≡ b → leftIn r ≤ left
-        → ((F : Frame s l us ts tb scope calls) (E : FoundExpr (F .env) (exprIn 33 (first (stackAt s at)))) (A : Found (F .env) (stmtIn d n (rest (first (stackAt s at)))))
+        → ((F : Setting s l us ts tb scope calls) (E : FoundExpr (F .env) (exprIn 33 (first (stackAt s at)))) (A : Found (F .env) (stmtIn d n (rest (first (stackAt s at)))))
         (B : Found (F .env) (elseIn d (A .form .1) (rest (rest (first (stackAt s at)))))) (k : Store) → Stands ws left k
         → MarkEnds (branch b (machine F (A .stmt)) (machine F (B .stmt)) (state k left)) ws′ r)
         → MarksVerb s l us ts tb scope calls VB.If d n at ws left ws′ r
@@ -266,7 +254,7 @@ module _ (s l us ts tb : List ℕ) (scope : Scope) (calls d n at : ℕ) (ws : Li
         (sym (test-gives F n at E ws left x C k S (rw (toZ-ofZ fx) at h) b e (λ q. branch q (machine F (A .stmt)) (machine F (B .stmt)) (state k left)))) (f F E A B k S))
 
     -- the part after the test
-    after-test : (F : Frame s l us ts tb scope calls) → FoundExpr (F .env) (exprIn 33 (first (stackAt s at))) → rest (first (stackAt s at)) ≡ first (stackAt s q)
+    after-test : (F : Setting s l us ts tb scope calls) → FoundExpr (F .env) (exprIn 33 (first (stackAt s at))) → rest (first (stackAt s at)) ≡ first (stackAt s q)
     after-test F E = past Q (exprIn 33) (E .form) (expr-end 33) (E .reads)
 
     pub if-then : ltZ (pos 0) (wire x) ≡ true → MarksStmt s l us ts tb scope calls d n q ws left ws′ r → MarksVerb s l us ts tb scope calls VB.If d n at ws left ws′ r
@@ -276,7 +264,7 @@ module _ (s l us ts tb : List ℕ) (scope : Scope) (calls d n at : ℕ) (ws : Li
         → MarksVerb s l us ts tb scope calls VB.If d n at ws left ws′ r
     if-else c m p g K M P R = if-gives false (rw (toZ-ofZ fx) at g) (R .fewer) (λ F E A B k S. R .runs F (found-as B (elseIn d m (first (stackAt s p))) (same F E A)) .says k S)
       where
-        same : (F : Frame s l us ts tb scope calls) (E : FoundExpr (F .env) (exprIn 33 (first (stackAt s at)))) (A : Found (F .env) (stmtIn d n (rest (first (stackAt s at)))))
+        same : (F : Setting s l us ts tb scope calls) (E : FoundExpr (F .env) (exprIn 33 (first (stackAt s at)))) (A : Found (F .env) (stmtIn d n (rest (first (stackAt s at)))))
             → elseIn d (A .form .1) (rest (rest (first (stackAt s at)))) ≡ elseIn d m (first (stackAt s p))
         same F E A =
             let e : stmtIn d n (first (stackAt s q)) ≡ some (A .form) = ap (stmtIn d n) (sym (after-test F E)) ∙ A .reads in
@@ -289,7 +277,7 @@ pub ruleset if-laws = (if-halts, if-then, if-else, sfits-of)
 
 -- ---- `else_part`
 module _ (s l us ts tb : List ℕ) (scope : Scope) (calls d n at : ℕ) (ws : List ℤ) (left : ℕ) (e : End) (E : Shuts s at e) where
-  skips-all : (F : Frame s l us ts tb scope calls) (t : State) → machine F Script.skip t ≡ answer normal t
+  skips-all : (F : Setting s l us ts tb scope calls) (t : State) → machine F Script.skip t ≡ answer normal t
   unfolding markStmt
   skips-all F t = refl
 
@@ -318,7 +306,7 @@ pub ruleset else-laws = (else-none, else-some)
 
 -- ---- `case`
 module _ (s l us ts tb : List ℕ) (scope : Scope) (calls d n at : ℕ) (ws : List ℤ) (left : ℕ) (x : Carried) (C : Selects s l ts ws scope at x) (fx : SFits w64 (x .word)) where
-  module _ (F : Frame s l us ts tb scope calls) (E : FoundExpr (F .env) (exprIn 33 (first (stackAt s at)))) (k : Store) where
+  module _ (F : Setting s l us ts tb scope calls) (E : FoundExpr (F .env) (exprIn 33 (first (stackAt s at)))) (k : Store) where
     abbrev selected : Result TypedValue
     selected = markExpr (F .env .types) (F .env .vars) (E .expr) k >>= λ v. require (ordinal? (F .env .types) (v .kind)) (is v)
 
@@ -326,8 +314,8 @@ module _ (s l us ts tb : List ℕ) (scope : Scope) (calls d n at : ℕ) (ws : Li
     chosenBy ys v = markArms (F .env .types) (F .env .vars) (procsOf (F .other) (F .bodies) (F .before)) n (v .kind) (sole (v .cells)) ys (state k left)
 
   case-from : (ws′ : List ℤ) (r : ℕ) → leftIn r ≤ left
-      → ((F : Frame s l us ts tb scope calls) (E : FoundExpr (F .env) (exprIn 33 (first (stackAt s at)))) (bs : Syntax.Arms × ℕ) (ys : Script.Arms) (k : Store)
-      → armsIn d n (rest (first (stackAt s at))) ≡ some bs → Names.armsOf (F .env) (bs .0) ≡ some ys → bs .1 ≤ 4294967295 → Stands ws left k → MarkEnds (withResult n (state k left) (selected F E k) (chosenBy F E k ys)) ws′ r)
+      → ((F : Setting s l us ts tb scope calls) (E : FoundExpr (F .env) (exprIn 33 (first (stackAt s at)))) (bs : Syntax.Arms × ℕ) (ys : Script.Arms) (k : Store)
+      → armsIn d n (rest (first (stackAt s at))) ≡ some bs → armsOf (F .env) (bs .0) ≡ some ys → bs .1 ≤ 4294967295 → Stands ws left k → MarkEnds (withResult n (state k left) (selected F E k) (chosenBy F E k ys)) ws′ r)
       → MarksVerb s l us ts tb scope calls VB.Case d n at ws left ws′ r
   case-from ws′ r g f = record {
     runs = λ F X. case-found (F .env) d n (first (stackAt s at)) X (λ E bs ys hb hy b j.
@@ -349,12 +337,12 @@ module _ (s l us ts tb : List ℕ) (scope : Scope) (calls d n at : ℕ) (ws : Li
     taken = rw (toZ-ofZ fx) at A
 
     -- the arms for the selector's value
-    module _ (F : Frame s l us ts tb scope calls) (ys : Script.Arms) where
+    module _ (F : Setting s l us ts tb scope calls) (ys : Script.Arms) where
       abbrev choosing : Procs → ℕ → State → Answer
       choosing ps n t = markArms (F .env .types) (F .env .vars) ps n (x .kind) (x .word) ys t
 
     case-by : (ws′ : List ℤ) (r : ℕ) → leftIn r ≤ left
-        → ((F : Frame s l us ts tb scope calls) (ys : Script.Arms) (k : Store) → ChoosesBy s (F .env) d (choosing F ys) a → Stands ws left k
+        → ((F : Setting s l us ts tb scope calls) (ys : Script.Arms) (k : Store) → ChoosesBy s (F .env) d (choosing F ys) a → Stands ws left k
         → MarkEnds (choosing F ys (procsOf (F .other) (F .bodies) (F .before)) n (state k left)) ws′ r)
         → MarksVerb s l us ts tb scope calls VB.Case d n at ws left ws′ r
     case-by ws′ r g f = case-from ws′ r g (λ F E bs ys k hb hy b S.
@@ -374,7 +362,7 @@ module _ (s l us ts tb : List ℕ) (scope : Scope) (calls d n at : ℕ) (ws : Li
     pub case-taken : (p m : ℕ) (ws′ : List ℤ) (r : ℕ) → a ≡ chosen.Taken p m → MarksStmt s l us ts tb scope calls d m p ws left ws′ r → MarksVerb s l us ts tb scope calls VB.Case d n at ws left ws′ r
     case-taken p m ws′ r e R = case-by ws′ r (R .fewer) (λ F ys k Y S. go F ys k (rw e at Y) S)
       where
-        go : (F : Frame s l us ts tb scope calls) (ys : Script.Arms) (k : Store) → StmtLeft s (F .env) d m p (choosing F ys) → Stands ws left k
+        go : (F : Setting s l us ts tb scope calls) (ys : Script.Arms) (k : Store) → StmtLeft s (F .env) d m p (choosing F ys) → Stands ws left k
             → MarkEnds (choosing F ys (procsOf (F .other) (F .bodies) (F .before)) n (state k left)) ws′ r
         go F ys k L S = subst (λ (v : Answer). MarkEnds v ws′ r) (sym (L .same (procsOf (F .other) (F .bodies) (F .before)) n (state k left)))
             (R .runs F (record { form = L .read; stmt = L .stmt; reads = L .reads; names = L .names; few = L .few }) .says k S)
@@ -383,44 +371,15 @@ module _ (s l us ts tb : List ℕ) (scope : Scope) (calls d n at : ℕ) (ws : Li
     unfolding InRange inside
     case-absent ws′ r e R = case-by ws′ r (raised-fewer (negsuc 104) n ws left ws′ r R) (λ F ys k Y S. go F ys k (rw e at Y) S)
       where
-        go : (F : Frame s l us ts tb scope calls) (ys : Script.Arms) (k : Store) → RaisesCase (choosing F ys) → Stands ws left k
+        go : (F : Setting s l us ts tb scope calls) (ys : Script.Arms) (k : Store) → RaisesCase (choosing F ys) → Stands ws left k
             → MarkEnds (choosing F ys (procsOf (F .other) (F .bodies) (F .before)) n (state k left)) ws′ r
         go F ys k L S = subst (λ (v : Answer). MarkEnds v ws′ r) (sym (L .same (procsOf (F .other) (F .bodies) (F .before)) n (state k left))) (raising-marks ws left k S caseError n ws′ r refl R)
 
     pub case-stuck : (r : ℕ) → a ≡ chosen.Stuck → r ≡ stuckWord left → MarksVerb s l us ts tb scope calls VB.Case d n at ws left ws r
     case-stuck r e R = case-by ws r (stuck-fewer left r R) (λ F ys k Y S. go F ys k (rw e at Y) S)
       where
-        go : (F : Frame s l us ts tb scope calls) (ys : Script.Arms) (k : Store) → Sticks (choosing F ys) → Stands ws left k
+        go : (F : Setting s l us ts tb scope calls) (ys : Script.Arms) (k : Store) → Sticks (choosing F ys) → Stands ws left k
             → MarkEnds (choosing F ys (procsOf (F .other) (F .bodies) (F .before)) n (state k left)) ws r
         go F ys k L S = subst (λ (v : Answer). MarkEnds v ws r) (sym (L .same (procsOf (F .other) (F .bodies) (F .before)) n (state k left))) (stuck-marks ws left k S r R)
 
 pub ruleset case-laws = (case-halts, case-taken, case-absent, case-stuck, sfits-of)
-
--- ---- `call`
-module _ (s l us ts tb : List ℕ) (scope : Scope) (calls d n at : ℕ) (ws : List ℤ) (left : ℕ) where
-  -- a procedure that is called is one of those before
-  before-it : (F : Frame s l us ts tb scope calls) (w : Name) (p : ℕ) → Base._>>=_ (Base.find (F .env .names) w) Names.asProc ≡ some p → p < F .before
-  before-it F w p h =
-      let a : p < length (upTo (F .before)) = proc-in (F .env) (F .scene .fair) w p h in
-      omega (arith, a, length-up (F .before))
-
-  pub call-none : calls ≡ 0 → MarksVerb s l us ts tb scope calls VB.Call d n at ws left ws left
-  call-none h = record {
-    runs = λ F X. call-found (F .env) d n (first (stackAt s at)) X (λ w p hw hp j. absurd (omega (arith, before-it F w p hp, F .deep, h)));
-    fewer = left-most left;
-  }
-
-  pub call-body : (q : ℕ) (ws′ : List ℤ) (r : ℕ) → ((calls ≡ 0) → ⊥) → Callee s l scope at q → MarksBody s l us tb (calls - 1) q ws left ws′ r
-      → MarksVerb s l us ts tb scope calls VB.Call d n at ws left ws′ r
-  call-body q ws′ r z C B = record {
-    runs = λ F X. call-found (F .env) d n (first (stackAt s at)) X (λ w p hw hp j.
-        let b : p < F .before = before-it F w p hp in
-        let e : q ≡ p = C .says ts (F .top) (F .env) (upTo (F .before)) (F .scene) w hw p hp ∙ at-up (F .before) p b in
-        subst (λ (y : Script.Stmt). MarkRuns (after (machine F y)) ws left ws′ r) (sym j)
-        (runs-as (λ k. call-after F n k left p ∙ ap (λ (f : State → Answer). f (state k left)) (procedure-is (F .other) (F .bodies) (F .before) p b))
-        (subst (λ (y : ℕ). MarkRuns (markBody (getD (F .bodies) y (F .other)) (procsOf (F .other) (F .bodies) y)) ws left ws′ r) e
-        (B .runs (F .bodies) (F .other) (F .all) (omega (arith, e, b, F .few)) (omega (arith, e, b, F .deep))))));
-    fewer = B .fewer;
-  }
-
-pub ruleset call-laws = (call-none, call-body)

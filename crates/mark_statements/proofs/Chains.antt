@@ -34,7 +34,7 @@ use Rattle.mark_steps.specs.Stands.{Goes, Stands}
 use Rattle.mark_cells.proofs.Ending.{left-most, left-of}
 use Rattle.mark_acts.specs.Ends.{MarkEnds, MarkRuns}
 use Rattle.mark_acts.proofs.Ending.{normal-marks}
-use Rattle.mark_statements.specs.Marks.{Found, FoundAll, Frame, frontIn, machine, machines, MarksStmt, MarksStmts, MarksFront}
+use Rattle.mark_statements.specs.Marks.{Found, FoundAll, Setting, frontIn, machine, machines, MarksStmt, MarksStmts, MarksFront}
 use Rattle.mark_statements.proofs.Machines.{halted, going, goes-next, stops-there, goes-ends}
 use Rattle.table_scope.specs.declared.Scope.{Scope}
 
@@ -68,25 +68,25 @@ module _ {σ : Environment} {o : Option (Stmts × ℕ)} (X : FoundAll σ o) wher
 
 -- ---- the statements that are left. R reads them, from a number on
 
-pub record StmtsLeft {s l us ts tb : List ℕ} {scope : Scope} {calls : ℕ} (F : Frame s l us ts tb scope calls) (a : Answer) (o : Option (Stmts × ℕ)) (ws : List ℤ) (t : ℕ) : Type 0 where
+pub record StmtsLeft {s l us ts tb : List ℕ} {scope : Scope} {calls : ℕ} (F : Setting s l us ts tb scope calls) (a : Answer) (o : Option (Stmts × ℕ)) (ws : List ℤ) (t : ℕ) : Type 0 where
   pub found : FoundAll (F .env) o
   pub goes : Goes a (machines F (found .stmts)) ws t
 
 pub record Following (R : ℕ → Trees Run → Option (Stmts × ℕ)) (s l us ts tb : List ℕ) (scope : Scope) (calls : ℕ) (n at : ℕ) (ws : List ℤ) (left : ℕ) (m p : ℕ) (vs : List ℤ) (t : ℕ) : Type 0 where
-  pub goes : (F : Frame s l us ts tb scope calls) (X : FoundAll (F .env) (R n (first (stackAt s at)))) (k : Store) → Stands ws left k
+  pub goes : (F : Setting s l us ts tb scope calls) (X : FoundAll (F .env) (R n (first (stackAt s at)))) (k : Store) → Stands ws left k
       → StmtsLeft F (machines F (X .stmts) (state k left)) (R m (first (stackAt s p))) vs t
   pub fewer : t ≤ left
 
 -- so the walk over them runs
 pub record Walks (R : ℕ → Trees Run → Option (Stmts × ℕ)) (s l us ts tb : List ℕ) (scope : Scope) (calls : ℕ) (n at : ℕ) (ws : List ℤ) (left : ℕ) (ws′ : List ℤ) (r : ℕ) : Type 0 where
-  pub runs : (F : Frame s l us ts tb scope calls) (X : FoundAll (F .env) (R n (first (stackAt s at)))) → MarkRuns (machines F (X .stmts)) ws left ws′ r
+  pub runs : (F : Setting s l us ts tb scope calls) (X : FoundAll (F .env) (R n (first (stackAt s at)))) → MarkRuns (machines F (X .stmts)) ws left ws′ r
   pub fewer : leftIn r ≤ left
 
-none-left : {s l us ts tb : List ℕ} {scope : Scope} {calls : ℕ} (F : Frame s l us ts tb scope calls) (t : State) → machines F Script.done t ≡ answer normal t
+none-left : {s l us ts tb : List ℕ} {scope : Scope} {calls : ℕ} (F : Setting s l us ts tb scope calls) (t : State) → machines F Script.done t ≡ answer normal t
 unfolding markStmts
 none-left F t = refl
 
-first-left : {s l us ts tb : List ℕ} {scope : Scope} {calls : ℕ} (F : Frame s l us ts tb scope calls) (y : Script.Stmt) (ys : Script.Stmts) (t : State)
+first-left : {s l us ts tb : List ℕ} {scope : Scope} {calls : ℕ} (F : Setting s l us ts tb scope calls) (y : Script.Stmt) (ys : Script.Stmts) (t : State)
     → machines F (Script._next_ y ys) t ≡ andThen (machine F y t) (machines F ys)
 unfolding markStmts
 first-left F y ys t = refl
@@ -99,14 +99,14 @@ module _ (R : ℕ → Trees Run → Option (Stmts × ℕ)) (s l us ts tb : List 
     chain-done : ((x : Stmts × ℕ) → R m (first (stackAt s p)) ≡ some x → x .0 ≡ done) → Walks R s l us ts tb scope calls n at ws left vs t
     chain-done h = record { runs = λ F X. record { says = λ k S. go F (G .goes F X k S) }; fewer = omega (arith, left-most t, G .fewer) }
       where
-        go : {a : Answer} (F : Frame s l us ts tb scope calls) → StmtsLeft F a (R m (first (stackAt s p))) vs t → MarkEnds a vs t
+        go : {a : Answer} (F : Setting s l us ts tb scope calls) → StmtsLeft F a (R m (first (stackAt s p))) vs t → MarkEnds a vs t
         go F Y = goes-ends (Y .goes) (λ k S. subst (λ (x : Answer). MarkEnds x vs t)
             (sym (ap (λ (ys : Script.Stmts). machines F ys (state k t)) (found-done (Y .found) h) ∙ none-left F (state k t))) (normal-marks vs t k S))
 
     module _ (d : ℕ) (b : Option (Stmts × ℕ)) (T : Split (R m (first (stackAt s p))) (stmtIn d m (first (stackAt s p))) b)
         (os : List ℤ) (o : ℕ) (E : MarksStmt s l us ts tb scope calls d m p vs t os o) where
       -- the first of those that are left, and the others
-      next-left : {a : Answer} (F : Frame s l us ts tb scope calls) (Y : StmtsLeft F a (R m (first (stackAt s p))) vs t)
+      next-left : {a : Answer} (F : Setting s l us ts tb scope calls) (Y : StmtsLeft F a (R m (first (stackAt s p))) vs t)
           (Z : First (F .env) (stmtIn d m (first (stackAt s p))) b (Y .found .stmts))
           → a ≡ andThen (machine F (Z .head .stmt) (state (Y .goes .store) t)) (machines F (Z .others .stmts))
       next-left F Y Z =
@@ -115,13 +115,13 @@ module _ (R : ℕ → Trees Run → Option (Stmts × ℕ)) (s l us ts tb : List 
       chain-stops : 4294967295 < o → Walks R s l us ts tb scope calls n at ws left os o
       chain-stops h = record { runs = λ F X. record { says = λ k S. go F (G .goes F X k S) }; fewer = omega (arith, E .fewer, G .fewer) }
         where
-          go : {a : Answer} (F : Frame s l us ts tb scope calls) → StmtsLeft F a (R m (first (stackAt s p))) vs t → MarkEnds a os o
+          go : {a : Answer} (F : Setting s l us ts tb scope calls) → StmtsLeft F a (R m (first (stackAt s p))) vs t → MarkEnds a os o
           go F Y =
               let Z = found-first (Y .found) (stmtIn d m (first (stackAt s p))) b T in
               subst (λ (x : Answer). MarkEnds x os o) (sym (next-left F Y Z))
               (stops-there (machine F (Z .head .stmt) (state (Y .goes .store) t)) (machines F (Z .others .stmts)) os o (E .runs F (Z .head) .says (Y .goes .store) (Y .goes .stands)) h)
 
-      on-left : o ≤ 4294967295 → {a : Answer} (F : Frame s l us ts tb scope calls) → StmtsLeft F a (R m (first (stackAt s p))) vs t → StmtsLeft F a b os o
+      on-left : o ≤ 4294967295 → {a : Answer} (F : Setting s l us ts tb scope calls) → StmtsLeft F a (R m (first (stackAt s p))) vs t → StmtsLeft F a b os o
       on-left h F Y =
           let Z = found-first (Y .found) (stmtIn d m (first (stackAt s p))) b T in
           let H = goes-next (machine F (Z .head .stmt) (state (Y .goes .store) t)) (machines F (Z .others .stmts)) os o (E .runs F (Z .head) .says (Y .goes .store) (Y .goes .stands)) h in

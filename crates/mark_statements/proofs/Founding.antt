@@ -11,7 +11,7 @@ use Rattle.law.specs.Forms.{armsFirst}
 use Rattle.law.specs.Machine.{Store, State, state, Answer, answer, spent, Procs}
 use Rattle.law.specs.Marking.{markStmt}
 use Rattle.law.specs.Names as Names
-use Rattle.law.specs.Names.{asProc, exprOf, targetOf, varOf, stmtOf, stmtsOf, armsOf}
+use Rattle.law.specs.Names.{asProc, exprOf, exprsOf, targetOf, varOf, stmtOf, stmtsOf, armsOf}
 use Rattle.law.specs.Script as Script
 use Rattle.law.specs.Syntax as Syntax
 use Rattle.law.specs.Syntax.{Stmt, Stmts, Arms, arm, elseArm, noElse}
@@ -22,7 +22,7 @@ use Rattle.law_theorems.proofs.Inversion.{none-some, some-inj, bind-some}
 use Rattle.text_heads.specs.declared.Verb.{Verb}
 use Rattle.text_heads.specs.declared.Verb.the-variants as VB
 use Rattle.text_heads.specs.Heads.{verbOf}
-use Rattle.text_heads.specs.Parts.{partOf, rest, closed, exprIn, targetIn, nameIn, stmtIn, stmtsIn, elseIn, armsIn}
+use Rattle.text_heads.specs.Parts.{partOf, rest, closed, exprIn, exprsIn, targetIn, nameIn, stmtIn, stmtsIn, elseIn, armsIn}
 use Rattle.text_skips.specs.Skips.{Skips}
 use Rattle.mark_counts.specs.Statements.{oneFor, headVerbs, verbs, verbsIn}
 use Rattle.mark_counts.proofs.Numbers.{stmt-number, stmts-number, else-number, arms-number}
@@ -62,9 +62,11 @@ module _ (σ : Environment) (d m : ℕ) (us : Trees Run) {P : Type 0} where
       bind-some (named-as X (some-inj i)) λ x hx j. k e x (last-part (exprIn 33 us) (rest us) e he) hx (sym (some-inj j))
 
   pub call-found : (X : Found σ (verbIn VB.Call d m us))
-      → ((w : Name) (p : ℕ) → (nameIn us >>= λ w. closed (rest us) w) ≡ some w → (find (σ .names) w >>= asProc) ≡ some p → X .stmt ≡ Script.call m p → P) → P
+      → ((w : Name) (es : Syntax.Exprs) (p : ℕ × List ℕ) (xs : Script.Exprs) → nameIn us ≡ some w → exprsIn 33 (rest us) ≡ some es → (find (σ .names) w >>= asProc) ≡ some p → exprsOf σ es ≡ some xs
+      → X .stmt ≡ Script.call m (p .0) (p .1) xs → P) → P
   unfolding stmtOf
-  call-found X k = bind-some (sym (Shapes.call-shape d m us) ∙ X .reads) λ w hw i. bind-some (named-as X (some-inj i)) λ p hp j. k w p hw hp (sym (some-inj j))
+  call-found X k = bind-some (sym (Shapes.call-shape d m us) ∙ X .reads) λ w hw h. bind-some h λ es he i.
+      bind-some (named-as X (some-inj i)) λ p hp f. bind-some f λ xs hx j. k w es p xs hw he hp hx (sym (some-inj j))
 
   pub begin-found : (X : Found σ (verbIn VB.Begin d m us)) → ((A : FoundAll σ (stmtsIn d m us)) → X .stmt ≡ Script.begin m (A .stmts) → P) → P
   unfolding stmtOf
@@ -136,9 +138,9 @@ module _ (σ : Environment) (d m : ℕ) (us : Trees Run) (Γ : Types) (Δ : Vars
   unfolding markStmt
   case-idle n e ys = refl
 
-  call-idle : (n p : ℕ) → Idle (Script.call n p)
+  call-idle : (n p : ℕ) (vs : List ℕ) (xs : Script.Exprs) → Idle (Script.call n p vs xs)
   unfolding markStmt
-  call-idle n p = refl
+  call-idle n p vs xs = refl
 
   raise-idle : (n : ℕ) (e : Script.Expr) → Idle (Script.raise n e)
   unfolding markStmt
@@ -151,7 +153,7 @@ module _ (σ : Environment) (d m : ℕ) (us : Trees Run) (Γ : Types) (Δ : Vars
   found-spent VB.While X = while-found σ d m us X (λ E A q. ap idle q ∙ while-idle m (E .expr) (A .stmt))
   found-spent VB.For X = for-found σ d m us X (λ w i A B C hw hi q. ap idle q ∙ for-idle m i (A .expr) (B .expr) (C .stmt))
   found-spent VB.Case X = case-found σ d m us X (λ E bs ys hb hy l q. ap idle q ∙ case-idle m (E .expr) ys)
-  found-spent VB.Call X = call-found σ d m us X (λ w p hw hp q. ap idle q ∙ call-idle m p)
+  found-spent VB.Call X = call-found σ d m us X (λ w es p xs hw he hp hx q. ap idle q ∙ call-idle m (p .0) (p .1) xs)
   found-spent VB.Raise X = raise-found σ d m us X (λ e x he hx q. ap idle q ∙ raise-idle m x)
   found-spent VB.Nothing X = none-some (sym (Shapes.none-shape d m us) ∙ X .reads)
 

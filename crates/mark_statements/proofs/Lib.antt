@@ -4,5 +4,6 @@ pub mod Founding
 pub mod Seeking
 pub mod Chains
 pub mod Branching
+pub mod Calling
 pub mod Looping
 pub mod Serving

@@ -45,7 +45,7 @@ use Rattle.table_bodies.specs.Procedures.{procsOf}
 use Rattle.mark_statements.specs.declared.finding.Plan.{Plan}
 use Rattle.mark_statements.specs.declared.finding.Plan.the-variants as plan
 use Rattle.mark_statements.specs.Finding.{planAs, planOf, planBy}
-use Rattle.mark_statements.specs.Marks.{Found, FoundExpr, Frame, machine, testing, MarksStmt, MarksVerb, MarksWhile, MarksRounds}
+use Rattle.mark_statements.specs.Marks.{Found, FoundExpr, Setting, machine, testing, MarksStmt, MarksVerb, MarksWhile, MarksRounds}
 use Rattle.mark_statements.proofs.Machines.{goes-next, stops-there, ends-there, goes-ends, spent-marks}
 use Rattle.mark_statements.proofs.Turning.{onward, rounds-by, onward-spent, onward-round, count-one, count-rest, count-last, next-up, next-ranged, for-spent, for-round, for-none as rounds-none, counts-none, counts-out, counts-in}
 use Rattle.mark_statements.proofs.Founding.{found-as, for-found, past}
@@ -61,7 +61,7 @@ pub record RoundsLeft (a : Answer) (test : State → (Bool → Answer) → Answe
   pub goes : Goes a (whileRounds more test body) ws t
 
 pub record Repeating (s l us ts tb : List ℕ) (scope : Scope) (calls d n c b : ℕ) (ws : List ℤ) (left : ℕ) (vs : List ℤ) (t : ℕ) : Type 0 where
-  pub goes : (F : Frame s l us ts tb scope calls) (E : FoundExpr (F .env) (exprIn 33 (first (stackAt s c)))) (X : Found (F .env) (stmtIn d n (first (stackAt s b)))) (f : ℕ) → left ≤ f → (k : Store) → Stands ws left k
+  pub goes : (F : Setting s l us ts tb scope calls) (E : FoundExpr (F .env) (exprIn 33 (first (stackAt s c)))) (X : Found (F .env) (stmtIn d n (first (stackAt s b)))) (f : ℕ) → left ≤ f → (k : Store) → Stands ws left k
       → RoundsLeft (whileRounds f (testing F n (E .expr)) (machine F (X .stmt)) (state k left)) (testing F n (E .expr)) (machine F (X .stmt)) vs t
   pub fewer : t ≤ left
 
@@ -72,7 +72,7 @@ module _ (s l us ts tb : List ℕ) (scope : Scope) (calls d n c b : ℕ) (ws : L
   module _ (vs : List ℤ) (t : ℕ) (R : Repeating s l us ts tb scope calls d n c b ws left vs t) (x : ℤ) (C : Conditions s l ts vs scope c x) (fx : SFits w64 x) where
     -- the loop ends as a round from here does
     while-from : (os : List ℤ) (r : ℕ) → leftIn r ≤ left
-        → ((F : Frame s l us ts tb scope calls) (E : FoundExpr (F .env) (exprIn 33 (first (stackAt s c)))) (X : Found (F .env) (stmtIn d n (first (stackAt s b)))) (f : ℕ) → t ≤ f → (k : Store) → Stands vs t k
+        → ((F : Setting s l us ts tb scope calls) (E : FoundExpr (F .env) (exprIn 33 (first (stackAt s c)))) (X : Found (F .env) (stmtIn d n (first (stackAt s b)))) (f : ℕ) → t ≤ f → (k : Store) → Stands vs t k
         → MarkEnds (testing F n (E .expr) (state k t) (λ q. branch q (onward (testing F n (E .expr)) (machine F (X .stmt)) f) (answer normal) (state k t))) os r)
         → MarksWhile s l us ts tb scope calls d n c b ws left os r
     while-from os r h g = record {
@@ -90,7 +90,7 @@ module _ (s l us ts tb : List ℕ) (scope : Scope) (calls d n c b : ℕ) (ws : L
 
     module _ (h : ltZ greatest (wire x) ≡ false) where
       -- what the test leads to
-      while-gives : (q : Bool) → isTrue x ≡ q → (F : Frame s l us ts tb scope calls) (E : FoundExpr (F .env) (exprIn 33 (first (stackAt s c)))) (X : Found (F .env) (stmtIn d n (first (stackAt s b)))) (f : ℕ)
+      while-gives : (q : Bool) → isTrue x ≡ q → (F : Setting s l us ts tb scope calls) (E : FoundExpr (F .env) (exprIn 33 (first (stackAt s c)))) (X : Found (F .env) (stmtIn d n (first (stackAt s b)))) (f : ℕ)
           (k : Store) → Stands vs t k
           → testing F n (E .expr) (state k t) (λ q. branch q (onward (testing F n (E .expr)) (machine F (X .stmt)) f) (answer normal) (state k t))
           ≡ branch q (onward (testing F n (E .expr)) (machine F (X .stmt)) f) (answer normal) (state k t)
@@ -102,14 +102,14 @@ module _ (s l us ts tb : List ℕ) (scope : Scope) (calls d n c b : ℕ) (ws : L
           subst (λ (a : Answer). MarkEnds a vs t) (sym (while-gives false (le-not x (pos 0) (rw (toZ-ofZ fx) at g)) F E X f k S)) (normal-marks vs t k S))
 
       module _ (g : leZ (wire x) (pos 0) ≡ false) (u : ℕ) (U : u ≡ stepWord t) where
-        while-on : (F : Frame s l us ts tb scope calls) (E : FoundExpr (F .env) (exprIn 33 (first (stackAt s c)))) (X : Found (F .env) (stmtIn d n (first (stackAt s b)))) (f : ℕ) (k : Store) → Stands vs t k
+        while-on : (F : Setting s l us ts tb scope calls) (E : FoundExpr (F .env) (exprIn 33 (first (stackAt s c)))) (X : Found (F .env) (stmtIn d n (first (stackAt s b)))) (f : ℕ) (k : Store) → Stands vs t k
             → testing F n (E .expr) (state k t) (λ q. branch q (onward (testing F n (E .expr)) (machine F (X .stmt)) f) (answer normal) (state k t)) ≡ onward (testing F n (E .expr)) (machine F (X .stmt)) f (state k t)
         while-on F E X f k S = while-gives true (not-le x (pos 0) (rw (toZ-ofZ fx) at g)) F E X f k S
 
         pub while-spent : 4294967295 < u → MarksWhile s l us ts tb scope calls d n c b ws left vs u
         while-spent e = while-from vs u (omega (arith, step-fewer t u U, R .fewer)) (λ F E X f z k S. go F E X f k S (step-spent t u U e (S .steps)))
           where
-            go : (F : Frame s l us ts tb scope calls) (E : FoundExpr (F .env) (exprIn 33 (first (stackAt s c)))) (X : Found (F .env) (stmtIn d n (first (stackAt s b)))) (f : ℕ) (k : Store) → Stands vs t k → t ≡ 0
+            go : (F : Setting s l us ts tb scope calls) (E : FoundExpr (F .env) (exprIn 33 (first (stackAt s c)))) (X : Found (F .env) (stmtIn d n (first (stackAt s b)))) (f : ℕ) (k : Store) → Stands vs t k → t ≡ 0
                 → MarkEnds (testing F n (E .expr) (state k t) (λ q. branch q (onward (testing F n (E .expr)) (machine F (X .stmt)) f) (answer normal) (state k t))) vs u
             go F E X f k S z = subst (λ (a : Answer). MarkEnds a vs u)
                 (sym (while-on F E X f k S ∙ ap (λ (w : ℕ). onward (testing F n (E .expr)) (machine F (X .stmt)) f (state k w)) z
@@ -120,14 +120,14 @@ module _ (s l us ts tb : List ℕ) (scope : Scope) (calls d n c b : ℕ) (ws : L
           taken : t ≡ suc u
           taken = step-taken t u U j
 
-          while-round : (F : Frame s l us ts tb scope calls) (E : FoundExpr (F .env) (exprIn 33 (first (stackAt s c)))) (X : Found (F .env) (stmtIn d n (first (stackAt s b)))) (f : ℕ) → t ≤ f → (k : Store) → Stands vs t k
+          while-round : (F : Setting s l us ts tb scope calls) (E : FoundExpr (F .env) (exprIn 33 (first (stackAt s c)))) (X : Found (F .env) (stmtIn d n (first (stackAt s b)))) (f : ℕ) → t ≤ f → (k : Store) → Stands vs t k
               → testing F n (E .expr) (state k t) (λ q. branch q (onward (testing F n (E .expr)) (machine F (X .stmt)) f) (answer normal) (state k t))
               ≡ andThen (machine F (X .stmt) (state k u)) (whileRounds (f - 1) (testing F n (E .expr)) (machine F (X .stmt)))
           while-round F E X f z k S =
               while-on F E X f k S ∙ ap (λ (w : ℕ). onward (testing F n (E .expr)) (machine F (X .stmt)) f (state k w)) taken
               ∙ onward-round (testing F n (E .expr)) (machine F (X .stmt)) f k u (omega (arith, taken, z))
 
-          round-ends : (F : Frame s l us ts tb scope calls) (X : Found (F .env) (stmtIn d n (first (stackAt s b)))) (k : Store) → Stands vs t k → MarkEnds (machine F (X .stmt) (state k u)) os o
+          round-ends : (F : Setting s l us ts tb scope calls) (X : Found (F .env) (stmtIn d n (first (stackAt s b)))) (k : Store) → Stands vs t k → MarkEnds (machine F (X .stmt) (state k u)) os o
           round-ends F X k S = B .runs F X .says k (step-stands vs t u k taken S)
 
           pub while-stops : 4294967295 < o → MarksWhile s l us ts tb scope calls d n c b ws left os o
@@ -141,7 +141,7 @@ module _ (s l us ts tb : List ℕ) (scope : Scope) (calls d n c b : ℕ) (ws : L
           pub while-next : o ≤ 4294967295 → Repeating s l us ts tb scope calls d n c b ws left os o
           while-next q = record { goes = λ F E X f z k S. go F E X (R .goes F E X f z k S); fewer = omega (arith, left-of o q, B .fewer, taken, R .fewer) }
             where
-              go : {a : Answer} (F : Frame s l us ts tb scope calls) (E : FoundExpr (F .env) (exprIn 33 (first (stackAt s c)))) (X : Found (F .env) (stmtIn d n (first (stackAt s b))))
+              go : {a : Answer} (F : Setting s l us ts tb scope calls) (E : FoundExpr (F .env) (exprIn 33 (first (stackAt s c)))) (X : Found (F .env) (stmtIn d n (first (stackAt s b))))
                   → RoundsLeft a (testing F n (E .expr)) (machine F (X .stmt)) vs t → RoundsLeft a (testing F n (E .expr)) (machine F (X .stmt)) os o
               go {a} F E X Q =
                   let k = Q .goes .store in
@@ -167,7 +167,7 @@ pub record TurnsLeft (v : Answer) (a : ℕ) (body : State → Answer) (z y : ℤ
   pub goes : Goes v (forRounds (natOf (sucℤ (y -ℤ z))) a body z) ws t
 
 pub record Counting (s l us ts tb : List ℕ) (scope : Scope) (calls d n a : ℕ) (x y : ℤ) (b : ℕ) (ws : List ℤ) (left : ℕ) (z : ℤ) (vs : List ℤ) (t : ℕ) : Type 0 where
-  pub goes : (F : Frame s l us ts tb scope calls) (X : Found (F .env) (stmtIn d n (first (stackAt s b)))) → leZ x y ≡ true → InRange x → InRange y → (k : Store) → Stands ws left k
+  pub goes : (F : Setting s l us ts tb scope calls) (X : Found (F .env) (stmtIn d n (first (stackAt s b)))) → leZ x y ≡ true → InRange x → InRange y → (k : Store) → Stands ws left k
       → TurnsLeft (forRounds (natOf (sucℤ (y -ℤ x))) a (machine F (X .stmt)) x (state k left)) a (machine F (X .stmt)) z y vs t
   pub fewer : t ≤ left
   pub small : a ≤ 4294967295
@@ -178,7 +178,7 @@ module _ (s l us ts tb : List ℕ) (scope : Scope) (calls d n a : ℕ) (x y : �
 
   module _ (z : ℤ) (vs : List ℤ) (t : ℕ) (C : Counting s l us ts tb scope calls d n a x y b ws left z vs t) where
     turn-from : (os : List ℤ) (r : ℕ) → leftIn r ≤ left
-        → ((F : Frame s l us ts tb scope calls) (X : Found (F .env) (stmtIn d n (first (stackAt s b)))) → InRange y → (k : Store) → leZ z y ≡ true → InRange z → Stands vs t k
+        → ((F : Setting s l us ts tb scope calls) (X : Found (F .env) (stmtIn d n (first (stackAt s b)))) → InRange y → (k : Store) → leZ z y ≡ true → InRange z → Stands vs t k
         → MarkEnds (forRounds (suc (natOf (y -ℤ z))) a (machine F (X .stmt)) z (state k t)) os r)
         → MarksRounds s l us ts tb scope calls d n a x y b ws left os r
     turn-from os r h g = record {
@@ -194,7 +194,7 @@ module _ (s l us ts tb : List ℕ) (scope : Scope) (calls d n a : ℕ) (x y : �
       turn-spent : 4294967295 < u → MarksRounds s l us ts tb scope calls d n a x y b ws left vs u
       turn-spent e = turn-from vs u (omega (arith, step-fewer t u U, C .fewer)) (λ F X Q k h R S. go F X k S (step-spent t u U e (S .steps)))
         where
-          go : (F : Frame s l us ts tb scope calls) (X : Found (F .env) (stmtIn d n (first (stackAt s b)))) (k : Store) → Stands vs t k → t ≡ 0
+          go : (F : Setting s l us ts tb scope calls) (X : Found (F .env) (stmtIn d n (first (stackAt s b)))) (k : Store) → Stands vs t k → t ≡ 0
               → MarkEnds (forRounds (suc (natOf (y -ℤ z))) a (machine F (X .stmt)) z (state k t)) vs u
           go F X k S i = subst (λ (v : Answer). MarkEnds v vs u)
               (sym (ap (λ (w : ℕ). forRounds (suc (natOf (y -ℤ z))) a (machine F (X .stmt)) z (state k w)) i
@@ -205,11 +205,11 @@ module _ (s l us ts tb : List ℕ) (scope : Scope) (calls d n a : ℕ) (x y : �
         turned : t ≡ suc u
         turned = step-taken t u U j
 
-        turn-ends : (F : Frame s l us ts tb scope calls) (X : Found (F .env) (stmtIn d n (first (stackAt s b)))) (k : Store) → InRange z → Stands vs t k
+        turn-ends : (F : Setting s l us ts tb scope calls) (X : Found (F .env) (stmtIn d n (first (stackAt s b)))) (k : Store) → InRange z → Stands vs t k
             → MarkEnds (machine F (X .stmt) (state (stored a (z ∷ []) k) u)) os o
         turn-ends F X k R S = B .runs F X .says (stored a (z ∷ []) k) (step-stands qs t u (stored a (z ∷ []) k) turned (put-stands vs t k a a z qs S R (omega (arith, C .small)) P))
 
-        turn-round : (F : Frame s l us ts tb scope calls) (X : Found (F .env) (stmtIn d n (first (stackAt s b)))) (e : ℕ) (k : Store) → forRounds (suc e) a (machine F (X .stmt)) z (state k t)
+        turn-round : (F : Setting s l us ts tb scope calls) (X : Found (F .env) (stmtIn d n (first (stackAt s b)))) (e : ℕ) (k : Store) → forRounds (suc e) a (machine F (X .stmt)) z (state k t)
             ≡ andThen (machine F (X .stmt) (state (stored a (z ∷ []) k) u)) (forRounds e a (machine F (X .stmt)) (sucℤ z))
         turn-round F X e k = ap (λ (w : ℕ). forRounds (suc e) a (machine F (X .stmt)) z (state k w)) turned ∙ for-round a (machine F (X .stmt)) z e k u
 
@@ -237,7 +237,7 @@ module _ (s l us ts tb : List ℕ) (scope : Scope) (calls d n a : ℕ) (x y : �
           small = C .small;
         })
           where
-            go : {v : Answer} (F : Frame s l us ts tb scope calls) (X : Found (F .env) (stmtIn d n (first (stackAt s b)))) → InRange y
+            go : {v : Answer} (F : Setting s l us ts tb scope calls) (X : Found (F .env) (stmtIn d n (first (stackAt s b)))) → InRange y
                 → TurnsLeft v a (machine F (X .stmt)) z y vs t → TurnsLeft v a (machine F (X .stmt)) (sucℤ z) y os o
             go {v} F X Q K =
                 let k = K .goes .store in
@@ -316,7 +316,7 @@ module _ (Γ : Types) (n : ℕ) (body : State → Answer) (t : State) (w : Resul
 
 module _ (s l us ts tb : List ℕ) (scope : Scope) (calls d n at : ℕ) (ws : List ℤ) (left : ℕ) (b : Span) (B : Bounding s l ts ws scope at b) (p : Plan) (P : p ≡ planBy b) where
   for-from : (ws′ : List ℤ) (r : ℕ) → leftIn r ≤ left
-      → ((F : Frame s l us ts tb scope calls) (C : Found (F .env) (stmtIn d n (rest (rest (rest (first (stackAt s at))))))) (w : Name) (x y : Expr) → nameIn (first (stackAt s at)) ≡ some w
+      → ((F : Setting s l us ts tb scope calls) (C : Found (F .env) (stmtIn d n (rest (rest (rest (first (stackAt s at))))))) (w : Name) (x y : Expr) → nameIn (first (stackAt s at)) ≡ some w
       → exprIn 33 (rest (first (stackAt s at))) ≡ some x → exprIn 33 (rest (rest (first (stackAt s at)))) ≡ some y → (k : Store) → Stands ws left k → (v : Result Counted)
       → PlanFor n (machine F (C .stmt)) (state k left) v (withResult n (state k left) v (over (F .env .types) n (machine F (C .stmt)) (state k left) v)) p
       → MarkEnds (withResult n (state k left) v (over (F .env .types) n (machine F (C .stmt)) (state k left) v)) ws′ r)
@@ -352,7 +352,7 @@ module _ (s l us ts tb : List ℕ) (scope : Scope) (calls d n at : ℕ) (ws : Li
       → MarksRounds s l us ts tb scope calls d n a (wire x) (wire y) q₃ ws left ws′ r → MarksVerb s l us ts tb scope calls VB.For d n at ws left ws′ r
   for-rounds a x y q₁ q₂ q₃ ws′ r e fx fy A₁ A₂ A₃ R = for-from ws′ r (R .fewer) (λ F C w g h hw hg hh k S v T. go F C w g h hw hg hh k S v (rw e at T))
     where
-      go : (F : Frame s l us ts tb scope calls) (C : Found (F .env) (stmtIn d n (rest (rest (rest (first (stackAt s at))))))) (w : Name) (g h : Expr) → nameIn (first (stackAt s at)) ≡ some w
+      go : (F : Setting s l us ts tb scope calls) (C : Found (F .env) (stmtIn d n (rest (rest (rest (first (stackAt s at))))))) (w : Name) (g h : Expr) → nameIn (first (stackAt s at)) ≡ some w
           → exprIn 33 (rest (first (stackAt s at))) ≡ some g → exprIn 33 (rest (rest (first (stackAt s at)))) ≡ some h → (k : Store) → Stands ws left k → (v : Result Counted)
           → PlanFor n (machine F (C .stmt)) (state k left) v (withResult n (state k left) v (over (F .env .types) n (machine F (C .stmt)) (state k left) v)) (plan.Rounds a x y)
           → MarkEnds (withResult n (state k left) v (over (F .env .types) n (machine F (C .stmt)) (state k left) v)) ws′ r

@@ -23,16 +23,16 @@ low-told : (w : ℕ) (ws : List ℤ) → w < 12884901888 → markTold w ws ≡ t
 unfolding markTold pick
 low-told w ws h = ap (λ (b : Bool). pick b (toldBy w ws) sticks) (lt-ltb w 12884901888 h)
 
-mark-normal : (w : ℕ) (ws : List ℤ) → w ≤ 4294967295 → markTold w ws ≡ normal
+pub mark-normal : (w : ℕ) (ws : List ℤ) → w ≤ 4294967295 → markTold w ws ≡ normal
 mark-normal w ws h = low-told w ws (omega (arith, h)) ∙ told-normal w ws h
 
-mark-spent : (w : ℕ) (ws : List ℤ) → 4294967295 < w → w < 8589934592 → markTold w ws ≡ spent
+pub mark-spent : (w : ℕ) (ws : List ℤ) → 4294967295 < w → w < 8589934592 → markTold w ws ≡ spent
 mark-spent w ws h g = low-told w ws (omega (arith, g)) ∙ told-spent w ws h g
 
-mark-raised : (w : ℕ) (ws : List ℤ) → 8589934592 ≤ w → w < 12884901888 → markTold w ws ≡ raised (latestIn ws) (placeIn ws)
+pub mark-raised : (w : ℕ) (ws : List ℤ) → 8589934592 ≤ w → w < 12884901888 → markTold w ws ≡ raised (latestIn ws) (placeIn ws)
 mark-raised w ws h g = low-told w ws g ∙ told-raised w ws h
 
-mark-sticks : (w : ℕ) (ws : List ℤ) → 12884901888 ≤ w → markTold w ws ≡ sticks
+pub mark-sticks : (w : ℕ) (ws : List ℤ) → 12884901888 ≤ w → markTold w ws ≡ sticks
 unfolding markTold pick
 mark-sticks w ws h = ap (λ (b : Bool). pick b (toldBy w ws) sticks) (le-ltb w 12884901888 h)
 

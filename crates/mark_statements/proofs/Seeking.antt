@@ -2,7 +2,7 @@
 use mathlib.Core.Path.{_≡_, refl, sym, ap, subst, _∙_}
 use mathlib.Core.Bool.{false}
 use mathlib.Core.List.{List, map}
-use mathlib.Core.Option.{Option, some}
+use mathlib.Core.Option.{Option, none, some}
 use Prim.Native.Nat.{ℕ, _+_, _*_, _<_, _≤_}
 use native.Mathlib.Omega.{arith}
 use borrow.Author.Needs.{sfits-of}
@@ -15,6 +15,7 @@ use Rattle.leaf_integers.proofs.Machine.{wire}
 use Rattle.leaf_bytes.specs.Bytes.{small}
 use Rattle.law.specs.Base.{Name, _>>=_, find, given}
 use Rattle.law.specs.Environment.{Environment, NameSort}
+use Rattle.law.specs.Forms.{free}
 use Rattle.law.specs.Machine as Machine
 use Rattle.law.specs.Machine.{planned}
 use Rattle.law.specs.Names.{asProc}
@@ -22,15 +23,25 @@ use Rattle.law.specs.Syntax.{Body, Stmt, Stmts}
 use Rattle.law.specs.Trees.{word, form, Trees, end, _then_, Run, first, later, wordAt}
 use Rattle.law_theorems.specs.Readings.{stackAt}
 use Rattle.law_theorems.proofs.Inversion.{none-some, some-inj}
-use Rattle.text_heads.specs.Parts.{rest, nameIn, bodyIn, handlerIn}
+use Rattle.law.specs.Words as Words
+use Rattle.law.specs.Words.{worded, wordedAll}
+use Rattle.leaf_words.specs.declared.words.Word as Kind
+use Rattle.leaf_words.specs.Words.{wordOf}
+use Rattle.text_heads.specs.declared.Atom.{Atom}
+use Rattle.text_heads.specs.declared.Atom.the-variants as AT
+use Rattle.text_heads.specs.Heads.{atomName, atomOf}
+use Rattle.text_heads.specs.Parts.{partOf, rest, nameIn, bodyIn, handlerIn}
+use Rattle.text_heads.proofs.Heads.{name-word}
+use Rattle.text_parts.specs.declared.Part.{Part}
+use Rattle.text_parts.specs.declared.Part.the-variants as part
+use Rattle.text_parts.specs.Parts as Parts
+use Rattle.table_scope.specs.declared.frames.Frame as Scoped
+use Rattle.table_scope.specs.Frames.{frameIn}
 use Rattle.table_scope.specs.declared.Scope.{Scope}
 use Rattle.table_scope.specs.declared.Meaning.{Meaning}
 use Rattle.table_scope.specs.declared.Meaning.the-variants as meaning
 use Rattle.table_scope.specs.Scene.{Told, unknown, known, a-type, a-var, a-proc, a-value, meaningHere}
 use Rattle.table_scope.proofs.Telling.{meant}
-use Rattle.rule_expr_leaves.specs.declared.fields.Sole.{Sole}
-use Rattle.rule_expr_leaves.specs.declared.fields.Sole.the-variants as sole
-use Rattle.rule_expr_leaves.specs.Fields.{SoleName}
 use Rattle.rule_stmt_nodes.specs.declared.last.Next.{Next}
 use Rattle.rule_stmt_nodes.specs.declared.last.Next.the-variants as following
 use Rattle.rule_stmt_nodes.specs.Handlers.{Comes, HandlerAt, PlainAt}
@@ -39,9 +50,9 @@ use Rattle.mark_counts.specs.Statements.{CountsStatements, verbsIn}
 use Rattle.mark_counts.proofs.Numbers.{body-handler, body-number}
 use Rattle.mark_counts.proofs.Passing.{body-on}
 use Rattle.rule_expressions.specs.Members.{many}
-use Rattle.mark_expressions.proofs.Inverting.{last-part}
 use Rattle.mark_acts.specs.declared.bounds.Span.{Span}
 use Rattle.mark_acts.specs.declared.bounds.Span.the-variants as span
+use Rattle.mark_statements.specs.declared.finding.Callee.{Callee}
 use Rattle.mark_statements.specs.declared.finding.Handler.{Handler}
 use Rattle.mark_statements.specs.declared.finding.Handler.the-variants as handler
 use Rattle.mark_steps.specs.declared.turns.Plan as Steps
@@ -49,36 +60,67 @@ use Rattle.mark_steps.specs.declared.turns.Plan.the-variants as steps
 use Rattle.mark_steps.specs.Turns.{Plans, planFrom}
 use Rattle.mark_statements.specs.declared.finding.Plan.{Plan}
 use Rattle.mark_statements.specs.declared.finding.Plan.the-variants as plan
-use Rattle.mark_statements.specs.Finding.{lineOf, procIn, Callee, HandlesBy, Handles, planAs, planOf, planBy}
+use Rattle.mark_statements.specs.Finding.{lineOf, procIn, calleeAt, CalleeIs, Calls, HandlesBy, Handles, planAs, planOf, planBy}
 
 -- ---- `line_of`
-pub line-is : (tb : List ℕ) (q a b c d e : ℕ) → a ≡ getD tb (5 * q) 0 → b ≡ getD tb (5 * q + 1) 0 → c ≡ getD tb (5 * q + 2) 0 → d ≡ getD tb (5 * q + 3) 0 → e ≡ getD tb (5 * q + 4) 0
-    → record { start = a; scope = record { count = b; newest = c }; number = d; kinds = e } ≡ lineOf tb q
-line-is tb q a b c d e ea eb ec ed ee = rw (ea, eb, ec, ed, ee) refl
+pub line-is : (tb : List ℕ) (q a b c d e f g h : ℕ) → a ≡ getD tb (8 * q) 0 → b ≡ getD tb (8 * q + 1) 0 → c ≡ getD tb (8 * q + 2) 0 → d ≡ getD tb (8 * q + 3) 0 → e ≡ getD tb (8 * q + 4) 0
+    → f ≡ getD tb (8 * q + 5) 0 → g ≡ getD tb (8 * q + 6) 0 → h ≡ getD tb (8 * q + 7) 0
+    → record { start = a; scope = record { count = d; newest = e; pairs = f; vars = g; parameters = h }; number = b; kinds = c } ≡ lineOf tb q
+line-is tb q a b c d e f g h ea eb ec ed ee ef eg eh = rw (ea, eb, ec, ed, ee, ef, eg, eh) refl
 
 -- ---- `callee`
-told-proc : (σ : Environment) (bs : List ℕ) (x : Meaning) (n : Option NameSort) → Told σ bs x n → (p : ℕ) → (n >>= asProc) ≡ some p → procIn x ≡ getD bs p 0
+told-proc : (σ : Environment) (bs : List ℕ) (x : Meaning) (n : Option NameSort) → Told σ bs x n → (p : ℕ × List ℕ) → (n >>= asProc) ≡ some p → procIn x ≡ getD bs (p .0) 0
 unfolding _>>=_
 told-proc σ bs _ _ unknown p h = none-some h
 told-proc σ bs _ _ (known a-type) p h = none-some h
 told-proc σ bs _ _ (known (a-var v e)) p h = none-some h
-told-proc σ bs _ _ (known a-proc) p h = ap (λ (k : ℕ). getD bs k 0) (some-inj h)
+told-proc σ bs _ _ (known a-proc) p h = ap (λ (k : ℕ × List ℕ). getD bs (k .0) 0) (some-inj h)
 told-proc σ bs _ _ (known a-value) p h = none-some h
 
-module _ (s l : List ℕ) (scope : Scope) (at : ℕ) (n : Sole) (N : SoleName s at n) where
-  pub callee-named : (p q : ℕ) (m : Meaning) (r : ℕ) → n ≡ sole.Name p q → m ≡ meaningHere s l scope p → r ≡ procIn m → Callee s l scope at r
-  callee-named p q m r e em er = record {
-    says = λ ts top σ bs S w hw k hk.
-        let f = rw e at (N .says) in
-        let a : map small (wordAt s p) ≡ w = some-inj (sym (f .0) ∙ last-part (nameIn (first (stackAt s at))) (rest (first (stackAt s at))) w hw) in
-        er ∙ ap procIn em ∙ told-proc σ bs (meaningHere s l scope p) (find (σ .names) (map small (wordAt s p)))
-        (meant S (map small (wordAt s p))) k (ap (λ (v : Name). find (σ .names) v >>= asProc) a ∙ hk);
+pub callee-is : (l : List ℕ) (p q a : ℕ) (x : Scoped.Frame) → a ≡ getD l p 0 → x ≡ frameIn l p → record { number = a; frame = x; next = q } ≡ calleeAt l p q
+callee-is l p q a x e f = rw (e, f) refl
+
+-- a word that reads as a name is that name
+atom-name : (a : Atom) (v w : Name) → atomName a v ≡ some w → v ≡ w
+atom-name (AT.Number z) v w h = none-some h
+atom-name AT.Named v w h = some-inj h
+atom-name (AT.Truth b) v w h = none-some h
+atom-name AT.ErrorNumber v w h = none-some h
+atom-name (AT.Base k) v w h = none-some h
+atom-name AT.Nothing v w h = none-some h
+
+no-name-form : (us ts : Trees Run) → nameIn (form us then ts) ≡ none
+unfolding nameIn partOf free worded _>>=_
+no-name-form us ts = go (wordedAll us)
+  where
+    go : (o : Option (Trees Words.Word)) → ((o >>= λ vs. some (form vs)) >>= free) ≡ none
+    go none = refl
+    go (some vs) = refl
+
+no-name-end : nameIn end ≡ none
+unfolding nameIn partOf _>>=_
+no-name-end = refl
+
+module _ (s l : List ℕ) (scope : Scope) (at : ℕ) (x : Part) (X : Parts.Stands s at x) where
+  pub callee-named : (w : Kind.Word) (p q : ℕ) (m : Meaning) (a : ℕ) (r : Callee) → x ≡ part.Leaf w p q → m ≡ meaningHere s l scope p → a ≡ procIn m → r ≡ calleeAt l a q → Calls s l scope at r
+  callee-named w p q m a r e em ea er = record {
+    says = λ ts top σ bs S v hv k hk.
+        let f = rw e at (X .says) in
+        let b : map small (wordAt s p) ≡ v = atom-name (atomOf (wordOf (wordAt s p))) (map small (wordAt s p)) v (sym (name-word (wordAt s p) (first (stackAt s q))) ∙ ap nameIn (sym (f .0 .leaf .here)) ∙ hv) in
+        let c : a ≡ getD bs (k .0) 0 = ea ∙ ap procIn em ∙ told-proc σ bs (meaningHere s l scope p) (find (σ .names) (map small (wordAt s p))) (meant S (map small (wordAt s p))) k
+        (ap (λ (v : Name). find (σ .names) v >>= asProc) b ∙ hk) in
+        rw er (record { callee = ap (λ (y : ℕ). calleeAt l y q) c; after = ap rest (f .0 .leaf .here) });
   }
 
-  pub callee-none : (r : ℕ) → n ≡ sole.Nothing → Callee s l scope at r
-  callee-none r e = record { says = λ ts top σ bs S w hw k hk. none-some (sym (rw e at (N .says)) ∙ hw) }
+  pub callee-form : (p : ℕ) (r : Callee) → x ≡ part.Form p → Calls s l scope at r
+  callee-form p r e = record {
+    says = λ ts top σ bs S v hv k hk. none-some (sym (no-name-form (first (stackAt s p)) (first (later (stackAt s p)))) ∙ ap nameIn (sym ((rw e at (X .says)) .here)) ∙ hv);
+  }
 
-pub ruleset callee-laws = (callee-named, callee-none)
+  pub callee-shut : (p : ℕ) (r : Callee) → x ≡ part.Shut p → Calls s l scope at r
+  callee-shut p r e = record { says = λ ts top σ bs S v hv k hk. none-some (sym no-name-end ∙ ap nameIn (sym ((rw e at (X .says)) .here)) ∙ hv) }
+
+pub ruleset callee-laws = (callee-named, callee-form, callee-shut)
 
 -- ---- `handler_of`
 

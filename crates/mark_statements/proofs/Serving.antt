@@ -7,7 +7,7 @@ use mathlib.Core.Option.{some}
 use Prim.Native.Nat.{ℕ, suc, _+_, _*_, _<_, _≤_}
 use native.Mathlib.Omega.{arith}
 use lib.IntN.{ℤ}
-use lib.ListN.{length, getD, replicate}
+use lib.ListN.{length, getD, replicate, take}
 use Rattle.law.specs.Base.{_>>=_}
 use Rattle.law.specs.Environment.{Environment, PlacedBody}
 use Rattle.law.specs.Machine.{Store, State, state, Answer, handled}
@@ -26,14 +26,14 @@ use Rattle.mark_steps.specs.Stands.{Stands}
 use Rattle.mark_cells.proofs.Ending.{left-most}
 use Rattle.mark_acts.specs.Ends.{MarkEnds, MarkRuns}
 use Rattle.table_bodies.specs.Procedures.{procsOf}
-use Rattle.table_bodies.specs.Table.{mostTypes, upTo, clip, Clips, offsetOf, scopeOf, stmtsBefore, typesOf, BodyStands, AllStand}
+use Rattle.table_bodies.specs.Table.{mostTypes, clip, Clips, offsetOf, scopeOf, stmtsBefore, typesOf, BodyStands, AllStand}
 use Rattle.table_bodies.proofs.Calling.{all-is}
 use Rattle.table_bodies.proofs.Scenes.{scene-types}
 use Rattle.mark_statements.specs.declared.finding.Handler.{Handler}
 use Rattle.mark_statements.specs.declared.finding.Handler.the-variants as handler
 use Rattle.mark_statements.specs.declared.finding.Line.{Line}
 use Rattle.mark_statements.specs.Finding.{lineOf, Handles}
-use Rattle.mark_statements.specs.Marks.{FoundAll, FoundBody, Frame, frontIn, machines, serving, MarksStmts, MarksFront, MarksWithin, MarksBody}
+use Rattle.mark_statements.specs.Marks.{FoundAll, FoundBody, Setting, frontIn, machines, serving, MarksStmts, MarksFront, MarksWithin, MarksBody}
 use Rattle.mark_statements.proofs.Branching.{runs-as}
 use Rattle.mark_statements.proofs.Machines.{not-caught, not-handled, is-caught}
 use Rattle.table_scope.specs.declared.Scope.{Scope}
@@ -50,7 +50,7 @@ body-found σ b x h = bind-some h λ y hy h. bind-some h λ z hz e. subst (BodyF
 
 -- ---- `body_from`
 module _ (s l us ts tb : List ℕ) (scope : Scope) (calls n at : ℕ) (ws : List ℤ) (left : ℕ) (vs : List ℤ) (o : ℕ) (W : MarksFront s l us ts tb scope calls n at ws left vs o) where
-  module _ (F : Frame s l us ts tb scope calls) (X : FoundBody (F .env) (bodyIn n (first (stackAt s at)))) where
+  module _ (F : Setting s l us ts tb scope calls) (X : FoundBody (F .env) (bodyIn n (first (stackAt s at)))) where
     fronts : FoundAll (F .env) (frontIn n (first (stackAt s at)))
     unfolding frontIn _>>=_
     fronts = record { form = (X .form .0 .stmts, X .form .1); stmts = X .body .stmts; reads = rw (X .reads) refl; names = body-found (F .env) (X .form .0) (X .body) (X .names) .stmts-are; few = X .few }
@@ -89,7 +89,7 @@ module _ (s l us ts tb : List ℕ) (scope : Scope) (calls n at : ℕ) (ws : List
       fewer = omega (arith, R .fewer, T, W .fewer);
     }
       where
-        go : (F : Frame s l us ts tb scope calls) (X : FoundBody (F .env) (bodyIn n (first (stackAt s at)))) (k : Store) → Stands ws left k
+        go : (F : Setting s l us ts tb scope calls) (X : FoundBody (F .env) (bodyIn n (first (stackAt s at)))) (k : Store) → Stands ws left k
             → (X .form .0 .handles ≡ true) × (stmtsIn 33 m (first (stackAt s q)) ≡ some (X .form .0 .handler, X .form .1)) → MarkEnds (serving F (X .body) (state k left)) ws′ r
         go F X k S Y =
             let B = body-found (F .env) (X .form .0) (X .body) (X .names) in
@@ -103,30 +103,33 @@ pub ruleset within-laws = (within-calm, within-stuck, within-plain, within-handl
 -- ---- `mark_body`
 module _ (s l us tb : List ℕ) (calls q : ℕ) (ws : List ℤ) (left : ℕ) (ts₀ ts : List ℕ) (C : Clips us (typesOf tb q) ts₀ ts) (L : length ts₀ ≡ mostTypes) (ws′ : List ℤ) (r : ℕ)
     (W : MarksWithin s l us ts tb (scopeOf tb q) calls (stmtsBefore tb q) (offsetOf tb q) ws left ws′ r) where
-  module _ (bodies : List PlacedBody) (other : PlacedBody) (A : AllStand s l us tb bodies other) (h : q < length bodies) (g : q ≤ calls) where
-    abbrev stood : BodyStands s l us tb (getD bodies q other) q
+  module _ (places : List ℕ) (bodies : List PlacedBody) (other : PlacedBody) (A : AllStand s l us tb places bodies other) (h : q < length bodies) (g : q ≤ calls) where
+    abbrev stood : BodyStands s l us tb places (getD bodies q other) q
     stood = A .each q h
 
     -- where the body is run
-    frame : Frame s l us ts tb (scopeOf tb q) calls
-    frame = record {
+    setting : Setting s l us ts tb (scopeOf tb q) calls
+    setting = record {
       env = stood .env;
+      places = places;
       bodies = bodies;
       other = other;
       before = q;
       top = stood .top;
-      scene = scene-types s l (clip (typesOf tb q) us) ts (C .places (omega (arith, L, stood .few-types))) (scopeOf tb q) (stood .top) (stood .env) (upTo q) (stood .scene);
+      scene = scene-types s l (clip (typesOf tb q) us) ts (C .places (omega (arith, L, stood .few-types))) (scopeOf tb q) (stood .top) (stood .env) (take q places) (stood .scene);
+      placed = stood .before;
       small = stood .small;
       all = A;
-      few = omega (arith, h);
+      callees = A .callees q h;
+      few = h;
       deep = g;
     }
 
     found-body : FoundBody (stood .env) (bodyIn (stmtsBefore tb q) (first (stackAt s (offsetOf tb q))))
     found-body = record { form = (stood .form, stood .last); body = getD bodies q other .body; reads = stood .reads; names = stood .names; few = stood .few }
 
-    served : (k : State) → markBody (getD bodies q other) (procsOf other bodies q) k ≡ serving frame (found-body .body) k
-    unfolding markBody frame found-body
+    served : (k : State) → markBody (getD bodies q other) (procsOf other bodies q) k ≡ serving setting (found-body .body) k
+    unfolding markBody setting found-body
     served k =
         ap (λ (Γ : Types). handled (getD bodies q other .body .handles) (markStmts Γ (getD bodies q other .vars) (procsOf other bodies q) (getD bodies q other .body .stmts) k)
         (markStmts Γ (getD bodies q other .vars) (procsOf other bodies q) (getD bodies q other .body .handler))) (stood .types-are)
@@ -134,8 +137,8 @@ module _ (s l us tb : List ℕ) (calls q : ℕ) (ws : List ℤ) (left : ℕ) (ts
         (markStmts (stood .env .types) Δ (procsOf other bodies q) (getD bodies q other .body .handler))) (stood .vars-are)
 
     body-runs : MarkRuns (markBody (getD bodies q other) (procsOf other bodies q)) ws left ws′ r
-    unfolding frame
-    body-runs = runs-as (λ k. served (state k left)) (W .runs frame found-body)
+    unfolding setting
+    body-runs = runs-as (λ k. served (state k left)) (W .runs setting found-body)
 
   pub body-marks : MarksBody s l us tb calls q ws left ws′ r
   body-marks = record { runs = body-runs; fewer = W .fewer }
@@ -147,6 +150,6 @@ body-is s l us tb calls q ws left e ts ws′ r h C W = body-marks s l us tb call
 
 -- the last body is the script's run
 pub marks-all : (s l us tb : List ℕ) (calls n : ℕ) (ws : List ℤ) (left : ℕ) (ws′ : List ℤ) (r : ℕ) → MarksBody s l us tb calls n ws left ws′ r
-    → (bodies : List PlacedBody) (other : PlacedBody) → AllStand s l us tb bodies other → length bodies ≡ suc n → n ≤ calls → MarkRuns (markAll bodies []) ws left ws′ r
-marks-all s l us tb calls n ws left ws′ r B bodies other A e h =
-    subst (λ (f : State → Answer). MarkRuns f ws left ws′ r) (sym (all-is other bodies n e)) (B .runs bodies other A (omega (arith, e)) h)
+    → (places : List ℕ) (bodies : List PlacedBody) (other : PlacedBody) → AllStand s l us tb places bodies other → length bodies ≡ suc n → n ≤ calls → MarkRuns (markAll bodies []) ws left ws′ r
+marks-all s l us tb calls n ws left ws′ r B places bodies other A e h =
+    subst (λ (f : State → Answer). MarkRuns f ws left ws′ r) (sym (all-is other bodies n e)) (B .runs places bodies other A (omega (arith, e)) h)

@@ -14,14 +14,16 @@ use Rattle.law.specs.Names.{asProc}
 use Rattle.law.specs.Syntax.{Body}
 use Rattle.law.specs.Trees.{first}
 use Rattle.law_theorems.specs.Readings.{stackAt}
-use Rattle.text_heads.specs.Parts.{rest, closed, nameIn, stmtsIn, bodyIn}
+use Rattle.text_heads.specs.Parts.{rest, nameIn, stmtsIn, bodyIn}
 use Rattle.table_scope.specs.declared.Scope.{Scope}
 use Rattle.table_scope.specs.declared.Meaning.{Meaning}
 use Rattle.table_scope.specs.declared.Meaning.the-variants as meaning
+use Rattle.table_scope.specs.Frames.{frameIn}
 use Rattle.table_scope.specs.Scene.{Scene}
 use Rattle.table_bodies.specs.Table.{offsetOf, scopeOf, stmtsBefore, typesOf}
 use Rattle.mark_acts.specs.declared.bounds.Span.{Span}
 use Rattle.mark_acts.specs.declared.bounds.Span.the-variants as span
+use Rattle.mark_statements.specs.declared.finding.Callee.{Callee}
 use Rattle.mark_statements.specs.declared.finding.Line.{Line}
 use Rattle.mark_statements.specs.declared.finding.Handler.{Handler}
 use Rattle.mark_statements.specs.declared.finding.Handler.the-variants as handler
@@ -32,7 +34,7 @@ use Rattle.mark_statements.specs.declared.finding.Plan.the-variants as p
 abbrev pub lineOf : List ℕ → ℕ → Line
 lineOf tb q = record { start = offsetOf tb q; scope = scopeOf tb q; number = stmtsBefore tb q; kinds = typesOf tb q }
 
--- a procedure's number by what a name means
+-- the place of a procedure's node by what its name means
 abbrev pub procIn : Meaning → ℕ
 procIn meaning.Unknown = 0
 procIn (meaning.Type t) = 0
@@ -40,10 +42,18 @@ procIn (meaning.Var i t a) = 0
 procIn (meaning.Proc p) = p
 procIn (meaning.Value k n) = 0
 
--- r is the number of the procedure that the sole name at an offset means; bs holds those numbers
-pub record Callee (s l : List ℕ) (scope : Scope) (at r : ℕ) : Type 0 where
+-- the procedure whose node stands at p, with arguments from q on
+abbrev pub calleeAt : List ℕ → ℕ → ℕ → Callee
+calleeAt l p q = record { number = getD l p 0; frame = frameIn l p; next = q }
+
+-- r is the procedure that the name at an offset means, with what stands after that; bs holds the places of the nodes
+pub record CalleeIs (s l : List ℕ) (at place : ℕ) (r : Callee) : Type 0 where
+  pub callee : r ≡ calleeAt l place (r .next)
+  pub after : rest (first (stackAt s at)) ≡ first (stackAt s (r .next))
+
+pub record Calls (s l : List ℕ) (scope : Scope) (at : ℕ) (r : Callee) : Type 0 where
   pub says : (ts : List ℕ) (top : ℕ) (σ : Environment) (bs : List ℕ) → Scene s l ts scope top σ bs
-      → (w : Name) → (nameIn (first (stackAt s at)) >>= λ w. closed (rest (first (stackAt s at))) w) ≡ some w → (p : ℕ) → (find (σ .names) w >>= asProc) ≡ some p → r ≡ getD bs p 0
+      → (w : Name) → nameIn (first (stackAt s at)) ≡ some w → (p : ℕ × List ℕ) → (find (σ .names) w >>= asProc) ≡ some p → CalleeIs s l at (getD bs (p .0) 0) r
 
 -- ---- a body's handler
 

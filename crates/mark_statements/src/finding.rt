@@ -4,18 +4,20 @@ use mark_arms::later;
 use mark_counts::count_statements;
 use mark_steps::turns;
 use mark_steps::turns::planned;
-use rule_expr_leaves::fields::Sole;
-use rule_expr_leaves::fields::sole_name;
 use rule_stmt_nodes::last::Next;
 use rule_stmt_nodes::last::next_at;
 use table_bodies::LINE_LENGTH;
 use table_list::at;
 use table_scope::Meaning;
 use table_scope::Scope;
+use table_scope::frames::Frame;
+use table_scope::frames::frame_of;
 use table_scope::meaning_of;
+use text_parts::Part;
+use text_parts::part_at;
 use text_skips::skip;
 ghost use mathlib.Core.Path.{_≡_};
-ghost use Rattle.mark_statements.specs.Finding.{lineOf, procIn, Callee, Handles, planOf, planBy};
+ghost use Rattle.mark_statements.specs.Finding.{lineOf, procIn, calleeAt, Calls, Handles, planOf, planBy};
 
 // A body's line in the table: where it begins, the names that it sees, the number of the last statement before it, and how many types it sees.
 pub struct Line {
@@ -23,6 +25,13 @@ pub struct Line {
     pub scope: Scope,
     pub number: u32,
     pub kinds: u32,
+}
+
+// The procedure that a call names: its number and its frame; and where the call's arguments begin.
+pub struct Callee {
+    pub number: u32,
+    pub frame: Frame,
+    pub next: usize,
 }
 
 // A body's handler: the offset of its statements and the number of the last statement before them.
@@ -45,18 +54,21 @@ pub fn line_of(bodies: &[u32], q: u32) -> Line
 {
     let p = LINE_LENGTH * (q as usize);
     let scope = Scope {
-        count: at(bodies, p + 1),
-        newest: at(bodies, p + 2),
+        count: at(bodies, p + 3),
+        newest: at(bodies, p + 4),
+        pairs: at(bodies, p + 5) as usize,
+        vars: at(bodies, p + 6),
+        parameters: at(bodies, p + 7),
     };
     Line {
         start: at(bodies, p) as usize,
         scope,
-        number: at(bodies, p + 3),
-        kinds: at(bodies, p + 4),
+        number: at(bodies, p + 1),
+        kinds: at(bodies, p + 2),
     }
 }
 
-// A procedure's number by a name's meaning, 0 of any other.
+// The place of a procedure's node by its name's meaning, 0 of any other.
 fn proc_in(m: Meaning) -> u32
     ensures { λ r. ⌜ r ≡ procIn m ⌝ }
 {
@@ -69,14 +81,26 @@ fn proc_in(m: Meaning) -> u32
     }
 }
 
-// The procedure that the name at an offset means.
-pub fn callee(text: &[u8], work: &[u32], scope: Scope, at: usize) -> u32
-    ensures { λ r. ⌜ Callee (now (text .entry)) (now (work .entry)) scope at r ⌝ }
+// The procedure whose node stands at a place.
+fn callee_at(work: &[u32], place: u32, next: usize) -> Callee
+    ensures { λ r. ⌜ r ≡ calleeAt (now (work .entry)) place next ⌝ }
 {
-    let n = sole_name(text, at);
-    match n {
-        Sole::Name(p, _) => proc_in(meaning_of(text, work, scope, p)),
-        Sole::Nothing => 0,
+    Callee {
+        number: at(work, place as usize),
+        frame: frame_of(work, place),
+        next,
+    }
+}
+
+// The procedure that the name at an offset means, and where the part after it stands.
+pub fn callee_named(text: &[u8], work: &[u32], scope: Scope, at: usize) -> Callee
+    ensures { λ r. ⌜ Calls (now (text .entry)) (now (work .entry)) scope at r ⌝ }
+{
+    let part = part_at(text, at);
+    match part {
+        Part::Leaf(_, p, q) => callee_at(work, proc_in(meaning_of(text, work, scope, p)), q),
+        Part::Form(q) => callee_at(work, 0, q),
+        Part::Shut(q) => callee_at(work, 0, q),
     }
 }
 

@@ -2,7 +2,7 @@
 // `n` is the number of the last statement before the part at an offset, and past the head word the statement's own.
 use crate::finding::Handler;
 use crate::finding::Plan;
-use crate::finding::callee;
+use crate::finding::callee_named;
 use crate::finding::handler_of;
 use crate::finding::line_of;
 use crate::finding::plan_for;
@@ -14,6 +14,8 @@ use mark_acts::acts::assign;
 use mark_acts::acts::condition;
 use mark_acts::acts::raise;
 use mark_acts::acts::selector;
+use mark_acts::arguments::pass;
+use mark_acts::arguments::take_back;
 use mark_acts::bounds::bounds;
 use mark_acts::ends::STICKS;
 use mark_acts::ends::halting;
@@ -600,8 +602,15 @@ fn call(
     if calls == 0 {
         return left;
     }
-    let q = callee(text, work, scope, at);
-    mark_body(text, work, all, bodies, calls - 1, store, left, q)
+    let c = callee_named(text, work, scope, at);
+    let x = c.frame;
+    let w = pass(text, work, types, scope, store, x, c.next);
+    if w > GREATEST {
+        return halting(store, left, w, n);
+    }
+    let o = mark_body(text, work, all, bodies, calls - 1, store, left, c.number);
+    take_back(store, x, o);
+    o
 }
 
 // The statements of a body before its handler.

@@ -11,7 +11,6 @@ use Rattle.law.specs.Verdict.{Verdict, Read, accepted, refused, judge, loosely}
 use Rattle.law_theorems.proofs.LinesCover.{judged-covered}
 use Rattle.law_answers.specs.declared.Counted.{Counted}
 use Rattle.law_answers.specs.Verdicts.{cellsTold}
-use Rattle.table_bodies.specs.Table.{upTo}
 use Rattle.rule_texts.specs.declared.Checked.{Checked}
 use Rattle.rule_judge_loose.specs.Texts.{AdmittedBy, Admits}
 use Rattle.rule_cells.specs.Cells.{countedBy, NamesBy}
@@ -24,7 +23,7 @@ unfolding countedBy cellsTold
 counted-is s l ts tb (accepted q) c h = rw (eq-eqb (c .refusal) 0 (h .0), h .1 .holds .cells-are) refl
 counted-is s l ts tb (refused m n) c h = rw (ne-eqb (c .refusal) 0 (λ e. omega (arith, h .0, h .2)), h .0, h .1) refl
 
-module _ (s l : List ℕ) (n : ℕ) (i : n ≡ min 16384 (length l)) (c : Checked) (l′ ts′ tb′ : List ℕ) (C : Admits s (take n l) (replicate notes 0) (replicate 165 0) c l′ ts′ tb′) where
+module _ (s l : List ℕ) (n : ℕ) (i : n ≡ min 16384 (length l)) (c : Checked) (l′ ts′ tb′ : List ℕ) (C : Admits s (take n l) (replicate notes 0) (replicate 264 0) c l′ ts′ tb′) where
   pub cells-told : (r : Counted) → r ≡ countedBy c → r ≡ cellsTold (judge loosely s (length l))
   cells-told r e = e ∙ counted-is s l′ ts′ tb′ (judge loosely s (length l)) c (judged-here s l n i c l′ ts′ tb′ C)
 
@@ -45,5 +44,5 @@ module _ (s l : List ℕ) (n : ℕ) (i : n ≡ min 16384 (length l)) (c : Checke
             M .long,
             subst (λ (x : ℕ). drop x names ≡ drop x old) (K .cells-are) (M .rest),
             λ j a b.
-                M .each j a (omega (arith, K .cells-are)) .says s (q .known) (upTo (length (q .known .bodies))) K (judged-covered loosely s (length l) q h) b,
+                M .each j a (omega (arith, K .cells-are)) .says s (q .known) (D .1 .places) K (judged-covered loosely s (length l) q h) b,
           )

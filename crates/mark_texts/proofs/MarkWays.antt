@@ -1,20 +1,20 @@
 -- Runs of the marking machine: rows 10 and 11 by the tables, the run by the bodies' table, and the whole by the judgement.
 use mathlib.Core.Path.{_≡_, refl, sym, ap, subst, _∙_}
-use mathlib.Core.Bool.{true, false}
+use mathlib.Core.Bool.{false}
 use mathlib.Core.List.{List, [], _++_}
 use mathlib.Core.Option.{Option, none, some}
-use Prim.Native.Nat.{ℕ, suc, _-_, _≤_, min}
+use Prim.Native.Nat.{ℕ, suc, _-_, min}
 use native.Mathlib.Omega.{arith}
 use lib.IntN.{ℤ}
-use lib.ListN.{length, getD, take, drop, replicate}
+use lib.ListN.{length, take, drop, replicate}
 use lib.Seq.{take-at}
 use Rattle.rule_declarations.specs.State.{notes}
+use Rattle.law.specs.Code.{noFrame}
 use Rattle.law.specs.Environment.{PlacedBody}
 use Rattle.law.specs.Machine.{Answer, State, state}
 use Rattle.law.specs.Script.{done}
 use Rattle.law.specs.Store.{storeFault}
 use Rattle.law.specs.Verdict.{Verdict, Read, accepted, refused, judge, loosely}
-use Rattle.law.specs.Whole as Whole
 use Rattle.law.specs.Whole.{report, fresh, lent, onStore, unless, markAll, markOf, workAfter}
 use Rattle.law_theorems.proofs.LinesCover.{judged-covered}
 use Rattle.law_answers.specs.declared.Marked.{Marked}
@@ -23,10 +23,8 @@ use Rattle.law_answers.specs.declared.MarkReport.the-variants.{Refused, Ran}
 use Rattle.law_answers.specs.MarkingReports.{markEnding, MarkReports}
 use Rattle.rule_stores.specs.Stores.{StoreFault, rowNumber}
 use Rattle.rule_known.specs.declared.Known.{Known}
-use Rattle.table_bodies.specs.Table.{upTo}
 use Rattle.table_bodies.proofs.Calling.{all-is}
 use Rattle.rule_texts.specs.declared.Checked.{Checked}
-use Rattle.rule_judge_loose.specs.Standing.{LooseStanding}
 use Rattle.rule_judge_loose.specs.Texts.{AdmittedBy, Admits}
 use Rattle.rule_judge_loose.proofs.Keeping.{all-stand}
 use Rattle.mark_machine.specs.Answers.{MarkAnswers, MarksLent}
@@ -41,14 +39,14 @@ last-none n e = omega arith
 
 -- a body for the numbers that have none
 nothing : PlacedBody
-nothing = record { types = []; vars = []; body = record { stmts = done; handles = false; handler = done } }
+nothing = record { types = []; vars = []; frame = noFrame; body = record { stmts = done; handles = false; handler = done } }
 
 module _ (s l ts tb : List ℕ) (kn : Known) (vs : List ℤ) (ms : List ℕ) (budget f : ℕ) (F : StoreFault l ts (kn .state) vs ms f) where
   pub loaded-refused : (r : MarkReport) → ((f ≡ 0) → ⊥) → r ≡ Refused f 0 → MarksLoaded s l ts tb kn vs ms budget r vs ms
   unfolding onStore lent rowNumber markEnding
   loaded-refused r ne e = record {
     says = λ work q acc S _.
-        go q (storeFault (q .known .env .types) (q .known .cells) vs ms) refl (F .says s (q .known) (upTo (length (q .known .bodies))) (S .holds) (judged-covered loosely s work q acc));
+        go q (storeFault (q .known .env .types) (q .known .cells) vs ms) refl (F .says s (q .known) (S .places) (S .holds) (judged-covered loosely s work q acc));
   }
     where
       go : (q : Read) (o : Option ℕ) → storeFault (q .known .env .types) (q .known .cells) vs ms ≡ o → f ≡ rowNumber o → MarkReports (onStore (q .known) (markAll (q .known .bodies) []) vs ms budget) r vs ms
@@ -62,8 +60,8 @@ module _ (s l ts tb : List ℕ) (kn : Known) (vs : List ℤ) (ms : List ℕ) (bu
     says = λ work q acc S ended.
         let c = S .holds .cells-are in let d = S .holds .few-cells in
         let many : length (q .known .bodies) ≡ suc n = omega (arith, p, S .holds .procs-are, S .main-there ended) in
-        go q (storeFault (q .known .env .types) (q .known .cells) vs ms) refl (F .says s (q .known) (upTo (length (q .known .bodies))) (S .holds) (judged-covered loosely s work q acc)) λ none-is.
-        let A = R .says (q .known .bodies) nothing (all-stand (S .bodies) nothing) (omega (arith, many)) (lent-store (q .known .env .types) (S .holds .scene .table) (q .known .cells) vs ms (omega arith) none-is) in
+        go q (storeFault (q .known .env .types) (q .known .cells) vs ms) refl (F .says s (q .known) (S .places) (S .holds) (judged-covered loosely s work q acc)) λ none-is.
+        let A = R .says (S .places) (q .known .bodies) nothing (all-stand (S .bodies) nothing) (omega (arith, many)) (lent-store (q .known .env .types) (S .holds .scene .table) (q .known .cells) vs ms (omega arith) none-is) in
         subst (λ (x : State → Answer). MarkAnswers (x (state (fresh vs ms) budget)) (length vs) budget a vs′ ms′) (sym (all-is nothing (q .known .bodies) n many)) A;
   }
     where
@@ -100,13 +98,13 @@ pub ruleset checked-laws = (checked-refused, checked-run)
 -- ---- the whole
 
 module _ (s l : List ℕ) (n : ℕ) (i : n ≡ min 16384 (length l)) (c : Checked) (l′ ts′ tb′ : List ℕ) where
-  pub judged-here : Admits s (take n l) (replicate notes 0) (replicate 165 0) c l′ ts′ tb′ → AdmittedBy s l′ ts′ tb′ (judge loosely s (length l)) c
+  pub judged-here : Admits s (take n l) (replicate notes 0) (replicate 264 0) c l′ ts′ tb′ → AdmittedBy s l′ ts′ tb′ (judge loosely s (length l)) c
   judged-here C =
       let k : n ≡ length (take n l) = part-long l n i in
       let v : judge loosely s (length (take n l)) ≡ judge loosely s (length l) = ap (λ m. judge loosely s m) (sym k ∙ i) ∙ judged-same loosely s (length l) in
       subst (λ (x : Verdict Read). AdmittedBy s l′ ts′ tb′ x c) v (C .says (omega arith) (zeros notes) (omega arith))
 
-  pub mark-told : (vs : List ℤ) (ms : List ℕ) (budget : ℕ) (r : MarkReport) (vs′ : List ℤ) (ms′ : List ℕ) → Admits s (take n l) (replicate notes 0) (replicate 165 0) c l′ ts′ tb′ → length l′ ≡ length (take n l)
+  pub mark-told : (vs : List ℤ) (ms : List ℕ) (budget : ℕ) (r : MarkReport) (vs′ : List ℤ) (ms′ : List ℕ) → Admits s (take n l) (replicate notes 0) (replicate 264 0) c l′ ts′ tb′ → length l′ ≡ length (take n l)
       → MarksChecked s (take n (l′ ++ drop n l)) ts′ tb′ c vs ms budget r vs′ ms′ → MarkReports (markOf s (length l) vs ms budget) r vs′ ms′
   unfolding markOf
   mark-told vs ms budget r vs′ ms′ C e R =

@@ -1,4 +1,4 @@
--- The ways through constants, `first` and `last`, `error_number`, and members.
+-- The ways through constants, `first` and `last`, `error_number`, members and arguments.
 use mathlib.Core.Path.{_≡_, refl, sym, ap, subst, _∙_}
 use mathlib.Core.Bool.{Bool, true, false, true≢false}
 use mathlib.Core.List.{List, [], _∷_}
@@ -23,8 +23,9 @@ use Rattle.leaf_words.specs.Numbers.{signed}
 use Rattle.law.specs.Base.{pick}
 use Rattle.law.specs.Calculate.{Result, is, fails, _>>=_, tested, rangeError}
 use Rattle.law.specs.Environment.{Environment}
-use Rattle.law.specs.Machine.{sole}
-use Rattle.law.specs.Marking.{typedValue, wanted}
+use Rattle.law.specs.Machine as Machine
+use Rattle.law.specs.Machine.{Store, sole}
+use Rattle.law.specs.Marking.{TypedValue, typedValue, wanted}
 use Rattle.law.specs.Types.{Types, Shape, ordinalShape, setShape, arrayShape, recordShape, infoAt, isOrdinal, hostBy, hostOf, ordinal?}
 use Rattle.code.proofs.LayoutCode.{signed-bits}
 use Rattle.law_theorems.specs.TypeTables.{Table}
@@ -38,7 +39,7 @@ use Rattle.table_scope.specs.Sides.{hostIn}
 use Rattle.table_scope.proofs.Telling.{kinded, shape-ordinal, low-told, high-told, element-told, host-in}
 use Rattle.mark_values.specs.declared.values.Carried.{Carried}
 use Rattle.mark_values.specs.Values.{carriedOf, MarkRanged, MarkMeans, Carries, Known}
-use Rattle.mark_values.specs.Steps.{endWord, Wants, Constants, Ends, Latest, Admits}
+use Rattle.mark_values.specs.Steps.{endWord, Wants, Constants, Ends, Latest, Admits, Takes}
 use Rattle.mark_values.proofs.Carrying.{broken-bind, broken-means, view-broken, view-value, means-value, carries-cell, carries-stuck}
 use Rattle.mark_values.proofs.Ruling.{simple-ordinal}
 
@@ -194,3 +195,27 @@ member-is l ts t x i h w lo hi z ei eh W el er ez fw fl fh fz = rw (toZ-ofZ fz, 
 })
 
 pub ruleset member-laws = (member-is, sfits-of)
+
+-- ---- an argument
+
+module _ (l ts : List ℕ) (t : ℕ) (x : Carried) (i : Info) (h : ℕ) (w : ℤ) (ei : i ≡ infoOf l ts t) (eh : h ≡ hostIn l ts t) (W : Wants h x w) (fw : SFits w64 w) where
+  -- its kind is met
+  met : (s : List ℕ) (scope : Scope) (σ : Environment) → Known s l ts scope σ → (m : Store) (v : Result TypedValue) → Carries (σ .types) m v x
+      → MarkMeans w ((v >>= wanted (hostOf (σ .types) t)) >>= λ u. is (sole u))
+  met s scope σ S m v X = rw (eh, host-in (S .scene) t) at (W .says (σ .types) m v X)
+
+  pub argument-ordinal : (lo hi z : ℤ) → i .shape ≡ 0 → lo ≡ signed (i .low) → hi ≡ signed (i .high) → z ≡ testedWord (wire lo) (wire hi) (wire w) → SFits w64 lo → SFits w64 hi → SFits w64 z → Takes l ts t x (wire z)
+  unfolding Machine.admitted
+  argument-ordinal lo hi z o el er ez fl fh fz = rw (toZ-ofZ fz, ez, toZ-ofZ fw, toZ-ofZ fl, toZ-ofZ fh, el, er, ei) (record {
+    says = λ s scope σ S m v X.
+        rw (low-signed S t, high-signed S t, ordinal-yes S t (sym (ap (λ (j : Info). j .shape) ei) ∙ o))
+        (tested-marks (infoAt (σ .types) t .low) (infoAt (σ .types) t .high) w (v >>= wanted (hostOf (σ .types) t)) (met s scope σ S m v X));
+  })
+
+  pub argument-set : ((i .shape ≡ 0) → ⊥) → Takes l ts t x (wire w)
+  unfolding Machine.admitted
+  argument-set o = rw (toZ-ofZ fw) (record {
+    says = λ s scope σ S m v X. rw (ordinal-no S t (λ q. o (ap (λ (j : Info). j .shape) ei ∙ q))) (met s scope σ S m v X);
+  })
+
+pub ruleset argument-laws = (argument-ordinal, argument-set, sfits-of)

@@ -11,7 +11,8 @@ use Rattle.leaf_words.specs.Numbers.{signed}
 use Rattle.law.specs.Base.{Name, pick}
 use Rattle.law.specs.Calculate.{Result, is, _>>=_, natOf, tested, rangeError}
 use Rattle.law.specs.Elaborate.{inKind}
-use Rattle.law.specs.Environment.{Environment}
+use Rattle.law.specs.Environment.{Environment, wantOf}
+use Rattle.law.specs.Machine as Machine
 use Rattle.law.specs.Machine.{Store, readCells, sole}
 use Rattle.law.specs.Marking.{TypedValue, TypedPlace, typedValue, typedPlace, typedAs, placedAs, orStuck, require, wanted}
 use Rattle.law.specs.Names.{constOf}
@@ -48,6 +49,10 @@ selected Γ n w = orStuck (fieldOf (infoAt Γ (w .type) .fields) n) λ f. is (ty
 -- a member of a set of type t
 abbrev pub admitted : Types → ℕ → List ℤ → Result ℤ
 admitted Γ t u = tested rangeError (infoAt Γ t .low) (infoAt Γ t .high) (sole u)
+
+-- an argument for a parameter of type t
+abbrev pub taken : Types → ℕ → List ℤ → Result ℤ
+taken Γ t u = Machine.admitted (wantOf Γ t) (sole u)
 
 -- the bound of a type as it is described
 unfoldable pub endWord : Bool → Info → ℤ
@@ -89,3 +94,8 @@ pub record Selects (s l ts : List ℕ) (g : Reached) (p : ℕ) (r : Reached) : T
 pub record Admits (l ts : List ℕ) (t : ℕ) (x : Carried) (r : ℤ) : Type 0 where
   pub says : (s : List ℕ) (scope : Scope) (σ : Environment) → Known s l ts scope σ → (m : Store)
       → (v : Result TypedValue) → Carries (σ .types) m v x → MarkMeans r ((v >>= wanted (baseOf (σ .types) t)) >>= λ u. admitted (σ .types) t u)
+
+-- an argument for a parameter of type t
+pub record Takes (l ts : List ℕ) (t : ℕ) (x : Carried) (r : ℤ) : Type 0 where
+  pub says : (s : List ℕ) (scope : Scope) (σ : Environment) → Known s l ts scope σ → (m : Store)
+      → (v : Result TypedValue) → Carries (σ .types) m v x → MarkMeans r ((v >>= wanted (hostOf (σ .types) t)) >>= λ u. taken (σ .types) t u)

@@ -1,17 +1,21 @@
--- The bodies' table after a body's line is written: the five numbers there, and the others as they were.
+-- The bodies' table after a body's line is written: the eight numbers there, and the others as they were.
 use mathlib.Core.Path.{_≡_, refl, sym, ap, _∙_}
-use mathlib.Core.List.{List}
+use mathlib.Core.List.{List, [], _∷_}
 use mathlib.Core.Logic.{_⊎_, inl, inr}
-use Prim.Native.Nat.{ℕ, _+_, _*_, _%_, _<_, _≤_, min}
+use Prim.Native.Nat.{ℕ, suc, _+_, _*_, _%_, _<_, _≤_, min}
 use native.Mathlib.Nat.{mod-eq-of-lt, min-eq-left, min-eq-right}
 use native.Mathlib.Omega.{arith}
-use lib.ListN.{length, getD, set, drop, length-set, drop-of-length-le}
-use lib.Seq.{getD-set-same, getD-set-other}
+use lib.ListN.{length, getD, set, drop, drop-of-length-le}
+use lib.Seq as Seq
 use Rattle.leaf_integers.proofs.Order.{le-or-lt}
+use Rattle.law.specs.Trees.{wordAt}
 use Rattle.law_theorems.specs.Readings.{ended, readBytes, stackAt, restAt}
-use Rattle.table_bodies.specs.Table.{offsetOf, countOf, newestOf, stmtsBefore, typesOf}
+use Rattle.code.proofs.LayoutRegions.{sets-at, sets-below}
+use Rattle.table_scope.specs.declared.Scope.{Scope}
+use Rattle.table_bodies.specs.Table.{offsetOf, stmtsBefore, typesOf, scopeOf}
+use Rattle.rule_parameters.specs.declared.framing.Opened.{Opened}
 use Rattle.rule_known.specs.declared.Known.{Known}
-use Rattle.rule_body_notes.specs.Noting.{offsetIn, notedFirst, notedLast, noted}
+use Rattle.rule_body_notes.specs.Noting.{offsetIn, linePlace, notedStart, notedNames, notedPairs, noted}
 
 -- ---- the offset
 
@@ -27,6 +31,10 @@ module _ (s : List ℕ) (at : ℕ) where
   pub offset-past : length s ≤ at → length s % 65536 ≡ offsetIn s at
   unfolding offsetIn
   offset-past h = let e : min at (length s) ≡ length s = min-eq-right h in rw e refl
+
+  pub offset-exact : at ≤ length s → length s ≤ 32768 → offsetIn s at ≡ at
+  unfolding offsetIn
+  offset-exact h g = let e : min at (length s) ≡ at = min-eq-left h in rw e (mod-eq-of-lt (omega arith))
 
   -- what stands there is what stands at the offset
   pub offset-stack : length s ≤ 32768 → stackAt s (offsetIn s at) ≡ stackAt s at
@@ -45,117 +53,99 @@ module _ (s : List ℕ) (at : ℕ) where
 
 pub ruleset offset-laws = (offset-low, offset-past)
 
-module _ (s : List ℕ) (kn : Known) (at : ℕ) (tb : List ℕ) where
-  pub first-noted : (n : ℕ) (t u v : List ℕ) → n ≡ offsetIn s at → t ≡ set tb (5 * (kn .state .procs % 64)) n → u ≡ set t (5 * (kn .state .procs % 64) + 1) (kn .state .scope .count)
-      → v ≡ set u (5 * (kn .state .procs % 64) + 2) (kn .state .scope .newest) → v ≡ notedFirst s kn at tb
-  unfolding notedFirst
-  first-noted n t u v e f g h = h ∙ rw (g, f, e) refl
+module _ (s : List ℕ) (kn : Known) (tb : List ℕ) where
+  pub start-noted : (at p n : ℕ) (t u v : List ℕ) → p ≡ linePlace kn → n ≡ offsetIn s at → t ≡ set tb p n → u ≡ set t (p + 1) (kn .stmts) → v ≡ set u (p + 2) (kn .state .types)
+      → v ≡ notedStart s kn at tb
+  unfolding notedStart
+  start-noted at p n t u v q e f g h = h ∙ rw (g, f, e, q) refl
 
-  pub last-noted : (t u : List ℕ) → t ≡ set tb (5 * (kn .state .procs % 64) + 3) (kn .stmts) → u ≡ set t (5 * (kn .state .procs % 64) + 4) (kn .state .types) → u ≡ notedLast kn tb
-  unfolding notedLast
-  last-noted t u f g = g ∙ rw f refl
+  pub names-noted : (x : Scope) (p : ℕ) (t u : List ℕ) → p ≡ linePlace kn → t ≡ set tb (p + 3) (x .count) → u ≡ set t (p + 4) (x .newest) → u ≡ notedNames kn x tb
+  unfolding notedNames
+  names-noted x p t u q f g = g ∙ rw (f, q) refl
 
-  pub body-noted : (t u : List ℕ) → t ≡ notedFirst s kn at tb → u ≡ notedLast kn t → u ≡ noted s kn at tb
+  pub pairs-noted : (x : Scope) (p n : ℕ) (t u v : List ℕ) → p ≡ linePlace kn → n ≡ offsetIn s (x .pairs) → t ≡ set tb (p + 5) n → u ≡ set t (p + 6) (x .vars) → v ≡ set u (p + 7) (x .parameters)
+      → v ≡ notedPairs s kn x tb
+  unfolding notedPairs
+  pairs-noted x p n t u v q e f g h = h ∙ rw (g, f, e, q) refl
+
+  pub body-noted : (o : Opened) (t u v : List ℕ) → t ≡ notedStart s kn (o .at) tb → u ≡ notedNames kn (o .scope) t → v ≡ notedPairs s kn (o .scope) u → v ≡ noted s kn o tb
   unfolding noted
-  body-noted t u f g = g ∙ rw f refl
+  body-noted o t u v f g h = h ∙ rw (g, f) refl
 
 -- ---- the table
 
 -- body q has the same line in both
 pub record SameLine (tb tb′ : List ℕ) (q : ℕ) : Type 0 where
   pub offset-is : offsetOf tb′ q ≡ offsetOf tb q
-  pub count-is : countOf tb′ q ≡ countOf tb q
-  pub newest-is : newestOf tb′ q ≡ newestOf tb q
   pub stmts-are : stmtsBefore tb′ q ≡ stmtsBefore tb q
   pub types-are : typesOf tb′ q ≡ typesOf tb q
+  pub scope-is : scopeOf tb′ q ≡ scopeOf tb q
 
 pub same-line : (tb : List ℕ) (q : ℕ) → SameLine tb tb q
-same-line tb q = record { offset-is = refl; count-is = refl; newest-is = refl; stmts-are = refl; types-are = refl }
+same-line tb q = record { offset-is = refl; stmts-are = refl; types-are = refl; scope-is = refl }
 
-module _ (p a b c d e : ℕ) (tb : List ℕ) where
-  -- five numbers from p on
-  unfoldable five : List ℕ
-  five = set (set (set (set (set tb p a) (p + 1) b) (p + 2) c) (p + 3) d) (p + 4) e
+-- numbers one after another
+module _ (p : ℕ) where
+  second : p + 1 ≡ suc p
+  second = omega arith
 
-  long-five : length five ≡ length tb
-  unfolding five
-  long-five = rw (length-set, length-set, length-set, length-set, length-set) refl
+  third : p + 2 ≡ suc (suc p)
+  third = omega arith
 
-  other : (i : ℕ) → ((i ≡ p) → ⊥) → ((i ≡ p + 1) → ⊥) → ((i ≡ p + 2) → ⊥) → ((i ≡ p + 3) → ⊥) → ((i ≡ p + 4) → ⊥) → getD five i 0 ≡ getD tb i 0
-  unfolding five
-  other i z o w t f =
-      getD-set-other (set (set (set (set tb p a) (p + 1) b) (p + 2) c) (p + 3) d) (p + 4) i e 0 f ∙ getD-set-other (set (set (set tb p a) (p + 1) b) (p + 2) c) (p + 3) i d 0 t ∙ getD-set-other (set (set tb p a) (p + 1) b) (p + 2) i c 0 w ∙ getD-set-other (set tb p a) (p + 1) i b 0 o ∙ getD-set-other tb p i a 0 z
+  fourth : p + 3 ≡ suc (suc (suc p))
+  fourth = omega arith
 
-  module _ (h : p + 4 < length tb) where
-    at-0 : getD five p 0 ≡ a
-    unfolding five
-    at-0 =
-        getD-set-other (set (set (set (set tb p a) (p + 1) b) (p + 2) c) (p + 3) d) (p + 4) p e 0 (λ z. absurd (omega (arith, z))) ∙ getD-set-other (set (set (set tb p a) (p + 1) b) (p + 2) c) (p + 3) p d 0 (λ z. absurd (omega (arith, z))) ∙ getD-set-other (set (set tb p a) (p + 1) b) (p + 2) p c 0 (λ z. absurd (omega (arith, z)))
-        ∙ getD-set-other (set tb p a) (p + 1) p b 0 (λ z. absurd (omega (arith, z))) ∙ getD-set-same tb p a 0 (omega arith)
+  fifth : p + 4 ≡ suc (suc (suc (suc p)))
+  fifth = omega arith
 
-    at-1 : getD five (p + 1) 0 ≡ b
-    unfolding five
-    at-1 =
-        getD-set-other (set (set (set (set tb p a) (p + 1) b) (p + 2) c) (p + 3) d) (p + 4) (p + 1) e 0 (λ z. absurd (omega (arith, z))) ∙ getD-set-other (set (set (set tb p a) (p + 1) b) (p + 2) c) (p + 3) (p + 1) d 0 (λ z. absurd (omega (arith, z))) ∙ getD-set-other (set (set tb p a) (p + 1) b) (p + 2) (p + 1) c 0 (λ z. absurd (omega (arith, z)))
-        ∙ getD-set-same (set tb p a) (p + 1) b 0 (rw length-set (omega arith))
+  sixth : p + 5 ≡ suc (suc (suc (suc (suc p))))
+  sixth = omega arith
 
-    at-2 : getD five (p + 2) 0 ≡ c
-    unfolding five
-    at-2 =
-        getD-set-other (set (set (set (set tb p a) (p + 1) b) (p + 2) c) (p + 3) d) (p + 4) (p + 2) e 0 (λ z. absurd (omega (arith, z))) ∙ getD-set-other (set (set (set tb p a) (p + 1) b) (p + 2) c) (p + 3) (p + 2) d 0 (λ z. absurd (omega (arith, z)))
-        ∙ getD-set-same (set (set tb p a) (p + 1) b) (p + 2) c 0 (rw (length-set, length-set) (omega arith))
+  seventh : p + 6 ≡ suc (suc (suc (suc (suc (suc p)))))
+  seventh = omega arith
 
-    at-3 : getD five (p + 3) 0 ≡ d
-    unfolding five
-    at-3 =
-        getD-set-other (set (set (set (set tb p a) (p + 1) b) (p + 2) c) (p + 3) d) (p + 4) (p + 3) e 0 (λ z. absurd (omega (arith, z)))
-        ∙ getD-set-same (set (set (set tb p a) (p + 1) b) (p + 2) c) (p + 3) d 0 (rw (length-set, length-set, length-set) (omega arith))
-
-    at-4 : getD five (p + 4) 0 ≡ e
-    unfolding five
-    at-4 = getD-set-same (set (set (set (set tb p a) (p + 1) b) (p + 2) c) (p + 3) d) (p + 4) e 0 (rw (length-set, length-set, length-set, length-set) (omega arith))
+  eighth : p + 7 ≡ suc (suc (suc (suc (suc (suc (suc p))))))
+  eighth = omega arith
 
 -- the line of body q, which is the next
-module _ (s : List ℕ) (kn : Known) (at : ℕ) (tb : List ℕ) where
-  noted-five : noted s kn at tb ≡ five (5 * (kn .state .procs % 64)) (offsetIn s at) (kn .state .scope .count) (kn .state .scope .newest) (kn .stmts) (kn .state .types) tb
-  unfolding noted notedFirst notedLast five
-  noted-five = refl
+module _ (s : List ℕ) (kn : Known) (o : Opened) (tb : List ℕ) where
+  abbrev line : List ℕ
+  line = offsetIn s (o .at) ∷ kn .stmts ∷ kn .state .types ∷ o .scope .count ∷ o .scope .newest ∷ offsetIn s (o .scope .pairs) ∷ o .scope .vars ∷ o .scope .parameters ∷ []
 
-  pub noted-long : length (noted s kn at tb) ≡ length tb
-  noted-long = rw noted-five (long-five (5 * (kn .state .procs % 64)) (offsetIn s at) (kn .state .scope .count) (kn .state .scope .newest) (kn .stmts) (kn .state .types) tb)
+  noted-line : noted s kn o tb ≡ Seq.sets tb (linePlace kn) line
+  unfolding noted notedStart notedNames notedPairs
+  noted-line = rw (second (linePlace kn), third (linePlace kn), fourth (linePlace kn), fifth (linePlace kn), sixth (linePlace kn), seventh (linePlace kn), eighth (linePlace kn)) refl
 
-  module _ (q : ℕ) (here : kn .state .procs ≡ q) (few : q ≤ 32) (long : 165 ≤ length tb) where
-    noted-here : noted s kn at tb ≡ five (5 * q) (offsetIn s at) (kn .state .scope .count) (kn .state .scope .newest) (kn .stmts) (kn .state .types) tb
-    noted-here = let e : kn .state .procs % 64 ≡ q = ap (λ (n : ℕ). n % 64) here ∙ mod-eq-of-lt (omega arith) in noted-five ∙ rw e refl
+  pub noted-long : length (noted s kn o tb) ≡ length tb
+  noted-long = ap (λ (t : List ℕ). length t) noted-line ∙ Seq.length-sets tb (linePlace kn) line
 
-    inside : 5 * q + 4 < length tb
-    inside = omega arith
+  module _ (q : ℕ) (here : kn .state .procs ≡ q) (few : q ≤ 32) (long : 264 ≤ length tb) where
+    noted-here : noted s kn o tb ≡ Seq.sets tb (8 * q) line
+    noted-here = let e : kn .state .procs % 64 ≡ q = ap (λ (n : ℕ). n % 64) here ∙ mod-eq-of-lt (omega arith) in noted-line ∙ ap (λ (n : ℕ). Seq.sets tb (8 * n) line) e
 
-    pub noted-offset : offsetOf (noted s kn at tb) q ≡ offsetIn s at
-    noted-offset = rw noted-here (at-0 (5 * q) (offsetIn s at) (kn .state .scope .count) (kn .state .scope .newest) (kn .stmts) (kn .state .types) tb inside)
+    number : (i : ℕ) → i < 8 → getD (noted s kn o tb) (8 * q + i) 0 ≡ getD line i 0
+    number i h = ap (λ (t : List ℕ). getD t (8 * q + i) 0) noted-here ∙ sets-at line tb (8 * q) i (omega arith) h
 
-    pub noted-count : countOf (noted s kn at tb) q ≡ kn .state .scope .count
-    noted-count = rw noted-here (at-1 (5 * q) (offsetIn s at) (kn .state .scope .count) (kn .state .scope .newest) (kn .stmts) (kn .state .types) tb inside)
+    pub noted-offset : offsetOf (noted s kn o tb) q ≡ offsetIn s (o .at)
+    noted-offset = ap (λ (i : ℕ). getD (noted s kn o tb) i 0) (omega arith) ∙ number 0 (omega arith)
 
-    pub noted-newest : newestOf (noted s kn at tb) q ≡ kn .state .scope .newest
-    noted-newest = rw noted-here (at-2 (5 * q) (offsetIn s at) (kn .state .scope .count) (kn .state .scope .newest) (kn .stmts) (kn .state .types) tb inside)
+    pub noted-stmts : stmtsBefore (noted s kn o tb) q ≡ kn .stmts
+    noted-stmts = number 1 (omega arith)
 
-    pub noted-stmts : stmtsBefore (noted s kn at tb) q ≡ kn .stmts
-    noted-stmts = rw noted-here (at-3 (5 * q) (offsetIn s at) (kn .state .scope .count) (kn .state .scope .newest) (kn .stmts) (kn .state .types) tb inside)
+    pub noted-types : typesOf (noted s kn o tb) q ≡ kn .state .types
+    noted-types = number 2 (omega arith)
 
-    pub noted-types : typesOf (noted s kn at tb) q ≡ kn .state .types
-    noted-types = rw noted-here (at-4 (5 * q) (offsetIn s at) (kn .state .scope .count) (kn .state .scope .newest) (kn .stmts) (kn .state .types) tb inside)
+    pub noted-scope : o .scope .pairs ≤ length s → length s ≤ 32768 → scopeOf (noted s kn o tb) q ≡ o .scope
+    noted-scope h g = rw (number 3 (omega arith), number 4 (omega arith), number 5 (omega arith), number 6 (omega arith), number 7 (omega arith), offset-exact s (o .scope .pairs) h g) refl
 
-    elsewhere : (i : ℕ) → i < 5 * q → getD (noted s kn at tb) i 0 ≡ getD tb i 0
-    elsewhere i h = rw noted-here (other (5 * q) (offsetIn s at) (kn .state .scope .count) (kn .state .scope .newest) (kn .stmts) (kn .state .types) tb i
-        (λ z. absurd (omega (arith, z))) (λ z. absurd (omega (arith, z))) (λ z. absurd (omega (arith, z))) (λ z. absurd (omega (arith, z))) (λ z. absurd (omega (arith, z))))
+    elsewhere : (i : ℕ) → i < 8 * q → getD (noted s kn o tb) i 0 ≡ getD tb i 0
+    elsewhere i h = ap (λ (t : List ℕ). getD t i 0) noted-here ∙ sets-below line tb (8 * q) i h
 
     -- the bodies before have theirs
-    pub noted-before : (r : ℕ) → r < q → SameLine tb (noted s kn at tb) r
+    pub noted-before : (r : ℕ) → r < q → SameLine tb (noted s kn o tb) r
     noted-before r h = record {
-      offset-is = elsewhere (5 * r) (omega arith);
-      count-is = elsewhere (5 * r + 1) (omega arith);
-      newest-is = elsewhere (5 * r + 2) (omega arith);
-      stmts-are = elsewhere (5 * r + 3) (omega arith);
-      types-are = elsewhere (5 * r + 4) (omega arith);
+      offset-is = elsewhere (8 * r) (omega arith);
+      stmts-are = elsewhere (8 * r + 1) (omega arith);
+      types-are = elsewhere (8 * r + 2) (omega arith);
+      scope-is = rw (elsewhere (8 * r + 3) (omega arith), elsewhere (8 * r + 4) (omega arith), elsewhere (8 * r + 5) (omega arith), elsewhere (8 * r + 6) (omega arith), elsewhere (8 * r + 7) (omega arith)) refl;
     }

@@ -1,9 +1,11 @@
 // A body's line in the bodies' table (`table_bodies`), as the judge of the marking machine writes it.
 use rule_known::Known;
+use rule_parameters::framing::Opened;
 use table_bodies::LINE_LENGTH;
 use table_list::put;
+use table_scope::Scope;
 ghost use mathlib.Core.Path.{_≡_};
-ghost use Rattle.rule_body_notes.specs.Noting.{offsetIn, notedFirst, notedLast, noted};
+ghost use Rattle.rule_body_notes.specs.Noting.{offsetIn, linePlace, notedStart, notedNames, notedPairs, noted};
 
 // An offset is taken modulo this, which is more than any.
 const OFFSETS: usize = 65536;
@@ -21,31 +23,49 @@ fn offset_in(text: &[u8], at: usize) -> u32
     (text.len() % OFFSETS) as u32
 }
 
-// Writes the first three numbers of the next body, whose parts begin at an offset.
-fn note_first(text: &[u8], bodies: &mut [u32], kn: Known, at: usize)
-    ensures { λ _. ⌜ now (bodies .exit) ≡ notedFirst (now (text .entry)) kn at (now (bodies .entry)) ⌝ }
+// The place of the next body's line.
+fn line_place(kn: Known) -> usize
+    ensures { λ r. ⌜ r ≡ linePlace kn ⌝ }
 {
     let st = kn.state;
-    let p = LINE_LENGTH * (st.procs % BODIES) as usize;
+    LINE_LENGTH * (st.procs % BODIES) as usize
+}
+
+// Writes where the next body's parts begin, the number of the last statement before them, and how many types it sees.
+fn note_start(text: &[u8], bodies: &mut [u32], kn: Known, at: usize)
+    ensures { λ _. ⌜ now (bodies .exit) ≡ notedStart (now (text .entry)) kn at (now (bodies .entry)) ⌝ }
+{
+    let st = kn.state;
+    let p = line_place(kn);
     put(bodies, p, offset_in(text, at));
-    put(bodies, p + 1, st.scope.count);
-    put(bodies, p + 2, st.scope.newest);
+    put(bodies, p + 1, kn.stmts);
+    put(bodies, p + 2, st.types);
 }
 
-// Writes the other two.
-fn note_last(bodies: &mut [u32], kn: Known)
-    ensures { λ _. ⌜ now (bodies .exit) ≡ notedLast kn (now (bodies .entry)) ⌝ }
+// Writes which names it knows.
+fn note_names(bodies: &mut [u32], kn: Known, scope: Scope)
+    ensures { λ _. ⌜ now (bodies .exit) ≡ notedNames kn scope (now (bodies .entry)) ⌝ }
 {
-    let st = kn.state;
-    let p = LINE_LENGTH * (st.procs % BODIES) as usize;
-    put(bodies, p + 3, kn.stmts);
-    put(bodies, p + 4, st.types);
+    let p = line_place(kn);
+    put(bodies, p + 3, scope.count);
+    put(bodies, p + 4, scope.newest);
 }
 
-// Writes the line of the next body, whose parts begin at an offset.
-pub fn note_body(text: &[u8], bodies: &mut [u32], kn: Known, at: usize)
-    ensures { λ _. ⌜ now (bodies .exit) ≡ noted (now (text .entry)) kn at (now (bodies .entry)) ⌝ }
+// Writes where the pairs of its parameters begin, and how many variables and parameters are before them.
+fn note_pairs(text: &[u8], bodies: &mut [u32], kn: Known, scope: Scope)
+    ensures { λ _. ⌜ now (bodies .exit) ≡ notedPairs (now (text .entry)) kn scope (now (bodies .entry)) ⌝ }
 {
-    note_first(text, bodies, kn, at);
-    note_last(bodies, kn);
+    let p = line_place(kn);
+    put(bodies, p + 5, offset_in(text, scope.pairs));
+    put(bodies, p + 6, scope.vars);
+    put(bodies, p + 7, scope.parameters);
+}
+
+// Writes the line of the next body, which begins so.
+pub fn note_body(text: &[u8], bodies: &mut [u32], kn: Known, o: Opened)
+    ensures { λ _. ⌜ now (bodies .exit) ≡ noted (now (text .entry)) kn o (now (bodies .entry)) ⌝ }
+{
+    note_start(text, bodies, kn, o.at);
+    note_names(bodies, kn, o.scope);
+    note_pairs(text, bodies, kn, o.scope);
 }

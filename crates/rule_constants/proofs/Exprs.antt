@@ -161,7 +161,7 @@ module _ (σ : Environment) (T : Table (σ .types)) (m : ℕ) (F : AllFair (σ .
   unfolding plainExpr
   name-expr w (aType t) e h k = none-some k
   name-expr w (aVar i) e h k = rw (← some-inj k) refl
-  name-expr w (aProc p) e h k = none-some k
+  name-expr w (aProc p ts) e h k = none-some k
   name-expr w (aValue c) e h k = rw (← some-inj k) (value-plain w c h)
 
   atom-plain : (a : Atom) (n : Name) (x : Syntax.Expr) (e : Script.Expr) → ((z : ℤ) → a ≡ AT.Number z → inside least most z ≡ true) → atomExpr a n ≡ some x → exprOf σ x ≡ some e → plainExpr e ≡ true
@@ -349,7 +349,7 @@ module _ (σ : Environment) (T : Table (σ .types)) (m : ℕ) (F : AllFair (σ .
   named-plain : (n : Name) (s : NameSort) (x : Const) → find (σ .names) n ≡ some s → asValue s ≡ some x → plain x ≡ true
   named-plain n (aType t) x f g = none-some g
   named-plain n (aVar i) x f g = none-some g
-  named-plain n (aProc p) x f g = none-some g
+  named-plain n (aProc p ts) x f g = none-some g
   named-plain n (aValue y) x f g = rw (← some-inj g) (value-plain n y f)
 
   word-plain : (a : Atom) (n : Name) (c : Constant) (x : Const) → ((z : ℤ) → a ≡ AT.Number z → inside least most z ≡ true) → atomConstant a n ≡ some c → constantOf σ c ≡ some x → plain x ≡ true

@@ -6,7 +6,7 @@ use native.Mathlib.Omega.{arith}
 use borrow.Author.Tests.{ne-eqb}
 use Rattle.leaf_bytes.specs.Bytes.{small}
 use Rattle.law.specs.Base.{Name}
-use Rattle.law.specs.Environment.{Environment, NameSort, environment}
+use Rattle.law.specs.Environment.{Declared, Environment, NameSort}
 use Rattle.code.specs.Layout.{lay}
 use Rattle.law.specs.Trees.{wordAt}
 use Rattle.law.specs.Types.{variable}
@@ -18,8 +18,9 @@ use Rattle.table_names.proofs.Chained.{Added, added, entries-kept, names-kept, 
 use Rattle.table_names.specs.Chained.{Names, no-names, one-name, Below}
 use Rattle.table_scope.specs.declared.Scope.{Scope}
 use Rattle.table_scope.specs.declared.Meaning.{Meaning}
-use Rattle.rule_declarations.specs.State.{scoped}
-use Rattle.table_scope.specs.Scene.{meaningBy, meaningAt, Means, Meant, Scene}
+use Rattle.rule_declarations.specs.State.{scoped, Holds}
+use Rattle.rule_declarations.specs.declared.State.{State}
+use Rattle.table_scope.specs.Scene.{meaningBy, meaningAt, Means, Meant}
 
 -- ---- names
 
@@ -28,8 +29,8 @@ pub record Chained (s l : List ℕ) (scope : Scope) (top : ℕ) (σ : Environmen
   pub names : Names s l (Meant σ bs l) (entries (scope .count) l (scope .newest)) ns
   pub below : Below l top (scope .count) (scope .newest)
 
-pub scene-chained : {s l ts : List ℕ} {scope : Scope} {top : ℕ} {σ : Environment} {bs : List ℕ} → Scene s l ts scope top σ bs → Chained s l scope top σ bs (σ .names)
-scene-chained S = record { names = S .names; below = S .below }
+pub holds-chained : {s l ts : List ℕ} {st : State} {k : Declared} {bs : List ℕ} → Holds s l ts st k bs → Chained s l (st .scope) (st .top) (k .env) bs (k .env .names)
+holds-chained H = record { names = H .names; below = H .scene .below }
 
 names-mapped : {A : Type 0} {s l : List ℕ} {R R′ : ℕ → A → Type 0} → ((p : ℕ) (a : A) → R p a → R′ p a) → {ps : List ℕ} {ns : List (Name × A)} → Names s l R ps ns → Names s l R′ ps ns
 names-mapped k no-names = no-names

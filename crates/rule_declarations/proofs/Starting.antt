@@ -16,6 +16,7 @@ use Rattle.law_theorems.proofs.TypeTables.{started}
 use Rattle.table_names.specs.Chain.{entries}
 use Rattle.table_names.specs.Chained.{no-names, no-entry}
 use Rattle.table_scope.specs.Descriptions.{shapeNumber, integerInfo, booleanInfo, noInfo, infoOf, fieldsAt, Tells, EndsBelow}
+use Rattle.table_scope.proofs.Within.{chain-told}
 use Rattle.rule_declarations.specs.State.{notes, scoped, Holds, startState}
 
 none-there : (ts l : List ℕ) → ((i : ℕ) → getD ts i 0 ≡ 0) → (k : ℕ) → infoOf l ts (suc (suc k)) ≡ noInfo
@@ -44,7 +45,7 @@ size-start zero = omega arith
 size-start (suc zero) = omega arith
 size-start (suc (suc t)) = omega arith
 
-pub start-is : record { scope = scoped 0 0; top = 1; types = 2; lines = 0; vars = 0; cells = 0; procs = 0 } ≡ startState
+pub start-is : record { scope = scoped 0 0; top = 1; types = 2; lines = 0; vars = 0; cells = 0; procs = 0; parameters = 0 } ≡ startState
 unfolding startState
 start-is = refl
 
@@ -52,7 +53,7 @@ pub holds-start : (s l ts : List ℕ) → length s ≤ 32768 → 16384 ≤ lengt
 unfolding entries find startState
 holds-start s l ts a b c h = record {
   scene = record {
-    names = no-names;
+    names = chain-told (scoped 0 0) refl no-names;
     below = no-entry;
     types = tells-start s l ts h;
     described = ends-start l ts h;
@@ -62,18 +63,23 @@ holds-start s l ts a b c h = record {
     cells = λ i v g. none-some g;
     above = λ w c g. none-some g;
     once = λ v w c g _. none-some g;
+    frames = λ w q us g. none-some g;
   };
+  names = no-names;
+  plain = refl;
   keeps = keeps-start;
   types-are = refl;
   lines-are = refl;
   vars-are = refl;
   cells-are = refl;
   procs-are = refl;
+  parameters-are = refl;
   bodies-are = refl;
   few-types = omega arith;
   few-lines = omega arith;
   few-vars = omega arith;
   few-cells = omega arith;
+  few-parameters = omega arith;
   small-types = size-start;
   few-names = omega arith;
   start = omega arith;

@@ -11,8 +11,8 @@ use lib.Dec.{leb}
 use lib.ListN.{length, length-append}
 use Rattle.leaf_bytes.specs.Bytes.{small, same}
 use Rattle.law.specs.Base.{Name, _>>=_, find, given}
-use Rattle.law.specs.Ceilings.{lineBounded}
-use Rattle.law.specs.Environment.{Declared, Environment, NameSort, aVar, aValue, declareLine}
+use Rattle.law.specs.Ceilings.{cellsIn, lineBounded, variablesIn}
+use Rattle.law.specs.Environment.{Declared, Environment, NameSort, aProc, aVar, aValue, declareLine}
 use Rattle.law.specs.Forms.{free, typeName, lineBy, isVar}
 use Rattle.code.specs.Layout.{lay}
 use Rattle.code.specs.LayoutSize.{symbolSize}
@@ -42,6 +42,7 @@ use Rattle.table_scope.specs.declared.Meaning.{Meaning}
 use Rattle.table_scope.specs.Descriptions.{infoOf}
 use Rattle.table_scope.specs.Scene.{Scene, Means, a-type, a-var, a-proc, a-value, meaningBy, Told, unknown as unmeant, known, meaningHere}
 use Rattle.table_scope.proofs.Kept.{scene-kept}
+use Rattle.table_scope.proofs.Within.{chain-told, find-other}
 use Rattle.table_scope.proofs.Telling.{meant, size-told}
 use Rattle.rule_faults.specs.Got.{isClear, lowest, faultOf}
 use Rattle.text_heads.specs.Parts.{partOf, rest, closed, nameIn, typeNameIn}
@@ -52,12 +53,12 @@ use Rattle.rule_atoms.proofs.Telling.{fits-inj, wrong-fits, unnamed-fits, unfit
 use Rattle.rule_declarations.specs.State.{scoped, Holds, withNames, withVar}
 use Rattle.rule_declarations.specs.Names.{newFault, lastType, GivesLastType, GivesName}
 use Rattle.rule_declarations.specs.Lines.{lineOf, entryStaged, newly, linedBy, LineTold, GivesLine}
-use Rattle.rule_declarations.specs.Vars.{varAfter, varFits, varEntry, varState, AddsVar, var-fits, var-past, GivesVar}
+use Rattle.rule_declarations.specs.Vars.{varAfter, varsHeld, cellsHeld, varsFit, varEntry, varState, AddsVar, var-fits, var-past, GivesVar}
 use Rattle.rule_declarations.specs.declared.State.{State}
 use Rattle.rule_declarations.specs.declared.Lined.{Lined}
 use Rattle.rule_declarations.specs.declared.Naming.{Naming}
 use Rattle.rule_declarations.specs.declared.Naming.the-variants as naming
-use Rattle.rule_declarations.proofs.Growing.{Chained, scene-chained, chained-env, chained-more, laid-same}
+use Rattle.rule_declarations.proofs.Growing.{Chained, holds-chained, chained-env, chained-more, laid-same}
 
 -- ---- the parts
 
@@ -231,15 +232,27 @@ var-means σ bs i kind base l h =
 
 -- a name that is no value leaves values their names
 pub value-find : (w v : Name) (m : NameSort) (ns : List (Name × NameSort)) (c : Const) → ((c : Const) → m ≡ aValue c → ⊥) → find ((w, m) ∷ ns) v ≡ some (aValue c) → find ns v ≡ some (aValue c)
-unfolding find
-value-find w v m ns c n h = go (same w v) h
-  where
-    go : (b : Bool) → elim b [ true ↦ some m | false ↦ find ns v ] ≡ some (aValue c) → find ns v ≡ some (aValue c)
-    go true e = absurd (n c (some-inj e))
-    go false e = e
+value-find w v m ns c n h = find-other w v m (aValue c) ns (n c) h
+
+-- and one that is no procedure leaves procedures theirs
+var-proc : (i q : ℕ) (us : List ℕ) → aVar i ≡ aProc q us → ⊥
+var-proc i q us h = let z : _≡_ {A = ℕ} 0 1 = cc in omega arith
 
 var-value : (i : ℕ) (c : Const) → aVar i ≡ aValue c → ⊥
 var-value i c h = let z : _≡_ {A = ℕ} 0 1 = cc in omega arith
+
+module _ {s l ts : List ℕ} {st : State} {k : Declared} {bs : List ℕ} (H : Holds s l ts st k bs) where
+  pub vars-held : varsHeld st ≡ variablesIn k
+  vars-held =
+      let a : st .vars % 256 ≡ st .vars = mod-eq-of-lt (omega (arith, H .few-vars)) in
+      let b : st .parameters % 256 ≡ st .parameters = mod-eq-of-lt (omega (arith, H .few-parameters)) in
+      rw (a, b, H .vars-are, H .parameters-are) refl
+
+  pub cells-held : cellsHeld st ≡ cellsIn k
+  cells-held =
+      let a : st .cells % 4096 ≡ st .cells = mod-eq-of-lt (omega (arith, H .few-cells)) in
+      let b : st .parameters % 256 ≡ st .parameters = mod-eq-of-lt (omega (arith, H .few-parameters)) in
+      rw (a, b, H .cells-are, H .parameters-are) refl
 
 module _ {s l ts : List ℕ} {st : State} {k : Declared} {bs : List ℕ} (H : Holds s l ts st k bs) (p kind : ℕ) (hp : p < length s) where
   abbrev wp : Name
@@ -252,11 +265,11 @@ module _ {s l ts : List ℕ} {st : State} {k : Declared} {bs : List ℕ} (H : Ho
   lp = lay (varEntry st (keyed s p) kind) (st .top) l .list
 
   -- row 9
-  var-bounded : varFits (st .vars) (st .cells) size ≡ lineBounded k (newVar wp kind)
-  unfolding varFits lineBounded
+  var-bounded : varsFit st 1 size ≡ lineBounded k (newVar wp kind)
+  unfolding varsFit lineBounded
   var-bounded =
-      let e : length (k .env .vars) + 1 ≡ suc (length (k .env .vars)) = omega arith in
-      rw (H .vars-are, H .cells-are, size-told (H .scene) kind, e) refl
+      let e : varsHeld st + 1 ≡ suc (variablesIn k) = omega (arith, vars-held H) in
+      rw (e, cells-held H, size-told (H .scene) kind) refl
 
   module _ (f : LineForm) (e : entryOf (k .env) f ≡ some (newVar wp kind)) (b : lineBounded k (newVar wp kind) ≡ true) (room : st .top + 4 ≤ 16384) (sn nn : ℕ) where
     abbrev k′ : Declared
@@ -268,11 +281,11 @@ module _ {s l ts : List ℕ} {st : State} {k : Declared} {bs : List ℕ} (H : Ho
 
     var-low : st .vars < 128
     unfolding lineBounded
-    var-low = let x = leb-true (suc (length (k .env .vars))) 128 (and-true (leb (suc (length (k .env .vars))) 128) (leb (length (k .cells) + sizeOf (k .env .types) kind) 2048) b .0) in omega (arith, H .vars-are)
+    var-low = let x = leb-true (suc (variablesIn k)) 128 (and-true (leb (suc (variablesIn k)) 128) (leb (cellsIn k + sizeOf (k .env .types) kind) 2048) b .0) in omega (arith, H .vars-are)
 
     cells-low : length (k .cells) + sizeOf (k .env .types) kind ≤ 2048
     unfolding lineBounded
-    cells-low = leb-true (length (k .cells) + sizeOf (k .env .types) kind) 2048 (and-true (leb (suc (length (k .env .vars))) 128) (leb (length (k .cells) + sizeOf (k .env .types) kind) 2048) b .1)
+    cells-low = let x = leb-true (cellsIn k + sizeOf (k .env .types) kind) 2048 (and-true (leb (suc (variablesIn k)) 128) (leb (cellsIn k + sizeOf (k .env .types) kind) 2048) b .1) in omega arith
 
     kind-low : kind < 128
     unfolding declareLine
@@ -298,7 +311,7 @@ module _ {s l ts : List ℕ} {st : State} {k : Declared} {bs : List ℕ} (H : Ho
     unfolding declareLine
     var-chained = subst (λ (ns : List ℕ). Chained s (lay ns (st .top) l .list) (scoped (suc (st .scope .count)) (st .top)) (st .top + 4) (k′ .env) bs ((wp, aVar (length (k .env .vars))) ∷ k .env .names)) (sym entry-is) (chained-more p (1 + 4 * length (k .env .vars)) (kind + 128 * length (k .cells)) (aVar (length (k .env .vars))) (omega (arith, H .short-text)) var-room
         (var-means (k′ .env) bs (length (k .env .vars)) kind (length (k .cells)) kind-low (var-last (k .env .vars) (record { type = kind; base = length (k .cells) })))
-        (chained-env {σ′ = k′ .env} (means-old (record { type = kind; base = length (k .cells) }) refl) (scene-chained (H .scene))))
+        (chained-env {σ′ = k′ .env} (means-old (record { type = kind; base = length (k .cells) }) refl) (holds-chained H)))
 
     var-same : Same 0 (st .top) lp l
     var-same = laid-same (varEntry st (keyed s p) kind) (st .top) l lp refl
@@ -308,18 +321,19 @@ module _ {s l ts : List ℕ} {st : State} {k : Declared} {bs : List ℕ} (H : Ho
     var-scene =
         let K = scene-kept {top′ = st .top + 4} (H .scene) var-same (omega arith) in
         record {
-          names = var-chained .names;
+          names = chain-told (scoped (suc (st .scope .count)) (st .top)) refl (var-chained .names);
           below = var-chained .below;
           types = K .types;
           described = K .described;
           table = K .table;
           fair = rw (H .bodies-are) (var-keeps .names);
           fieldless = K .fieldless;
-          cells = keeps-cells k′ var-keeps (rw length-append (omega (arith, H .cells-are, cells-low)));
+          cells = keeps-cells k′ var-keeps;
           above = λ v c g. K .above v c (value-find wp v (aVar (length (k .env .vars))) (k .env .names) c (var-value (length (k .env .vars))) g);
           once = λ v w c g h. K .once v w c
               (value-find wp v (aVar (length (k .env .vars))) (k .env .names) c (var-value (length (k .env .vars))) g)
               (value-find wp w (aVar (length (k .env .vars))) (k .env .names) c (var-value (length (k .env .vars))) h);
+          frames = λ w q us g. K .frames w q us (find-other wp w (aVar (length (k .env .vars))) (aProc q us) (k .env .names) (var-proc (length (k .env .vars)) q us) g);
         }
 
     pub var-holds : Holds s lp ts (varState st size (lay (varEntry st (keyed s p) kind) (st .top) l .top)) k′ bs
@@ -332,17 +346,21 @@ module _ {s l ts : List ℕ} {st : State} {k : Declared} {bs : List ℕ} (H : Ho
         let y : size % 4096 ≡ sizeOf (k .env .types) kind = ap (λ n. n % 4096) (size-told (H .scene) kind) ∙ mod-eq-of-lt (omega (arith, cells-low)) in
         record {
           scene = rw (c, top-is) var-scene;
+          names = rw c (var-chained .names);
+          plain = refl;
           keeps = var-keeps;
           types-are = H .types-are;
           lines-are = H .lines-are;
           vars-are = rw (v, length-append) (omega (arith, H .vars-are));
           cells-are = rw (z, y, length-append) (omega (arith, H .cells-are));
           procs-are = H .procs-are;
+          parameters-are = H .parameters-are;
           bodies-are = H .bodies-are;
           few-types = H .few-types;
           few-lines = H .few-lines;
           few-vars = rw v (omega (arith, var-low));
           few-cells = rw (z, y) (omega (arith, H .cells-are, cells-low));
+          few-parameters = H .few-parameters;
           small-types = H .small-types;
           few-names = rw (c, top-is) (omega (arith, H .few-names));
           start = rw top-is (omega arith);
@@ -354,24 +372,31 @@ module _ {s l ts : List ℕ} {st : State} {k : Declared} {bs : List ℕ} (H : Ho
 
 -- ---- the ways through the functions
 
--- `var_fits`
-pub fits-many : (vars cells size : ℕ) → 128 ≤ vars → false ≡ varFits vars cells size
-unfolding varFits
-fits-many vars cells size h = rw (lt-leb (vars + 1) 128 (omega arith)) refl
+-- `vars_fit`
+module _ (st : State) (n size : ℕ) where
+  pub fits-more : 128 < n → false ≡ varsFit st n size
+  unfolding varsFit
+  fits-more h = rw (lt-leb (varsHeld st + n) 128 (omega arith)) refl
 
-pub fits-large : (vars cells size : ℕ) → vars < 128 → 2048 < size → false ≡ varFits vars cells size
-unfolding varFits
-fits-large vars cells size h g = rw (le-leb (vars + 1) 128 (omega arith), lt-leb (cells + size) 2048 (omega arith)) refl
+  module _ (h : n ≤ 128) (v : ℕ) (e : v ≡ varsHeld st) where
+    pub fits-many : 128 - n < v → false ≡ varsFit st n size
+    unfolding varsFit
+    fits-many g = rw (← e, lt-leb (v + n) 128 (omega arith)) refl
 
-pub fits-is : (vars cells size : ℕ) → vars < 128 → size ≤ 2048 → leb cells (2048 - size) ≡ varFits vars cells size
-unfolding varFits
-fits-is vars cells size h g = rw (le-leb (vars + 1) 128 (omega arith)) (go (leb cells (2048 - size)) refl)
-  where
-    go : (b : Bool) → leb cells (2048 - size) ≡ b → b ≡ leb (cells + size) 2048
-    go true e = let x = leb-true cells (2048 - size) e in sym (le-leb (cells + size) 2048 (omega arith))
-    go false e = let x = leb-false cells (2048 - size) e in sym (lt-leb (cells + size) 2048 (omega arith))
+    module _ (g : v ≤ 128 - n) where
+      pub fits-large : 2048 < size → false ≡ varsFit st n size
+      unfolding varsFit
+      fits-large i = rw (← e, le-leb (v + n) 128 (omega arith), lt-leb (cellsHeld st + size) 2048 (omega arith)) refl
 
-pub ruleset fits-laws = (fits-many, fits-large, fits-is)
+      pub fits-is : size ≤ 2048 → (c : ℕ) → c ≡ cellsHeld st → leb c (2048 - size) ≡ varsFit st n size
+      unfolding varsFit
+      fits-is i c f = rw (← e, ← f, le-leb (v + n) 128 (omega arith)) (go (leb c (2048 - size)) refl)
+        where
+          go : (b : Bool) → leb c (2048 - size) ≡ b → b ≡ leb (c + size) 2048
+          go true e = let x = leb-true c (2048 - size) e in sym (le-leb (c + size) 2048 (omega arith))
+          go false e = let x = leb-false c (2048 - size) e in sym (lt-leb (c + size) 2048 (omega arith))
+
+pub ruleset fits-laws = (fits-more, fits-many, fits-large, fits-is)
 
 -- `var_state`
 pub state-is : (st a b : State) (size top : ℕ) → a ≡ withNames st 1 (st .top) top → b ≡ withVar a size → b ≡ varState st size top
@@ -386,16 +411,16 @@ unfolding varEntry
 var-laid st name kind l r l′ L = L
 
 -- `add_var`
-module _ (l ts : List ℕ) (st : State) (name kind : ℕ) (x : Info) (e : x ≡ infoOf l ts kind) (b : Bool) (g : b ≡ varFits (st .vars) (st .cells) (x .size)) where
+module _ (l ts : List ℕ) (st : State) (name kind : ℕ) (x : Info) (e : x ≡ infoOf l ts kind) (b : Bool) (g : b ≡ varsFit st 1 (x .size)) where
   pub adds-fits : b ≡ true → (t : ℕ) (l′ : List ℕ) → Laid (lay (varEntry st name kind) (st .top) l) t l′ → (st′ : State) → st′ ≡ varState st (x .size) t
       → (r : Lined) → r ≡ linedBy Clear true st′ → AddsVar l ts st name kind r l′
   adds-fits h t l′ L st′ i r j =
-      let a : varFits (st .vars) (st .cells) (infoOf l ts kind .size) ≡ true = ap (λ (y : Info). varFits (st .vars) (st .cells) (y .size)) (sym e) ∙ sym g ∙ h in
+      let a : varsFit st 1 (infoOf l ts kind .size) ≡ true = ap (λ (y : Info). varsFit st 1 (y .size)) (sym e) ∙ sym g ∙ h in
       rw (j, i, L .free, L .left, e) (var-fits a)
 
   pub adds-past : b ≡ false → (r : Lined) → r ≡ linedBy Clear false st → AddsVar l ts st name kind r l
   adds-past h r j =
-      let a : varFits (st .vars) (st .cells) (infoOf l ts kind .size) ≡ false = ap (λ (y : Info). varFits (st .vars) (st .cells) (y .size)) (sym e) ∙ sym g ∙ h in
+      let a : varsFit st 1 (infoOf l ts kind .size) ≡ false = ap (λ (y : Info). varsFit st 1 (y .size)) (sym e) ∙ sym g ∙ h in
       rw j (var-past a)
 
 pub ruleset adds-laws = (adds-fits, adds-past)

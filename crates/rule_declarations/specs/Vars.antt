@@ -24,9 +24,16 @@ use Rattle.rule_declarations.specs.declared.Lined.{Lined}
 unfoldable pub varAfter : Name → Trees Run → Option LineForm
 varAfter w us = typeNameIn us >>= λ t. closed (rest us) (varLine w t)
 
--- row 9
-unfoldable pub varFits : ℕ → ℕ → ℕ → Bool
-varFits vars cells size = leb (vars + 1) 128 && leb (cells + size) 2048
+-- how many variables and cells there are, with the parameters
+abbrev pub varsHeld : State → ℕ
+varsHeld st = st .vars % 256 + st .parameters % 256
+
+abbrev pub cellsHeld : State → ℕ
+cellsHeld st = st .cells % 4096 + st .parameters % 256
+
+-- row 9: n variables more, of so many cells together
+unfoldable pub varsFit : State → ℕ → ℕ → Bool
+varsFit st n size = leb (varsHeld st + n) 128 && leb (cellsHeld st + size) 2048
 
 -- by its name's number (table_names, Keys)
 unfoldable pub varEntry : State → ℕ → ℕ → List ℕ
@@ -37,9 +44,9 @@ varState st size top = withVar (withNames st 1 (st .top) top) size
 
 -- a variable of type `kind`, by its name's number, if it is within its ceilings
 pub data AddsVar (l ts : List ℕ) (st : State) (name kind : ℕ) : Lined → List ℕ → Type 0 where
-  var-fits : varFits (st .vars) (st .cells) (infoOf l ts kind .size) ≡ true
+  var-fits : varsFit st 1 (infoOf l ts kind .size) ≡ true
       → AddsVar l ts st name kind (linedBy Clear true (varState st (infoOf l ts kind .size) (lay (varEntry st name kind) (st .top) l .top))) (lay (varEntry st name kind) (st .top) l .list)
-  var-past : varFits (st .vars) (st .cells) (infoOf l ts kind .size) ≡ false → AddsVar l ts st name kind (linedBy Clear false st) l
+  var-past : varsFit st 1 (infoOf l ts kind .size) ≡ false → AddsVar l ts st name kind (linedBy Clear false st) l
 
 -- a line from its variable's type on; its name is at p
 pub record GivesVar (s l ts : List ℕ) (st : State) (p at : ℕ) (r : Lined) (l′ : List ℕ) : Type 0 where

@@ -30,10 +30,10 @@ ghost use Rattle.law_theorems.specs.Readings.{stackAt};
 ghost use Rattle.text_heads.specs.Heads.{atomOf};
 ghost use Rattle.rule_atoms.specs.Answers.{typed as typedBy};
 ghost use Rattle.rule_declarations.specs.Names.{namedBy, GivesName, newFault, GivesLastType};
-ghost use Rattle.rule_declarations.specs.State.{startState, withNames, withTypeLine, withVar, bodyState};
+ghost use Rattle.rule_declarations.specs.State.{startState, withNames, withTypeLine, withVar, bodyState, withParameters};
 ghost use Rattle.rule_declarations.specs.Lines.{linedBy, lineOf, GivesLine};
 ghost use Rattle.table_list.specs.Laid.{Laid};
-ghost use Rattle.rule_declarations.specs.Vars.{varFits, varEntry, varState, AddsVar, GivesVar};
+ghost use Rattle.rule_declarations.specs.Vars.{varsHeld, cellsHeld, varsFit, varEntry, varState, AddsVar, GivesVar};
 
 // How many notes the checker keeps beside the working list: by type number the places of the types' descriptions (the walks' `types`), below
 // 128; the others are free.
@@ -63,6 +63,9 @@ pub const MOST_FIELDS: u32 = 16;
 // Cells are counted modulo this, so that no sum is too large.
 pub const CELL_NUMBERS: u32 = 4096;
 
+// Variables and parameters are counted modulo this, where they are counted together.
+const PARAMETER_NUMBERS: u32 = 256;
+
 // Names are counted modulo this.
 const NAME_NUMBERS: u32 = 65536;
 
@@ -70,7 +73,7 @@ const NAME_NUMBERS: u32 = 65536;
 pub const BODY_NUMBERS: u32 = 16384;
 
 // What is held of the lines so far: the names, the free place of the working list, how many types (the two built-in ones too), `type` lines,
-// variables, cells and bodies.
+// variables, cells, bodies, and parameters of all procedures.
 pub struct State {
     pub scope: Scope,
     pub top: u32,
@@ -79,6 +82,7 @@ pub struct State {
     pub vars: u32,
     pub cells: u32,
     pub procs: u32,
+    pub parameters: u32,
 }
 
 // The answer for a line: its fault of rows 6 to 8; with no fault whether it is within the ceilings of row 9, and then what is held after it.
@@ -180,17 +184,34 @@ pub fn answered(fault: Fault, within: bool, state: State) -> Lined
     }
 }
 
-// Whether a variable of so many cells is within the ceilings of row 9.
-fn var_fits(vars: u32, cells: u32, size: u32) -> bool
-    ensures { λ r. ⌜ r ≡ varFits vars cells size ⌝ }
+// How many variables there are, with the parameters, which "count among the 128 variables and 2,048 cells".
+fn vars_held(st: State) -> u32
+    ensures { λ r. ⌜ r ≡ varsHeld st ⌝ }
 {
-    if vars >= MOST_VARS {
+    st.vars % PARAMETER_NUMBERS + st.parameters % PARAMETER_NUMBERS
+}
+
+// And how many cells.
+fn cells_held(st: State) -> u32
+    ensures { λ r. ⌜ r ≡ cellsHeld st ⌝ }
+{
+    st.cells % CELL_NUMBERS + st.parameters % PARAMETER_NUMBERS
+}
+
+// Whether n variables more, of so many cells together, are within the ceilings of row 9.
+pub fn vars_fit(st: State, n: u32, size: u32) -> bool
+    ensures { λ r. ⌜ r ≡ varsFit st n size ⌝ }
+{
+    if n > MOST_VARS {
+        return false;
+    }
+    if vars_held(st) > MOST_VARS - n {
         return false;
     }
     if size > MOST_CELLS {
         return false;
     }
-    cells <= MOST_CELLS - size
+    cells_held(st) <= MOST_CELLS - size
 }
 
 // An offset in 32 bits.
@@ -207,6 +228,9 @@ pub fn with_names(st: State, names: u32, newest: u32, top: u32) -> State
     let scope = Scope {
         count: st.scope.count % NAME_NUMBERS + names % NAME_NUMBERS,
         newest,
+        pairs: 0,
+        vars: 0,
+        parameters: 0,
     };
     State { scope, top, ..st }
 }
@@ -250,6 +274,18 @@ pub fn with_body(st: State, top: u32) -> State
     }
 }
 
+// What is held after n parameters more.
+pub fn with_parameters(st: State, n: u32) -> State
+    ensures { λ r. ⌜ r ≡ withParameters st n ⌝ }
+{
+    let scope = st.scope;
+    State {
+        scope,
+        parameters: st.parameters % PARAMETER_NUMBERS + n % PARAMETER_NUMBERS,
+        ..st
+    }
+}
+
 // What is held before any line.
 pub fn start_state() -> State
     ensures { λ r. ⌜ r ≡ startState ⌝ }
@@ -257,6 +293,9 @@ pub fn start_state() -> State
     let scope = Scope {
         count: 0,
         newest: 0,
+        pairs: 0,
+        vars: 0,
+        parameters: 0,
     };
     State {
         scope,
@@ -266,6 +305,7 @@ pub fn start_state() -> State
         vars: 0,
         cells: 0,
         procs: 0,
+        parameters: 0,
     }
 }
 
@@ -291,7 +331,7 @@ fn add_var(work: &mut [u32], types: &[u32], st: State, name: u32, kind: u32) -> 
     ensures { λ r. ⌜ AddsVar (now (work .entry)) (now (types .entry)) st name kind r (now (work .exit)) ⌝ }
 {
     let x = describe(work, types, kind);
-    if var_fits(st.vars, st.cells, x.size) {
+    if vars_fit(st, 1, x.size) {
         let top = lay_var(work, st, name, kind);
         let after = var_state(st, x.size, top);
         return answered(Fault::Clear, true, after);

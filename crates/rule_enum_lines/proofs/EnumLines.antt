@@ -13,7 +13,7 @@ use lib.ListN.{length, getD, set, length-append, length-set}
 use Rattle.leaf_bytes.specs.Bytes.{small}
 use Rattle.law.specs.Base.{Name, _>>=_}
 use Rattle.law.specs.Ceilings.{lineBounded, typeBounded}
-use Rattle.law.specs.Environment.{Declared, aType, declareLine, extendTypes, declNames, enumNames, typeSortOf}
+use Rattle.law.specs.Environment.{Declared, aProc, aType, declareLine, extendTypes, declNames, enumNames, typeSortOf}
 use Rattle.law.specs.Forms.{some?}
 use Rattle.code.specs.Layout.{bits}
 use Rattle.code.specs.LayoutSize.{symbolSize, sizeDecl}
@@ -31,6 +31,8 @@ use Rattle.code.specs.LayoutRegions.{Same, Room}
 use Rattle.table_names.specs.Keys.{keyed}
 use Rattle.table_names.proofs.Chained.{called-keyed}
 use Rattle.table_scope.proofs.Cells.{keeps-cells}
+use Rattle.table_scope.proofs.Kept.{tells-frame-kept}
+use Rattle.table_scope.proofs.Within.{chain-told, find-other}
 use Rattle.rule_faults.specs.declared.Fault.{Fault}
 use Rattle.rule_faults.specs.declared.Fault.the-variants.{Clear, Form}
 use Rattle.rule_faults.specs.declared.Fault.the-variants as fault
@@ -47,15 +49,15 @@ use Rattle.rule_enum_lines.specs.Values.{startOf, Values, enumEntry, enu
 use Rattle.rule_declarations.specs.declared.State.{State}
 use Rattle.rule_declarations.specs.declared.Lined.{Lined}
 use Rattle.rule_enum_lines.specs.declared.enums.Counted.{Counted}
-use Rattle.rule_declarations.proofs.Growing.{Chained, scene-chained, chained-env, chained-kept}
+use Rattle.rule_declarations.proofs.Growing.{Chained, holds-chained, chained-env, chained-kept}
 use Rattle.rule_declarations.proofs.FreeNames.{more-closed, bound-none, bound-nones}
 use Rattle.rule_declarations.proofs.VarLines.{entry-fits, failed-told, value-find}
-use Rattle.rule_type_lines.proofs.TypeScenes.{by-number, types-more, means-same, type-means, type-value, type-keeps, type-within, type-holds, lines-low}
+use Rattle.rule_type_lines.proofs.TypeScenes.{by-number, types-more, means-same, type-means, type-proc, type-value, type-keeps, type-within, type-holds, lines-low}
 use Rattle.rule_type_lines.proofs.Aliases.{lines-bounded}
 use Rattle.rule_type_lines.proofs.SimpleLines.{read-numbers, describes-tells}
 use Rattle.rule_enum_lines.proofs.EnumNames.{enum-parts, counted-more}
 use Rattle.rule_enum_lines.proofs.EnumStages.{enum-named}
-use Rattle.rule_enum_lines.proofs.EnumValues.{chained-one, chained-values, values-once, values-above, value-kind}
+use Rattle.rule_enum_lines.proofs.EnumValues.{chained-one, chained-values, values-once, values-above, value-kind, procs-old}
 
 -- ---- what is held
 
@@ -160,7 +162,7 @@ module _ {s l ts : List ℕ} {st : State} {k : Declared} {bs : List ℕ} (H : Ho
   unfolding declareLine startOf
   enum-chained =
       let z : st .top + 0 ≡ st .top = omega arith in
-      let old : Chained s l′ (st .scope) (A .free) (ks .env) bs (k .env .names) = chained-kept same₀ (rw free-is (omega arith)) (chained-env {σ′ = ks .env} (means-same refl) (scene-chained (H .scene))) in
+      let old : Chained s l′ (st .scope) (A .free) (ks .env) bs (k .env .names) = chained-kept same₀ (rw free-is (omega arith)) (chained-env {σ′ = ks .env} (means-same refl) (holds-chained H)) in
       let c : Chained s l′ (scoped (n + st .scope .count) t₂) (A .free) (ks .env) bs (enumNames (st .types) 0 (v ∷ vs) ++ k .env .names) =
       chained-values (st .types) t₂ 0 (v ∷ vs) (values .0) (rw top₂ (omega arith)) (rw (free-is, top₂) (omega arith)) old in
       let m : getD l′ (st .top) 0 ≡ keyed s p = ap (λ (j : ℕ). getD l′ j 0) (sym z) ∙ entry-held .at 0 (omega arith) in
@@ -178,28 +180,30 @@ module _ {s l ts : List ℕ} {st : State} {k : Declared} {bs : List ℕ} (H : Ho
   enum-scene =
       let K = type-keeps H w (enum v vs) f e g b sn nn in
       record {
-        names = enum-chained .names;
+        names = chain-told (scoped (suc (n + st .scope .count)) (st .top)) refl (enum-chained .names);
         below = enum-chained .below;
         types = λ t. told-types t .0;
         described = λ t. told-types t .1;
         table = K .table;
         fair = rw (H .bodies-are) (K .names);
-        cells = keeps-cells ks K (omega (arith, H .cells-are, H .few-cells));
+        cells = keeps-cells ks K;
         fieldless = by-number Γ (typeSortOf Γ (enum v vs)) (λ t j. isRecord (j .shape) ≡ false → j .fields ≡ []) (λ t _. H .scene .fieldless t) (λ _. refl) (λ t _ _. refl);
         above = λ x c i. values-above (length Γ) (k .env .names) (H .scene .table .two) (H .scene .above) (v ∷ vs) 0 x c
             (value-find w x (aType (length Γ)) (enumNames (length Γ) 0 (v ∷ vs) ++ k .env .names) c (type-value (length Γ)) i);
         once = λ x y c i j. values-once (length Γ) (k .env .names) (value-kind (H .scene .fair)) (H .scene .once) (v ∷ vs) 0 x y c
             (value-find w x (aType (length Γ)) (enumNames (length Γ) 0 (v ∷ vs) ++ k .env .names) c (type-value (length Γ)) i)
             (value-find w y (aType (length Γ)) (enumNames (length Γ) 0 (v ∷ vs) ++ k .env .names) c (type-value (length Γ)) j);
+        frames = λ x q us i. tells-frame-kept same₀ (rw free-is (omega arith)) (getD bs q 0) us (H .scene .frames x q us (procs-old (length Γ) (k .env .names) (v ∷ vs) 0 x q us
+            (find-other w x (aType (length Γ)) (aProc q us) (enumNames (length Γ) 0 (v ∷ vs) ++ k .env .names) (type-proc (length Γ) q us) i)));
       }
 
   pub enum-holds : Holds s l′ ts′ (typeState st (counted n) (st .top) 1 (A .free)) ks bs
-  unfolding extendTypes typeSortOf
+  unfolding declareLine declNames extendTypes typeSortOf
   enum-holds =
       let c : suc (n + st .scope .count) ≡ st .scope .count + (n + 1) = omega arith in
       let m : length (Γ ++ (typeSortOf Γ (enum v vs) ∷ [])) ≡ length Γ + 1 = length-append Γ (typeSortOf Γ (enum v vs) ∷ []) in
       let d : n + 1 ≡ counted n = counted-more n (omega (arith, few)) in
-      rw (A .places, ← d) (subst (λ (m : ℕ). Holds s l′ (set ts m t₁) (typeState st (n + 1) (st .top) 1 (A .free)) ks bs) (sym (H .types-are)) (type-holds H w (enum v vs) f e g b sn nn (n + 1) (st .top) 1 (A .free) l′ (set ts (length Γ) t₁) (omega arith) m (rw c at enum-scene)
+      rw (A .places, ← d) (subst (λ (m : ℕ). Holds s l′ (set ts m t₁) (typeState st (n + 1) (st .top) 1 (A .free)) ks bs) (sym (H .types-are)) (type-holds H w (enum v vs) f e g b sn nn (n + 1) (st .top) 1 (A .free) l′ (set ts (length Γ) t₁) (omega arith) m (rw c at enum-scene) (rw c at (enum-chained .names))
       (by-number Γ (typeSortOf Γ (enum v vs)) (λ t j. length (cellsBy (j .shape) t (j .cells)) ≤ 2048) (λ t _. H .small-types t) (omega arith) (λ t _. omega arith))
       (rw free-is (omega (arith, H .few-names))) (rw free-is (omega arith)) (rw free-is room) (rw (A .values .long, long₂) (H .long-list)) (rw (length-set ts (length Γ) t₁) (H .long-notes))))
 

@@ -14,7 +14,7 @@ use lib.ListN.{length, getD, set}
 use Rattle.leaf_bytes.specs.Bytes.{small, same}
 use Rattle.leaf_bytes.proofs.Same.{same-equal}
 use Rattle.law.specs.Base.{Name, find}
-use Rattle.law.specs.Environment.{Environment, NameSort, aValue, enumNames}
+use Rattle.law.specs.Environment.{Environment, NameSort, aProc, aValue, enumNames}
 use Rattle.code.specs.Layout.{lay}
 use Rattle.law.specs.Script.{Const}
 use Rattle.law.specs.Trees.{first, wordAt}
@@ -34,6 +34,7 @@ use Rattle.table_scope.specs.declared.Scope.{Scope}
 use Rattle.rule_faults.specs.declared.Fault.{Fault}
 use Rattle.rule_faults.specs.declared.Fault.the-variants as fault
 use Rattle.table_scope.specs.declared.Info.{Info}
+use Rattle.table_scope.proofs.Within.{find-other}
 use Rattle.table_scope.specs.Scene.{Means, a-value, meaningBy, meaningAt}
 use Rattle.table_scope.specs.Descriptions.{ordinalInfo}
 use Rattle.rule_faults.specs.Got.{isForm}
@@ -319,6 +320,16 @@ module _ (t : ℕ) (old : List (Name × NameSort)) (none-old : (w : Name) (c : C
       go _ true p false q g h = absurd (value-later ws (suc n) n b (omega arith) (h ∙ sym g))
       go _ false p true q g h = absurd (value-later ws (suc n) n a (omega arith) (g ∙ sym h))
       go k false p false q g h = k g h
+
+-- procedures stay so
+value-proc : (c : Const) (q : ℕ) (us : List ℕ) → aValue c ≡ aProc q us → ⊥
+value-proc c q us h = let z : _≡_ {A = ℕ} 0 1 = cc in omega arith
+
+pub procs-old : (t : ℕ) (old : List (Name × NameSort)) (ws : List Name) (n : ℕ) (a : Name) (q : ℕ) (us : List ℕ)
+    → find (enumNames t n ws ++ old) a ≡ some (aProc q us) → find old a ≡ some (aProc q us)
+unfolding enumNames
+procs-old t old [] n a q us e = e
+procs-old t old (w ∷ ws) n a q us e = procs-old t old ws (suc n) a q us (find-other w a (aValue _) (aProc q us) (enumNames t (suc n) ws ++ old) (value-proc _ q us) e)
 
 -- values of a declared kind stay so
 pub values-above : (t : ℕ) (old : List (Name × NameSort)) → 2 ≤ t → ((w : Name) (c : Const) → find old w ≡ some (aValue c) → 2 ≤ c .kind) → (ws : List Name) (n : ℕ) (a : Name) (c : Const)

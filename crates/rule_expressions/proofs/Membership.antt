@@ -44,6 +44,7 @@ use Rattle.rule_faults.specs.declared.Got.{Got}
 use Rattle.text_parts.specs.declared.End.{End}
 use Rattle.text_parts.specs.declared.End.the-variants as ending
 use Rattle.rule_faults.specs.Got.{lowest, isForm, faultOf, failedGot, Told}
+use Rattle.rule_faults.proofs.Order.{lowest-assoc, lowest-clear}
 use Rattle.text_parts.specs.Parts.{Before, Shuts}
 use Rattle.rule_expr_nodes.specs.Nodes.{Made, Makes, failedMade, nodeMade, ifClear}
 use Rattle.rule_expressions.specs.Walks.{Moves, ExprTold, GivesExpr, formIn, GivesForm}
@@ -56,42 +57,6 @@ use Rattle.rule_expressions.proofs.Operators.{expr-missing, expr-failed
 use Rattle.rule_expressions.proofs.Dispatch.{failed-leaves}
 
 -- ---- faults
-
-pub lowest-assoc : (a b c : Fault) → lowest a (lowest b c) ≡ lowest (lowest a b) c
-lowest-assoc Clear b c = refl
-lowest-assoc Form b c = refl
-lowest-assoc Kind Clear c = refl
-lowest-assoc Kind Kind Clear = refl
-lowest-assoc Kind Kind Kind = refl
-lowest-assoc Kind Kind Name = refl
-lowest-assoc Kind Kind Form = refl
-lowest-assoc Kind Name Clear = refl
-lowest-assoc Kind Name Kind = refl
-lowest-assoc Kind Name Name = refl
-lowest-assoc Kind Name Form = refl
-lowest-assoc Kind Form Clear = refl
-lowest-assoc Kind Form Kind = refl
-lowest-assoc Kind Form Name = refl
-lowest-assoc Kind Form Form = refl
-lowest-assoc Name Clear c = refl
-lowest-assoc Name Kind Clear = refl
-lowest-assoc Name Kind Kind = refl
-lowest-assoc Name Kind Name = refl
-lowest-assoc Name Kind Form = refl
-lowest-assoc Name Name Clear = refl
-lowest-assoc Name Name Kind = refl
-lowest-assoc Name Name Name = refl
-lowest-assoc Name Name Form = refl
-lowest-assoc Name Form Clear = refl
-lowest-assoc Name Form Kind = refl
-lowest-assoc Name Form Name = refl
-lowest-assoc Name Form Form = refl
-
-pub lowest-clear : (a : Fault) → lowest a Clear ≡ a
-lowest-clear Clear = refl
-lowest-clear Kind = refl
-lowest-clear Name = refl
-lowest-clear Form = refl
 
 -- both are clear where the lower is
 pub clear-both : (a b : Fault) → lowest a b ≡ Clear → (a ≡ Clear) × (b ≡ Clear)
@@ -108,7 +73,7 @@ clear-both Form b h = absurd (let z : _≡_ {A = ℕ} 0 1 = cc in omega arith)
 
 -- ---- one member more
 
-abbrev one-more : ℕ → Elaborated → Codes → Staged Codes
+abbrev pub one-more : ℕ → Elaborated → Codes → Staged Codes
 one-more k x cs = orUnfit (given (eqb k (x .kind)) ((x .code) with cs))
 
 eqb-turned : (a b : ℕ) → eqb a b ≡ eqb b a
@@ -119,7 +84,7 @@ eqb-turned a b = go (eqb a b) refl
     go false e = sym (ne-eqb b a (λ h. true≢false (sym (eq-eqb a b (sym h)) ∙ e)))
 
 -- the fault of a member and the others
-more-fault : (k kind : ℕ) (A : Staged Elaborated) (B : Staged Codes) → ((x : Elaborated) → A ≡ fits x → kind ≡ x .kind) → faultOf (join A B (one-more k)) ≡ lowest (memberFault (faultOf A) kind k) (faultOf B)
+pub more-fault : (k kind : ℕ) (A : Staged Elaborated) (B : Staged Codes) → ((x : Elaborated) → A ≡ fits x → kind ≡ x .kind) → faultOf (join A B (one-more k)) ≡ lowest (memberFault (faultOf A) kind k) (faultOf B)
 unfolding join memberFault orUnfit given
 more-fault k kind wrong B e = refl
 more-fault k kind unnamed wrong e = refl

@@ -117,7 +117,7 @@ module _ (l ts : List ℕ) (q t : ℕ) where
 -- ---- what is told of words
 
 -- the cells of a variable that a script can have
-cells-are : (n k a q t : ℕ) (l : List ℕ) → a + n ≤ 2048 → cellsMade n k a q t l ≡ nodeMade k q (lay (loadCell (eqb n 1) a n) t l)
+cells-are : (n k a q t : ℕ) (l : List ℕ) → a + n ≤ 32768 → cellsMade n k a q t l ≡ nodeMade k q (lay (loadCell (eqb n 1) a n) t l)
 unfolding cellsMade loadCell
 cells-are n k a q t l h = rw (← span-both a n (omega arith) (omega arith)) (go (eqb n 1))
   where

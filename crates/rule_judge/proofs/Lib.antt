@@ -3,6 +3,8 @@ pub mod Stepping
 pub mod Declaring
 pub mod Bodies
 pub mod BodyStands
+pub mod BodyFrames
 pub mod BodyEnters
+pub mod ProcEnters
 pub mod Dispatch
 pub mod Opening

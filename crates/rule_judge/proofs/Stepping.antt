@@ -47,19 +47,19 @@ pub declared-stmts : (k : Declared) (e : Entry) (s n : ℕ) → declareLine k e 
 unfolding declareLine
 declared-stmts k (newType w d) s n = refl
 declared-stmts k (newVar w t) s n = refl
-declared-stmts k (newProc w b) s n = refl
+declared-stmts k (newProc w ps b) s n = refl
 declared-stmts k (newMain b) s n = refl
 
 pub declared-count : (k : Declared) (e : Entry) (s n : ℕ) → declareLine k e s n .nodes ≡ n
 unfolding declareLine
 declared-count k (newType w d) s n = refl
 declared-count k (newVar w t) s n = refl
-declared-count k (newProc w b) s n = refl
+declared-count k (newProc w ps b) s n = refl
 declared-count k (newMain b) s n = refl
 
 -- what a line that fits is, and what it takes
 record Taken (k : Declared) (t : Tree Run) (o : Option (LineForm × ℕ)) (e : Entry) (cs : List BodyCode) : Type 0 where
-  size : symbolSize e + sizeBodies cs + 2 ≤ 4 * nodes t
+  size : symbolSize e + sizeBodies cs + 1 ≤ 4 * nodes t
   last : lastOf o ≤ k .stmts + nodes t
 
 taken : (k : Declared) (t : Tree Run) (v : Tree Word) → worded t ≡ some v → (e : Entry) (cs : List BodyCode) → wholeStaged k (lineIn (k .stmts) t) ≡ fits (e, cs) → Taken k t (lineIn (k .stmts) t) e cs
@@ -74,7 +74,7 @@ taken k t v h e cs q =
     let m = line-counts (k .stmts) v p f .most in
     let y : (x .1, ds) ≡ (e, cs) = some-inj ee in
     record {
-      size = subst (λ (z : Entry × List BodyCode). symbolSize (z .0) + sizeBodies (z .1) + 2 ≤ 4 * nodes t) y (let z : symbolSize (x .1) + sizeBodies ds + 2 ≤ 4 * nodes t = omega arith in z);
+      size = subst (λ (z : Entry × List BodyCode). symbolSize (z .0) + sizeBodies (z .1) + 1 ≤ 4 * nodes t) y (let z : symbolSize (x .1) + sizeBodies ds + 1 ≤ 4 * nodes t = omega arith in z);
       last = rw hp (omega arith);
     }
 

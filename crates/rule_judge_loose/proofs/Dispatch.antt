@@ -1,13 +1,12 @@
 -- From a line at an offset, by its form and head word, to its judgement.
-use mathlib.Core.Path.{_≡_, refl, sym, ap, _∙_}
-use mathlib.Core.Bool.{Bool, true, false}
-use mathlib.Core.List.{List, [], _∷_, map}
+use mathlib.Core.Path.{_≡_, refl, sym, ap, _∙_, subst}
+use mathlib.Core.Bool.{Bool, true, false, false≢true}
+use mathlib.Core.List.{List, [], _∷_}
 use mathlib.Core.Option.{Option, none, some}
 use Prim.Native.Nat.{ℕ, _+_, _*_, _%_}
 use native.Mathlib.Omega.{arith}
-use lib.ListN.{drop}
+use lib.ListN.{drop, length}
 use Rattle.leaf_words.specs.declared.words.Word as Kind
-use Rattle.leaf_bytes.specs.Bytes.{small}
 use Rattle.leaf_words.specs.Words.{wordOf}
 use Rattle.law.specs.Base.{_>>=_}
 use Rattle.law.specs.Environment.{Declared}
@@ -15,8 +14,7 @@ use Rattle.law.specs.Forms.{isType, isVar, isProc, isMain}
 use Rattle.code.specs.Layout.{lay}
 use Rattle.law.specs.Lines.{Line}
 use Rattle.rule_stages.specs.Stages.{staged}
-use Rattle.law.specs.Syntax as Syntax
-use Rattle.law.specs.Trees.{word, form, Trees, end, _then_, Run, nodes, first, later, before, wordAt}
+use Rattle.law.specs.Trees.{form, Trees, end, _then_, Run, nodes, first, later, before, wordAt}
 use Rattle.law_theorems.specs.Readings.{stackAt}
 use Rattle.law.specs.Verdict.{bad, loosely, judgeLine}
 use Rattle.law.specs.Words.{worded}
@@ -28,91 +26,97 @@ use Rattle.text_words.proofs.Ties.{worded-some, worded-none, line-known, line-n
 use Rattle.table_names.specs.Keys.{keyed}
 use Rattle.table_scope.specs.Scene.{meaningHere}
 use Rattle.rule_faults.specs.declared.Fault.{Fault}
-use Rattle.rule_faults.specs.declared.Fault.the-variants.{Clear, Form}
+use Rattle.rule_faults.specs.declared.Fault.the-variants.{Clear, Kind, Name as Unnamed, Form}
 use Rattle.text_parts.specs.declared.Part.{Part}
 use Rattle.text_parts.specs.declared.Part.the-variants as part
-use Rattle.rule_faults.specs.Got.{lowest}
+use Rattle.rule_faults.specs.Got.{isForm, lowest}
 use Rattle.text_parts.specs.Parts.{Stands}
 use Rattle.table_list.specs.Laid.{Laid}
 use Rattle.text_heads.specs.declared.LineHead.{LineHead}
 use Rattle.text_heads.specs.declared.LineHead.the-variants as LH
 use Rattle.text_heads.specs.Heads.{lineHeadOf, lineHeadMeant}
-use Rattle.text_heads.specs.Parts.{rest, nameIn, bodyIn}
 use Rattle.rule_declarations.specs.declared.Lined.{Lined}
 use Rattle.rule_declarations.specs.declared.Naming.{Naming}
 use Rattle.rule_declarations.specs.declared.Naming.the-variants as naming
 use Rattle.rule_declarations.specs.Lines.{lineOf, entryStaged, GivesLine}
 use Rattle.rule_declarations.specs.Names.{GivesName, newFault}
-use Rattle.rule_expressions.proofs.Joining.{wrong-fits}
 use Rattle.rule_known.specs.declared.Known.{Known}
 use Rattle.rule_known.specs.declared.Judgement.{Judgement}
 use Rattle.rule_known.specs.declared.Entered.{Entered}
 use Rattle.rule_known.specs.Answers.{refusedJudgement, judgement, declaredEntry}
-use Rattle.rule_judge.specs.Answers.{failedEntry}
+use Rattle.rule_judge.specs.Answers.{failedEntry, procNumbers}
+use Rattle.rule_parameters.specs.Framing.{Opens, openedMain, procFits, procState}
+use Rattle.rule_parameters.specs.Listing.{GivesList}
+use Rattle.rule_parameters.specs.declared.framing.Opened.{Opened}
+use Rattle.rule_parameters.specs.declared.listing.Listed.{Listed}
 use Rattle.rule_judge.specs.Forms.{LineIs}
 use Rattle.rule_judge.specs.Whole.{lineIn, headIn}
-use Rattle.rule_judge.proofs.Bodies.{procOf, proc-shape}
-use Rattle.rule_judge.proofs.BodyEnters.{name-first}
+use Rattle.rule_judge.proofs.Bodies.{proc-shape}
 use Rattle.text_skips.proofs.Counts.{nodes-short}
 use Rattle.rule_judge.proofs.Declaring.{some-first, type-fixed, var-fixed}
 use Rattle.rule_judge.proofs.Dispatch.{less-nodes, line-nodes}
 use Rattle.rule_judge.proofs.Lines.{line-headed, line-empty, line-headless}
 use Rattle.rule_judge.proofs.Opening.{fourth, fifth, sixth, no-leaf, no-shut}
 use Rattle.rule_judge_loose.specs.declared.easing.Eased.{Eased}
-use Rattle.rule_body_notes.specs.Noting.{noted}
-use Rattle.rule_judge_loose.specs.Easing.{GivesEased}
-use Rattle.rule_judge_loose.specs.Entering.{looseMain, looseProc, ProcDeclared, LooseTold, LooseEnters, ProcLoosely}
+use Rattle.rule_judge_loose.specs.Easing.{withFault}
+use Rattle.rule_judge_loose.specs.Entering.{NotesEased, looseMain, looseNode, looseProc, ProcDeclared, LooseListed, LooseEnters, ProcLoosely, loose-wrong, loose-right}
 use Rattle.rule_judge_loose.specs.Judging.{JudgesLoosely, LooseKnown, LooseForm, LooseHeaded}
 use Rattle.rule_body_notes.proofs.Notes.{noted-long}
-use Rattle.rule_judge_loose.proofs.BodyLines.{main-told, proc-told}
+use Rattle.rule_judge_loose.proofs.BodyLines.{main-told}
+use Rattle.rule_judge_loose.proofs.ProcLists.{wrong-told, proc-told}
 use Rattle.rule_judge_loose.proofs.Declarations.{declared-enters}
 use Rattle.rule_judge_loose.proofs.Rows.{line-judged, line-answer}
-use Rattle.rule_declarations.specs.State.{withNames, bodyState}
+use Rattle.rule_declarations.specs.State.{bodyState}
 use Rattle.rule_declarations.specs.declared.State.{State}
-use lib.Dec.{ltb}
 
 -- ---- lines with a body
 
-pub main-enters : (s l ts tb : List ℕ) (kn : Known) (at : ℕ) (b : Eased) (l′ tb′ : List ℕ) (g : Entered) → GivesEased s l ts kn at b l′ → tb′ ≡ noted s kn at tb → g ≡ looseMain kn b
+pub main-enters : (s l ts tb : List ℕ) (kn : Known) (at : ℕ) (o : Opened) → o ≡ openedMain (kn .state) at → (b : Eased) (l′ tb′ : List ℕ) (g : Entered) → NotesEased s l ts tb kn o b l′ tb′ → g ≡ looseMain kn b
     → LooseEnters s l ts tb kn LH.Main at g l′ ts tb′
-main-enters s l ts tb kn at b l′ tb′ g B t e = rw (t, e) (record {
-  long = noted-long s kn at tb;
-  says = λ k S i n. rw (some-first isMain (λ x. headIn x (k .stmts) (first (stackAt s at)))) (main-told S i at n b l′ B (B .long));
-})
+main-enters s l ts tb kn at o q b l′ tb′ g N e =
+    let M : NotesEased s l ts tb kn (openedMain (kn .state) at) b l′ tb′ = subst (λ (x : Opened). NotesEased s l ts tb kn x b l′ tb′) q N in
+    rw (M .noted-so, e) (record {
+      long = noted-long s kn (openedMain (kn .state) at) tb;
+      says = λ k S i n. rw (some-first isMain (λ x. headIn x (k .stmts) (first (stackAt s at)))) (main-told S i at (omega (arith, n, S .few-stmts, S .few-nodes)) b l′ (M .gives));
+    })
 
-pub proc-declared : (kn : Known) (f : Fault) (n m : ℕ) (l : List ℕ) (u : ℕ) (g : Entered) (l′ : List ℕ)
-    → Laid (lay (m ∷ (2 + 4 * (kn .state .procs % 16384)) ∷ kn .state .procs ∷ kn .state .scope .newest ∷ []) (kn .state .top) l) u l′ → g ≡ looseProc kn f n u → ProcDeclared kn f n m l g l′
-proc-declared kn f n m l u g l′ L e = record { free = u; laid = L; given = e }
+pub proc-declared : (s : List ℕ) (kn : Known) (n : ℕ) (o : Opened) (b : Eased) (p : ℕ) (l : List ℕ) (t : ℕ) (l₁ : List ℕ) (u : ℕ) (l′ : List ℕ) (g : Entered) → Laid (lay (looseNode kn o) (o .top) l) t l₁ → (m : ℕ) → m ≡ keyed s p
+    → Laid (lay (m ∷ (2 + 4 * (kn .state .procs % 16384)) ∷ o .top ∷ kn .state .scope .newest ∷ []) t l₁) u l′ → g ≡ looseProc kn n b t u → ProcDeclared kn n o b (keyed s p) l g l′
+unfolding procNumbers
+proc-declared s kn n o b p l t l₁ u l′ g N m M L e = record { entry = t; noded = l₁; free = u; node = N; laid = rw (← M) L; given = e }
 
-pub proc-enters : (s l ts tb : List ℕ) (kn : Known) (p at : ℕ) (n : Fault) (b : Eased) (l₁ tb′ l′ : List ℕ) (f : Fault) (g : Entered)
-    → n ≡ newFault Clear (meaningHere s l (kn .state .scope) p) → GivesEased s l ts kn at b l₁ → tb′ ≡ noted s kn at tb → f ≡ lowest (b .fault) n
-    → (m : ℕ) → m ≡ keyed s p → ProcDeclared kn f (b .stmts) m l₁ g l′ → ProcLoosely s l ts tb kn p at g l′ tb′
-proc-enters s l ts tb kn p at n b l₁ tb′ l′ f g N B t F m M D = rw (t, D .given) (record {
-  long = noted-long s kn at tb;
-  says = λ k S i q w. proc-told S i at w b l₁ B (B .long) p q (meaningHere s l (kn .state .scope) p) refl f (F ∙ ap (lowest (b .fault)) N) (D .free) l′ (rw M at (D .laid));
-})
+pub listed-so : (s l ts tb : List ℕ) (kn : Known) (f : Fault) (c : Listed) (p : ℕ) (o : Opened) (l₁ : List ℕ) → Opens s l ts (kn .state) c o l₁ → (b : Eased) (l₂ tb′ : List ℕ) → NotesEased s l₁ ts tb kn o b l₂ tb′
+    → (b′ : Eased) → b′ ≡ withFault b f → (g : Entered) (l′ : List ℕ) → ProcDeclared kn (c .count) o b′ (keyed s p) l₂ g l′ → LooseListed s l ts tb kn f c p g l′ tb′
+listed-so s l ts tb kn f c p o l₁ O b l₂ tb′ N b′ E g l′ D = record { opened = o; framed = l₁; opens = O; answer = b; list = l₂; gives = N .gives; noted-so = N .noted-so; ends = rw (← E) D }
+
+module _ (s l ts tb : List ℕ) (kn : Known) (p at : ℕ) (n : Fault) (N : n ≡ newFault Clear (meaningHere s l (kn .state .scope) p)) (c : Listed) (C : GivesList s l ts (kn .state .scope) p at c) (x : Fault) (X : x ≡ c .fault)
+    (b : Bool) (B : b ≡ isForm x) (e : Entered) where
+  pub named-wrong : b ≡ true → e ≡ failedEntry kn Form → ProcLoosely s l ts tb kn p at e l tb
+  named-wrong h g = loose-wrong c C (sym X ∙ form-is x (sym B ∙ h)) g refl refl
+    where
+      form-is : (y : Fault) → isForm y ≡ true → y ≡ Form
+      form-is Form q = refl
+      form-is Clear q = absurd (false≢true q)
+      form-is Kind q = absurd (false≢true q)
+      form-is Unnamed q = absurd (false≢true q)
+
+  pub named-right : b ≡ false → (m : Fault) → m ≡ lowest n x → (l′ tb′ : List ℕ) → LooseListed s l ts tb kn m c p e l′ tb′ → ProcLoosely s l ts tb kn p at e l′ tb′
+  named-right h m M l′ tb′ P = loose-right c C (ap isForm (sym X) ∙ sym B ∙ h) (subst (λ (z : Fault). LooseListed s l ts tb kn z c p e l′ tb′) (M ∙ ap (λ (z : Fault). lowest z x) N ∙ ap (lowest (newFault Clear (meaningHere s l (kn .state .scope) p))) X) P)
+
+pub ruleset named-laws = (named-wrong, named-right)
 
 none-first : {A B : Type 0} (f : A → Option B) → (none >>= f) ≡ none
 unfolding _>>=_
 none-first f = refl
 
--- no form: a fault of row 6
-wrong-told : (s l ts tb : List ℕ) (top : ℕ) (k : Declared) (o : Option (Syntax.LineForm × ℕ)) (g : Entered) → o ≡ none → g .fault ≡ Form → LooseTold s l ts tb top k o g
-unfolding entryStaged staged _>>=_
-wrong-told s l ts tb top k o g h e = rw h (record { fault-is = e; within-is = λ x q. absurd (wrong-fits q); stands = λ x q. absurd (wrong-fits q) })
-
 module _ (s l ts tb : List ℕ) (kn : Known) (at : ℕ) (n : Naming) (N : GivesName s at n) (g : Entered) where
-  pub proc-called : (p q : ℕ) (l′ tb′ : List ℕ) → n ≡ naming.Called p q → ProcLoosely s l ts tb kn p q g l′ tb′ → LooseEnters s l ts tb kn LH.Proc at g l′ ts tb′
-  proc-called p q l′ tb′ h P = record {
-    long = P .long;
-    says = λ k S i c.
+  pub proc-called : (p q : ℕ) (l′ tb′ : List ℕ) → n ≡ naming.Called p q → length tb′ ≡ length tb → ProcLoosely s l ts tb kn p q g l′ tb′ → LooseEnters s l ts tb kn LH.Proc at g l′ ts tb′
+  proc-called p q l′ tb′ h i P = record {
+    long = i;
+    says = λ k S r c.
         let Z = rw h at (N .says) in
-        let y : headIn isProc (k .stmts) (first (stackAt s at)) ≡ (bodyIn (k .stmts) (first (stackAt s q)) >>= λ b. some (procOf (map small (wordAt s p)) b)) =
-        proc-shape (k .stmts) (first (stackAt s at))
-        ∙ name-first (nameIn (first (stackAt s at))) (map small (wordAt s p)) (λ v. bodyIn (k .stmts) (rest (first (stackAt s at))) >>= λ b. some (procOf v b)) (Z .2)
-        ∙ ap (λ v. bodyIn (k .stmts) v >>= λ b. some (procOf (map small (wordAt s p)) b)) (ap rest (Z .0 .leaf .here)) in
-        rw (some-first isProc (λ x. headIn x (k .stmts) (first (stackAt s at))), y)
-        (P .says k S i (Z .1) (less-nodes (first (stackAt s at)) (first (stackAt s q)) (wordAt s p) (Z .0 .leaf .here) (k .stmts) c));
+        rw (some-first isProc (λ x. headIn x (k .stmts) (first (stackAt s at)))) (proc-told S r at p q (Z .0) (Z .1) (Z .2)
+        (less-nodes (first (stackAt s at)) (first (stackAt s q)) (wordAt s p) (Z .0 .leaf .here) 32768 c) g l′ tb′ P);
   }
 
   pub proc-nameless : n ≡ naming.Nothing → g ≡ failedEntry kn Form → LooseEnters s l ts tb kn LH.Proc at g l ts tb
@@ -174,7 +178,7 @@ module _ (s l ts tb : List ℕ) (kn : Known) (at n : ℕ) (x : Part) (c : Stands
         let y : lineHeadOf w ≡ lineHeadOf (wordOf (wordAt s p)) = ap lineHeadOf (Z .1) in
         let v : lineIn (k .stmts) (form (first (stackAt s at))) ≡ (lineHeadMeant (lineHeadOf w) >>= λ x. headIn x (k .stmts) (first (stackAt s q))) = ap (λ (us : Trees Run). lineIn (k .stmts) (form us)) (Z .0 .leaf .here) ∙ line-headed (k .stmts) (wordAt s p) (first (stackAt s q)) ∙ rw y refl in
         line-answer s l ts tb kn k S (form (first (stackAt s at))) (L .read) (L .worded-is) ln (L .form-is) (L .going) (J .entered) l′ ts′ tb′ (E .long)
-        (rw v (E .says k S (L .going) (let a = line-nodes (first (stackAt s at)) (first (stackAt s q)) (wordAt s p) (Z .0 .leaf .here) n (L .count-is) in omega (arith, L .short, S .few-stmts, S .few-nodes)))) j (J .judged ∙ ap (judgement kn (J .entered)) (L .count-is));
+        (rw v (E .says k S (L .going) (let a = line-nodes (first (stackAt s at)) (first (stackAt s q)) (wordAt s p) (Z .0 .leaf .here) n (L .count-is) in omega (arith, L .short, a)))) j (J .judged ∙ ap (judgement kn (J .entered)) (L .count-is));
   }
 
 pub ruleset form-laws = (form-shut, form-form, form-headed)
@@ -240,6 +244,6 @@ pub main-entry-is : (kn : Known) (b : Eased) (st : State) → st ≡ bodyState (
     → record { fault = b .fault; within = true; state = st; stmts = b .stmts; ended = true; main = 0 } ≡ looseMain kn b
 main-entry-is kn b st e = rw e refl
 
-pub proc-entry-is : (kn : Known) (f : Fault) (n u : ℕ) (a b : State) → a ≡ withNames (kn .state) 1 (kn .state .top) u → b ≡ bodyState a u
-    → record { fault = f; within = ltb (kn .state .procs) 32; state = b; stmts = n; ended = false; main = 0 } ≡ looseProc kn f n u
-proc-entry-is kn f n u a b d e = rw (e, d) refl
+pub proc-entry-is : (kn : Known) (n : ℕ) (b : Eased) (t u : ℕ) (st : State) (x : Bool) → st ≡ procState (kn .state) n t u → x ≡ procFits (kn .state) n
+    → record { fault = b .fault; within = x; state = st; stmts = b .stmts; ended = false; main = 0 } ≡ looseProc kn n b t u
+proc-entry-is kn n b t u st x d e = rw (d, e) refl

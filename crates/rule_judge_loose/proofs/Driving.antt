@@ -1,15 +1,14 @@
 -- The lines of a text in their order, and rows 1 to 3 before them.
 use mathlib.Core.Path.{_≡_, refl, sym, ap, _∙_}
 use mathlib.Core.Bool.{Bool, true, false}
-use mathlib.Core.List.{List, [], _∷_, _++_}
-use Prim.Native.Nat.{ℕ, suc, _+_, _-_, _<_, _≤_}
+use mathlib.Core.List.{List, [], _++_}
+use Prim.Native.Nat.{ℕ, suc, _+_, _<_, _≤_}
 use native.Mathlib.Numerals.{add-one}
 use native.Mathlib.Omega.{arith}
 use borrow.Author.Tests.{le-leb, lt-leb}
 use lib.ListN.{length, getD, drop, drop-of-length-le}
 use Rattle.law.specs.Code.{BodyCode}
 use Rattle.law.specs.Environment.{Declared, nothingDeclared}
-use Rattle.code.specs.LayoutSize.{sizeSymbols, sizeTypes}
 use Rattle.law.specs.Lines.{Line, linesOf, refusedAt}
 use Rattle.law.specs.Verdict.{Verdict, Judged, good, bad, Read, has, accepted, must, onward, opening, loosely, judge, judgeLine, judgeLines}
 use Rattle.law_theorems.proofs.TypeSizes.{small-start}
@@ -17,7 +16,6 @@ use Rattle.text_lines.specs.Passes.{lineAt, afterLine, lineOr}
 use Rattle.text_lines.proofs.Ties.{lines-at}
 use Rattle.rule_declarations.specs.State.{notes, startState}
 use Rattle.rule_declarations.proofs.Starting.{holds-start}
-use Rattle.table_bodies.specs.Table.{upTo}
 use Rattle.rule_known.specs.declared.Known.{Known}
 use Rattle.rule_known.specs.declared.Judgement.{Judgement}
 use Rattle.rule_texts.specs.declared.Checked.{Checked}
@@ -126,10 +124,11 @@ pub ruleset drive-laws = (drive-refuses, drive-on, drive-ends)
 
 -- ---- before any line
 
-standing-start : (s l ts tb : List ℕ) → length s ≤ 32768 → 16384 ≤ length l → notes ≤ length ts → ((i : ℕ) → getD ts i 0 ≡ 0) → 165 ≤ length tb
+standing-start : (s l ts tb : List ℕ) → length s ≤ 32768 → 16384 ≤ length l → notes ≤ length ts → ((i : ℕ) → getD ts i 0 ≡ 0) → 264 ≤ length tb
     → LooseStanding s l ts tb startKnown nothingDeclared
-unfolding startKnown startState sizeSymbols sizeTypes upTo
+unfolding startKnown startState
 standing-start s l ts tb a b c h d = record {
+  places = [];
   holds = holds-start s l ts a b c h;
   stmts-are = refl;
   nodes-are = refl;
@@ -139,12 +138,11 @@ standing-start s l ts tb a b c h d = record {
   few-stmts = omega arith;
   few-nodes = omega arith;
   room = omega arith;
-  top-is = refl;
   few-procs = λ _. omega arith;
   few-bodies = omega arith;
   main-there = λ e. absurd (let z : _≡_ {A = ℕ} 0 1 = cc in omega arith);
   long-table = d;
-  bodies = record { each = λ none q g. absurd (omega (arith, g)) };
+  bodies = record { each = λ none q g. absurd (omega (arith, g)); nodes = λ q g. absurd (omega (arith, g)); procs = omega arith; most = omega arith };
 }
 
 -- ---- the rows in their order

@@ -1,8 +1,11 @@
-pub mod Easings
 pub mod Keeping
+pub mod Easings
 pub mod Staging
-pub mod BodyLines
 pub mod Declarations
+pub mod Nodes
+pub mod BodyLines
+pub mod ProcLines
+pub mod ProcLists
 pub mod Rows
 pub mod Dispatch
 pub mod Driving

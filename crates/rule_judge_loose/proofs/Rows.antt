@@ -10,8 +10,8 @@ use lib.Dec.{leb}
 use lib.ListN.{length, length-append}
 use Rattle.law.specs.Base as Base
 use Rattle.law.specs.Ceilings.{lineBounded}
-use Rattle.law.specs.Code.{BodyCode}
-use Rattle.law.specs.Environment.{Declared, declareLine, withBody}
+use Rattle.law.specs.Code.{BodyCode, noFrame}
+use Rattle.law.specs.Environment.{Declared, declareLine, frameOf, withBody, within}
 use Rattle.law.specs.Forms.{lineForm}
 use Rattle.code.specs.LayoutSize.{symbolSize, sizeBodies}
 use Rattle.law.specs.Lines.{Line}
@@ -19,20 +19,20 @@ use Rattle.law.specs.Names.{entryOf}
 use Rattle.law.specs.Rules.{keepsRules}
 use Rattle.law.specs.Script.{Entry, newType, newVar, newProc, newMain}
 use Rattle.rule_stages.specs.Stages.{Staged, wrong, unnamed, unfit, fits, ruled, named, staged}
-use Rattle.law.specs.Syntax.{LineForm, typeLine, varLine, procLine, mainLine}
+use Rattle.law.specs.Syntax.{LineForm, TypeName, typeLine, varLine, procLine, mainLine}
 use Rattle.law.specs.Trees.{Tree, Run, nodes, formOf}
 use Rattle.law.specs.Verdict.{Judged, good, bad, _>>=_, orBad, must, loosely, strictly, judgeLine}
 use Rattle.law.specs.Words.{Word, worded}
 use Rattle.law_theorems.proofs.Inversion.{bind-some, given-some, some-inj, and-true}
-use Rattle.law_theorems.proofs.LinesKeep.{line-keeps}
+use Rattle.law_theorems.proofs.LinesKeep.{line-keeps, proc-bounds}
 use Rattle.law_theorems.specs.LinesKeep.{Keeps}
 use Rattle.rule_stages.proofs.OnePassLines.{judgedBy}
 use Rattle.law_theorems.proofs.StatementNumbers.{line-counts}
-use Rattle.code.proofs.TextRoom.{entry-room, line-symbols, line-types}
+use Rattle.code.proofs.TextRoom.{entry-room, line-types}
 use Rattle.law_theorems.proofs.TextsAgree.{stage-on, line-good}
 use Rattle.law_theorems.proofs.TypeSizes.{small-declared}
 use Rattle.law_theorems.specs.TypeSizes.{SmallTypes}
-use Rattle.law_theorems.proofs.Weights.{line-weighs, weightL, worded-nodes}
+use Rattle.law_theorems.proofs.Weights.{line-weighs, weightL, weightP, worded-nodes}
 use Rattle.rule_faults.specs.Got.{faultOf}
 use Rattle.rule_expressions.proofs.Joining.{wrong-fits, unnamed-fits, unfit-fits, fits-inj}
 use Rattle.rule_statements.specs.Walks.{bare}
@@ -48,7 +48,7 @@ use Rattle.rule_judge.proofs.Lines.{line-in, must-open}
 use Rattle.rule_known.proofs.Rows.{fits-nodes, good-nodes}
 use Rattle.rule_judge.proofs.Stepping.{declared-stmts, declared-count}
 use Rattle.rule_judge_loose.specs.Standing.{LooseStanding}
-use Rattle.rule_judge_loose.specs.Entering.{LooseTold}
+use Rattle.rule_judge_loose.specs.Entering.{looseSize, LooseTold}
 use Rattle.rule_judge_loose.specs.Judging.{LooselyBy}
 
 -- ---- rows 6 to 9 by the stages
@@ -83,15 +83,25 @@ module _ (k : Declared) (t : Tree Run) where
 
 -- ---- what a line that fits takes
 
-symbols-room : (k : Declared) (f : LineForm) (e : Entry) → entryOf (k .env) f ≡ some e → symbolSize e + 2 ≤ 4 * weightL f
-unfolding entryOf strictly symbolSize sizeBodies weightL
-symbols-room k (typeLine w t) e h = bind-some h λ d hd i. let z = entry-room (k .env) (typeLine w t) (newType w d) [] (h ∙ sym i ∙ i ∙ ap some (sym (some-inj i))) refl in rw (← some-inj i) (omega arith)
-symbols-room k (varLine w t) e h = bind-some h λ n _ i. given-some i λ _ j. rw (← j) (omega arith)
-symbols-room k (procLine w b) e h = bind-some h λ x hx i. given-some i λ _ j. rw (← j) (omega arith)
-symbols-room k (mainLine b) e h = bind-some h λ x hx i. rw (← some-inj i) (omega arith)
+weigh-room : (ps : List (Base.Name × TypeName)) → 3 * length ps ≤ 4 * weightP ps
+unfolding weightP
+weigh-room [] = omega arith
+weigh-room (p ∷ ps) = omega arith
+
+each-length : {A B : Type 0} (f : A → Option B) (xs : List A) {ys : List B} → Base.each f xs ≡ some ys → length ys ≡ length xs
+unfolding Base.each
+each-length f [] h = rw (← some-inj h) refl
+each-length f (x ∷ xs) h = bind-some h λ y hy h. bind-some h λ ys hys h. rw (← some-inj h) (ap suc (each-length f xs hys))
+
+loose-room : (k : Declared) (f : LineForm) (e : Entry) → entryOf (k .env) f ≡ some e → looseSize e + 1 ≤ 4 * weightL f
+unfolding entryOf strictly symbolSize sizeBodies weightL looseSize
+loose-room k (typeLine w t) e h = bind-some h λ d hd i. let z = entry-room (k .env) (typeLine w t) (newType w d) [] (h ∙ sym i ∙ i ∙ ap some (sym (some-inj i))) refl in rw (← some-inj i) (omega arith)
+loose-room k (varLine w t) e h = bind-some h λ n _ i. given-some i λ _ j. rw (← j) (omega arith)
+loose-room k (procLine w ps b) e h = bind-some h λ qs hqs i. bind-some i λ x hx i. given-some i λ _ j. rw (← j) (let m = each-length _ ps hqs in let n = weigh-room ps in omega arith)
+loose-room k (mainLine b) e h = bind-some h λ x hx i. rw (← some-inj i) (omega arith)
 
 record Taken (k : Declared) (t : Tree Run) (o : Option (LineForm × ℕ)) (e : Entry) : Type 0 where
-  size : symbolSize e + 2 ≤ 4 * nodes t
+  size : looseSize e + 1 ≤ 4 * nodes t
   last : lastOf o ≤ k .stmts + nodes t
 
 taken : (k : Declared) (t : Tree Run) (v : Tree Word) → worded t ≡ some v → (e : Entry) → entryStaged k (bare (lineIn (k .stmts) t)) ≡ fits e → Taken k t (lineIn (k .stmts) t) e
@@ -101,7 +111,7 @@ taken k t v h e q =
     let a = worded-nodes t v h in
     let f : lineForm (k .stmts) v ≡ some p = sym (line-in (k .stmts) t v h) ∙ hp in
     let b = line-weighs (k .stmts) v p f in
-    let c = symbols-room k (p .0) e (ap (entryOf (k .env)) (some-inj ef) ∙ x .2) in
+    let c = loose-room k (p .0) e (ap (entryOf (k .env)) (some-inj ef) ∙ x .2) in
     let m = line-counts (k .stmts) v p f .most in
     record { size = omega arith; last = rw hp (omega arith) }
 
@@ -115,12 +125,12 @@ few-bodies : (k : Declared) (e : Entry) (s n : ℕ) → length (k .bodies) ≤ 3
 unfolding declareLine lineBounded
 few-bodies k (newType w d) s n h b = record { going = λ _. h; most = omega arith; last = λ i. absurd (let z : _≡_ {A = ℕ} 0 1 = cc in omega arith) }
 few-bodies k (newVar w t) s n h b = record { going = λ _. h; most = omega arith; last = λ i. absurd (let z : _≡_ {A = ℕ} 0 1 = cc in omega arith) }
-few-bodies k (newProc w x) s n h b =
-    let e : length (k .bodies ++ withBody (k .env) x ∷ []) ≡ length (k .bodies) + 1 = length-append (k .bodies) (withBody (k .env) x ∷ []) in
-    let c = leb-true (suc (length (k .bodies))) 32 b in
+few-bodies k (newProc w ps x) s n h b =
+    let e : length (k .bodies ++ withBody (within (k .env) ps) (frameOf (k .env) ps) x ∷ []) ≡ length (k .bodies) + 1 = length-append (k .bodies) (withBody (within (k .env) ps) (frameOf (k .env) ps) x ∷ []) in
+    let c = proc-bounds k ps x w b .bodies in
     record { going = λ _. omega (arith, e); most = omega (arith, e); last = λ i. omega (arith, e) }
 few-bodies k (newMain x) s n h b =
-    let e : length (k .bodies ++ withBody (k .env) x ∷ []) ≡ length (k .bodies) + 1 = length-append (k .bodies) (withBody (k .env) x ∷ []) in
+    let e : length (k .bodies ++ withBody (k .env) noFrame x ∷ []) ≡ length (k .bodies) + 1 = length-append (k .bodies) (withBody (k .env) noFrame x ∷ []) in
     record { going = λ i. absurd (let z : _≡_ {A = ℕ} 0 1 = cc in omega arith); most = omega (arith, e); last = λ i. omega (arith, e) }
 
 -- the types within theirs
@@ -128,7 +138,7 @@ line-small : (k : Declared) (e : Entry) (s n : ℕ) → keepsRules (k .env .type
 unfolding declareLine lineBounded keepsRules
 line-small k (newType w d) s n r b h = small-declared (k .env .types) d r (and-true (leb (suc (k .typeLines)) 64) _ b .1) h
 line-small k (newVar w t) s n r b h = h
-line-small k (newProc w x) s n r b h = h
+line-small k (newProc w ps x) s n r b h = h
 line-small k (newMain x) s n r b h = h
 
 entry-kept : (k : Declared) (o : Option LineForm) (e : Entry) → entryStaged k o ≡ fits e → keepsRules (k .env .types) e ≡ true
@@ -159,13 +169,13 @@ module _ (s l ts tb : List ℕ) (kn : Known) (k : Declared) (S : LooseStanding s
       → LooseStanding s l′ ts′ tb′ (goodJudgement kn g (nodes t) .known) (declareLine k e (lastOf (lineIn (k .stmts) t)) (k .nodes + nodes t))
   stands-after e q b n h =
       let X = taken k t v h5 e q in
-      let c : kn .state .top + symbolSize e ≤ 16384 = omega (arith, S .top-is, S .room, X .size) in
+      let c : kn .state .top + looseSize e ≤ 16384 = omega (arith, S .room, X .size, n) in
       let E = T .stands e q b c (omega (arith, X .last, S .few-stmts, n)) (k .nodes + nodes t) (keeps-after _ h) in
       let F = few-bodies k e (lastOf (lineIn (k .stmts) t)) (k .nodes + nodes t) (S .few-procs h6) b in
-      let y = line-symbols k e (lastOf (lineIn (k .stmts) t)) (k .nodes + nodes t) (S .two) in
       let d = declared-stmts k e (lastOf (lineIn (k .stmts) t)) (k .nodes + nodes t) in
       let m = declared-count k e (lastOf (lineIn (k .stmts) t)) (k .nodes + nodes t) in
       record {
+        places = E .places;
         holds = E .holds;
         stmts-are = E .stmts-are ∙ sym d;
         nodes-are = rw (S .nodes-are) (good-nodes (k .nodes) (nodes t) n) ∙ sym m;
@@ -174,8 +184,7 @@ module _ (s l ts tb : List ℕ) (kn : Known) (k : Declared) (S : LooseStanding s
         small = line-small k e (lastOf (lineIn (k .stmts) t)) (k .nodes + nodes t) (entry-kept k (bare (lineIn (k .stmts) t)) e q) b (S .small);
         few-stmts = omega (arith, d, m, X .last, S .few-stmts);
         few-nodes = omega (arith, m);
-        room = omega (arith, y, m, X .size, S .room);
-        top-is = omega (arith, E .top-is, y, S .top-is);
+        room = omega (arith, E .room, m, X .size, S .room);
         few-procs = F .going;
         few-bodies = F .most;
         main-there = F .last;

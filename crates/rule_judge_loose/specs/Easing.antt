@@ -18,9 +18,10 @@ use Rattle.text_heads.specs.Parts.{bodyIn}
 use Rattle.rule_faults.specs.declared.Fault.{Fault}
 use Rattle.rule_faults.specs.declared.Fault.the-variants.{Clear, Kind, Name, Form}
 use Rattle.table_scope.specs.Scene.{Scene}
-use Rattle.rule_faults.specs.Got.{faultOf}
+use Rattle.rule_faults.specs.Got.{faultOf, lowest}
 use Rattle.rule_statements.specs.Walks.{bare}
 use Rattle.rule_known.specs.declared.Known.{Known}
+use Rattle.rule_parameters.specs.declared.framing.Opened.{Opened}
 use Rattle.rule_judge_loose.specs.declared.easing.Eased.{Eased}
 
 -- the fault with the kinds left out: row 8 alone where the other rules are not kept
@@ -39,9 +40,13 @@ pub record BodyEased (σ : Environment) (o : Option (Syntax.Body × ℕ)) (r : E
   pub fault-is : r .fault ≡ faultOf (looseBody σ (bare o))
   pub number : (p : Syntax.Body × ℕ) → o ≡ some p → r .stmts ≡ p .1
 
--- the body whose parts begin at an offset; the list is left as it was below the free place
-pub record GivesEased (s l ts : List ℕ) (kn : Known) (at : ℕ) (r : Eased) (l′ : List ℕ) : Type 0 where
-  pub keeps : Same 0 (kn .state .top) l′ l
+-- the same answer with another fault beside its own
+abbrev pub withFault : Eased → Fault → Eased
+withFault b f = record { fault = lowest f (b .fault); stmts = b .stmts }
+
+-- the body that begins so; the list is left as it was below the free place
+pub record GivesEased (s l ts : List ℕ) (kn : Known) (o : Opened) (r : Eased) (l′ : List ℕ) : Type 0 where
+  pub keeps : Same 0 (o .top) l′ l
   pub long : length l′ ≡ length l
-  pub says : (σ : Environment) (bs : List ℕ) → Scene s l ts (kn .state .scope) (kn .state .top) σ bs
-      → kn .stmts + nodesIn (first (stackAt s at)) ≤ 65535 → BodyEased σ (bodyIn (kn .stmts) (first (stackAt s at))) r
+  pub says : (σ : Environment) (bs : List ℕ) → Scene s l ts (o .scope) (o .top) σ bs → kn .stmts + nodesIn (first (stackAt s (o .at))) ≤ 65535
+      → BodyEased σ (bodyIn (kn .stmts) (first (stackAt s (o .at)))) r

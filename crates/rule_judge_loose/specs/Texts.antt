@@ -22,4 +22,4 @@ pub record AdmitsLines (s l ts tb : List ℕ) (kn : Known) (c : Checked) (l′ t
 
 -- a text, judged with room for the types' places and the bodies' table
 pub record Admits (s l ts tb : List ℕ) (c : Checked) (l′ ts′ tb′ : List ℕ) : Type 0 where
-  pub says : notes ≤ length ts → ((i : ℕ) → getD ts i 0 ≡ 0) → 165 ≤ length tb → AdmittedBy s l′ ts′ tb′ (judge loosely s (length l)) c
+  pub says : notes ≤ length ts → ((i : ℕ) → getD ts i 0 ≡ 0) → 264 ≤ length tb → AdmittedBy s l′ ts′ tb′ (judge loosely s (length l)) c

@@ -1,10 +1,12 @@
 // A body with its kinds left out.
 use rule_faults::Fault;
+use rule_faults::lowest;
+use rule_judge::entering::walk_body;
 use rule_known::Known;
+use rule_parameters::framing::Opened;
 use rule_restrictions::body::body_kept;
-use rule_statements::body::body;
 ghost use mathlib.Core.Path.{_≡_};
-ghost use Rattle.rule_judge_loose.specs.Easing.{easedBy, GivesEased};
+ghost use Rattle.rule_judge_loose.specs.Easing.{easedBy, withFault, GivesEased};
 
 // The answer for a body: its fault of rows 6 to 8, kinds left out, and the number of its last statement.
 pub struct Eased {
@@ -24,13 +26,23 @@ fn ease(f: Fault, kept: bool) -> Fault
     }
 }
 
-// The body whose parts begin at an offset. Its code is laid past the free place and forgotten.
-pub fn loose_body(text: &[u8], work: &mut [u32], types: &[u32], kn: Known, at: usize) -> Eased
-    ensures { λ r. ⌜ GivesEased (now (text .entry)) (now (work .entry)) (now (types .entry)) kn at r (now (work .exit)) ⌝ }
+// The same answer with another fault beside its own.
+pub fn with_fault(b: Eased, f: Fault) -> Eased
+    ensures { λ r. ⌜ r ≡ withFault b f ⌝ }
 {
-    let st = kn.state;
-    let kept = body_kept(text, work, st.scope, at);
-    let g = body(text, work, types, st.scope, st.procs, kn.stmts, at, st.top);
+    let g = b.fault;
+    Eased {
+        fault: lowest(f, g),
+        stmts: b.stmts,
+    }
+}
+
+// The body that begins so. Its code is laid past the free place and forgotten.
+pub fn loose_body(text: &[u8], work: &mut [u32], types: &[u32], kn: Known, o: Opened) -> Eased
+    ensures { λ r. ⌜ GivesEased (now (text .entry)) (now (work .entry)) (now (types .entry)) kn o r (now (work .exit)) ⌝ }
+{
+    let kept = body_kept(text, work, o.scope, o.at);
+    let g = walk_body(text, work, types, kn, o);
     let f = g.fault;
     let fault = ease(f, kept);
     Eased {

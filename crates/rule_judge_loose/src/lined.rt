@@ -1,10 +1,10 @@
 // A line at an offset: rows 4 to 9, the kinds of bodies left out.
-use crate::bodied::faulty;
 use crate::bodied::main_line;
 use crate::bodied::proc_line;
 use leaf_words::words::Word;
 use rule_declarations::var_line;
 use rule_faults::Fault;
+use rule_judge::entering::faulty;
 use rule_known::Entered;
 use rule_known::Judgement;
 use rule_known::Known;

@@ -158,7 +158,7 @@ tells-name s p = record { tells = λ σ x h i. bind-some h λ m hm e. a-name p x
     value-of : (m : NameSort) (x : Const) → asValue m ≡ some x → m ≡ aValue x
     value-of (aType t) x e = none-some e
     value-of (aVar i) x e = none-some e
-    value-of (aProc q) x e = none-some e
+    value-of (aProc q ts) x e = none-some e
     value-of (aValue c) x e = ap aValue (some-inj e)
 
 module _ (s : List ℕ) (w : Word) (p q : ℕ) (a : Atom) (e : a ≡ atomOf w) where
@@ -221,7 +221,7 @@ module _ (s : List ℕ) (p q : ℕ) (v : Valued) (G : GivesMinus s p (minusForm 
 
   -- the form alone decides whether there is a fault of row 6
   abbrev nobody : Environment
-  nobody = record { names = []; types = []; vars = [] }
+  nobody = record { names = []; types = []; vars = []; parameters = [] }
 
   staged-wrong : (o : Option Constant) → isForm (faultOf (staged o (constantOf nobody) plain some)) ≡ true → o ≡ none
   unfolding staged named ruled

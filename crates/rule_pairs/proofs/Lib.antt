@@ -1,1 +1,2 @@
 pub mod PairParts
+pub mod Resolving

@@ -8,11 +8,11 @@ use native.Mathlib.Decide.{decLt}
 use native.Mathlib.Omega.{arith}
 use borrow.Author.Tests.{leb-true, lt-leb}
 use lib.Dec.{leb}
-use lib.ListN.{length, set, length-append, length-set}
+use lib.ListN.{getD, length, set, length-append, length-set}
 use Rattle.leaf_bytes.specs.Bytes.{small}
 use Rattle.law.specs.Base.{Name, _>>=_, each, given, find}
 use Rattle.law.specs.Ceilings.{lineBounded, typeBounded, fieldSizes}
-use Rattle.law.specs.Environment.{Declared, Environment, aType, declareLine, extendTypes, declNames, typeSortOf, layFields, fieldCells}
+use Rattle.law.specs.Environment.{Declared, Environment, aProc, aType, declareLine, extendTypes, declNames, typeSortOf, layFields, fieldCells}
 use Rattle.law.specs.Forms.{field, some?, madeType}
 use Rattle.code.specs.Layout.{bits, lay}
 use Rattle.code.specs.LayoutSize.{symbolSize, sizeDecl}
@@ -32,7 +32,8 @@ use Rattle.code.proofs.LayoutRegions.{Has, lay-g, lay-l}
 use Rattle.code.specs.LayoutRegions.{Same, Room}
 use Rattle.table_names.specs.Keys.{keyed}
 use Rattle.table_scope.proofs.Cells.{keeps-cells}
-use Rattle.table_scope.proofs.Kept.{scene-kept}
+use Rattle.table_scope.proofs.Within.{chain-told, find-other}
+use Rattle.table_scope.proofs.Kept.{scene-kept, tells-frame-kept}
 use Rattle.table_scope.proofs.Telling.{meant}
 use Rattle.rule_faults.specs.declared.Fault.{Fault}
 use Rattle.rule_faults.specs.declared.Fault.the-variants.{Clear, Form}
@@ -49,14 +50,15 @@ use Rattle.rule_declarations.specs.Names.{newFault}
 use Rattle.rule_declarations.specs.Lines.{entryStaged, newly, linedBy, LineTold}
 use Rattle.rule_type_lines.specs.TypeLines.{madeAfter, linesFit, typeEntry, infoNumbers, typeState, GivesMade, EndFault, was-form, at-end, before-end}
 use Rattle.rule_pairs.specs.Pairs.{pairsIn, firsts, resolve, knownType, typesKnown, pairsGood, Tracks, PairsTold, pairs-wrong, pairs-empty, pairs-read, GivesPairs}
+use Rattle.rule_pairs.proofs.Resolving.{Good, good-yes, good-no, good-told}
 use Rattle.rule_record_lines.specs.Records.{recordIn, recordInfo, recordNamed, recordDescribed, AddsRecord, recordFits}
 use Rattle.rule_declarations.specs.declared.State.{State}
 use Rattle.rule_declarations.specs.declared.Lined.{Lined}
 use Rattle.rule_pairs.specs.declared.Pairs.{Pairs}
-use Rattle.rule_declarations.proofs.Growing.{Chained, scene-chained, chained-env, chained-more, chained-kept}
+use Rattle.rule_declarations.proofs.Growing.{Chained, holds-chained, chained-env, chained-more, chained-kept}
 use Rattle.rule_declarations.proofs.FreeNames.{more-closed, bound-none, bound-nones}
 use Rattle.rule_declarations.proofs.VarLines.{clear-is, entry-fits, failed-told, value-find, new-one}
-use Rattle.rule_type_lines.proofs.TypeScenes.{by-number, types-more, means-same, type-means, type-value, type-keeps, type-within, type-holds, lines-low}
+use Rattle.rule_type_lines.proofs.TypeScenes.{by-number, types-more, means-same, type-means, type-proc, type-value, type-keeps, type-within, type-holds, lines-low}
 use Rattle.rule_type_lines.proofs.Aliases.{entry-is, lines-bounded}
 use Rattle.rule_type_lines.proofs.SimpleLines.{read-numbers, decl-fault, decl-clear, form-new, form-clear}
 use Rattle.rule_enum_lines.proofs.EnumLines.{form-end}
@@ -77,20 +79,6 @@ cells-length : (Γ : Types) (gs : List (Name × ℕ)) → length (fieldCells Γ 
 unfolding fieldCells fieldSizes
 cells-length Γ [] = refl
 cells-length Γ (g ∷ gs) = length-append (cellsOf Γ (g .1)) (fieldCells Γ gs) ∙ ap (λ (n : ℕ). sizeOf Γ (g .1) + n) (cells-length Γ gs)
-
-data Good (σ : Environment) (fs : List (Name × TypeName)) : Type 0 where
-  good-yes : (gs : List (Name × ℕ)) → resolve σ fs ≡ some gs → fieldNames σ gs ≡ firsts fs → length gs ≡ length fs → typesKnown σ fs ≡ true → Good σ fs
-  good-no : resolve σ fs ≡ none → typesKnown σ fs ≡ false → Good σ fs
-
-good-told : (σ : Environment) (fs : List (Name × TypeName)) → Good σ fs
-unfolding resolve each fieldNames firsts typesKnown _>>=_ knownType
-good-told σ [] = good-yes [] refl refl refl refl
-good-told σ (f ∷ fs) = go (typeOf σ (f .1)) refl (good-told σ fs)
-  where
-    go : (o : Option ℕ) → typeOf σ (f .1) ≡ o → Good σ fs → Good σ (f ∷ fs)
-    go none e G = good-no (rw e refl) (rw e refl)
-    go (some t) e (good-yes gs a b c d) = good-yes ((f .0, t) ∷ gs) (rw (e, a) refl) (ap (λ (zs : List Name). f .0 ∷ zs) b) (ap suc c) (rw (e, d) refl)
-    go (some t) e (good-no a b) = good-no (rw (e, a) refl) (rw (e, b) refl)
 
 -- the stage of a record beside its own name
 data Stage (k : Declared) (w : Name) (fs : List (Name × TypeName)) : Type 0 where
@@ -236,7 +224,7 @@ module _ {s l ts : List ℕ} {st : State} {k : Declared} {bs : List ℕ} (H : Ho
       (rw (← H .types-are) (subst (λ (ns : List ℕ). Chained s (lay ns (st .top) l .list) (scoped (suc (st .scope .count)) (st .top)) (st .top + 4) (ks .env) bs ((w, aType (st .types)) ∷ k .env .names))
       (sym (entry-is st (keyed s p) (st .types) (omega (arith, number-low))))
       (chained-more p (4 * st .types) 0 (aType (st .types)) (omega (arith, H .short-text)) (record { start = H .start; fits = omega arith; long = H .long-list }) (type-means (ks .env) bs (st .types) 0)
-      (chained-env {σ′ = ks .env} (means-same refl) (scene-chained (H .scene))))))
+      (chained-env {σ′ = ks .env} (means-same refl) (holds-chained H)))))
 
   told-types : (t : ℕ) → Tells s l′ (infoOf l′ (set ts (length Γ) t₁) t) (infoAt (Γ ++ (typeSortOf Γ (recordOf gs) ∷ [])) t) × EndsBelow (A .free) (infoOf l′ (set ts (length Γ) t₁) t)
   unfolding recordInfo
@@ -248,25 +236,27 @@ module _ {s l ts : List ℕ} {st : State} {k : Declared} {bs : List ℕ} (H : Ho
   record-scene =
       let K = type-keeps H w (recordOf gs) f e g b sn nn in
       record {
-        names = record-chained .names;
+        names = chain-told (scoped (suc (st .scope .count)) (st .top)) refl (record-chained .names);
         below = record-chained .below;
         types = λ t. told-types t .0;
         described = λ t. told-types t .1;
         table = K .table;
         fair = rw (H .bodies-are) (K .names);
-        cells = keeps-cells ks K (omega (arith, H .cells-are, H .few-cells));
+        cells = keeps-cells ks K;
         fieldless = by-number Γ (typeSortOf Γ (recordOf gs)) (λ t j. isRecord (j .shape) ≡ false → j .fields ≡ []) (λ t _. H .scene .fieldless t) (λ q. absurd (false≢true (sym q))) (λ t _ _. refl);
         above = λ x c i. H .scene .above x c (value-find w x (aType (length Γ)) (k .env .names) c (type-value (length Γ)) i);
         once = λ x y c i j. H .scene .once x y c (value-find w x (aType (length Γ)) (k .env .names) c (type-value (length Γ)) i) (value-find w y (aType (length Γ)) (k .env .names) c (type-value (length Γ)) j);
+        frames = λ x q us i. tells-frame-kept same₀ (rw free-is (omega arith)) (getD bs q 0) us
+            (H .scene .frames x q us (find-other w x (aType (length Γ)) (aProc q us) (k .env .names) (type-proc (length Γ) q us) i));
       }
 
   pub record-holds : Holds s l′ ts′ (typeState st 1 (st .top) 1 (A .free)) ks bs
-  unfolding extendTypes typeSortOf
+  unfolding declareLine declNames extendTypes typeSortOf
   record-holds =
       let c : suc (st .scope .count) ≡ st .scope .count + 1 = omega arith in
       let m : length (Γ ++ (typeSortOf Γ (recordOf gs) ∷ [])) ≡ length Γ + 1 = length-append Γ (typeSortOf Γ (recordOf gs) ∷ []) in
       rw (A .places) (subst (λ (z : ℕ). Holds s l′ (set ts z t₁) (typeState st 1 (st .top) 1 (A .free)) ks bs) (sym (H .types-are))
-      (type-holds H w (recordOf gs) f e g b sn nn 1 (st .top) 1 (A .free) l′ (set ts (length Γ) t₁) (omega arith) m (rw c at record-scene)
+      (type-holds H w (recordOf gs) f e g b sn nn 1 (st .top) 1 (A .free) l′ (set ts (length Γ) t₁) (omega arith) m (rw c at record-scene) (rw c at (record-chained .names))
       (by-number Γ (typeSortOf Γ (recordOf gs)) (λ t j. length (cellsBy (j .shape) t (j .cells)) ≤ 2048) (λ t _. H .small-types t) (rw (cells-length Γ gs) few-cells) (λ t _. omega arith))
       (rw free-is (omega (arith, H .few-names))) (rw free-is (omega arith)) (rw free-is room) (rw (A .fields .long, long₂) (H .long-list)) (rw (length-set ts (length Γ) t₁) (H .long-notes))))
 

@@ -112,7 +112,7 @@ told-var i (known M) e = means-var i M (some-inj e)
 sort-var : (m : NameSort) (i : ℕ) → asVar m ≡ some i → m ≡ aVar i
 sort-var (aType t) i e = none-some e
 sort-var (aVar j) i e = ap aVar (some-inj e)
-sort-var (aProc p) i e = none-some e
+sort-var (aProc p ts) i e = none-some e
 sort-var (aValue c) i e = none-some e
 
 module _ {s l : List ℕ} {scope : Scope} {loops : Loops} {d : ℕ} {σ : Environment} {js : List ℕ} (N : Near s l scope loops d σ js) where

@@ -1,4 +1,5 @@
 pub mod Passing
+pub mod Arguments
 pub mod Controlling
 pub mod ArmLabels
 pub mod Ways

@@ -31,10 +31,11 @@ use Rattle.table_scope.specs.declared.Loops.{Loops}
 use Rattle.table_scope.specs.Loops.{withLoop}
 use Rattle.rule_statements.specs.Chains.{many}
 use Rattle.rule_statements.specs.Walks.{verbIn}
-use Rattle.rule_statements.proofs.Shapes.{form-shape, none-shape, raise-shape, call-shape, while-shape, if-shape, begin-shape}
+use Rattle.rule_statements.proofs.Shapes.{form-shape, none-shape, raise-shape, while-shape, if-shape, begin-shape}
 use Rattle.rule_restrictions.specs.declared.control.Start.{Start}
 use Rattle.rule_restrictions.specs.declared.control.Start.the-variants as start
 use Rattle.rule_restrictions.specs.Walks.{Near, KeepsStmt, KeepsInner, KeepsVerb, KeepsAssign, KeepsThen, KeepsElse, KeepsStmts}
+use Rattle.rule_restrictions.specs.Calls.{KeepsCall}
 use Rattle.rule_restrictions.specs.Control.{Steps, Starts}
 use Rattle.rule_restrictions.proofs.Passing.{near-in, closed-is, split, expr-some, stmt-some, skip-then, skip-rest, skip-falls, expr-first}
 
@@ -119,12 +120,8 @@ module _ (s l : List ℕ) (scope : Scope) (loops : Loops) (v : Verb) (d at : ℕ
   })
 
 module _ (s l : List ℕ) (scope : Scope) (loops : Loops) (v : Verb) (d at : ℕ) where
-  pub verb-call : v ≡ VB.Call → KeepsVerb s l scope loops v d at true
-  unfolding stmtOf keptStmt
-  verb-call e = rw e (record {
-    says = λ σ js N n p x h k.
-        bind-some (sym (call-shape d n (first (stackAt s at))) ∙ h) λ a ha q. bind-some (rw (← some-inj q) at k) λ y hy j. rw (← some-inj j) refl;
-  })
+  pub verb-call : v ≡ VB.Call → (r : Bool) → KeepsCall s l scope at r → KeepsVerb s l scope loops v d at r
+  verb-call e r K = rw e (K .any loops d)
 
   pub verb-none : v ≡ VB.Nothing → KeepsVerb s l scope loops v d at true
   verb-none e = rw e (record { says = λ σ js N n p x h k. none-some (sym (none-shape d n (first (stackAt s at))) ∙ h) })

@@ -1,3 +1,4 @@
 pub mod Walks
+pub mod Calls
 pub mod Control
 pub mod ArmParts

@@ -1,6 +1,7 @@
 // The rules of statements. A part that is none, or has another form than row 6 allows, may be answered in any way.
 use crate::arm_parts::AfterArm;
 use crate::arm_parts::after_labels;
+use crate::calls::call_kept;
 use crate::control::Start;
 use crate::control::assign_kept;
 use crate::control::start_at;
@@ -70,7 +71,7 @@ fn headed(
         Verb::While => while_loop(text, work, scope, loops, depth, at),
         Verb::For => for_loop(text, work, scope, loops, depth, at),
         Verb::Case => case_of(text, work, scope, loops, depth, at),
-        Verb::Call => true,
+        Verb::Call => call_kept(text, work, scope, at),
         Verb::Raise => plain_part(text, at),
         Verb::Nothing => true,
     }

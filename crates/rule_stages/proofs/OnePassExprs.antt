@@ -1,23 +1,26 @@
 -- One pass over an expression or a target: its answer for rows 6 to 8 from the answers for its parts.
 use mathlib.Core.Path.{_≡_, refl, sym, ap, _∙_}
-use mathlib.Core.Bool.{Bool, true, false, _&&_}
-use mathlib.Core.List.{[]}
+use mathlib.Core.Bool.{Bool, true, false, _&&_, and-assoc}
+use mathlib.Core.List.{List, [], _∷_}
 use mathlib.Core.Option.{Option, none, some}
-use Prim.Native.Nat.{ℕ}
+use Prim.Native.Nat.{ℕ, suc, compare·suc-suc}
+use native.Mathlib.Omega.{arith}
+use borrow.Author.Tests.{ne-eqb}
 use lib.Dec.{eqb}
-use Rattle.law.specs.Base.{Name, _>>=_, given}
+use lib.ListN.{length}
+use Rattle.law.specs.Base.{Name, _>>=_, both, given}
 use Rattle.law.specs.Calculate as Calculate
 use Rattle.law.specs.Syntax as Syntax
 use Rattle.law.specs.Types.{Types, infoAt, Vars, Var, Field, hostOf, sizeOf, set?, array?, record?, baseOf, fieldOf}
 use Rattle.law.specs.Operators.{Op, Fun, bothBooleans, operatorRule, functionRule}
-use Rattle.law.specs.Script.{Expr, read, members, binary, shortCircuit, unary, Target, var, at, dot, Exprs, _and_}
+use Rattle.law.specs.Script.{Expr, read, members, binary, shortCircuit, unary, Target, var, at, dot, Exprs, nil, _and_}
 use Rattle.law.specs.Environment.{Environment}
 use Rattle.law.specs.Names.{Reached, reached, typeOf, elementOf, fieldIn, exprOf, targetOf, exprsOf}
-use Rattle.law.specs.Code.{load, makeSet, calculate, shortCut, calculate1, _with_, index, shift}
-use Rattle.law.specs.Elaborate.{elaborated, Located, located, elabExpr, elabTarget, elabMembers, expects}
-use Rattle.law.specs.Rules.{plainExpr, plainTarget, plainExprs}
-use Rattle.rule_stages.specs.Stages.{unnamed, ruled, named, staged, join, orUnfit, onFits, unknown, dotted, exprStaged, targetName, typeBy, targetType, targetStaged, membersStaged, wantedStaged}
-use Rattle.rule_stages.proofs.Staging.{bind-map, staged-unknown, staged-two, staged-one, staged-then, one-ruled}
+use Rattle.law.specs.Code.{Code, Codes, load, makeSet, calculate, shortCut, calculate1, noCodes, _with_, index, shift}
+use Rattle.law.specs.Elaborate.{Elaborated, elaborated, Located, located, elabExpr, elabTarget, elabMembers, elabArguments, expects}
+use Rattle.law.specs.Rules.{plainExpr, plainTarget, plainExprs, howMany}
+use Rattle.rule_stages.specs.Stages.{Staged, unnamed, unfit, fits, ruled, named, staged, join, orUnfit, onFits, unknown, dotted, exprStaged, targetName, typeBy, targetType, targetStaged, membersStaged, argumentsStaged, wantedStaged}
+use Rattle.rule_stages.proofs.Staging.{bind-map, staged-unknown, staged-two, staged-never, staged-one, staged-then, one-ruled}
 use Rattle.law_theorems.proofs.Inversion.{none-some, some-inj, bind-some, both-some, given-some, and-true}
 
 -- ---- binding
@@ -88,6 +91,54 @@ module _ (σ : Environment) where
       ≡ onFits (exprStaged σ e) λ x. orUnfit (given (eqb k (x .kind)) (x .code))
   unfolding wantedStaged exprStaged expects
   wanted-staged k e = staged-then (exprOf σ) plainExpr (elabExpr Γ Δ) (λ x. given (eqb k (x .kind)) (x .code)) e
+
+  -- ---- arguments
+
+  abbrev counted : List ℕ → Exprs → Bool
+  counted ts es = plainExprs es && eqb (howMany es) (length ts)
+
+  argument-kinds : (t : ℕ) (ts : List ℕ) (e : Expr) (es : Exprs) → elabArguments Γ Δ (t ∷ ts) (e and es)
+      ≡ both (elabExpr Γ Δ e) (elabArguments Γ Δ ts es) λ x cs. given (eqb (hostOf Γ t) (x .kind)) ((x .code) with cs)
+  unfolding elabArguments expects both given _>>=_
+  argument-kinds t ts e es = go (elabExpr Γ Δ e) (elabArguments Γ Δ ts es)
+    where
+      of : (b : Bool) (c : Code) (v : Option Codes) → both (given b c) v (λ c cs. some (c with cs)) ≡ both (some c) v λ c cs. given b (c with cs)
+      of true c none = refl
+      of true c (some cs) = refl
+      of false c none = refl
+      of false c (some cs) = refl
+
+      go : (u : Option Elaborated) (v : Option Codes) → both (u >>= λ x. given (eqb (hostOf Γ t) (x .kind)) (x .code)) v (λ c cs. some (c with cs))
+          ≡ both u v λ x cs. given (eqb (hostOf Γ t) (x .kind)) ((x .code) with cs)
+      go none v = refl
+      go (some x) none = of (eqb (hostOf Γ t) (x .kind)) (x .code) none
+      go (some x) (some cs) = of (eqb (hostOf Γ t) (x .kind)) (x .code) (some cs)
+
+  pub argument-staged : (t : ℕ) (ts : List ℕ) (e : Option Syntax.Expr) (es : Option Syntax.Exprs) → argumentsStaged σ (t ∷ ts) (e >>= λ x. es >>= λ y. some (Syntax._and_ x y))
+      ≡ join (exprStaged σ e) (argumentsStaged σ ts es) λ x cs. orUnfit (given (eqb (hostOf Γ t) (x .kind)) ((x .code) with cs))
+  unfolding exprStaged argumentsStaged exprsOf plainExprs howMany
+  argument-staged t ts e es =
+      staged-two (exprOf σ) plainExpr (elabExpr Γ Δ) (exprsOf σ) (counted ts) (elabArguments Γ Δ ts) (exprsOf σ) (counted (t ∷ ts)) (elabArguments Γ Δ (t ∷ ts))
+      Syntax._and_ _and_ _ (λ x y. refl) (λ x y. one-more x y (howMany y) (length ts)) (argument-kinds t ts) e es
+    where
+      one-more : (x : Expr) (y : Exprs) (n m : ℕ) → ((plainExpr x && plainExprs y) && eqb (suc n) (suc m)) ≡ (plainExpr x && (plainExprs y && eqb n m))
+      one-more x y n m = rw (compare·suc-suc n m) (and-assoc (plainExpr x) (plainExprs y) (eqb n m))
+
+  -- past the last parameter
+  pub argument-past : (e : Option Syntax.Expr) (es : Option Syntax.Exprs) → argumentsStaged σ [] (e >>= λ x. es >>= λ y. some (Syntax._and_ x y))
+      ≡ join (exprStaged σ e) (argumentsStaged σ [] es) λ x cs. unfit
+  unfolding exprStaged argumentsStaged exprsOf plainExprs howMany elabArguments
+  argument-past e es =
+      staged-never (exprOf σ) plainExpr (elabExpr Γ Δ) (exprsOf σ) (counted []) (elabArguments Γ Δ []) (exprsOf σ) (counted []) (elabArguments Γ Δ [])
+      Syntax._and_ _and_ (λ x y. refl) (λ x y. refl) e es
+
+  pub arguments-end : argumentsStaged σ [] (some Syntax.nil) ≡ fits noCodes
+  unfolding argumentsStaged staged named ruled exprsOf plainExprs howMany elabArguments
+  arguments-end = refl
+
+  pub arguments-few : (t : ℕ) (ts : List ℕ) → argumentsStaged σ (t ∷ ts) (some Syntax.nil) ≡ unfit
+  unfolding argumentsStaged staged named ruled exprsOf plainExprs howMany elabArguments
+  arguments-few t ts = rw (ne-eqb 0 (suc (length ts)) (λ h. omega arith)) refl
 
   -- ---- targets
 

@@ -5,17 +5,24 @@ use mathlib.Core.List.{List, [], _∷_}
 use mathlib.Core.Option.{Option, none, some}
 use Prim.Native.Nat.{ℕ}
 use lib.Dec.{eqb}
-use Rattle.law.specs.Base.{Name, _>>=_, both, given, each}
+use lib.ListN.{length}
+use Rattle.law.specs.Base.{Name, _>>=_, both, find, given, each}
 use Rattle.law.specs.Syntax as Syntax
 use Rattle.law.specs.Types.{Types, infoAt, Vars, Var, variable, hostOf, ordinal?}
-use Rattle.law.specs.Script.{Expr, Target, var, Stmt, assign, begin, ifElse, while, for, case, raise, Stmts, _next_, Arms, elseArm, arm}
+use Rattle.law.specs.Script.{Expr, Target, var, Stmt, assign, begin, ifElse, while, for, case, call, raise, Stmts, _next_, Arms, elseArm, arm}
 use Rattle.law.specs.Environment.{Environment}
-use Rattle.law.specs.Names.{varOf, constantOf, exprOf, targetOf, stmtOf, stmtsOf, armsOf, bodyOf}
-use Rattle.law.specs.Code.{Act, sequence, branchOn, whileLoop, forLoop, caseOf, raiseWith, _also_, elseCase, oneCase}
-use Rattle.law.specs.Elaborate.{Elaborated, Located, elabExpr, elabTarget, expects, assigning, elabLabels, elabStmt, elabStmts, elabArms, elabBody}
-use Rattle.law.specs.Rules.{plainExpr, plainTarget, allPlain, steers, looping, differ, labelsOf, keptStmt, keptStmts, keptArms, keptBody}
-use Rattle.rule_stages.specs.Stages.{Staged, named, staged, join, orUnfit, onFits, selected, keptIf, exprStaged, targetName, targetStaged, wantedStaged, assignedStaged, stmtStaged, stmtsStaged, labelsStaged, armsStaged, casesStaged, bodyStaged}
-use Rattle.rule_stages.proofs.Staging.{bind-map, pair, staged-two, staged-three, staged-one, staged-kept, kept-ruled, staged-selected}
+use Rattle.law.specs.Names.{asProc, varOf, constantOf, exprOf, exprsOf, targetOf, stmtOf, stmtsOf, armsOf, bodyOf}
+use Rattle.law.specs.Code.{Act, sequence, branchOn, whileLoop, forLoop, caseOf, callTo, raiseWith, _also_, elseCase, oneCase, Frame}
+use Rattle.law.specs.Elaborate.{Elaborated, Located, elabExpr, elabTarget, expects, assigning, elabArguments, elabLabels, elabStmt, elabStmts, elabArms, elabBody}
+use Rattle.law.specs.Rules.{plainExpr, plainExprs, howMany, plainTarget, allPlain, steers, looping, differ, labelsOf, keptStmt, keptStmts, keptArms, keptBody}
+use Rattle.rule_stages.specs.Stages.{Staged, named, staged, join, orUnfit, onFits, selected, keptIf, unknown, argumentsStaged, exprStaged, targetName, targetStaged, wantedStaged, assignedStaged, stmtStaged, stmtsStaged, labelsStaged, armsStaged, casesStaged, bodyStaged}
+use Rattle.rule_stages.proofs.Staging.{bind-map, pair, staged-two, staged-three, staged-one, staged-unknown, staged-kept, kept-ruled, staged-selected}
+
+-- ---- binding
+
+some-bind : {A B : Type 0} (a : A) (f : A → Option B) → (some a >>= f) ≡ f a
+unfolding _>>=_
+some-bind a f = refl
 
 -- ---- tests in another order
 
@@ -52,6 +59,21 @@ module _ (σ : Environment) (js : List ℕ) where
   begin-staged n ss =
       staged-one (stmtsOf σ) (λ s. keptStmts s js) (elabStmts Γ Δ) (stmtOf σ) (λ s. keptStmt s js) (elabStmt Γ Δ)
       (Syntax.begin n) (begin n) _ (λ x. refl) (λ x. refl) (λ x. refl) ss
+
+  -- ---- `call`: its procedure is known, and then its arguments are those parameters'
+
+  module _ (n : ℕ) (w : Name) where
+    pub call-staged : (p : ℕ) (ts : List ℕ) → (find (σ .names) w >>= asProc) ≡ some (p, ts) → (es : Option Syntax.Exprs) → S (es >>= λ x. some (Syntax.call n w x))
+        ≡ onFits (argumentsStaged σ ts es) λ cs. orUnfit (some (callTo n p cs))
+    unfolding stmtStaged argumentsStaged stmtOf keptStmt elabStmt
+    call-staged p ts h es =
+        staged-one (exprsOf σ) (λ es. plainExprs es && eqb (howMany es) (length ts)) (elabArguments Γ Δ ts) (stmtOf σ) (λ s. keptStmt s js) (elabStmt Γ Δ)
+        (Syntax.call n w) (call n p ts) _ (λ x. rw h (some-bind (pair p ts) _)) (λ x. refl) (λ x. refl) es
+
+    pub call-unknown : (find (σ .names) w >>= asProc) ≡ none → (ts : List ℕ) (es : Option Syntax.Exprs) → S (es >>= λ x. some (Syntax.call n w x)) ≡ unknown (argumentsStaged σ ts es)
+    unfolding stmtStaged argumentsStaged stmtOf _>>=_
+    call-unknown h ts es =
+        staged-unknown (exprsOf σ) (λ es. plainExprs es && eqb (howMany es) (length ts)) (elabArguments Γ Δ ts) (stmtOf σ) (λ s. keptStmt s js) (elabStmt Γ Δ) (Syntax.call n w) (λ x. rw h) es
 
   -- ---- two parts
 
@@ -201,10 +223,10 @@ module _ (σ : Environment) (js : List ℕ) where
 
 -- ---- bodies
 
-pub body-staged : (σ : Environment) (h : Bool) (a b : Option Syntax.Stmts) → bodyStaged σ (a >>= λ x. b >>= λ y. some (record { stmts = x; handles = h; handler = y }))
-    ≡ join (stmtsStaged σ [] a) (stmtsStaged σ [] b) λ x y. orUnfit (some (record { acts = x; handles = h; handler = y }))
+pub body-staged : (σ : Environment) (q : Frame) (h : Bool) (a b : Option Syntax.Stmts) → bodyStaged σ q (a >>= λ x. b >>= λ y. some (record { stmts = x; handles = h; handler = y }))
+    ≡ join (stmtsStaged σ [] a) (stmtsStaged σ [] b) λ x y. orUnfit (some (record { frame = q; acts = x; handles = h; handler = y }))
 unfolding bodyStaged stmtsStaged bodyOf keptBody elabBody
-body-staged σ h a b =
+body-staged σ q h a b =
     staged-two (stmtsOf σ) (λ s. keptStmts s []) (elabStmts (σ .types) (σ .vars)) (stmtsOf σ) (λ s. keptStmts s []) (elabStmts (σ .types) (σ .vars))
-    (bodyOf σ) keptBody (elabBody (σ .types) (σ .vars)) (λ x y. record { stmts = x; handles = h; handler = y }) (λ x y. record { stmts = x; handles = h; handler = y }) _
+    (bodyOf σ) keptBody (elabBody (σ .types) (σ .vars) q) (λ x y. record { stmts = x; handles = h; handler = y }) (λ x y. record { stmts = x; handles = h; handler = y }) _
     (λ x y. refl) (λ x y. refl) (λ x y. refl) a b

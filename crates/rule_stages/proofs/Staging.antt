@@ -82,6 +82,50 @@ module _ {A₁ A₂ A B₁ B₂ B C₁ C₂ C : Type 0}
   staged-two (some a) none = sym (join-wrong (λ x y. orUnfit (g x y)) (named (n₁ a) r₁ e₁))
   staged-two (some a) (some b) = rw (hn a b) (two-named (n₁ a) (n₂ b))
 
+-- two parts that never fit together
+module _ {A₁ A₂ A B₁ B₂ B C₁ C₂ C : Type 0}
+    (n₁ : A₁ → Option B₁) (r₁ : B₁ → Bool) (e₁ : B₁ → Option C₁)
+    (n₂ : A₂ → Option B₂) (r₂ : B₂ → Bool) (e₂ : B₂ → Option C₂)
+    (n : A → Option B) (r : B → Bool) (e : B → Option C)
+    (c : A₁ → A₂ → A) (c′ : B₁ → B₂ → B)
+    (hn : (a : A₁) (b : A₂) → n (c a b) ≡ (n₁ a >>= λ x. n₂ b >>= λ y. some (c′ x y)))
+    (he : (x : B₁) (y : B₂) → e (c′ x y) ≡ none) where
+  abbrev never : C₁ → C₂ → Staged C
+  never x y = unfit
+
+  never-ruled : (t p q : Bool) (u : Option C₁) (v : Option C₂) → ruled {A = C} t none ≡ join (ruled p u) (ruled q v) never
+  unfolding ruled join
+  never-ruled t false q u v = ruled-none t ∙ sym (unfit-ruled never q v)
+    where
+      ruled-none : (t : Bool) → ruled {A = C} t none ≡ unfit
+      ruled-none true = refl
+      ruled-none false = refl
+  never-ruled false true false none v = refl
+  never-ruled false true false (some x) v = refl
+  never-ruled false true true none none = refl
+  never-ruled false true true none (some y) = refl
+  never-ruled false true true (some x) none = refl
+  never-ruled false true true (some x) (some y) = refl
+  never-ruled true true false none v = refl
+  never-ruled true true false (some x) v = refl
+  never-ruled true true true none none = refl
+  never-ruled true true true none (some y) = refl
+  never-ruled true true true (some x) none = refl
+  never-ruled true true true (some x) (some y) = refl
+
+  never-named : (u : Option B₁) (v : Option B₂) → named (u >>= λ x. v >>= λ y. some (c′ x y)) r e ≡ join (named u r₁ e₁) (named v r₂ e₂) never
+  unfolding named _>>=_ join
+  never-named none none = refl
+  never-named none (some y) = sym (unnamed-ruled never (r₂ y) (e₂ y))
+  never-named (some x) none = sym (ruled-unnamed never (r₁ x) (e₁ x))
+  never-named (some x) (some y) = rw (he x y) (never-ruled (r (c′ x y)) (r₁ x) (r₂ y) (e₁ x) (e₂ y))
+
+  pub staged-never : (o₁ : Option A₁) (o₂ : Option A₂) → staged (o₁ >>= λ a. o₂ >>= λ b. some (c a b)) n r e ≡ join (staged o₁ n₁ r₁ e₁) (staged o₂ n₂ r₂ e₂) never
+  unfolding staged _>>=_ join
+  staged-never none o₂ = refl
+  staged-never (some a) none = sym (join-wrong never (named (n₁ a) r₁ e₁))
+  staged-never (some a) (some b) = rw (hn a b) (never-named (n₁ a) (n₂ b))
+
 -- ---- three parts: the first two are one part, a pair
 
 abbrev pub pair : {A B : Type 0} → A → B → A × B

@@ -4,15 +4,17 @@ use mathlib.Core.Bool.{Bool, true, false, not, _&&_}
 use mathlib.Core.List.{List}
 use mathlib.Core.Option.{Option, none, some}
 use Prim.Native.Nat.{ℕ}
+use lib.Dec.{eqb}
 use lib.IntN.{ℤ}
+use lib.ListN.{length}
 use Rattle.law.specs.Base.{_>>=_, each}
 use Rattle.law.specs.Syntax as Syntax
 use Rattle.law.specs.Script.{Expr, Target, Exprs, Stmt, Stmts, Arms, Body}
 use Rattle.law.specs.Environment.{Environment}
 use Rattle.law.specs.Names.{Reached, exprOf, targetOf, exprsOf, constantOf, stmtOf, stmtsOf, armsOf, bodyOf}
-use Rattle.law.specs.Code.{Code, Codes, Act, Acts, Cases, BodyCode}
-use Rattle.law.specs.Elaborate.{Elaborated, Located, elabExpr, elabTarget, elabMembers, expects, elabLabels, elabStmt, elabStmts, elabArms, elabBody}
-use Rattle.law.specs.Rules.{steers, allPlain, differ, labelsOf, plainExpr, plainTarget, plainExprs, keptStmt, keptStmts, keptArms, keptBody}
+use Rattle.law.specs.Code.{Code, Codes, Act, Acts, Cases, Frame, BodyCode}
+use Rattle.law.specs.Elaborate.{Elaborated, Located, elabExpr, elabTarget, elabMembers, expects, elabLabels, elabArguments, elabStmt, elabStmts, elabArms, elabBody}
+use Rattle.law.specs.Rules.{steers, allPlain, differ, labelsOf, plainExpr, plainTarget, plainExprs, howMany, keptStmt, keptStmts, keptArms, keptBody}
 
 -- a fault of row 6 (`wrong`), 7 (`unnamed`) or 8 (`unfit`), or no fault
 pub data Staged (A : Type 0) : Type 0 where
@@ -119,6 +121,10 @@ module _ (σ : Environment) where
   unfoldable pub wantedStaged : ℕ → Option Syntax.Expr → Staged Code
   wantedStaged k o = staged o (exprOf σ) plainExpr (expects (σ .types) (σ .vars) k)
 
+  -- the arguments of a call, for parameters of these types
+  unfoldable pub argumentsStaged : List ℕ → Option Syntax.Exprs → Staged Codes
+  argumentsStaged ts o = staged o (exprsOf σ) (λ es. plainExprs es && eqb (howMany es) (length ts)) (elabArguments (σ .types) (σ .vars) ts)
+
   -- a target that is assigned
   unfoldable pub assignedStaged : List ℕ → Option Syntax.Target → Staged Located
   assignedStaged js o = staged o targetName (λ g. plainTarget g && not (steers g js)) (elabTarget (σ .types) (σ .vars))
@@ -140,5 +146,6 @@ module _ (σ : Environment) where
   unfoldable pub casesStaged : List ℕ → ℕ → Option Syntax.Arms → Staged Cases
   casesStaged js k o = staged o (armsOf σ) (λ bs. differ (labelsOf bs) && keptArms bs js) (elabArms (σ .types) (σ .vars) k)
 
-  unfoldable pub bodyStaged : Option Syntax.Body → Staged BodyCode
-  bodyStaged o = staged o (bodyOf σ) keptBody (elabBody (σ .types) (σ .vars))
+  -- a body whose parameters have the frame q
+  unfoldable pub bodyStaged : Frame → Option Syntax.Body → Staged BodyCode
+  bodyStaged q o = staged o (bodyOf σ) keptBody (elabBody (σ .types) (σ .vars) q)

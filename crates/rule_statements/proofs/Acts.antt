@@ -23,7 +23,7 @@ use Rattle.rule_faults.specs.declared.Got.{Got}
 use Rattle.rule_faults.specs.Got.{lowest, isForm, faultOf}
 use Rattle.rule_stmt_nodes.specs.Nodes.{skipGot}
 use Rattle.rule_statements.specs.Walks.{bare, WantTold, ActTold, ActsTold}
-use Rattle.rule_statements.proofs.Faults.{lowest-clear, join-fault, Both, join-fits, on-fault, Only, on-fits, Node, form-none, form-is}
+use Rattle.rule_statements.proofs.Faults.{join-fault, Both, join-fits, on-fault, Only, on-fits, Node, form-none, form-is}
 use Rattle.rule_expressions.proofs.Joining.{wrong-fits, fits-inj}
 
 -- ---- without the numbers

@@ -48,6 +48,7 @@ use Rattle.rule_faults.specs.declared.Got.{Got}
 use Rattle.text_parts.specs.declared.Part.{Part}
 use Rattle.text_parts.specs.declared.Part.the-variants as part
 use Rattle.rule_faults.specs.Got.{lowest, isForm, isClear, faultOf, failedGot}
+use Rattle.rule_faults.proofs.Order.{lowest-assoc, lowest-clear}
 use Rattle.text_parts.specs.Parts.{Before, LeafAt, FormAt, ShutAt, Stands}
 use Rattle.rule_expr_nodes.specs.Bracket.{Closes, shut, more}
 use Rattle.rule_expr_nodes.specs.Nodes.{Made, Makes}
@@ -60,7 +61,7 @@ use Rattle.rule_stmt_nodes.specs.Nodes.{skipGot, joinedGot, finishedGot}
 use Rattle.rule_statements.specs.Walks.{bare, ActTold, Around, GivesStmt}
 use Rattle.rule_statements.specs.Chains.{many}
 use Rattle.rule_statements.specs.Cases.{LabelsTold, GivesLabels, ArmFormAt, ArmHeadAt, ArmComes, ArmInside, armMade, ArmStmtBy, stmt-parts, ArmBy, arm-parts, ElseBy, else-parts, ArmsLeft, Arming, ArmsTold, GivesArms, selectedKind, cased, FirstArm, an-arm, no-arm, caseMade, CaseEnds, case-ends, CaseBy, case-parts}
-use Rattle.rule_statements.proofs.Faults.{lowest-clear, lowest-form, lowest-assoc, form-left, form-right, form-is, form-none, join-fault, Both, join-fits, on-fault, Only, on-fits, closes-leaves, same-refl, act-closed}
+use Rattle.rule_statements.proofs.Faults.{lowest-form, form-left, form-right, form-is, form-none, join-fault, Both, join-fits, on-fault, Only, on-fits, closes-leaves, same-refl, act-closed}
 use Rattle.rule_statements.proofs.Acts.{some-of}
 use Rattle.rule_statements.proofs.Shapes.{stmt-count, rest-few}
 use Rattle.rule_statements.proofs.ArmWays.{arms-head, arms-else}
@@ -177,7 +178,7 @@ module _ {σ : Environment} {bs js : List ℕ} {k : ℕ} {o : Option (Syntax.Arm
     arm-next t l₁ g b a l₂ l₃ l₄ L K gf gl A M = record {
       fault-is = L .fault-is ∙ ap (lowest f) (ap faultOf (arms-staged σ js k F P q r e) ∙ join-fault (λ (p : List ℤ × Act) (y : Cases). oneCase (p .0) (p .1) y) (labelled σ js k F P) (armsStaged σ js k (bare q))
           ∙ ap (λ z. lowest z (faultOf (armsStaged σ js k (bare q)))) (join-fault (λ (zs : List ℤ) (x : Act). pair zs x) (labelsStaged σ k F) (stmtStaged σ js (bare P)) ∙ sym (M .fault-is ∙ rw (gf, A .fault-is) refl)))
-          ∙ sym (lowest-assoc f (a .fault) (faultOf (armsStaged σ js k (bare q))));
+          ∙ lowest-assoc f (a .fault) (faultOf (armsStaged σ js k (bare q)));
       laid = λ c h.
           let u = L .laid c h in
           let z = join-fits (λ (p : List ℤ × Act) (y : Cases). oneCase (p .0) (p .1) y) (labelled σ js k F P) (armsStaged σ js k (bare q)) (u .0) (sym (arms-staged σ js k F P q r e) ∙ u .1 .0) in

@@ -60,7 +60,7 @@ use Rattle.rule_statements.specs.Walks.{bare, ActTold, Around, GivesStmt
 use Rattle.rule_statements.specs.Chains.{many}
 use Rattle.rule_labels.specs.Repeating.{Repeating}
 use Rattle.rule_statements.specs.Cases.{LabelsTold, GivesLabels, ArmFormAt, ArmHeadAt, ArmComes, ArmInside, armMade, ArmStmtBy, stmt-parts, ArmBy, arm-parts, ElseBy, else-parts, ArmsLeft, Arming, ArmsTold, GivesArms, selectedKind, cased, FirstArm, an-arm, no-arm, caseMade, CaseEnds, case-ends, CaseBy, case-parts}
-use Rattle.rule_statements.proofs.Faults.{lowest-clear, lowest-form, lowest-assoc, form-left, form-right, form-is, join-fault, Both, join-fits, on-fault, Only, on-fits, closes-leaves, same-refl, act-closed}
+use Rattle.rule_statements.proofs.Faults.{lowest-form, form-left, form-right, form-is, join-fault, Both, join-fits, on-fault, Only, on-fits, closes-leaves, same-refl, act-closed}
 use Rattle.rule_statements.proofs.Acts.{some-of}
 use Rattle.rule_statements.proofs.Shapes.{stmt-count, rest-few}
 use Rattle.rule_statements.proofs.Chains.{none-of}

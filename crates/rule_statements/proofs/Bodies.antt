@@ -8,11 +8,11 @@ use native.Mathlib.Omega.{arith}
 use lib.ListN.{length}
 use Rattle.leaf_words.specs.Words.{wordOf}
 use Rattle.law.specs.Base.{_>>=_, both, given}
-use Rattle.law.specs.Code.{Act, Acts, stop, BodyCode}
+use Rattle.law.specs.Code.{Act, Acts, stop, Frame, BodyCode}
 use Rattle.law.specs.Elaborate.{elabStmts, elabBody}
 use Rattle.law.specs.Environment.{Environment}
 use Rattle.law.specs.Forms.{plainBody}
-use Rattle.code.specs.Layout.{Out, out, lay, layAct, layActs, layBody, flag}
+use Rattle.code.specs.Layout.{Out, out, lay, layAct, layActs, layFrame, layBody, flag}
 use Rattle.law.specs.Names.{stmtsOf, bodyOf}
 use Rattle.law.specs.Rules.{keptStmts, keptBody}
 use Rattle.rule_stages.specs.Stages.{Staged, wrong, fits, staged, named, ruled, join, orUnfit, stmtsStaged, bodyStaged}
@@ -36,18 +36,20 @@ use Rattle.table_scope.proofs.Looping.{in-force-none}
 use Rattle.table_list.specs.Laid.{Laid}
 use Rattle.rule_faults.specs.declared.Got.{Got}
 use Rattle.rule_faults.specs.Got.{lowest, isForm, faultOf, failedGot, pastBracket}
+use Rattle.rule_faults.proofs.Order.{lowest-clear}
 use Rattle.text_parts.specs.Parts.{ShutAt}
 use Rattle.rule_expr_nodes.specs.Bracket.{Closes, shut, more}
 use Rattle.rule_expr_nodes.specs.Nodes.{Makes}
 use Rattle.rule_expressions.proofs.Joining.{wrong-fits, fits-inj}
 use Rattle.rule_stmt_nodes.specs.Nodes.{plainMade, handledMade, linked, skipGot, joinedGot}
 use Rattle.rule_statements.specs.Chains.{many}
+use Rattle.rule_stmt_nodes.specs.declared.last.Head.{Head}
 use Rattle.rule_stmt_nodes.specs.declared.last.Next.{Next}
 use Rattle.rule_stmt_nodes.specs.declared.last.Next.the-variants as following
-use Rattle.rule_statements.specs.Walks.{bare, ActsTold, Around, GivesActs, GivesStmt, BodyTold, GivesBody}
+use Rattle.rule_statements.specs.Walks.{bare, ActsTold, Around, GivesActs, GivesStmt, layRest, layFramed, BodyTold, GivesBody}
 use Rattle.rule_stmt_nodes.specs.Handlers.{HandlerAt, PlainAt, Comes}
-use Rattle.rule_statements.specs.Fronts.{BodyLeft, Fronting, layRest, RestTold, GivesRest, HandledBy, by-parts}
-use Rattle.rule_statements.proofs.Faults.{lowest-clear, lowest-form, join-fault, Both, join-fits, form-is, form-left, form-right, form-none, Node, node-of}
+use Rattle.rule_statements.specs.Fronts.{BodyLeft, Fronting, RestTold, GivesRest, HandledBy, by-parts}
+use Rattle.rule_statements.proofs.Faults.{lowest-form, join-fault, Both, join-fits, form-is, form-left, form-right, form-none, Node, node-of}
 use Rattle.rule_statements.proofs.Acts.{bare-last}
 use Rattle.rule_statements.proofs.Chains.{none-of}
 use Rattle.rule_statements.proofs.Fronts.{body-none, front-start, front-next, front-falls}
@@ -66,21 +68,21 @@ unfolding _>>=_
 bare-handling none = refl
 bare-handling (some p) = refl
 
-abbrev handlingCode : Acts → Acts → BodyCode
-handlingCode x y = record { acts = x; handles = true; handler = y }
+abbrev handlingCode : Frame → Acts → Acts → BodyCode
+handlingCode fr x y = record { frame = fr; acts = x; handles = true; handler = y }
 
 done-staged : (σ : Environment) → stmtsStaged σ [] (some Syntax.done) ≡ fits stop
 unfolding stmtsStaged staged named ruled stmtsOf keptStmts elabStmts
 done-staged σ = refl
 
-plain-staged : (σ : Environment) (n : ℕ) → bodyStaged σ (bare (some (plainBody Syntax.done, n))) ≡ fits (record { acts = stop; handles = false; handler = stop })
+plain-staged : (σ : Environment) (fr : Frame) (n : ℕ) → bodyStaged σ fr (bare (some (plainBody Syntax.done, n))) ≡ fits (record { frame = fr; acts = stop; handles = false; handler = stop })
 unfolding bodyStaged staged named ruled bodyOf stmtsOf keptBody keptStmts elabBody elabStmts both _>>=_
-plain-staged σ n = refl
+plain-staged σ fr n = refl
 
-handling-staged : (σ : Environment) (o : Option (Syntax.Stmts × ℕ)) → bodyStaged σ (bare (o >>= λ p. handled p)) ≡ join (fits stop) (stmtsStaged σ [] (bare o)) (λ x y. orUnfit (some (handlingCode x y)))
-handling-staged σ o =
-    ap (bodyStaged σ) (bare-handling o) ∙ body-staged σ true (some Syntax.done) (bare o)
-    ∙ ap (λ (S : Staged Acts). join S (stmtsStaged σ [] (bare o)) (λ x y. orUnfit (some (handlingCode x y)))) (done-staged σ)
+handling-staged : (σ : Environment) (fr : Frame) (o : Option (Syntax.Stmts × ℕ)) → bodyStaged σ fr (bare (o >>= λ p. handled p)) ≡ join (fits stop) (stmtsStaged σ [] (bare o)) (λ x y. orUnfit (some (handlingCode fr x y)))
+handling-staged σ fr o =
+    ap (bodyStaged σ fr) (bare-handling o) ∙ body-staged σ fr true (some Syntax.done) (bare o)
+    ∙ ap (λ (S : Staged Acts). join S (stmtsStaged σ [] (bare o)) (λ x y. orUnfit (some (handlingCode fr x y)))) (done-staged σ)
 
 handler-is : (n : ℕ) (w : Run) (us ts : Trees Run) → isException (wordOf w) ≡ true → bodyIn n (form (word w then us) then ts) ≡ handlerLast n us ts
 unfolding bodyIn handlerIn given
@@ -106,26 +108,26 @@ acts-none none A h = refl
 acts-none (some p) A h = none-some (sym (form-none (bare (some p)) _ _ _ (sym (A .fault-is) ∙ h)))
 
 -- what is told of a last handler
-record LastTold (σ : Environment) (bs : List ℕ) (o : Option (Syntax.Body × ℕ)) (slot top : ℕ) (l : List ℕ) (b : Got) (l′ : List ℕ) : Type 0 where
-  fault-is : b .fault ≡ faultOf (bodyStaged σ (bare o))
-  laid : (c : BodyCode) → bodyStaged σ (bare o) ≡ fits c → (c .acts ≡ stop) × ((c .handles ≡ true) × ((b .top ≡ layActs bs (c .handler) slot top l .top) × (l′ ≡ layActs bs (c .handler) slot top l .list)))
+record LastTold (σ : Environment) (fr : Frame) (bs : List ℕ) (o : Option (Syntax.Body × ℕ)) (slot top : ℕ) (l : List ℕ) (b : Got) (l′ : List ℕ) : Type 0 where
+  fault-is : b .fault ≡ faultOf (bodyStaged σ fr (bare o))
+  laid : (c : BodyCode) → bodyStaged σ fr (bare o) ≡ fits c → (c .acts ≡ stop) × ((c .handles ≡ true) × ((b .top ≡ layActs bs (c .handler) slot top l .top) × (l′ ≡ layActs bs (c .handler) slot top l .list)))
   number : (p : Syntax.Body × ℕ) → o ≡ some p → b .kind ≡ p .1
 
-last-told : {σ : Environment} {bs : List ℕ} {s : List ℕ} {slot top : ℕ} {l : List ℕ} {a b : Got} {l′ : List ℕ} (n : ℕ) (us ts : Trees Run) → (isForm (a .fault) ≡ false → first (stackAt s (a .next)) ≡ ts)
-    → ActsTold σ bs [] (stmtsIn 33 n us) slot top l a l′ → Closes s a b → LastTold σ bs (handlerLast n us ts) slot top l b l′
+last-told : {σ : Environment} {fr : Frame} {bs : List ℕ} {s : List ℕ} {slot top : ℕ} {l : List ℕ} {a b : Got} {l′ : List ℕ} (n : ℕ) (us ts : Trees Run) → (isForm (a .fault) ≡ false → first (stackAt s (a .next)) ≡ ts)
+    → ActsTold σ bs [] (stmtsIn 33 n us) slot top l a l′ → Closes s a b → LastTold σ fr bs (handlerLast n us ts) slot top l b l′
 unfolding bodyStaged staged _>>=_
-last-told {σ} {bs} {s} {slot} {top} {l} {a} {b} {l′} n us ts e T C = go C (isForm (a .fault)) refl
+last-told {σ} {fr} {bs} {s} {slot} {top} {l} {a} {b} {l′} n us ts e T C = go C (isForm (a .fault)) refl
   where
-    no-body : {g : Got} → handlerLast n us ts ≡ none → g .fault ≡ Form → LastTold σ bs (handlerLast n us ts) slot top l g l′
+    no-body : {g : Got} → handlerLast n us ts ≡ none → g .fault ≡ Form → LastTold σ fr bs (handlerLast n us ts) slot top l g l′
     no-body z f = rw z (record { fault-is = f; laid = λ c h. absurd (wrong-fits h); number = λ p h. none-some h })
 
-    all-read : (q : ℕ) → ts ≡ end → LastTold σ bs (handlerLast n us ts) slot top l (pastBracket a q) l′
+    all-read : (q : ℕ) → ts ≡ end → LastTold σ fr bs (handlerLast n us ts) slot top l (pastBracket a q) l′
     all-read q z =
-        let S = handling-staged σ (stmtsIn 33 n us) in
+        let S = handling-staged σ fr (stmtsIn 33 n us) in
         rw (z, last-end n us) (record {
-          fault-is = T .fault-is ∙ sym (ap faultOf S ∙ join-fault handlingCode (fits stop) (stmtsStaged σ [] (bare (stmtsIn 33 n us))));
+          fault-is = T .fault-is ∙ sym (ap faultOf S ∙ join-fault (handlingCode fr) (fits stop) (stmtsStaged σ [] (bare (stmtsIn 33 n us))));
           laid = λ c h.
-              let J = join-fits handlingCode (fits stop) (stmtsStaged σ [] (bare (stmtsIn 33 n us))) c (sym S ∙ h) in
+              let J = join-fits (handlingCode fr) (fits stop) (stmtsStaged σ [] (bare (stmtsIn 33 n us))) c (sym S ∙ h) in
               let y = T .laid (J .two) (J .two-fits) in
               let m = J .made in (
                 ap (λ (x : BodyCode). x .acts) (sym m) ∙ sym (fits-inj (J .one-fits)),
@@ -137,7 +139,7 @@ last-told {σ} {bs} {s} {slot} {top} {l} {a} {b} {l′} n us ts e T C = go C (is
           number = λ p h. bind-some h λ q hq i. T .number q hq ∙ ap (λ (x : Syntax.Body × ℕ). x .1) (some-inj i);
         })
 
-    go : {g : Got} → Closes s a g → (t : Bool) → isForm (a .fault) ≡ t → LastTold σ bs (handlerLast n us ts) slot top l g l′
+    go : {g : Got} → Closes s a g → (t : Bool) → isForm (a .fault) ≡ t → LastTold σ fr bs (handlerLast n us ts) slot top l g l′
     go (shut q h) false f = all-read q (sym (e f) ∙ h .here)
     go (more h) false f = no-body (last-more n us ts (rw (← e f) h)) refl
     go (shut q h) true f = no-body (last-none n us ts (acts-none (stmtsIn 33 n us) T (form-is (a .fault) f))) (form-is (a .fault) f)
@@ -145,12 +147,12 @@ last-told {σ} {bs} {s} {slot} {top} {l} {a} {b} {l′} n us ts e T C = go C (is
 
 -- ---- the ways out of the loop
 
-module _ (s l ts : List ℕ) (scope : Scope) (k n slot at top : ℕ) (x : Got) (slot′ : ℕ) (l₁ : List ℕ) (D : Fronting s l ts scope n slot at top x slot′ l₁) where
+module _ (s l ts : List ℕ) (scope : Scope) (hd : Head) (n slot at top : ℕ) (x : Got) (slot′ : ℕ) (l₁ : List ℕ) (D : Fronting s l ts scope n slot at top x slot′ l₁) where
   -- the tables where the statements before the handler end
   scene-there : (σ : Environment) (bs : List ℕ) → Around s l ts scope noLoops 33 n at slot σ bs [] → slot ≤ top → Scene s l₁ ts scope (x .top) σ bs
   scene-there σ bs A h = scene-kept (A .scene) (D .keeps h) (let y = D .grows in omega arith)
 
-  pub rest-plain : (q : ℕ) (r : Got) (l′ : List ℕ) → ShutAt s (x .next) q → Makes (plainMade l₁ k slot x q) r l′ → GivesRest s l ts scope k n slot at top r l′
+  pub rest-plain : (q : ℕ) (r : Got) (l′ : List ℕ) → ShutAt s (x .next) q → Makes (plainMade l₁ hd slot x q) r l′ → GivesRest s l ts scope hd n slot at top r l′
   unfolding plainMade lay layRest layAct bodyIn flag
   rest-plain q r l′ H m =
       let N = node-of m in
@@ -160,14 +162,14 @@ module _ (s l ts : List ℕ) (scope : Scope) (k n slot at top : ℕ) (x : Got) (
         goes = λ e. D .around ∙ H .around ∙ ap (stackAt s) (sym (N .next-is));
         keeps = λ h. record { at = λ i a b. N .below .at i a (omega arith) ∙ g .below i (omega arith) ∙ D .keeps h .at i a b };
         grows = omega arith;
-        says = λ σ bs A h.
-            let L : BodyLeft σ bs (bodyIn n (first (stackAt s at))) slot top l (x .fault) (some (plainBody Syntax.done, x .kind)) slot′ (x .top) l₁ = rw (H .here) at (D .says σ bs A h) in
-            let P = plain-staged σ (x .kind) in
+        says = λ σ fr bs A h.
+            let L : BodyLeft σ fr bs (bodyIn n (first (stackAt s at))) slot top l (x .fault) (some (plainBody Syntax.done, x .kind)) slot′ (x .top) l₁ = rw (H .here) at (D .says σ fr bs A h) in
+            let P = plain-staged σ fr (x .kind) in
             record {
               fault-is = N .fault-is ∙ sym (L .fault-is ∙ ap (λ (S : Staged BodyCode). lowest (x .fault) (faultOf S)) P ∙ lowest-clear (x .fault));
               laid = λ b z.
                   let c = L .laid b z in
-                  let e : record { acts = stop; handles = false; handler = stop } ≡ c .0 = fits-inj (sym P ∙ c .1 .0) in
+                  let e : record { frame = fr; acts = stop; handles = false; handler = stop } ≡ c .0 = fits-inj (sym P ∙ c .1 .0) in
                   let f : x .fault ≡ Clear = sym (sym (ap faultOf z) ∙ L .fault-is ∙ ap (λ (S : Staged BodyCode). lowest (x .fault) (faultOf S)) P ∙ lowest-clear (x .fault)) in
                   N .laid f ∙ plain-lay bs b (c .1 .1 .0 ∙ ap (λ (y : BodyCode). y .handles) (sym e)) (c .1 .1 .1 .0 ∙ ap (λ (y : BodyCode). y .handler) (sym e))
                   (c .1 .1 .1 .1 ∙ ap (λ (y : BodyCode). layActs bs (y .acts) slot′ (x .top) l₁) (sym e));
@@ -176,11 +178,11 @@ module _ (s l ts : List ℕ) (scope : Scope) (k n slot at top : ℕ) (x : Got) (
       }
     where
       plain-lay : (bs : List ℕ) (b : BodyCode) → b .handles ≡ false → b .handler ≡ stop → layActs bs (b .acts) slot top l ≡ out slot′ (x .top) l₁
-          → lay (k ∷ slot ∷ 0 ∷ x .top ∷ []) (lay (0 ∷ []) (x .top) l₁ .top) (lay (0 ∷ []) (x .top) l₁ .list) ≡ layRest bs k b slot top l
+          → lay (hd .number ∷ slot ∷ 0 ∷ x .top ∷ hd .frame ∷ []) (lay (0 ∷ []) (x .top) l₁ .top) (lay (0 ∷ []) (x .top) l₁ .list) ≡ layRest bs hd b slot top l
       plain-lay bs b e f h = rw (e, f, h) refl
 
   pub rest-handled : (q t w : ℕ) (ms : Loops) (a b r : Got) (l₂ l₃ l′ : List ℕ) → HandlerAt s (x .next) q → Laid (lay (0 ∷ []) (x .top) l₁) t l₂ → w ≡ x .top → ms ≡ noLoops
-      → GivesActs s l₂ ts scope ms 33 (x .kind) w q t a l₃ → Closes s a b → Makes (handledMade l₃ k slot x b) r l′ → GivesRest s l ts scope k n slot at top r l′
+      → GivesActs s l₂ ts scope ms 33 (x .kind) w q t a l₃ → Closes s a b → Makes (handledMade l₃ hd slot x b) r l′ → GivesRest s l ts scope hd n slot at top r l′
   unfolding handledMade lay layRest layAct flag nodes
   rest-handled q t w ms a b r l₂ l₃ l′ H K ew em G C m =
       let N = node-of m in
@@ -196,11 +198,11 @@ module _ (s l ts : List ℕ) (scope : Scope) (k n slot at top : ℕ) (x : Got) (
             D .around ∙ H .around ∙ close-goes C (λ i. G .goes i) fb ∙ ap (stackAt s) (sym (N .next-is));
         keeps = λ h. record { at = λ i p v. N .below .at i p (omega arith) ∙ same₃ .at i p (omega arith) ∙ same₂ .at i p (omega arith) ∙ D .keeps h .at i p v };
         grows = omega arith;
-        says = λ σ bs A h.
+        says = λ σ fr bs A h.
             let us = first (stackAt s q) in
             let vs = first (later (stackAt s q)) in
             let E : bodyIn (x .kind) (first (stackAt s (x .next))) ≡ handlerLast (x .kind) us vs = rw (H .here) (handler-is (x .kind) (H .head) us vs (H .exception)) in
-            let L : BodyLeft σ bs (bodyIn n (first (stackAt s at))) slot top l (x .fault) (handlerLast (x .kind) us vs) slot′ (x .top) l₁ = rw E at (D .says σ bs A h) in
+            let L : BodyLeft σ fr bs (bodyIn n (first (stackAt s at))) slot top l (x .fault) (handlerLast (x .kind) us vs) slot′ (x .top) l₁ = rw E at (D .says σ fr bs A h) in
             let few₁ = D .few-left σ bs A h in
             let c : nodesIn (first (stackAt s (x .next))) ≡ suc (1 + nodesIn us) + nodesIn vs = ap nodesIn (H .here) in
             let T : ActsTold σ bs [] (stmtsIn 33 (x .kind) us) (x .top) t l₂ a l₃
@@ -228,11 +230,11 @@ module _ (s l ts : List ℕ) (scope : Scope) (k n slot at top : ℕ) (x : Got) (
       close-goes (more h) f e = absurd (true≢false e)
 
       handled-lay : (bs : List ℕ) (d : BodyCode) → d .handles ≡ true → layActs bs (d .acts) slot top l ≡ out slot′ (x .top) l₁ → b .top ≡ layActs bs (d .handler) (x .top) t l₂ .top
-          → l₃ ≡ layActs bs (d .handler) (x .top) t l₂ .list → lay (k ∷ slot ∷ 1 ∷ x .top ∷ []) (b .top) l₃ ≡ layRest bs k d slot top l
+          → l₃ ≡ layActs bs (d .handler) (x .top) t l₂ .list → lay (hd .number ∷ slot ∷ 1 ∷ x .top ∷ hd .frame ∷ []) (b .top) l₃ ≡ layRest bs hd d slot top l
       handled-lay bs d e h f i = rw (e, h, f, i, K .free, K .left) refl
 
   pub rest-wrong : (g : Got) (l₂ : List ℕ) (t : Bool) → PlainAt s (x .next) → GivesStmt s l₁ ts scope noLoops 33 (x .kind) (x .next) (x .top) g l₂ → t ≡ isForm (g .fault) → t ≡ true
-      → GivesRest s l ts scope k n slot at top g l₂
+      → GivesRest s l ts scope hd n slot at top g l₂
   unfolding bodyStaged staged _>>=_
   rest-wrong g l₂ t P G et h =
       let du = D .grows in let gu = G .moves .grows in
@@ -241,10 +243,10 @@ module _ (s l ts : List ℕ) (scope : Scope) (k n slot at top : ℕ) (x : Got) (
         goes = λ e. absurd (true≢false (sym (sym et ∙ h) ∙ e));
         keeps = λ i. record { at = λ j a b. G .moves .keeps .at j a (omega arith) ∙ D .keeps i .at j a b };
         grows = omega arith;
-        says = λ σ bs A i.
+        says = λ σ fr bs A i.
             let T = G .says σ bs [] (record { scene = scene-there σ bs A i; in-force = A .in-force; few-loops = let w = A .few-loops in omega arith; few = D .few-left σ bs A i }) in
             let z = no-body (first (stackAt s (x .next))) (P .more) (P .plain) (none-of _ T f) in
-            let L = D .says σ bs A i in
+            let L = D .says σ fr bs A i in
             record {
               fault-is = f ∙ sym (L .fault-is ∙ rw z (lowest-form (x .fault)));
               laid = λ b y. let c = L .laid b y in absurd (wrong-fits (rw z at (c .1 .0)));
@@ -258,10 +260,16 @@ module _ (s l ts : List ℕ) (scope : Scope) (k n slot at top : ℕ) (x : Got) (
 
 -- ---- all of it
 
-pub body-way : (s l ts : List ℕ) (scope : Scope) (k n at top t : ℕ) (r : Got) (l₁ l′ : List ℕ) → Laid (lay (0 ∷ []) top l) t l₁ → GivesRest s l₁ ts scope k n top at t r l′
-    → GivesBody s l ts scope k n at top r l′
-unfolding layBody layRest lay
-body-way s l ts scope k n at top t r l₁ l′ K G =
+-- a body is its frame and what comes after that
+pub body-laid : (bs : List ℕ) (k : ℕ) (b : BodyCode) (t : ℕ) (l : List ℕ)
+    → layBody bs k b t l ≡ layFramed bs (record { number = k; frame = layFrame (b .frame) t l .pos }) b (layFrame (b .frame) t l .top) (layFrame (b .frame) t l .list)
+unfolding layBody layFramed layRest
+body-laid bs k b t l = refl
+
+pub body-way : (s l ts : List ℕ) (scope : Scope) (hd : Head) (n at top t : ℕ) (r : Got) (l₁ l′ : List ℕ) → Laid (lay (0 ∷ []) top l) t l₁ → GivesRest s l₁ ts scope hd n top at t r l′
+    → GivesBody s l ts scope hd n at top r l′
+unfolding layFramed layRest lay
+body-way s l ts scope hd n at top t r l₁ l′ K G =
     let g = lay-g (0 ∷ []) top l in
     let up : top ≤ t = rw (K .free) (g .up) in
     let same₁ : Same 0 top l₁ l = record { at = λ i a b. rw (K .left) (g .below i b) } in
@@ -272,25 +280,25 @@ body-way s l ts scope k n at top t r l₁ l′ K G =
         keeps = record { at = λ i a b. G .keeps up .at i a b ∙ same₁ .at i a b };
         grows = omega arith;
       };
-      says = λ σ bs S f.
-          let T = G .says σ bs (record { scene = scene-kept S same₁ (omega arith); in-force = in-force-none; few-loops = omega arith; few = f }) up in
+      says = λ σ fr bs S f.
+          let T = G .says σ fr bs (record { scene = scene-kept S same₁ (omega arith); in-force = in-force-none; few-loops = omega arith; few = f }) up in
           record { fault-is = T .fault-is; laid = λ b h. T .laid b h ∙ rw (K .free, K .left) refl; number = T .number };
     }
 
-pub handled-way : (s l ts : List ℕ) (scope : Scope) (k start : ℕ) (x : Got) (q t w : ℕ) (ms : Loops) (a b r : Got) (l₁ l₂ l′ : List ℕ) → Laid (lay (0 ∷ []) (x .top) l) t l₁ → w ≡ x .top → ms ≡ noLoops
-    → GivesActs s l₁ ts scope ms 33 (x .kind) w q t a l₂ → Closes s a b → Makes (handledMade l₂ k start x b) r l′ → HandledBy s l ts scope k start x q r l′
-handled-way s l ts scope k start x q t w ms a b r l₁ l₂ l′ K ew em G C m = by-parts t a b l₁ l₂ K (rw (ew, em) at G) C m
+pub handled-way : (s l ts : List ℕ) (scope : Scope) (hd : Head) (start : ℕ) (x : Got) (q t w : ℕ) (ms : Loops) (a b r : Got) (l₁ l₂ l′ : List ℕ) → Laid (lay (0 ∷ []) (x .top) l) t l₁ → w ≡ x .top → ms ≡ noLoops
+    → GivesActs s l₁ ts scope ms 33 (x .kind) w q t a l₂ → Closes s a b → Makes (handledMade l₂ hd start x b) r l′ → HandledBy s l ts scope hd start x q r l′
+handled-way s l ts scope hd start x q t w ms a b r l₁ l₂ l′ K ew em G C m = by-parts t a b l₁ l₂ K (rw (ew, em) at G) C m
 
-module _ (s l ts : List ℕ) (scope : Scope) (k n slot at top : ℕ) (x : Got) (slot′ : ℕ) (l₁ : List ℕ) (D : Fronting s l ts scope n slot at top x slot′ l₁) (e : Next) (H : Comes s (x .next) e) where
-  pub body-past : (q : ℕ) (r : Got) (l′ : List ℕ) → e ≡ following.Past q → Makes (plainMade l₁ k slot x q) r l′ → GivesRest s l ts scope k n slot at top r l′
-  body-past q r l′ h m = rest-plain s l ts scope k n slot at top x slot′ l₁ D q r l′ (rw h at (H .says)) m
+module _ (s l ts : List ℕ) (scope : Scope) (hd : Head) (n slot at top : ℕ) (x : Got) (slot′ : ℕ) (l₁ : List ℕ) (D : Fronting s l ts scope n slot at top x slot′ l₁) (e : Next) (H : Comes s (x .next) e) where
+  pub body-past : (q : ℕ) (r : Got) (l′ : List ℕ) → e ≡ following.Past q → Makes (plainMade l₁ hd slot x q) r l′ → GivesRest s l ts scope hd n slot at top r l′
+  body-past q r l′ h m = rest-plain s l ts scope hd n slot at top x slot′ l₁ D q r l′ (rw h at (H .says)) m
 
-  pub body-handled : (q : ℕ) (r : Got) (l′ : List ℕ) → e ≡ following.Handler q → HandledBy s l₁ ts scope k slot x q r l′ → GivesRest s l ts scope k n slot at top r l′
-  body-handled q r l′ h (by-parts t a b l₂ l₃ K G C m) = rest-handled s l ts scope k n slot at top x slot′ l₁ D q t (x .top) noLoops a b r l₂ l₃ l′ (rw h at (H .says)) K refl refl G C m
+  pub body-handled : (q : ℕ) (r : Got) (l′ : List ℕ) → e ≡ following.Handler q → HandledBy s l₁ ts scope hd slot x q r l′ → GivesRest s l ts scope hd n slot at top r l′
+  body-handled q r l′ h (by-parts t a b l₂ l₃ K G C m) = rest-handled s l ts scope hd n slot at top x slot′ l₁ D q t (x .top) noLoops a b r l₂ l₃ l′ (rw h at (H .says)) K refl refl G C m
 
   module _ (h : e ≡ following.Stmt) (ms : Loops) (em : ms ≡ noLoops) (g : Got) (l₂ : List ℕ) (G : GivesStmt s l₁ ts scope ms 33 (x .kind) (x .next) (x .top) g l₂) (t : Bool) (et : t ≡ isForm (g .fault)) where
-    pub body-wrong : t ≡ true → GivesRest s l ts scope k n slot at top g l₂
-    body-wrong i = rest-wrong s l ts scope k n slot at top x slot′ l₁ D g l₂ t (rw h at (H .says)) (rw em at G) et i
+    pub body-wrong : t ≡ true → GivesRest s l ts scope hd n slot at top g l₂
+    body-wrong i = rest-wrong s l ts scope hd n slot at top x slot′ l₁ D g l₂ t (rw h at (H .says)) (rw em at G) et i
 
     pub body-next : (u : ℕ) (l₃ : List ℕ) (y : Got) (w : ℕ) → t ≡ false → Laid (linked slot′ (g .place) (g .top) l₂) u l₃ → w ≡ g .top + 1 → y ≡ joinedGot x g u → Fronting s l ts scope n slot at top y w l₃
     body-next u l₃ y w i K ew ey = front-next s l ts scope n slot at top x slot′ l₁ D (rw h at (H .says)) g l₂ (rw em at G) t et i u l₃ y w K ew ey

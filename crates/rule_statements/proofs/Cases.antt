@@ -15,9 +15,9 @@ use Rattle.rule_stages.specs.Stages.{Staged, wrong, unnamed, unfit, fits, stage
 use Rattle.law.specs.Syntax as Syntax
 use Rattle.rule_faults.specs.declared.Fault.the-variants.{Clear, Kind, Name, Form}
 use Rattle.rule_faults.specs.Got.{lowest, faultOf}
+use Rattle.rule_faults.proofs.Order.{lowest-clear}
 use Rattle.rule_expressions.proofs.Joining.{wrong-fits, unnamed-fits, unfit-fits}
 use Rattle.rule_labels.specs.Repeating.{labelsDiffer}
-use Rattle.rule_statements.proofs.Faults.{lowest-clear}
 
 -- ---- the arms
 

@@ -33,12 +33,13 @@ use Rattle.rule_faults.specs.declared.Got.{Got}
 use Rattle.text_parts.specs.declared.End.{End}
 use Rattle.text_parts.specs.declared.End.the-variants as ending
 use Rattle.rule_faults.specs.Got.{lowest, isForm, faultOf}
+use Rattle.rule_faults.proofs.Order.{lowest-assoc, lowest-clear}
 use Rattle.text_parts.specs.Parts.{Shuts, ShutAt}
 use Rattle.rule_expressions.proofs.Joining.{wrong-fits, fits-inj}
 use Rattle.rule_stmt_nodes.specs.Nodes.{linked, skipGot}
 use Rattle.rule_statements.specs.Walks.{bare, ActTold, ActsTold, Around, GivesStmt, GivesActs}
 use Rattle.rule_statements.specs.Chains.{many, LeftTold, Doing}
-use Rattle.rule_statements.proofs.Faults.{lowest-clear, lowest-form, lowest-assoc, join-fault, Both, join-fits, on-fault, Only, on-fits, Node, form-is, form-none, same-refl, same-trans}
+use Rattle.rule_statements.proofs.Faults.{lowest-form, join-fault, Both, join-fits, on-fault, Only, on-fits, Node, form-is, form-none, same-refl, same-trans}
 use Rattle.rule_statements.proofs.Acts.{some-of}
 use Rattle.rule_statements.proofs.Shapes.{stmt-count}
 
@@ -79,7 +80,7 @@ module _ {σ : Environment} {bs js : List ℕ} {o : Option (Syntax.Stmts × ℕ)
       = ap (λ u. stmtsStaged σ js (bare u)) e ∙ ap (stmtsStaged σ js) (bare-next p q) ∙ stmts-staged σ js (bare p) (bare q) in
       record {
         fault-is = L .fault-is ∙ ap (lowest f) (ap faultOf S ∙ join-fault (λ (x : Act) (y : Acts). x also y) (stmtStaged σ js (bare p)) (stmtsStaged σ js (bare q)))
-            ∙ rw (A .fault-is) (sym (lowest-assoc f (faultOf (stmtStaged σ js (bare p))) (faultOf (stmtsStaged σ js (bare q)))));
+            ∙ rw (A .fault-is) (lowest-assoc f (faultOf (stmtStaged σ js (bare p))) (faultOf (stmtsStaged σ js (bare q))));
         laid = λ a h.
             let b = L .laid a h in
             let z = join-fits (λ (x : Act) (y : Acts). x also y) (stmtStaged σ js (bare p)) (stmtsStaged σ js (bare q)) (b .0) (sym S ∙ b .1 .0) in

@@ -36,41 +36,11 @@ use Rattle.rule_statements.specs.Walks.{bare, ActTold, WantTold}
 
 -- ---- the lower fault
 
-pub lowest-clear : (f : Fault) → lowest f Clear ≡ f
-lowest-clear Clear = refl
-lowest-clear Kind = refl
-lowest-clear Name = refl
-lowest-clear Form = refl
-
 pub lowest-form : (f : Fault) → lowest f Form ≡ Form
 lowest-form Clear = refl
 lowest-form Kind = refl
 lowest-form Name = refl
 lowest-form Form = refl
-
-pub lowest-assoc : (f g h : Fault) → lowest (lowest f g) h ≡ lowest f (lowest g h)
-lowest-assoc Clear g h = refl
-lowest-assoc Form g h = refl
-lowest-assoc Kind Clear h = refl
-lowest-assoc Kind Form h = refl
-lowest-assoc Kind Kind Clear = refl
-lowest-assoc Kind Kind Kind = refl
-lowest-assoc Kind Kind Name = refl
-lowest-assoc Kind Kind Form = refl
-lowest-assoc Kind Name Clear = refl
-lowest-assoc Kind Name Kind = refl
-lowest-assoc Kind Name Name = refl
-lowest-assoc Kind Name Form = refl
-lowest-assoc Name Clear h = refl
-lowest-assoc Name Form h = refl
-lowest-assoc Name Kind Clear = refl
-lowest-assoc Name Kind Kind = refl
-lowest-assoc Name Kind Name = refl
-lowest-assoc Name Kind Form = refl
-lowest-assoc Name Name Clear = refl
-lowest-assoc Name Name Kind = refl
-lowest-assoc Name Name Name = refl
-lowest-assoc Name Name Form = refl
 
 -- no fault of row 6 in either
 pub form-left : (f g : Fault) → isForm (lowest f g) ≡ false → isForm f ≡ false
@@ -140,6 +110,28 @@ module _ {A B C : Type 0} (mk : A → B → C) where
   join-fits (fits x) unnamed z h = absurd (unnamed-fits h)
   join-fits (fits x) unfit z h = absurd (unfit-fits h)
   join-fits (fits x) (fits y) z h = record { one = x; two = y; one-fits = refl; two-fits = refl; made = fits-inj h }
+
+-- under a test
+module _ {A B C : Type 0} (test : A → B → Bool) (mk : A → B → C) where
+  pub tested-fits : (S : Staged A) (T : Staged B) (z : C) → join S T (λ x y. orUnfit (given (test x y) (mk x y))) ≡ fits z → (b : Both mk S T z) × (test (b .one) (b .two) ≡ true)
+  unfolding join orUnfit given
+  tested-fits wrong T z h = absurd (wrong-fits h)
+  tested-fits unnamed wrong z h = absurd (wrong-fits h)
+  tested-fits unnamed unnamed z h = absurd (unnamed-fits h)
+  tested-fits unnamed unfit z h = absurd (unnamed-fits h)
+  tested-fits unnamed (fits y) z h = absurd (unnamed-fits h)
+  tested-fits unfit wrong z h = absurd (wrong-fits h)
+  tested-fits unfit unnamed z h = absurd (unnamed-fits h)
+  tested-fits unfit unfit z h = absurd (unfit-fits h)
+  tested-fits unfit (fits y) z h = absurd (unfit-fits h)
+  tested-fits (fits x) wrong z h = absurd (wrong-fits h)
+  tested-fits (fits x) unnamed z h = absurd (unnamed-fits h)
+  tested-fits (fits x) unfit z h = absurd (unfit-fits h)
+  tested-fits (fits x) (fits y) z h = go (test x y) refl h
+    where
+      go : (t : Bool) → test x y ≡ t → orUnfit (given t (mk x y)) ≡ fits z → (b : Both mk (fits x) (fits y) z) × (test (b .one) (b .two) ≡ true)
+      go true e h = (record { one = x; two = y; one-fits = refl; two-fits = refl; made = fits-inj h }, e)
+      go false e h = absurd (unfit-fits h)
 
 module _ {A C : Type 0} (mk : A → C) where
   pub on-fault : (S : Staged A) → faultOf (onFits S (λ x. orUnfit (some (mk x)))) ≡ faultOf S

@@ -8,7 +8,7 @@ use native.Mathlib.Omega.{arith}
 use lib.ListN.{getD, set}
 use lib.Seq.{getD-set-other}
 use Rattle.law.specs.Base.{_>>=_, both}
-use Rattle.law.specs.Code.{Act, Acts, _also_, BodyCode}
+use Rattle.law.specs.Code.{Act, Acts, _also_, Frame, BodyCode}
 use Rattle.law.specs.Elaborate.{elabStmt, elabStmts, elabBody}
 use Rattle.law.specs.Environment.{Environment}
 use Rattle.law.specs.Forms.{plainBody}
@@ -33,12 +33,13 @@ use Rattle.table_scope.proofs.Kept.{scene-kept}
 use Rattle.table_list.specs.Laid.{Laid}
 use Rattle.rule_faults.specs.declared.Got.{Got}
 use Rattle.rule_faults.specs.Got.{lowest, isForm, faultOf}
+use Rattle.rule_faults.proofs.Order.{lowest-assoc}
 use Rattle.rule_stmt_nodes.specs.Nodes.{linked, skipGot, joinedGot}
 use Rattle.rule_statements.specs.Walks.{bare, ActTold, Around, GivesStmt}
 use Rattle.rule_statements.specs.Chains.{many}
 use Rattle.rule_stmt_nodes.specs.Handlers.{PlainAt}
 use Rattle.rule_statements.specs.Fronts.{BodyLeft, Fronting}
-use Rattle.rule_statements.proofs.Faults.{lowest-form, lowest-assoc, join-fault, Both, join-fits, form-is, same-refl}
+use Rattle.rule_statements.proofs.Faults.{lowest-form, join-fault, Both, join-fits, form-is, same-refl}
 use Rattle.rule_statements.proofs.Acts.{some-of}
 use Rattle.rule_statements.proofs.Shapes.{stmt-count}
 use Rattle.rule_statements.proofs.Chains.{none-of, link-lay}
@@ -47,7 +48,7 @@ use Rattle.rule_statements.proofs.Chains.{none-of, link-lay}
 
 -- a body's code with a statement more in front
 abbrev codeFirst : Act → BodyCode → BodyCode
-codeFirst x y = record { acts = x also y .acts; handles = y .handles; handler = y .handler }
+codeFirst x y = record { frame = y .frame; acts = x also y .acts; handles = y .handles; handler = y .handler }
 
 abbrev scriptFirst : Script.Stmt → Script.Body → Script.Body
 scriptFirst x y = record { stmts = Script._next_ x (y .stmts); handles = y .handles; handler = y .handler }
@@ -59,17 +60,17 @@ bodyFirst s b = withFirst s b
 abbrev made : Script.Stmts → Bool → Script.Stmts → Option Script.Body
 made x h y = some (record { stmts = x; handles = h; handler = y })
 
-abbrev coded : Acts → Bool → Acts → Option BodyCode
-coded x h y = some (record { acts = x; handles = h; handler = y })
+abbrev coded : Frame → Acts → Bool → Acts → Option BodyCode
+coded fr x h y = some (record { frame = fr; acts = x; handles = h; handler = y })
 
 abbrev read : Syntax.Stmt × ℕ → Syntax.Body × ℕ → Option (Syntax.Body × ℕ)
 read a b = some (bodyFirst (a .0) (b .0), b .1)
 
-first-staged : (σ : Environment) (p : Option Syntax.Stmt) (q : Option Syntax.Body)
-    → bodyStaged σ (p >>= λ x. q >>= λ y. some (bodyFirst x y)) ≡ join (stmtStaged σ [] p) (bodyStaged σ q) (λ x y. orUnfit (some (codeFirst x y)))
+first-staged : (σ : Environment) (fr : Frame) (p : Option Syntax.Stmt) (q : Option Syntax.Body)
+    → bodyStaged σ fr (p >>= λ x. q >>= λ y. some (bodyFirst x y)) ≡ join (stmtStaged σ [] p) (bodyStaged σ fr q) (λ x y. orUnfit (some (codeFirst x y)))
 unfolding bodyStaged stmtStaged bodyOf stmtsOf keptBody keptStmts elabBody elabStmts both _>>=_
-first-staged σ p q =
-    staged-two (stmtOf σ) (λ s. keptStmt s []) (elabStmt (σ .types) (σ .vars)) (bodyOf σ) keptBody (elabBody (σ .types) (σ .vars)) (bodyOf σ) keptBody (elabBody (σ .types) (σ .vars))
+first-staged σ fr p q =
+    staged-two (stmtOf σ) (λ s. keptStmt s []) (elabStmt (σ .types) (σ .vars)) (bodyOf σ) keptBody (elabBody (σ .types) (σ .vars) fr) (bodyOf σ) keptBody (elabBody (σ .types) (σ .vars) fr)
     bodyFirst scriptFirst (λ x y. some (codeFirst x y))
     (λ a b. names (stmtOf σ a) (stmtsOf σ (b .stmts)) (stmtsOf σ (b .handler)) (b .handles))
     (λ x y. assoc (keptStmt x []) (keptStmts (y .stmts) []) (keptStmts (y .handler) []))
@@ -87,7 +88,7 @@ first-staged σ p q =
     names (some x) (some xs) (some y) h = refl
 
     kinds : (u : Option Act) (v w : Option Acts) (h : Bool)
-        → both (both u v (λ x y. some (x also y))) w (λ x y. coded x h y) ≡ both u (both v w (λ x y. coded x h y)) (λ x y. some (codeFirst x y))
+        → both (both u v (λ x y. some (x also y))) w (λ x y. coded fr x h y) ≡ both u (both v w (λ x y. coded fr x h y)) (λ x y. some (codeFirst x y))
     kinds none v w h = refl
     kinds (some x) none w h = refl
     kinds (some x) (some y) none h = refl
@@ -114,19 +115,19 @@ body-none n t ts us e z h = rw e (go (rw e at h))
     go : stmtIn 33 n (t then ts) ≡ none → bodyIn n (t then ts) ≡ none
     go h = rw (bodyIn, z, h) refl
 
-module _ {σ : Environment} {bs : List ℕ} {o : Option (Syntax.Body × ℕ)} {slot top : ℕ} {l : List ℕ} {f : Fault} {slot′ top′ : ℕ} {l′ : List ℕ} where
+module _ {σ : Environment} {fr : Frame} {bs : List ℕ} {o : Option (Syntax.Body × ℕ)} {slot top : ℕ} {l : List ℕ} {f : Fault} {slot′ top′ : ℕ} {l′ : List ℕ} where
   front-left : (p : Option (Syntax.Stmt × ℕ)) (q r : Option (Syntax.Body × ℕ)) (g : Got) (l₂ : List ℕ) (t : ℕ) (l₃ : List ℕ)
-      → r ≡ (p >>= λ a. q >>= λ b. read a b) → BodyLeft σ bs o slot top l f r slot′ top′ l′
-      → ActTold σ bs [] p top′ l′ g l₂ → Laid (linked slot′ (g .place) (g .top) l₂) t l₃ → BodyLeft σ bs o slot top l (lowest f (g .fault)) q (g .top + 1) t l₃
+      → r ≡ (p >>= λ a. q >>= λ b. read a b) → BodyLeft σ fr bs o slot top l f r slot′ top′ l′
+      → ActTold σ bs [] p top′ l′ g l₂ → Laid (linked slot′ (g .place) (g .top) l₂) t l₃ → BodyLeft σ fr bs o slot top l (lowest f (g .fault)) q (g .top + 1) t l₃
   front-left p q r g l₂ t l₃ e L A K =
-      let S : bodyStaged σ (bare r) ≡ join (stmtStaged σ [] (bare p)) (bodyStaged σ (bare q)) (λ x y. orUnfit (some (codeFirst x y)))
-      = ap (λ u. bodyStaged σ (bare u)) e ∙ ap (bodyStaged σ) (bare-body p q) ∙ first-staged σ (bare p) (bare q) in
+      let S : bodyStaged σ fr (bare r) ≡ join (stmtStaged σ [] (bare p)) (bodyStaged σ fr (bare q)) (λ x y. orUnfit (some (codeFirst x y)))
+      = ap (λ u. bodyStaged σ fr (bare u)) e ∙ ap (bodyStaged σ fr) (bare-body p q) ∙ first-staged σ fr (bare p) (bare q) in
       record {
-        fault-is = L .fault-is ∙ ap (lowest f) (ap faultOf S ∙ join-fault codeFirst (stmtStaged σ [] (bare p)) (bodyStaged σ (bare q)))
-            ∙ rw (A .fault-is) (sym (lowest-assoc f (faultOf (stmtStaged σ [] (bare p))) (faultOf (bodyStaged σ (bare q)))));
+        fault-is = L .fault-is ∙ ap (lowest f) (ap faultOf S ∙ join-fault codeFirst (stmtStaged σ [] (bare p)) (bodyStaged σ fr (bare q)))
+            ∙ rw (A .fault-is) (lowest-assoc f (faultOf (stmtStaged σ [] (bare p))) (faultOf (bodyStaged σ fr (bare q))));
         laid = λ a h.
             let b = L .laid a h in
-            let z = join-fits codeFirst (stmtStaged σ [] (bare p)) (bodyStaged σ (bare q)) (b .0) (sym S ∙ b .1 .0) in
+            let z = join-fits codeFirst (stmtStaged σ [] (bare p)) (bodyStaged σ fr (bare q)) (b .0) (sym S ∙ b .1 .0) in
             let m = z .made in (
               z .two,
               (
@@ -155,7 +156,7 @@ module _ (s l ts : List ℕ) (scope : Scope) (n slot at top : ℕ) where
     above = λ h. omega arith;
     grows = omega arith;
     few-left = λ σ bs A h. A .few;
-    says = λ σ bs A h. record { fault-is = refl; laid = λ a k. (a, (k, (refl, (refl, refl)))); number = λ p k. (p, (k, refl)) };
+    says = λ σ fr bs A h. record { fault-is = refl; laid = λ a k. (a, (k, (refl, (refl, refl)))); number = λ p k. (p, (k, refl)) };
   })
 
   module _ (x : Got) (slot′ : ℕ) (l₁ : List ℕ) (D : Fronting s l ts scope n slot at top x slot′ l₁) (P : PlainAt s (x .next)) (g : Got) (l₂ : List ℕ)
@@ -197,10 +198,10 @@ module _ (s l ts : List ℕ) (scope : Scope) (n slot at top : ℕ) where
               let c = T .number (p .0) (p .1) in
               let v : nodesIn (rest (first (stackAt s (x .next)))) ≡ nodesIn (first (stackAt s (g .next))) = ap (λ (a : Trees Run). nodesIn (rest a)) (front-parts .1) in
               omega arith;
-          says = λ σ bs A j.
+          says = λ σ fr bs A j.
               let T = G .says σ bs [] (front-inside σ bs A j) in
               let p = some-of (stmtIn 33 (x .kind) (first (stackAt s (x .next)))) T (sym k ∙ i) in
               let q : bodyIn (x .kind) (first (stackAt s (x .next))) ≡ (stmtIn 33 (x .kind) (first (stackAt s (x .next))) >>= λ a. bodyIn (g .kind) (first (stackAt s (g .next))) >>= λ b. read a b)
               = rw (T .number (p .0) (p .1)) (body-first (x .kind) (front-parts .0) (first (stackAt s (g .next))) (first (stackAt s (x .next))) (p .0) (front-parts .1) (P .plain (front-parts .0) (first (stackAt s (g .next))) (front-parts .1)) (p .1)) in
-              front-left (stmtIn 33 (x .kind) (first (stackAt s (x .next)))) (bodyIn (g .kind) (first (stackAt s (g .next)))) (bodyIn (x .kind) (first (stackAt s (x .next)))) g l₂ u l₃ q (D .says σ bs A j) T K;
+              front-left (stmtIn 33 (x .kind) (first (stackAt s (x .next)))) (bodyIn (g .kind) (first (stackAt s (g .next)))) (bodyIn (x .kind) (first (stackAt s (x .next)))) g l₂ u l₃ q (D .says σ fr bs A j) T K;
         })

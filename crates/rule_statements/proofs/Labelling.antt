@@ -42,6 +42,7 @@ use Rattle.rule_faults.specs.declared.Got.{Got}
 use Rattle.text_parts.specs.declared.End.{End}
 use Rattle.text_parts.specs.declared.End.the-variants as ending
 use Rattle.rule_faults.specs.Got.{lowest, isForm, faultOf, failedGot}
+use Rattle.rule_faults.proofs.Order.{lowest-assoc, lowest-clear}
 use Rattle.text_parts.specs.Parts.{Before, Shuts, ShutAt}
 use Rattle.rule_atoms.specs.declared.Valued.{Valued}
 use Rattle.rule_atoms.specs.Contracts.{ValueTold, GivesConstant}
@@ -51,7 +52,7 @@ use Rattle.rule_expressions.proofs.Joining.{wrong-fits, unnamed-fits, unfit-fit
 use Rattle.rule_stmt_nodes.specs.Nodes.{linked, skipGot}
 use Rattle.rule_statements.specs.Chains.{many}
 use Rattle.rule_statements.specs.Cases.{armFrom, prefixed, someLabels, counts, labelledGot, countedGot, LinksLabel, LabelsLeft, Labelling, LabelsTold, GivesLabels}
-use Rattle.rule_statements.proofs.Faults.{lowest-clear, lowest-assoc, join-fault, Both, join-fits, form-is, form-none, same-refl}
+use Rattle.rule_statements.proofs.Faults.{join-fault, Both, join-fits, form-is, form-none, same-refl}
 
 -- ---- leaves
 
@@ -321,7 +322,7 @@ module _ (s l : List ℕ) (scope : Scope) (k slot at top : ℕ) where
           fault-is = λ ds.
               ap (λ (z : List Constant). faultOf (labelsStaged σ k (some z))) (append-assoc (L .found) (c ∷ []) ds) ∙ L .fault-is (c ∷ ds)
               ∙ ap (λ (z : Fault). lowest (x .fault) z) (ap faultOf (label-staged σ k c ds) ∙ join-fault (λ (z : ℤ) (zs : List ℤ). z ∷ zs) (labelStaged σ k c) (labelsStaged σ k (some ds)) ∙ ap (λ (z : Fault). lowest z (faultOf (labelsStaged σ k (some ds)))) (sym (label-fault σ k c v T)))
-              ∙ sym (lowest-assoc (x .fault) (memberFault (v .fault) (v .kind) k) (faultOf (labelsStaged σ k (some ds))));
+              ∙ lowest-assoc (x .fault) (memberFault (v .fault) (v .kind) k) (faultOf (labelsStaged σ k (some ds)));
           laid = λ ds zs j.
               let y = L .laid (c ∷ ds) zs (ap (λ (z : List Constant). labelsStaged σ k (some z)) (sym (append-assoc (L .found) (c ∷ []) ds)) ∙ j) in
               let z = join-fits (λ (z : ℤ) (zs : List ℤ). z ∷ zs) (labelStaged σ k c) (labelsStaged σ k (some ds)) (y .0) (sym (label-staged σ k c ds) ∙ y .1 .0) in

@@ -13,3 +13,5 @@ pub mod Labelling
 pub mod ArmWays
 pub mod ArmLoop
 pub mod CaseWays
+pub mod Arguments
+pub mod Calls

@@ -16,7 +16,7 @@ use Rattle.law_theorems.proofs.Inversion.{none-some, some-inj, bind-some}
 use Rattle.text_heads.specs.declared.Verb.{Verb}
 use Rattle.text_heads.specs.declared.Verb.the-variants as VB
 use Rattle.text_heads.specs.Heads.{verbOf, verbMeant}
-use Rattle.text_heads.specs.Parts.{partOf, rest, closed, exprIn, targetIn, nameIn, stmtIn, stmtsIn, elseIn, armIn, armsIn, elseArmIn, armHeadIn}
+use Rattle.text_heads.specs.Parts.{partOf, rest, closed, exprIn, exprsIn, targetIn, nameIn, stmtIn, stmtsIn, elseIn, armIn, armsIn, elseArmIn, armHeadIn}
 use Rattle.text_heads.proofs.Heads.{verb-is}
 use Rattle.text_heads.proofs.Walks.{bind-none, bind-cong}
 use Rattle.text_heads.proofs.Statements.{verbed, stmt-end, stmt-zero, stmt-word, stmt-empty, stmt-headless, assign-parts, while-parts, call-parts, raise-parts, for-parts, begin-parts, if-parts, case-parts}
@@ -50,8 +50,8 @@ module _ (d m : ℕ) (us : Trees Run) where
   pub raise-shape : verbIn VB.Raise d m us ≡ ((exprIn 33 us >>= λ e. closed (rest us) e) >>= λ e. some (raise m e, m))
   raise-shape = meant VB.Raise vRaise refl ∙ raise-parts d m us ∙ closed-then (exprIn 33 us) (rest us) (λ e. (raise m e, m))
 
-  pub call-shape : verbIn VB.Call d m us ≡ ((nameIn us >>= λ w. closed (rest us) w) >>= λ w. some (call m w, m))
-  call-shape = meant VB.Call vCall refl ∙ call-parts d m us ∙ closed-then (nameIn us) (rest us) (λ w. (call m w, m))
+  pub call-shape : verbIn VB.Call d m us ≡ (nameIn us >>= λ w. exprsIn 33 (rest us) >>= λ es. some (call m w es, m))
+  call-shape = meant VB.Call vCall refl ∙ call-parts d m us
 
   pub while-shape : verbIn VB.While d m us ≡ (exprIn 33 us >>= λ e. (stmtIn d m (rest us) >>= λ p. closed (rest (rest us)) p) >>= λ a. some (while m e (a .0), a .1))
   while-shape = meant VB.While vWhile refl ∙ while-parts d m us ∙ bind-cong (exprIn 33 us) (λ e. closed-then (stmtIn d m (rest us)) (rest (rest us)) (λ (a : Stmt × ℕ). (while m e (a .0), a .1)))
@@ -136,7 +136,7 @@ module _ (d : ℕ) (hr : (n : ℕ) (us : Trees Run) (p : Stmt × ℕ) → stmtIn
   verb-count VB.For m us p h = bind-some (sym (for-shape d m us) ∙ h) λ w hw h. let i = for-count m w (rest us) p h in let k = rest-few us in omega arith
   verb-count VB.Case m us p h = bind-some (sym (case-shape d m us) ∙ h) λ e he h. bind-some h λ a ha h. bind-some h λ b hb q.
       let i = arms-count m (rest us) a ha in let k = rest-few us in rw (← some-inj q) (omega arith)
-  verb-count VB.Call m us p h = bind-some (sym (call-shape d m us) ∙ h) λ w hw q. rw (← some-inj q) (omega arith)
+  verb-count VB.Call m us p h = bind-some (sym (call-shape d m us) ∙ h) λ w hw h. bind-some h λ es hes q. rw (← some-inj q) (omega arith)
   verb-count VB.Raise m us p h = bind-some (sym (raise-shape d m us) ∙ h) λ e he q. rw (← some-inj q) (omega arith)
   verb-count VB.Nothing m us p h = none-some (sym (none-shape d m us) ∙ h)
 

@@ -1,4 +1,4 @@
--- What the answers for an assignment, a call and a `for` tell, from the answers for their parts.
+-- What the answers for an assignment and a `for` tell, from the answers for their parts.
 use mathlib.Core.Path.{_≡_, refl, sym, ap, _∙_}
 use mathlib.Core.Bool.{Bool, true, false, cond, not, _&&_, true≢false}
 use mathlib.Core.List.{List, [], _∷_}
@@ -8,11 +8,11 @@ use lib.Dec.{eqb}
 use lib.IntN.{ℤ}
 use lib.ListN.{getD}
 use Rattle.law.specs.Base.{Name, _>>=_, both, given, find}
-use Rattle.law.specs.Code.{Code, Act, Place, assignOrdinal, assignWhole, callTo, forLoop}
+use Rattle.law.specs.Code.{Code, Act, Place, assignOrdinal, assignWhole, forLoop}
 use Rattle.law.specs.Elaborate.{Elaborated, Located, elabExpr, elabStmt, expects, assigning}
-use Rattle.law.specs.Environment.{Environment, aProc}
+use Rattle.law.specs.Environment.{Environment}
 use Rattle.code.specs.Layout.{Out, out, lay, bits, layCode, layPlace, layAct}
-use Rattle.law.specs.Names.{varOf, asProc, exprOf, stmtOf}
+use Rattle.law.specs.Names.{varOf, exprOf, stmtOf}
 use Rattle.law.specs.Rules.{plainExpr, keptStmt, looping}
 use Rattle.law.specs.Script as Script
 use Rattle.rule_stages.specs.Stages.{Staged, wrong, unnamed, unfit, fits, staged, named, ruled, join, onFits, orUnfit, keptIf, unknown, exprStaged, wantedStaged, assignedStaged, stmtStaged}
@@ -33,13 +33,14 @@ use Rattle.table_scope.specs.Sides.{hostIn}
 use Rattle.table_scope.proofs.Telling.{shape-ordinal, low-told, high-told, host-in}
 use Rattle.rule_faults.specs.declared.Got.{Got}
 use Rattle.rule_faults.specs.Got.{lowest, isForm, faultOf, Told}
+use Rattle.rule_faults.proofs.Order.{lowest-assoc, lowest-clear}
 use Rattle.rule_expr_nodes.specs.Nodes.{Made, Makes, failedMade, nodeMade, ifClear}
 use Rattle.rule_expressions.specs.Walks.{ExprTold}
 use Rattle.rule_expressions.proofs.Joining.{wrong-fits, unnamed-fits, unfit-fits, fits-inj, told-join, told-as, told-fits, told-unfit}
 use Rattle.rule_stmt_nodes.specs.declared.nodes.Control.{Control}
-use Rattle.rule_stmt_nodes.specs.Nodes.{called, stored, assigned, controlIs, controlBy, controlFault}
+use Rattle.rule_stmt_nodes.specs.Nodes.{stored, assigned, controlIs, controlBy, controlFault}
 use Rattle.rule_statements.specs.Walks.{bare, WantTold, ActTold, StoreTold, ControlTold, known, unknown as not-known}
-use Rattle.rule_statements.proofs.Faults.{lowest-clear, lowest-assoc, join-fault, Both, join-fits, Node}
+use Rattle.rule_statements.proofs.Faults.{join-fault, Both, join-fits, tested-fits, Node}
 use Rattle.rule_statements.proofs.Acts.{bare-two}
 
 -- ---- an assignment
@@ -95,33 +96,6 @@ module _ (σ : Environment) (bs js : List ℕ) (n top : ℕ) (l : List ℕ) wher
         (ap (λ (x : Got). x .kind) (m .given) ∙ kind-of (lowest (g .fault) (e .fault)) (hostIn l₂ ts (g .kind)) (infoOf l₂ ts (g .kind)))
         (λ q h. bind-some h λ x hx h′. bind-some h′ λ y hy i. sym (ap (λ (z : Syntax.Stmt × ℕ). z .1) (some-inj i)))
 
--- ---- a call
-
-pub call-act : {σ : Environment} {bs js : List ℕ} {n : ℕ} (q : ℕ) {top : ℕ} {l : List ℕ} {m : Meaning} {r : Got} {l′ : List ℕ} (w : Name) → Scenes.Told σ bs m (find (σ .names) w) → Makes (called l n m q top) r l′
-    → ActTold σ bs js (some (Syntax.call n w, n)) top l r l′
-unfolding stmtStaged staged named ruled stmtOf keptStmt elabStmt layAct _>>=_
-call-act {σ} {bs} {js} {n} q {top} {l} {m} {r} {l′} w t k = go (find (σ .names) w) refl t k
-  where
-    no-proc : (o : Option Script.Stmt) → o ≡ none → stmtStaged σ js (some (Syntax.call n w)) ≡ named o (λ s. keptStmt s js) (elabStmt (σ .types) (σ .vars)) → r ≡ failedMade Unnamed n q top l .got → ActTold σ bs js (some (Syntax.call n w, n)) top l r l′
-    no-proc o e h g = record {
-      fault-is = ap (λ (x : Got). x .fault) g ∙ sym (ap faultOf (h ∙ ap (λ (u : Option Script.Stmt). named u (λ s. keptStmt s js) (elabStmt (σ .types) (σ .vars))) e));
-      laid = λ a z. absurd (unnamed-fits (sym (h ∙ ap (λ (u : Option Script.Stmt). named u (λ s. keptStmt s js) (elabStmt (σ .types) (σ .vars))) e) ∙ z));
-      number = λ p z. ap (λ (x : Got). x .kind) g ∙ ap (λ (x : Syntax.Stmt × ℕ). x .1) (some-inj z);
-    }
-
-    go : {x : Meaning} (o : Option _) → find (σ .names) w ≡ o → Scenes.Told σ bs x o → Makes (called l n x q top) r l′ → ActTold σ bs js (some (Syntax.call n w, n)) top l r l′
-    go none e Scenes.unknown k = no-proc none refl (rw e refl) (k .given)
-    go (some a) e (Scenes.known a-type) k = no-proc none refl (rw e refl) (k .given)
-    go (some a) e (Scenes.known (a-var v h)) k = no-proc none refl (rw e refl) (k .given)
-    go (some a) e (Scenes.known a-value) k = no-proc none refl (rw e refl) (k .given)
-    go (some a) e (Scenes.known (a-proc {q = p})) k =
-        let S : stmtStaged σ js (some (Syntax.call n w)) ≡ fits (callTo n p) = rw e refl in
-        record {
-          fault-is = ap (λ (x : Got). x .fault) (k .given) ∙ sym (ap faultOf S);
-          laid = λ a z. rw (k .given, k .left) (ap (λ (x : Act). layAct bs x top l) (fits-inj (sym S ∙ z)));
-          number = λ p z. ap (λ (x : Got). x .kind) (k .given) ∙ ap (λ (x : Syntax.Stmt × ℕ). x .1) (some-inj z);
-        }
-
 -- ---- the control variable
 
 pub control-told : {σ : Environment} {bs : List ℕ} {m : Meaning} (w : Name) → Scenes.Told σ bs m (find (σ .names) w) → ControlTold σ w (controlBy m)
@@ -175,33 +149,16 @@ module _ {A B C : Type 0} (mk : A → B → C) where
   given-fault false (fits x) (fits y) = refl
 
   given-fits : (o : Bool) (S : Staged A) (T : Staged B) (z : C) → join S T (λ x y. orUnfit (given o (mk x y))) ≡ fits z → (o ≡ true) × Both mk S T z
-  unfolding given orUnfit join
-  given-fits true S T z h = (refl, join-fits mk S T z h)
-  given-fits false S T z h = absurd (no S T h)
-    where
-      no : (S : Staged A) (T : Staged B) → join S T (λ x y. unfit) ≡ fits z → ⊥
-      no wrong T h = wrong-fits h
-      no unnamed wrong h = wrong-fits h
-      no unnamed unnamed h = unnamed-fits h
-      no unnamed unfit h = unnamed-fits h
-      no unnamed (fits y) h = unnamed-fits h
-      no unfit wrong h = wrong-fits h
-      no unfit unnamed h = unnamed-fits h
-      no unfit unfit h = unfit-fits h
-      no unfit (fits y) h = unfit-fits h
-      no (fits x) wrong h = wrong-fits h
-      no (fits x) unnamed h = unnamed-fits h
-      no (fits x) unfit h = unfit-fits h
-      no (fits x) (fits y) h = unfit-fits h
+  given-fits o S T z h = let t = tested-fits (λ _ _. o) mk S T z h in (t .1, t .0)
 
-unknown-fault : {A : Type 0} (B : Type 0) (S : Staged A) → faultOf (unknown {B = B} S) ≡ lowest Unnamed (faultOf S)
+pub unknown-fault : {A : Type 0} (B : Type 0) (S : Staged A) → faultOf (unknown {B = B} S) ≡ lowest Unnamed (faultOf S)
 unfolding unknown
 unknown-fault B wrong = refl
 unknown-fault B unnamed = refl
 unknown-fault B unfit = refl
 unknown-fault B (fits a) = refl
 
-unknown-fits : {A B : Type 0} (S : Staged A) (b : B) → unknown S ≡ fits b → ⊥
+pub unknown-fits : {A B : Type 0} (S : Staged A) (b : B) → unknown S ≡ fits b → ⊥
 unfolding unknown
 unknown-fits wrong b h = wrong-fits h
 unknown-fits unnamed b h = unnamed-fits h
@@ -211,7 +168,7 @@ unknown-fits (fits a) b h = unnamed-fits h
 -- a fault of row 8 beside
 two-tests : (t o : Bool) (f : Fault) → lowest (lowest f (cond o Clear Kind)) (cond t Kind Clear) ≡ lowest f (cond t Kind (cond o Clear Kind))
 two-tests true true f = ap (λ x. lowest x Kind) (lowest-clear f)
-two-tests true false f = lowest-assoc f Kind Kind
+two-tests true false f = sym (lowest-assoc f Kind Kind)
 two-tests false o f = lowest-clear (lowest f (cond o Clear Kind))
 
 no-test : (t o : Bool) (f : Fault) → lowest (lowest Unnamed f) (cond t Kind (cond o Clear Kind)) ≡ lowest Unnamed f

@@ -60,7 +60,7 @@ use Rattle.rule_expressions.proofs.Joining.{wrong-fits, unnamed-fits, unfit-fit
 use Rattle.rule_stmt_nodes.specs.BaseNodes.{withFault, steered}
 use Rattle.rule_stmt_nodes.specs.Nodes.{stored, assigned}
 use Rattle.rule_statements.specs.Walks.{StoreTold, ActTold, Around, GivesVerb, GivesAssign, GivesStore}
-use Rattle.rule_statements.proofs.Faults.{lowest-clear, form-is, form-left, form-right, form-none, closes-leaves, same-refl, then-leaves, expr-closed}
+use Rattle.rule_statements.proofs.Faults.{form-is, form-left, form-right, form-none, closes-leaves, same-refl, then-leaves, expr-closed}
 use Rattle.rule_statements.proofs.Acts.{act-none}
 use Rattle.rule_statements.proofs.Stores.{assign-act}
 use Rattle.rule_statements.proofs.Shapes.{assign-shape}

@@ -20,7 +20,7 @@ use Rattle.text_heads.specs.declared.Atom.the-variants as AT
 use Rattle.text_heads.specs.declared.Verb.{Verb}
 use Rattle.text_heads.specs.declared.Verb.the-variants as VB
 use Rattle.text_heads.specs.Heads.{verbOf, atomOf, atomName}
-use Rattle.text_heads.specs.Parts.{partOf, rest, closed, exprIn, nameIn, stmtIn, elseIn}
+use Rattle.text_heads.specs.Parts.{partOf, rest, closed, exprIn, exprsIn, nameIn, stmtIn, elseIn}
 use Rattle.text_heads.proofs.Heads.{name-word}
 use Rattle.text_heads.proofs.Expressions.{name-form}
 use Rattle.text_heads.proofs.Statements.{stmt-end, stmt-zero, stmt-word, stmt-empty, stmt-headless}
@@ -28,14 +28,8 @@ use Rattle.table_scope.specs.declared.Scope.{Scope}
 use Rattle.rule_faults.specs.declared.Fault.{Fault}
 use Rattle.rule_faults.specs.declared.Fault.the-variants.{Form}
 use Rattle.table_scope.specs.declared.Loops.{Loops}
-use Rattle.table_scope.specs.declared.Meaning.{Meaning}
-use Rattle.table_scope.specs.declared.Meaning.the-variants as meaning
-use Rattle.code.proofs.LayoutRegions.{lay-g}
-use Rattle.code.specs.LayoutRegions.{Same}
 use Rattle.rule_statements.proofs.Chains.{none-of}
-use Rattle.table_scope.specs.Scene.{meaningHere}
 use Rattle.table_scope.proofs.Kept.{scene-kept}
-use Rattle.table_scope.proofs.Telling.{meant}
 use Rattle.rule_faults.specs.declared.Got.{Got}
 use Rattle.text_parts.specs.declared.Part.{Part}
 use Rattle.text_parts.specs.declared.Part.the-variants as part
@@ -44,14 +38,14 @@ use Rattle.text_parts.specs.declared.End.the-variants as ending
 use Rattle.rule_faults.specs.Got.{lowest, isForm, faultOf, failedGot}
 use Rattle.text_parts.specs.Parts.{Before, LeafAt, FormAt, ShutAt, Stands, Shuts}
 use Rattle.rule_expr_nodes.specs.Bracket.{Closes}
-use Rattle.rule_expr_nodes.specs.Nodes.{Makes, failedMade, nodeMade}
+use Rattle.rule_expr_nodes.specs.Nodes.{Makes}
 use Rattle.rule_expressions.specs.Walks.{Moves, Leaves, ExprTold, GivesExpr}
 use Rattle.rule_stmt_nodes.specs.declared.nodes.Control.{Control}
-use Rattle.rule_stmt_nodes.specs.Nodes.{nextNumber, wantedGot, raised, looped, branched, skipGot, called, isNamed}
-use Rattle.rule_statements.specs.Walks.{bare, WantTold, ActTold, Around, GivesStmt, GivesInner, verbIn, GivesVerb, GivesAssign, GivesRaise, GivesCall, GivesCallEnd, GivesElse, GivesWanted, thenIn, GivesThen}
+use Rattle.rule_stmt_nodes.specs.Nodes.{nextNumber, wantedGot, raised, looped, branched, skipGot, isNamed}
+use Rattle.rule_statements.specs.Walks.{bare, WantTold, ActTold, Around, GivesStmt, GivesInner, verbIn, GivesVerb, GivesAssign, GivesRaise, GivesCall, GivesElse, GivesWanted, thenIn, GivesThen}
+use Rattle.rule_statements.specs.Arguments.{GivesCallNamed}
 use Rattle.rule_statements.proofs.Faults.{form-is, form-left, form-right, form-none, closes-leaves, same-refl, then-leaves, Node, node-of, node-leaves, want-told, wanted-moves, wanted-leaves, expr-closed, act-closed}
 use Rattle.rule_statements.proofs.Acts.{act-none, some-of, raise-act, while-act, if-act, skip-act}
-use Rattle.rule_statements.proofs.Stores.{call-act}
 use Rattle.rule_statements.proofs.Shapes.{form-shape, none-shape, raise-shape, call-shape, while-shape, if-shape, stmt-count}
 
 -- ---- faults of row 6
@@ -68,6 +62,10 @@ stop-leaves m h = record { goes = λ e. absurd (true≢false (sym h ∙ e)); kee
 pub none-bind : {A B : Type 0} {o : Option A} (f : A → Option B) → o ≡ none → (o >>= f) ≡ none
 unfolding _>>=_
 none-bind f e = rw e refl
+
+some-bind : {A B : Type 0} {o : Option A} {a : A} (f : A → Option B) → o ≡ some a → (o >>= f) ≡ f a
+unfolding _>>=_
+some-bind f e = rw e refl
 
 pub want-none : {σ : Environment} {k : ℕ} {o : Option Syntax.Expr} {top : ℕ} {l : List ℕ} {g : Got} {l′ : List ℕ} → WantTold σ k o top l g l′ → isForm (g .fault) ≡ true → o ≡ none
 unfolding wantedStaged
@@ -119,28 +117,6 @@ is-name (AT.Truth b) w h = absurd (true≢false (sym h))
 is-name AT.ErrorNumber w h = absurd (true≢false (sym h))
 is-name (AT.Base k) w h = absurd (true≢false (sym h))
 is-name AT.Nothing w h = absurd (true≢false (sym h))
-
-abbrev callRead : ℕ → Name → Option (Syntax.Stmt × ℕ)
-callRead n v = some (Syntax.call n v, n)
-
-closed-once : (n : ℕ) (us : Trees Run) (w : Name) → _≡_ {A = Option (Syntax.Stmt × ℕ)} ((some w >>= λ v. closed us v) >>= λ v. callRead n v) (closed us (Syntax.call n w, n))
-unfolding closed _>>=_
-closed-once n end w = refl
-closed-once n (t then ts) w = refl
-
-not-closed : {A : Type 0} (a : A) (us : Trees Run) → (us ≡ end → ⊥) → closed us a ≡ none
-unfolding closed
-not-closed a end h = absurd (h refl)
-not-closed a (t then ts) h = refl
-
-called-leaves : (l : List ℕ) (n : ℕ) (m : Meaning) (q t : ℕ) (r : Got) (l′ : List ℕ) → Makes (called l n m q t) r l′ → (r .next ≡ q) × ((t ≤ r .top) × Same 0 t l′ l)
-called-leaves l n meaning.Unknown q t r l′ k = rw (k .given, k .left) (refl, (omega arith, same-refl))
-called-leaves l n (meaning.Type i) q t r l′ k = rw (k .given, k .left) (refl, (omega arith, same-refl))
-called-leaves l n (meaning.Var i j a) q t r l′ k = rw (k .given, k .left) (refl, (omega arith, same-refl))
-called-leaves l n (meaning.Value i v) q t r l′ k = rw (k .given, k .left) (refl, (omega arith, same-refl))
-called-leaves l n (meaning.Proc p) q t r l′ k =
-    let G = lay-g (50 ∷ n ∷ p ∷ []) t l in
-    rw (k .given, k .left) (refl, (G .up, record { at = λ i a b. G .below i b }))
 
 -- ---- what is given one bracket deeper, and after a part
 
@@ -246,8 +222,8 @@ module _ (s l ts : List ℕ) (scope : Scope) (loops : Loops) (d n at top : ℕ) 
     pub headed-raise : (r : Got) (l′ : List ℕ) → v ≡ VB.Raise → GivesRaise s l ts scope n at top r l′ → GivesVerb s l ts scope loops v d n at top r l′
     headed-raise r l′ h G = rw h (G .any loops d)
 
-    pub headed-call : (r : Got) (l′ : List ℕ) → v ≡ VB.Call → GivesCall s l scope n at top r l′ → GivesVerb s l ts scope loops v d n at top r l′
-    headed-call r l′ h G = rw h (G .any ts loops d)
+    pub headed-call : (r : Got) (l′ : List ℕ) → v ≡ VB.Call → GivesCall s l ts scope n at top r l′ → GivesVerb s l ts scope loops v d n at top r l′
+    headed-call r l′ h G = rw h (G .any loops d)
 
   -- ---- `while`
 
@@ -369,41 +345,26 @@ raise-way s l ts scope n at top a c w r l₁ l′ E C e k =
 
 -- ---- `call`
 
-module _ (s l : List ℕ) (scope : Scope) (n p at top : ℕ) (e : End) (S : Shuts s at e) where
-  pub call-past : (q : ℕ) (m : Meaning) (r : Got) (l′ : List ℕ) → e ≡ ending.Past q → m ≡ meaningHere s l scope p → Makes (called l n m q top) r l′
-      → GivesCallEnd s l scope n p at top r l′
-  unfolding closed
-  call-past q m r l′ h em k =
-      let X : ShutAt s at q = rw h at (S .says) in
-      let N = called-leaves l n m q top r l′ k in
-      record {
-        leaves = record { goes = λ z. X .around ∙ ap (stackAt s) (sym (N .0)); keeps = N .1 .1; grows = N .1 .0 };
-        says = λ ts σ bs js A. rw (X .here) (call-act q (map small (wordAt s p)) (rw (← em) at (meant A (map small (wordAt s p)))) k);
-      }
-
-  pub call-more : (r : Got) → e ≡ ending.More → r ≡ failedGot Form 0 at top → GivesCallEnd s l scope n p at top r l
-  call-more r h k = rw k (record { leaves = fail-leaves; says = λ ts σ bs js A. act-none (not-closed (Syntax.call n (map small (wordAt s p)), n) (first (stackAt s at)) (rw h at (S .says))) refl })
-
-module _ (s l : List ℕ) (scope : Scope) (n at top : ℕ) (x : Part) (S : Stands s at x) where
-  pub call-form : (q : ℕ) (r : Got) → x ≡ part.Form q → r ≡ failedGot Form 0 q top → GivesCall s l scope n at top r l
+module _ (s l ts : List ℕ) (scope : Scope) (n at top : ℕ) (x : Part) (S : Stands s at x) where
+  pub call-form : (q : ℕ) (r : Got) → x ≡ part.Form q → r ≡ failedGot Form 0 q top → GivesCall s l ts scope n at top r l
   call-form q r h e =
       let F : FormAt s at q = rw h at (S .says) in
       rw e (record {
-        any = λ ts loops d. record {
+        any = λ loops d. record {
           leaves = fail-leaves;
           says = λ σ bs js A.
-              act-none (call-shape d n (first (stackAt s at)) ∙ none-bind _ (none-bind _ (rw (F .here) (name-form (first (stackAt s q)) (first (later (stackAt s q))))))) refl;
+              act-none (call-shape d n (first (stackAt s at)) ∙ none-bind _ (rw (F .here) (name-form (first (stackAt s q)) (first (later (stackAt s q)))))) refl;
         };
       })
 
-  pub call-shut : (q : ℕ) (r : Got) → x ≡ part.Shut q → r ≡ failedGot Form 0 q top → GivesCall s l scope n at top r l
+  pub call-shut : (q : ℕ) (r : Got) → x ≡ part.Shut q → r ≡ failedGot Form 0 q top → GivesCall s l ts scope n at top r l
   call-shut q r h e =
       let L : ShutAt s at q = rw h at (S .says) in
       rw e (record {
-        any = λ ts loops d. record {
+        any = λ loops d. record {
           leaves = fail-leaves;
           says = λ σ bs js A.
-              act-none (call-shape d n (first (stackAt s at)) ∙ none-bind _ (none-bind _ (rw (L .here) name-end))) refl;
+              act-none (call-shape d n (first (stackAt s at)) ∙ none-bind _ (rw (L .here) name-end)) refl;
         };
       })
 
@@ -414,23 +375,24 @@ module _ (s l : List ℕ) (scope : Scope) (n at top : ℕ) (x : Part) (S : Stand
     name-is : nameIn (first (stackAt s at)) ≡ atomName (atomOf w) (map small (wordAt s p))
     name-is = let X = rw h at (S .says) in rw leaf-here (name-word (wordAt s p) (first (stackAt s q)) ∙ ap (λ (u : Word). atomName (atomOf u) (map small (wordAt s p))) (sym (X .1)))
 
-    pub call-unnamed : (r : Got) → t ≡ false → r ≡ failedGot Form 0 q top → GivesCall s l scope n at top r l
+    pub call-unnamed : (r : Got) → t ≡ false → r ≡ failedGot Form 0 q top → GivesCall s l ts scope n at top r l
     call-unnamed r i e = rw e (record {
-      any = λ ts loops d. record {
+      any = λ loops d. record {
         leaves = fail-leaves;
         says = λ σ bs js A.
-            act-none (call-shape d n (first (stackAt s at)) ∙ none-bind _ (none-bind _ (name-is ∙ no-name (atomOf w) (map small (wordAt s p)) (sym et ∙ i)))) refl;
+            act-none (call-shape d n (first (stackAt s at)) ∙ none-bind _ (name-is ∙ no-name (atomOf w) (map small (wordAt s p)) (sym et ∙ i))) refl;
       };
     })
 
-    pub call-named : (r : Got) (l′ : List ℕ) → t ≡ true → GivesCallEnd s l scope n p q top r l′ → GivesCall s l scope n at top r l′
+    pub call-named : (r : Got) (l′ : List ℕ) → t ≡ true → GivesCallNamed s l ts scope n p q top r l′ → GivesCall s l ts scope n at top r l′
     call-named r l′ i G = record {
-      any = λ ts loops d. record {
+      any = λ loops d. record {
         leaves = record { goes = λ z. (let X = rw h at (S .says) in X .0 .leaf .around) ∙ G .leaves .goes z; keeps = G .leaves .keeps; grows = G .leaves .grows };
         says = λ σ bs js A.
-            let e : verbIn VB.Call d n (first (stackAt s at)) ≡ closed (first (stackAt s q)) (Syntax.call n (map small (wordAt s p)), n)
-            = call-shape d n (first (stackAt s at)) ∙ rw (name-is, is-name (atomOf w) (map small (wordAt s p)) (sym et ∙ i), ap rest leaf-here) (closed-once n (first (stackAt s q)) (map small (wordAt s p))) in
-            rw e (G .says ts σ bs js (A .scene));
+            let e : verbIn VB.Call d n (first (stackAt s at)) ≡ (exprsIn 33 (first (stackAt s q)) >>= λ es. some (Syntax.call n (map small (wordAt s p)) es, n))
+            = call-shape d n (first (stackAt s at)) ∙ some-bind _ (name-is ∙ is-name (atomOf w) (map small (wordAt s p)) (sym et ∙ i))
+            ∙ ap (λ (us : Trees Run). exprsIn 33 us >>= λ es. some (Syntax.call n (map small (wordAt s p)) es, n)) (ap rest leaf-here) in
+            rw e (G .says σ bs js (A .scene));
       };
     }
 
@@ -447,7 +409,5 @@ pub ruleset if-laws = (if-wrong, if-more)
 pub ruleset then-laws = (then-wrong, then-both)
 
 pub ruleset else-laws = (else-missing, else-part-is)
-
-pub ruleset call-end-laws = (call-past, call-more)
 
 pub ruleset call-laws = (call-form, call-shut, call-unnamed, call-named)

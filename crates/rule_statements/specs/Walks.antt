@@ -1,26 +1,25 @@
 -- What the walk over a statement promises: how it moves and what it leaves of the working list; and for every environment that the tables
 -- hold, its fault of rows 6 to 8, the layout of what it elaborates to, and the number of the last statement read.
 use mathlib.Core.Bool.{false}
-use mathlib.Core.List.{List, map}
+use mathlib.Core.List.{List, [], _∷_}
 use mathlib.Core.Option.{Option, none, some}
 use mathlib.Core.Path.{_≡_}
 use Prim.Native.Nat.{ℕ, suc, _+_, _≤_}
 use lib.ListN.{length}
 use Rattle.law.specs.Base.{Name, _>>=_}
-use Rattle.law.specs.Code.{Code, Act, Acts, BodyCode}
+use Rattle.law.specs.Code.{Code, Act, Acts, Frame, BodyCode}
 use Rattle.law.specs.Elaborate.{Located}
 use Rattle.law.specs.Environment.{Environment}
 use Rattle.law.specs.Forms.{stmt, stmtForm}
-use Rattle.code.specs.Layout.{Out, out, layCode, layPlace, layAct, layActs, layBody}
+use Rattle.code.specs.Layout.{Out, out, lay, layCode, layPlace, layAct, layActs, flag}
 use Rattle.law.specs.Names.{varOf}
 use Rattle.law.specs.Types.{Var, variable, hostOf}
 use Rattle.rule_stages.specs.Stages.{fits, wantedStaged, assignedStaged, stmtStaged, stmtsStaged, bodyStaged}
-use Rattle.law.specs.Syntax.{Expr, Target, Stmt, Stmts, Body, ifElse, for, call}
-use Rattle.law.specs.Trees.{form, Trees, end, _then_, Run, first, later, nodesIn, list, wordAt}
+use Rattle.law.specs.Syntax.{Expr, Target, Stmt, Stmts, Body, ifElse, for}
+use Rattle.law.specs.Trees.{form, Trees, end, _then_, Run, first, later, nodesIn, list}
 use Rattle.law_theorems.specs.Readings.{stackAt}
 use Rattle.law.specs.Words.{wordedAll}
 use Rattle.code.specs.LayoutRegions.{Same}
-use Rattle.leaf_bytes.specs.Bytes.{small}
 use Rattle.text_heads.specs.declared.Verb.{Verb}
 use Rattle.text_heads.specs.declared.Verb.the-variants.{Assign, Raise, Call}
 use Rattle.text_heads.specs.Heads.{verbMeant}
@@ -33,6 +32,7 @@ use Rattle.table_scope.specs.Scene.{Scene}
 use Rattle.rule_faults.specs.declared.Got.{Got}
 use Rattle.rule_faults.specs.Got.{isForm, faultOf, Told}
 use Rattle.rule_expressions.specs.Walks.{Moves, Leaves}
+use Rattle.rule_stmt_nodes.specs.declared.last.Head.{Head}
 use Rattle.rule_stmt_nodes.specs.declared.nodes.Control.{Control}
 use Rattle.rule_stmt_nodes.specs.Nodes.{controlIs}
 
@@ -58,10 +58,23 @@ pub record ActsTold (σ : Environment) (bs js : List ℕ) (o : Option (Stmts × 
 pub record StoreTold (σ : Environment) (js : List ℕ) (o : Option Target) (top : ℕ) (l : List ℕ) (g : Got) (l′ : List ℕ) : Type 0 where
   pub told : Told (assignedStaged σ js o) (λ w. w .type) (λ w. layPlace (w .place)) top l g l′
 
--- of body k
-pub record BodyTold (σ : Environment) (bs : List ℕ) (k : ℕ) (o : Option (Body × ℕ)) (top : ℕ) (l : List ℕ) (g : Got) (l′ : List ℕ) : Type 0 where
-  pub fault-is : g .fault ≡ faultOf (bodyStaged σ (bare o))
-  pub laid : (b : BodyCode) → bodyStaged σ (bare o) ≡ fits b → out (g .place) (g .top) l′ ≡ layBody bs k b top l
+-- a body after its frame: from its first slot on, and after that
+unfoldable pub layRest : List ℕ → Head → BodyCode → ℕ → ℕ → List ℕ → Out
+layRest bs h b s t l =
+    let m = layActs bs (b .acts) s t l in
+    let e = lay (0 ∷ []) (m .top) (m .list) in
+    let n = layActs bs (b .handler) (e .pos) (e .top) (e .list) in
+    lay (h .number ∷ s ∷ flag (b .handles) ∷ e .pos ∷ h .frame ∷ []) (n .top) (n .list)
+
+unfoldable pub layFramed : List ℕ → Head → BodyCode → ℕ → List ℕ → Out
+layFramed bs h b t l =
+    let s = lay (0 ∷ []) t l in
+    layRest bs h b (s .pos) (s .top) (s .list)
+
+-- of a body whose parameters have the frame fr, after that
+pub record BodyTold (σ : Environment) (fr : Frame) (bs : List ℕ) (h : Head) (o : Option (Body × ℕ)) (top : ℕ) (l : List ℕ) (g : Got) (l′ : List ℕ) : Type 0 where
+  pub fault-is : g .fault ≡ faultOf (bodyStaged σ fr (bare o))
+  pub laid : (b : BodyCode) → bodyStaged σ fr (bare o) ≡ fits b → out (g .place) (g .top) l′ ≡ layFramed bs h b top l
   pub number : (p : Body × ℕ) → o ≡ some p → g .kind ≡ p .1
 
 -- of the control variable of a `for` by its name
@@ -110,14 +123,8 @@ pub record GivesAssign (s l ts : List ℕ) (scope : Scope) (loops : Loops) (n at
 pub record GivesRaise (s l ts : List ℕ) (scope : Scope) (n at top : ℕ) (g : Got) (l′ : List ℕ) : Type 0 where
   pub any : (loops : Loops) (d : ℕ) → GivesVerb s l ts scope loops Raise d n at top g l′
 
-pub record GivesCall (s l : List ℕ) (scope : Scope) (n at top : ℕ) (g : Got) (l′ : List ℕ) : Type 0 where
-  pub any : (ts : List ℕ) (loops : Loops) (d : ℕ) → GivesVerb s l ts scope loops Call d n at top g l′
-
--- the rest of a `call` after its name at p
-pub record GivesCallEnd (s l : List ℕ) (scope : Scope) (n p at top : ℕ) (g : Got) (l′ : List ℕ) : Type 0 where
-  pub leaves : Leaves s at top l g l′
-  pub says : (ts : List ℕ) (σ : Environment) (bs js : List ℕ) → Scene s l ts scope top σ bs
-      → ActTold σ bs js (closed (first (stackAt s at)) (call n (map small (wordAt s p)), n)) top l g l′
+pub record GivesCall (s l ts : List ℕ) (scope : Scope) (n at top : ℕ) (g : Got) (l′ : List ℕ) : Type 0 where
+  pub any : (loops : Loops) (d : ℕ) → GivesVerb s l ts scope loops Call d n at top g l′
 
 -- a target that is assigned
 pub record GivesStore (s l ts : List ℕ) (scope : Scope) (loops : Loops) (at top : ℕ) (g : Got) (l′ : List ℕ) : Type 0 where
@@ -178,8 +185,8 @@ pub record GivesActs (s l ts : List ℕ) (scope : Scope) (loops : Loops) (d n sl
   pub says : (σ : Environment) (bs js : List ℕ) → Around s l ts scope loops d n at slot σ bs js → slot ≤ top
       → ActsTold σ bs js (stmtsIn d n (first (stackAt s at))) slot top l g l′
 
--- body k: all parts up to the closing bracket
-pub record GivesBody (s l ts : List ℕ) (scope : Scope) (k n at top : ℕ) (g : Got) (l′ : List ℕ) : Type 0 where
+-- a body, whatever its frame is: all parts up to the closing bracket
+pub record GivesBody (s l ts : List ℕ) (scope : Scope) (h : Head) (n at top : ℕ) (g : Got) (l′ : List ℕ) : Type 0 where
   pub leaves : Leaves s at top l g l′
-  pub says : (σ : Environment) (bs : List ℕ) → Scene s l ts scope top σ bs → n + nodesIn (first (stackAt s at)) ≤ 65535
-      → BodyTold σ bs k (bodyIn n (first (stackAt s at))) top l g l′
+  pub says : (σ : Environment) (fr : Frame) (bs : List ℕ) → Scene s l ts scope top σ bs → n + nodesIn (first (stackAt s at)) ≤ 65535
+      → BodyTold σ fr bs h (bodyIn n (first (stackAt s at))) top l g l′

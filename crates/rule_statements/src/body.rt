@@ -4,6 +4,7 @@ use crate::walk::stmt;
 use rule_expr_nodes::bracket::closing;
 use rule_faults::Got;
 use rule_faults::is_form;
+use rule_stmt_nodes::last::Head;
 use rule_stmt_nodes::last::Next;
 use rule_stmt_nodes::last::handled_node;
 use rule_stmt_nodes::last::next_at;
@@ -20,21 +21,21 @@ use text_heads::DEPTH;
 ghost use Rattle.rule_statements.specs.Walks.{GivesBody};
 ghost use Rattle.rule_statements.specs.Fronts.{HandledBy, GivesRest};
 
-// Body k: all parts up to the closing bracket; `number` is that of the last statement before.
+// A body: all parts up to the closing bracket; `number` is that of the last statement before.
 pub fn body(
     text: &[u8],
     work: &mut [u32],
     types: &[u32],
     scope: Scope,
-    k: u32,
+    head: Head,
     number: u32,
     at: usize,
     top: u32,
 ) -> Got
-    ensures { λ r. ⌜ GivesBody (now (text .entry)) (now (work .entry)) (now (types .entry)) scope k number at top r (now (work .exit)) ⌝ }
+    ensures { λ r. ⌜ GivesBody (now (text .entry)) (now (work .entry)) (now (types .entry)) scope head number at top r (now (work .exit)) ⌝ }
 {
     let t = slot(work, top);
-    body_from(text, work, types, scope, k, number, top, at, t)
+    body_from(text, work, types, scope, head, number, top, at, t)
 }
 
 // The same from past its first slot, `start`, on.
@@ -43,13 +44,13 @@ fn body_from(
     work: &mut [u32],
     types: &[u32],
     scope: Scope,
-    k: u32,
+    head: Head,
     number: u32,
     start: u32,
     at: usize,
     top: u32,
 ) -> Got
-    ensures { λ r. ⌜ GivesRest (now (text .entry)) (now (work .entry)) (now (types .entry)) scope k number start at top r (now (work .exit)) ⌝ }
+    ensures { λ r. ⌜ GivesRest (now (text .entry)) (now (work .entry)) (now (types .entry)) scope head number start at top r (now (work .exit)) ⌝ }
 {
     let mut g = no_act(number, at, top);
     let mut p = wide(start);
@@ -57,10 +58,10 @@ fn body_from(
         let e = next_at(text, g.next);
         match e {
             Next::Past(q) => {
-                return plain_node(work, k, start, g, q);
+                return plain_node(work, head, start, g, q);
             }
             Next::Handler(q) => {
-                return handled(text, work, types, scope, k, start, g, q);
+                return handled(text, work, types, scope, head, start, g, q);
             }
             Next::Stmt => {
                 let w = no_loops();
@@ -83,17 +84,17 @@ fn handled(
     work: &mut [u32],
     types: &[u32],
     scope: Scope,
-    k: u32,
+    head: Head,
     start: u32,
     g: Got,
     q: usize,
 ) -> Got
-    ensures { λ r. ⌜ HandledBy (now (text .entry)) (now (work .entry)) (now (types .entry)) scope k start g q r (now (work .exit)) ⌝ }
+    ensures { λ r. ⌜ HandledBy (now (text .entry)) (now (work .entry)) (now (types .entry)) scope head start g q r (now (work .exit)) ⌝ }
 {
     let t = slot(work, g.top);
     let p = wide(g.top);
     let w = no_loops();
     let a = acts(text, work, types, scope, w, DEPTH, g.kind, p, q, t);
     let b = closing(text, a);
-    handled_node(work, k, start, g, b)
+    handled_node(work, head, start, g, b)
 }

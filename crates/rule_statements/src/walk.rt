@@ -121,7 +121,7 @@ fn headed(
         Verb::While => while_loop(text, work, types, scope, loops, depth, number, at, top),
         Verb::For => for_loop(text, work, types, scope, loops, depth, number, at, top),
         Verb::Case => case_of(text, work, types, scope, loops, depth, number, at, top),
-        Verb::Call => call(text, work, scope, number, at, top),
+        Verb::Call => call(text, work, types, scope, number, at, top),
         Verb::Raise => raise(text, work, types, scope, number, at, top),
         Verb::Nothing => failed(Fault::Form, 0, at, top),
     }

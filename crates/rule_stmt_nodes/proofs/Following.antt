@@ -20,6 +20,7 @@ use Rattle.text_parts.specs.declared.Part.the-variants as part
 use Rattle.rule_faults.specs.Got.{lowest}
 use Rattle.text_parts.specs.Parts.{LeafAt, FormAt, ShutAt, Stands}
 use Rattle.rule_expr_nodes.specs.Nodes.{Makes}
+use Rattle.rule_stmt_nodes.specs.declared.last.Head.{Head}
 use Rattle.rule_stmt_nodes.specs.declared.last.Next.{Next}
 use Rattle.rule_stmt_nodes.specs.declared.last.Next.the-variants as following
 use Rattle.rule_stmt_nodes.specs.BaseNodes.{nodeIf}
@@ -96,12 +97,12 @@ pub ruleset next-laws = (next-leaf, next-shut, next-form)
 
 -- ---- the node
 
-pub plain-is : (l : List ℕ) (k start : ℕ) (g : Got) (q t : ℕ) (r : Got) (l₁ l′ : List ℕ) → Laid (lay (0 ∷ []) (g .top) l) t l₁ → Makes (nodeIf (g .fault) (g .kind) q (k ∷ start ∷ 0 ∷ g .top ∷ []) t l₁) r l′
-    → Makes (plainMade l k start g q) r l′
+pub plain-is : (l : List ℕ) (h : Head) (start : ℕ) (g : Got) (q t : ℕ) (r : Got) (l₁ l′ : List ℕ) → Laid (lay (0 ∷ []) (g .top) l) t l₁
+    → Makes (nodeIf (g .fault) (g .kind) q (h .number ∷ start ∷ 0 ∷ g .top ∷ h .frame ∷ []) t l₁) r l′ → Makes (plainMade l h start g q) r l′
 unfolding plainMade
-plain-is l k start g q t r l₁ l′ K m = rw (← K .free, ← K .left) m
+plain-is l h start g q t r l₁ l′ K m = rw (← K .free, ← K .left) m
 
-pub handled-is : (l : List ℕ) (k start : ℕ) (g b r : Got) (f : Fault) (l′ : List ℕ) → f ≡ lowest (g .fault) (b .fault)
-    → Makes (nodeIf f (b .kind) (b .next) (k ∷ start ∷ 1 ∷ g .top ∷ []) (b .top) l) r l′ → Makes (handledMade l k start g b) r l′
+pub handled-is : (l : List ℕ) (h : Head) (start : ℕ) (g b r : Got) (f : Fault) (l′ : List ℕ) → f ≡ lowest (g .fault) (b .fault)
+    → Makes (nodeIf f (b .kind) (b .next) (h .number ∷ start ∷ 1 ∷ g .top ∷ h .frame ∷ []) (b .top) l) r l′ → Makes (handledMade l h start g b) r l′
 unfolding handledMade
-handled-is l k start g b r f l′ e m = rw (← e) m
+handled-is l h start g b r f l′ e m = rw (← e) m

@@ -1,3 +1,4 @@
 pub mod Making
 pub mod Following
 pub mod BaseMaking
+pub mod Calling

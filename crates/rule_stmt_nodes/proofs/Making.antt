@@ -23,7 +23,7 @@ use Rattle.rule_expr_nodes.specs.Nodes.{Makes, nodeMade}
 use Rattle.rule_expr_nodes.proofs.Making.{if-clear, if-fault}
 use Rattle.rule_stmt_nodes.specs.BaseNodes.{withFault, nodeIf}
 use Rattle.rule_stmt_nodes.specs.declared.nodes.Control.{Control}
-use Rattle.rule_stmt_nodes.specs.Nodes.{nextNumber, wantedGot, raised, looped, branched, called, stored, assigned, controlIs, controlBy, controlFault, repeated, repeatedBy, linked, sequenced, joinedGot}
+use Rattle.rule_stmt_nodes.specs.Nodes.{nextNumber, wantedGot, raised, looped, branched, stored, assigned, controlIs, controlBy, controlFault, repeated, repeatedBy, linked, sequenced, joinedGot}
 
 module _ (n : ℕ) where
   pub number-next : n < 4294967295 → n + 1 ≡ nextNumber n
@@ -94,24 +94,6 @@ module _ (over : Bool) (i : Info) where
 pub ruleset control-laws = (control-over, control-fits, control-other)
 
 -- ---- by what a name means
-
-module _ (l : List ℕ) (n q t : ℕ) (m : Meaning) (r : Got) where
-  pub call-unknown : m ≡ meaning.Unknown → r ≡ failedGot Name n q t → Makes (called l n m q t) r l
-  call-unknown h e = rw h (record { given = e; left = refl })
-
-  pub call-type : (k : ℕ) → m ≡ meaning.Type k → r ≡ failedGot Name n q t → Makes (called l n m q t) r l
-  call-type k h e = rw h (record { given = e; left = refl })
-
-  pub call-var : (i k a : ℕ) → m ≡ meaning.Var i k a → r ≡ failedGot Name n q t → Makes (called l n m q t) r l
-  call-var i k a h e = rw h (record { given = e; left = refl })
-
-  pub call-value : (k v : ℕ) → m ≡ meaning.Value k v → r ≡ failedGot Name n q t → Makes (called l n m q t) r l
-  call-value k v h e = rw h (record { given = e; left = refl })
-
-  pub call-proc : (p : ℕ) (l′ : List ℕ) → m ≡ meaning.Proc p → Makes (called l n (meaning.Proc p) q t) r l′ → Makes (called l n m q t) r l′
-  call-proc p l′ h e = rw h e
-
-pub ruleset call-laws = (call-unknown, call-type, call-var, call-value, call-proc)
 
 module _ (m : Meaning) (r : Control) where
   pub stepped-unknown : m ≡ meaning.Unknown → r ≡ controlIs Name 0 0 0 → r ≡ controlBy m

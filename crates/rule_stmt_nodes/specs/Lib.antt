@@ -1,3 +1,4 @@
 pub mod Nodes
 pub mod Handlers
 pub mod BaseNodes
+pub mod Calls

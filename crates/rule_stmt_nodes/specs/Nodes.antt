@@ -20,6 +20,7 @@ use Rattle.rule_expr_nodes.specs.Nodes.{Made, failedMade, nodeMade, ifClear}
 use Rattle.rule_stmt_nodes.specs.BaseNodes.{withFault, nodeIf}
 use Rattle.text_heads.specs.declared.Atom.{Atom}
 use Rattle.text_heads.specs.declared.Atom.the-variants as AT
+use Rattle.rule_stmt_nodes.specs.declared.last.Head.{Head}
 use Rattle.rule_stmt_nodes.specs.declared.nodes.Control.{Control}
 
 -- the number after n; the last of 32 bits is its own
@@ -44,13 +45,6 @@ branched l n c a b = nodeIf (lowest (lowest (c .fault) (a .fault)) (b .fault)) (
 -- the missing third part of an `if`
 abbrev pub skipGot : ℕ → ℕ → ℕ → Got
 skipGot n q t = record { fault = Clear; kind = n; place = 0; next = q; top = t }
-
-abbrev pub called : List ℕ → ℕ → Meaning → ℕ → ℕ → Made
-called l n meaning.Unknown q t = failedMade Name n q t l
-called l n (meaning.Type k) q t = failedMade Name n q t l
-called l n (meaning.Var i k a) q t = failedMade Name n q t l
-called l n (meaning.Proc p) q t = nodeMade n q (lay (50 ∷ n ∷ p ∷ []) t l)
-called l n (meaning.Value k v) q t = failedMade Name n q t l
 
 -- an assignment to a target of a type that i describes, whose kind is k
 unfoldable pub stored : List ℕ → Info → ℕ → ℕ → Got → Got → Made
@@ -112,9 +106,10 @@ isNamed AT.Nothing = false
 
 -- ---- bodies; g is the answer for the statements before the handler, from the slot `start` on
 
-unfoldable pub plainMade : List ℕ → ℕ → ℕ → Got → ℕ → Made
-plainMade l k start g q = nodeIf (g .fault) (g .kind) q (k ∷ start ∷ 0 ∷ g .top ∷ []) (lay (0 ∷ []) (g .top) l .top) (lay (0 ∷ []) (g .top) l .list)
+unfoldable pub plainMade : List ℕ → Head → ℕ → Got → ℕ → Made
+plainMade l h start g q =
+    nodeIf (g .fault) (g .kind) q (h .number ∷ start ∷ 0 ∷ g .top ∷ h .frame ∷ []) (lay (0 ∷ []) (g .top) l .top) (lay (0 ∷ []) (g .top) l .list)
 
 -- with a handler, whose answer is b
-unfoldable pub handledMade : List ℕ → ℕ → ℕ → Got → Got → Made
-handledMade l k start g b = nodeIf (lowest (g .fault) (b .fault)) (b .kind) (b .next) (k ∷ start ∷ 1 ∷ g .top ∷ []) (b .top) l
+unfoldable pub handledMade : List ℕ → Head → ℕ → Got → Got → Made
+handledMade l h start g b = nodeIf (lowest (g .fault) (b .fault)) (b .kind) (b .next) (h .number ∷ start ∷ 1 ∷ g .top ∷ h .frame ∷ []) (b .top) l

@@ -46,22 +46,28 @@ pub fn next_at(text: &[u8], at: usize) -> Next
     }
 }
 
-// Body k with no handler.
-pub fn plain_node(work: &mut [u32], k: u32, start: u32, g: Got, q: usize) -> Got
-    ensures { λ r. ⌜ Makes (plainMade (now (work .entry)) k start g q) r (now (work .exit)) ⌝ }
+// What a body has beside its statements: its number, and the place of its frame, 0 of one without parameters.
+pub struct Head {
+    pub number: u32,
+    pub frame: u32,
+}
+
+// A body with no handler.
+pub fn plain_node(work: &mut [u32], h: Head, start: u32, g: Got, q: usize) -> Got
+    ensures { λ r. ⌜ Makes (plainMade (now (work .entry)) h start g q) r (now (work .exit)) ⌝ }
 {
     let t = slot(work, g.top);
     let f = g.fault;
-    let ns = [k, start, 0, g.top];
+    let ns = [h.number, start, 0, g.top, h.frame];
     node_if(work, f, g.kind, q, t, &ns)
 }
 
-// Body k with a handler, whose answer is b.
-pub fn handled_node(work: &mut [u32], k: u32, start: u32, g: Got, b: Got) -> Got
-    ensures { λ r. ⌜ Makes (handledMade (now (work .entry)) k start g b) r (now (work .exit)) ⌝ }
+// A body with a handler, whose answer is b.
+pub fn handled_node(work: &mut [u32], h: Head, start: u32, g: Got, b: Got) -> Got
+    ensures { λ r. ⌜ Makes (handledMade (now (work .entry)) h start g b) r (now (work .exit)) ⌝ }
 {
     let f = g.fault;
-    let h = b.fault;
-    let ns = [k, start, 1, g.top];
-    node_if(work, lowest(f, h), b.kind, b.next, b.top, &ns)
+    let e = b.fault;
+    let ns = [h.number, start, 1, g.top, h.frame];
+    node_if(work, lowest(f, e), b.kind, b.next, b.top, &ns)
 }

@@ -22,9 +22,8 @@ ghost use mathlib.Core.Path.{_≡_};
 ghost use Prim.Native.Nat.{_+_};
 ghost use Rattle.rule_expr_nodes.specs.Nodes.{Makes};
 ghost use Rattle.table_list.specs.Laid.{Laid};
-ghost use Rattle.table_scope.specs.declared.Meaning.the-variants.{Proc};
 ghost use Rattle.table_scope.specs.Descriptions.{infoOf};
-ghost use Rattle.rule_stmt_nodes.specs.Nodes.{nextNumber, wantedGot, raised, looped, branched, skipGot, called, stored, assigned, controlIs, controlBy, controlFault, repeated, repeatedBy, linked, sequenced, joinedGot, finishedGot, isNamed};
+ghost use Rattle.rule_stmt_nodes.specs.Nodes.{nextNumber, wantedGot, raised, looped, branched, skipGot, stored, assigned, controlIs, controlBy, controlFault, repeated, repeatedBy, linked, sequenced, joinedGot, finishedGot, isNamed};
 ghost use Rattle.text_heads.specs.Heads.{atomOf};
 
 // The control variable of a `for`: its fault; with no fault its number, type and first cell.
@@ -110,27 +109,6 @@ pub fn no_act(n: u32, next: usize, top: u32) -> Got
         place: 0,
         next: next,
         top: top,
-    }
-}
-
-// `call` of the body at p.
-fn call_body(work: &mut [u32], n: u32, p: u32, next: usize, top: u32) -> Got
-    ensures { λ r. ⌜ Makes (called (now (work .entry)) n (Proc p) next top) r (now (work .exit)) ⌝ }
-{
-    let ns = [code_ops::stmt::CALL, n, p];
-    node(work, n, next, top, &ns)
-}
-
-// `call` of what m means.
-pub fn call_node(work: &mut [u32], n: u32, m: Meaning, next: usize, top: u32) -> Got
-    ensures { λ r. ⌜ Makes (called (now (work .entry)) n m next top) r (now (work .exit)) ⌝ }
-{
-    match m {
-        Meaning::Unknown => failed(Fault::Name, n, next, top),
-        Meaning::Type(_) => failed(Fault::Name, n, next, top),
-        Meaning::Var(_, _, _) => failed(Fault::Name, n, next, top),
-        Meaning::Proc(p) => call_body(work, n, p, next, top),
-        Meaning::Value(_, _) => failed(Fault::Name, n, next, top),
     }
 }
 

@@ -70,7 +70,7 @@ var-is sort more h = let q : sort % 4 ≡ 1 = eqb-true (sort % 4) 1 h in rw q re
 type-means : {σ : Environment} {bs : List ℕ} {m : Meaning} {t : ℕ} → Means σ bs m (aType t) → isVar m ≡ false
 type-means a-type = refl
 
-proc-means : {σ : Environment} {bs : List ℕ} {m : Meaning} {q : ℕ} → Means σ bs m (aProc q) → isVar m ≡ false
+proc-means : {σ : Environment} {bs : List ℕ} {m : Meaning} {q : ℕ} {us : List ℕ} → Means σ bs m (aProc q us) → isVar m ≡ false
 proc-means a-proc = refl
 
 value-means : {σ : Environment} {bs : List ℕ} {m : Meaning} {c : Const} → Means σ bs m (aValue c) → isVar m ≡ false

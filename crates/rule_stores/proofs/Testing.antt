@@ -26,8 +26,8 @@ use Rattle.law.specs.Trees.{wordAt}
 use Rattle.law.specs.Types.{Shape, Types, arrayShape, infoAt, isOrdinal, isSet, ordinalShape, recordShape, setShape, sizeOf}
 use Rattle.code.proofs.LayoutCode.{signed-bits}
 use Rattle.law_theorems.specs.LinesCover.{Covered}
-use Rattle.law_theorems.proofs.LinesKeep.{tests-get}
-use Rattle.law_theorems.specs.LinesKeep.{tests}
+use Rattle.law_theorems.proofs.LinesKeep.{text-stand}
+use Rattle.law_theorems.specs.LinesKeep.{storeTests}
 use Rattle.law_theorems.specs.ValuesInRange.{any}
 use Rattle.law_theorems.proofs.Inversion.{and-both}
 use Rattle.law_theorems.specs.TypeTables.{Table}
@@ -72,7 +72,7 @@ module _ {s l ts : List ℕ} {st : State} {k : Declared} {bs : List ℕ} (H : Ho
   Γk = k .env .types
 
   held : HeldAt s l (k .env .types) (k .env .vars) (k .owners) c (holder l (entries (st .scope .count) l (st .scope .newest)) c)
-  held = holder-is s l (k .env) bs (k .env .types) (k .owners) (H .scene .names) (C .owned) c h
+  held = holder-is s l (k .env) bs (k .env .types) (k .owners) (H .names) (C .owned) c h
 
   pub owner-is : map small (wordAt s (getD l (holder l (entries (st .scope .count) l (st .scope .newest)) c) 0 % 32768)) ≡ getD (k .owners) c []
   unfolding nameAt
@@ -93,8 +93,11 @@ module _ {s l ts : List ℕ} {st : State} {k : Declared} {bs : List ℕ} (H : Ho
       let x = held .var in
       let i : c - x .base < sizeOf Γk (x .type) = omega (arith, held .from, held .to) in
       let z : x .base + (c - x .base) ≡ c = omega (arith, held .from) in
-      ap (λ (t : ℕ). cellFits Γk t v) (leaf .type-is) ∙ sym (H .keeps .laid .found (held .number) x (held .known) .each (c - x .base) i v)
-      ∙ ap (λ (j : ℕ). getD (tests Γk (k .cells)) j any v) z ∙ tests-get Γk (k .cells) c h v
+      let y : 0 + c ≡ c = omega arith in
+      let xs = storeTests Γk (k .cells) (k .env .parameters) in
+      let S = text-stand k (H .keeps) in
+      ap (λ (t : ℕ). cellFits Γk t v) (leaf .type-is) ∙ sym (H .keeps .laid xs S .found (held .number) x (held .known) .each (c - x .base) i v)
+      ∙ ap (λ (j : ℕ). getD xs j any v) (z ∙ sym y) ∙ S .lent .each c h v
 
   value-is : (v : ℤ) → valueFits (infoOf l ts (cellType l ts (st .scope .count) (st .scope .newest) c)) v ≡ cellFits Γk (cellType l ts (st .scope .count) (st .scope .newest) c) v
   unfolding valueFits

@@ -11,7 +11,7 @@ use lib.ListN.{length}
 use Rattle.leaf_bytes.specs.Bytes.{small}
 use Rattle.law.specs.Base.{Name, _>>=_, find, given}
 use Rattle.law.specs.Ceilings.{lineBounded, typeBounded}
-use Rattle.law.specs.Environment.{Declared, Environment, NameSort, aType, declareLine, extendTypes, declNames}
+use Rattle.law.specs.Environment.{Declared, Environment, NameSort, aProc, aType, declareLine, extendTypes, declNames}
 use Rattle.code.specs.Layout.{lay}
 use Rattle.code.specs.LayoutSize.{symbolSize, sizeDecl}
 use Rattle.law.specs.Names.{typeOf, isKnown, newNames, declOf, entryOf}
@@ -28,6 +28,7 @@ use Rattle.law_theorems.specs.LinesKeep.{AllFair, type, name, Keeps}
 use Rattle.table_list.specs.Laid.{Laid}
 use Rattle.table_names.specs.Keys.{keyed}
 use Rattle.table_scope.proofs.Cells.{keeps-cells}
+use Rattle.table_scope.proofs.Within.{chain-told, find-other}
 use Rattle.rule_faults.specs.declared.Fault.{Fault}
 use Rattle.rule_faults.specs.declared.Fault.the-variants.{Clear}
 use Rattle.table_scope.specs.declared.Info.{Info}
@@ -46,9 +47,9 @@ use Rattle.rule_declarations.specs.Lines.{entryStaged, newly, linedBy, LineTold
 use Rattle.rule_type_lines.specs.TypeLines.{aliasAfter, linesFit, typeEntry, infoNumbers, typeState, AddsAlias, alias-fits, alias-past, GivesAlias}
 use Rattle.rule_declarations.specs.declared.State.{State}
 use Rattle.rule_declarations.specs.declared.Lined.{Lined}
-use Rattle.rule_declarations.proofs.Growing.{Chained, scene-chained, chained-env, chained-more, laid-same}
+use Rattle.rule_declarations.proofs.Growing.{Chained, holds-chained, chained-env, chained-more, laid-same}
 use Rattle.rule_declarations.proofs.VarLines.{closed-map, one-staged, clear-is, entry-fits, failed-told, plain-fault, plain-clear, value-find}
-use Rattle.rule_type_lines.proofs.TypeScenes.{means-same, type-means, type-value, type-keeps, type-holds}
+use Rattle.rule_type_lines.proofs.TypeScenes.{means-same, type-means, type-proc, type-value, type-keeps, type-holds}
 
 -- ---- small functions
 
@@ -119,31 +120,32 @@ module _ {s l ts : List ℕ} {st : State} {k : Declared} {bs : List ℕ} (H : Ho
   unfolding declareLine
   alias-chained = subst (λ (ns : List ℕ). Chained s (lay ns (st .top) l .list) (scoped (suc (st .scope .count)) (st .top)) (st .top + 4) (ka .env) bs ((wa, aType kind) ∷ k .env .names)) (sym (entry-is st (keyed s p) kind kind-low))
       (chained-more p (4 * kind) 0 (aType kind) (omega (arith, H .short-text)) (record { start = H .start; fits = room; long = H .long-list }) (type-means (ka .env) bs kind 0)
-      (chained-env {σ′ = ka .env} (means-same refl) (scene-chained (H .scene))))
+      (chained-env {σ′ = ka .env} (means-same refl) (holds-chained H)))
 
   alias-scene : Scene s la ts (scoped (suc (st .scope .count)) (st .top)) (st .top + 4) (ka .env) bs
   unfolding declareLine declNames extendTypes
   alias-scene =
       let K = scene-kept {top′ = st .top + 4} (H .scene) (laid-same (typeEntry st (keyed s p) kind) (st .top) l la refl) (omega arith) in
       record {
-        names = alias-chained .names;
+        names = chain-told (scoped (suc (st .scope .count)) (st .top)) refl (alias-chained .names);
         below = alias-chained .below;
         types = K .types;
         described = K .described;
         table = K .table;
         fair = rw (H .bodies-are) (alias-keeps .names);
         fieldless = K .fieldless;
-        cells = keeps-cells ka alias-keeps (omega (arith, H .cells-are, H .few-cells));
+        cells = keeps-cells ka alias-keeps;
         above = λ v c g. K .above v c (value-find wa v (aType kind) (k .env .names) c (type-value kind) g);
         once = λ v x c g h. K .once v x c (value-find wa v (aType kind) (k .env .names) c (type-value kind) g) (value-find wa x (aType kind) (k .env .names) c (type-value kind) h);
+        frames = λ v q us g. K .frames v q us (find-other wa v (aType kind) (aProc q us) (k .env .names) (type-proc kind q us) g);
       }
 
   alias-holds : Holds s la ts (typeState st 1 (st .top) 0 (lay (typeEntry st (keyed s p) kind) (st .top) l .top)) ka bs
-  unfolding extendTypes keepsRules keptDecl
+  unfolding declareLine declNames extendTypes keepsRules keptDecl
   alias-holds =
       let c : suc (st .scope .count) ≡ st .scope .count + 1 = omega arith in
       rw alias-top (type-holds H wa (alias kind) f e refl b sn nn 1 (st .top) 0 (st .top + 4) la ts (omega arith) (omega arith)
-      (rw c at alias-scene) (H .small-types) (omega (arith, H .few-names)) (omega arith) room (rw (lay-g (typeEntry st (keyed s p) kind) (st .top) l .long) (H .long-list)) (H .long-notes))
+      (rw c at alias-scene) (rw c at (alias-chained .names)) (H .small-types) (omega (arith, H .few-names)) (omega arith) room (rw (lay-g (typeEntry st (keyed s p) kind) (st .top) l .long) (H .long-list)) (H .long-notes))
 
 -- ---- the ways
 

@@ -12,7 +12,7 @@ use lib.ListN.{length, getD, set, length-append, length-set}
 use Rattle.leaf_bytes.specs.Bytes.{small}
 use Rattle.law.specs.Base.{Name, _>>=_, find}
 use Rattle.law.specs.Ceilings.{lineBounded, typeBounded}
-use Rattle.law.specs.Environment.{Declared, Environment, NameSort, aType, declareLine, extendTypes, declNames, typeSortOf, copies, valueCount}
+use Rattle.law.specs.Environment.{Declared, Environment, NameSort, aProc, aType, declareLine, extendTypes, declNames, typeSortOf, copies, valueCount}
 use Rattle.code.specs.Layout.{lay}
 use Rattle.code.specs.LayoutSize.{symbolSize, sizeDecl}
 use Rattle.law.specs.Names.{isKnown, entryOf}
@@ -29,6 +29,8 @@ use Rattle.code.specs.LayoutRegions.{Same, Room}
 use Rattle.table_list.specs.Laid.{Laid}
 use Rattle.table_names.specs.Keys.{keyed}
 use Rattle.table_scope.proofs.Cells.{keeps-cells}
+use Rattle.table_scope.proofs.Kept.{tells-frame-kept}
+use Rattle.table_scope.proofs.Within.{chain-told, find-other}
 use Rattle.rule_faults.specs.declared.Fault.{Fault}
 use Rattle.rule_faults.specs.declared.Fault.the-variants.{Clear, Form}
 use Rattle.rule_faults.specs.declared.Fault.the-variants as fault
@@ -54,10 +56,10 @@ use Rattle.rule_declarations.specs.declared.State.{State}
 use Rattle.rule_declarations.specs.declared.Lined.{Lined}
 use Rattle.rule_type_lines.specs.declared.Placed.{Placed}
 use Rattle.rule_type_lines.specs.declared.Shaped.{Shaped}
-use Rattle.rule_declarations.proofs.Growing.{Chained, scene-chained, chained-env, chained-more, chained-kept, laid-same}
+use Rattle.rule_declarations.proofs.Growing.{Chained, holds-chained, chained-env, chained-more, chained-kept, laid-same}
 use Rattle.rule_declarations.proofs.FreeNames.{none-wrong, form-is, more-closed, bound-none, bound-nones}
 use Rattle.rule_declarations.proofs.VarLines.{clear-is, entry-fits, failed-told, value-find, fault-new, fits-clear, lowest-name, fault-unknown}
-use Rattle.rule_type_lines.proofs.TypeScenes.{by-number, types-more, means-same, type-means, type-value, type-keeps, type-within, type-holds}
+use Rattle.rule_type_lines.proofs.TypeScenes.{by-number, types-more, means-same, type-means, type-proc, type-value, type-keeps, type-within, type-holds}
 use Rattle.rule_type_lines.proofs.Aliases.{entry-is, lines-bounded}
 
 -- ---- simple declarations
@@ -187,29 +189,36 @@ module _ {s l ts : List ℕ} {st : State} {k : Declared} {bs : List ℕ} (H : Ho
       (rw (← H .types-are) (subst (λ (ns : List ℕ). Chained s (lay ns (st .top) l .list) (scoped (suc (st .scope .count)) (st .top)) (st .top + 4) (ks .env) bs ((ws, aType (st .types)) ∷ k .env .names))
       (sym (entry-is st (keyed s p) (st .types) (omega (arith, number-low))))
       (chained-more p (4 * st .types) 0 (aType (st .types)) (omega (arith, H .short-text)) (record { start = H .start; fits = omega arith; long = H .long-list }) (type-means (ks .env) bs (st .types) 0)
-      (chained-env {σ′ = ks .env} (means-same refl) (scene-chained (H .scene))))))
+      (chained-env {σ′ = ks .env} (means-same refl) (holds-chained H)))))
 
   told-types : (t : ℕ) → Tells s l₂ (infoOf l₂ (set ts (length Γ) t₁) t) (infoAt (Γ ++ (typeSortOf Γ d ∷ [])) t) × EndsBelow (st .top + 12) (infoOf l₂ (set ts (length Γ) t₁) t)
   told-types = types-more (H .scene) simple-same (st .top + 12) t₁ (omega arith) (place-room .start) (omega (arith, H .types-are, number-low, H .long-notes)) (typeSortOf Γ d)
       (describes-tells s l₂ x t₁ (facts (typeSortOf Γ d)) X has)
       (rw (read-numbers x t₁ l₂ has, X .fields-is, top₁) (record { end-below = λ _. omega arith; within = omega arith }))
 
+  simple-named : Names s l₂ (Meant (ks .env) bs l₂) (entries (suc (st .scope .count)) l₂ (st .top)) (ks .env .names)
+  unfolding declareLine
+  simple-named = subst (λ (ns : List (Name × NameSort)). Names s l₂ (Meant (ks .env) bs l₂) (entries (suc (st .scope .count)) l₂ (st .top)) ns)
+      (ap (λ (xs : List (Name × NameSort)). xs ++ k .env .names) (sym (simple-names Γ ws D))) (simple-chained .names)
+
   simple-scene : Scene s l₂ (set ts (length Γ) t₁) (scoped (suc (st .scope .count)) (st .top)) (st .top + 12) (ks .env) bs
   unfolding declareLine
   simple-scene =
       let K = type-keeps H ws d f e r b sn nn in
       record {
-        names = subst (λ (ns : List (Name × NameSort)). Names s l₂ (Meant (ks .env) bs l₂) (entries (suc (st .scope .count)) l₂ (st .top)) ns) (ap (λ (xs : List (Name × NameSort)). xs ++ k .env .names) (sym (simple-names Γ ws D))) (simple-chained .names);
+        names = chain-told (scoped (suc (st .scope .count)) (st .top)) refl simple-named;
         below = simple-chained .below;
         types = rw (simple-extends Γ D) (λ t. told-types t .0);
         described = λ t. told-types t .1;
         table = K .table;
         fair = rw (H .bodies-are) (K .names);
-        cells = keeps-cells ks K (omega (arith, H .cells-are, H .few-cells));
+        cells = keeps-cells ks K;
         fieldless = rw (simple-extends Γ D) (by-number Γ (typeSortOf Γ d) (λ t j. isRecord (j .shape) ≡ false → j .fields ≡ []) (λ t _. H .scene .fieldless t) (λ _. simple-fields Γ D) (λ t _ _. refl));
         above = rw (simple-names Γ ws D) (λ v c g. H .scene .above v c (value-find ws v (aType (length Γ)) (k .env .names) c (type-value (length Γ)) g));
         once = rw (simple-names Γ ws D) (λ v y c g h. H .scene .once v y c
             (value-find ws v (aType (length Γ)) (k .env .names) c (type-value (length Γ)) g) (value-find ws y (aType (length Γ)) (k .env .names) c (type-value (length Γ)) h));
+        frames = rw (simple-names Γ ws D) (λ v q us g. tells-frame-kept simple-same (omega arith) (getD bs q 0) us
+            (H .scene .frames v q us (find-other ws v (aType (length Γ)) (aProc q us) (k .env .names) (type-proc (length Γ) q us) g)));
       }
 
   pub simple-holds : Holds s l₂ (set ts (st .types) t₁) (typeState st 1 (st .top) 1 (lay (infoNumbers x) t₁ l₁ .top)) ks bs
@@ -217,7 +226,7 @@ module _ {s l ts : List ℕ} {st : State} {k : Declared} {bs : List ℕ} (H : Ho
       let c : suc (st .scope .count) ≡ st .scope .count + 1 = omega arith in
       let n : length (Γ ++ (typeSortOf Γ d ∷ [])) ≡ length Γ + 1 = length-append Γ (typeSortOf Γ d ∷ []) in
       subst (λ (m : ℕ). Holds s l₂ (set ts m t₁) (typeState st 1 (st .top) 1 (lay (infoNumbers x) t₁ l₁ .top)) ks bs) (sym (H .types-are)) (rw simple-top (type-holds H ws d f e r b sn nn 1 (st .top) 1 (st .top + 12) l₂ (set ts (length Γ) t₁) (omega arith)
-      (rw (simple-extends Γ D) n) (rw c at simple-scene)
+      (rw (simple-extends Γ D) n) (rw c at simple-scene) (rw c at simple-named)
       (rw (simple-extends Γ D) (by-number Γ (typeSortOf Γ d) (λ t j. length (cellsBy (j .shape) t (j .cells)) ≤ 2048) (λ t _. H .small-types t)
       (simple-small Γ D (type-within H ws d f e r b sn nn) (length Γ)) (λ t _. omega arith)))
       (omega (arith, H .few-names)) (omega arith) room (rw (lay-g (infoNumbers x) t₁ l₁ .long, long₁) (H .long-list)) (rw (length-set ts (length Γ) t₁) (H .long-notes))))

@@ -14,7 +14,7 @@ use lib.Seq.{getD-set-same, getD-set-other}
 use Rattle.leaf_bytes.specs.Bytes.{small, same}
 use Rattle.law.specs.Base.{Name}
 use Rattle.law.specs.Ceilings.{lineBounded, typeBounded}
-use Rattle.law.specs.Environment.{Declared, Environment, NameSort, aType, aValue, declareLine, extendTypes}
+use Rattle.law.specs.Environment.{Declared, Environment, NameSort, aProc, aType, aValue, declareLine, extendTypes}
 use Rattle.law.specs.Names.{entryOf}
 use Rattle.law.specs.Rules.{keepsRules}
 use Rattle.law.specs.Script.{Const, Decl, newType}
@@ -28,7 +28,9 @@ use Rattle.law_theorems.proofs.TypeTables.{old, new}
 use Rattle.table_scope.specs.declared.Scope.{Scope}
 use Rattle.table_scope.specs.declared.Meaning.{Meaning}
 use Rattle.table_scope.specs.Descriptions.{infoOf, readInfo, Tells, EndsBelow}
-use Rattle.table_scope.specs.Scene.{Scene, Means, a-type, a-var, a-proc, a-value, meaningBy}
+use Rattle.table_names.specs.Chain.{entries}
+use Rattle.table_names.specs.Chained.{Names}
+use Rattle.table_scope.specs.Scene.{Scene, Meant, Means, a-type, a-var, a-proc, a-value, meaningBy}
 use Rattle.table_scope.proofs.Kept.{scene-kept}
 use Rattle.rule_declarations.specs.State.{notes, scoped, Holds}
 use Rattle.rule_type_lines.specs.TypeLines.{typeState}
@@ -90,6 +92,9 @@ type-means σ bs t more =
     let b : (4 * t) / 4 ≡ t = omega arith in
     rw (a, b) a-type
 
+pub type-proc : (t q : ℕ) (us : List ℕ) → aType t ≡ aProc q us → ⊥
+type-proc t q us h = let z : _≡_ {A = ℕ} 0 1 = cc in omega arith
+
 pub type-value : (t : ℕ) (c : Const) → aType t ≡ aValue c → ⊥
 type-value t c h = let z : _≡_ {A = ℕ} 0 1 = cc in omega arith
 
@@ -109,11 +114,12 @@ module _ {s l ts : List ℕ} {st : State} {k : Declared} {bs : List ℕ} (H : Ho
   type-within = and-true (leb (suc (k .typeLines)) 64) (typeBounded (k .env .types) d) b .1
 
   pub type-holds : (names newest made top : ℕ) (l′ ts′ : List ℕ) → made < 2 → length (extendTypes (k .env .types) d) ≡ length (k .env .types) + made
-      → Scene s l′ ts′ (scoped (st .scope .count + names) newest) top (declareLine k (newType w d) sn nn .env) bs → ((t : ℕ) → sizeOf (extendTypes (k .env .types) d) t ≤ 2048)
+      → Scene s l′ ts′ (scoped (st .scope .count + names) newest) top (declareLine k (newType w d) sn nn .env) bs
+      → Names s l′ (Meant (declareLine k (newType w d) sn nn .env) bs l′) (entries (st .scope .count + names) l′ newest) (declareLine k (newType w d) sn nn .env .names) → ((t : ℕ) → sizeOf (extendTypes (k .env .types) d) t ≤ 2048)
       → 4 * (st .scope .count + names) ≤ top → 1 ≤ top → top ≤ 16384 → 16384 ≤ length l′ → notes ≤ length ts′
       → Holds s l′ ts′ (typeState st names newest made top) (declareLine k (newType w d) sn nn) bs
   unfolding typeState declareLine
-  type-holds names newest made top l′ ts′ hm more S small few one low long many =
+  type-holds names newest made top l′ ts′ hm more S N small few one low long many =
       let c : st .scope .count % 65536 ≡ st .scope .count = mod-eq-of-lt (omega arith) in
       let n : names % 65536 ≡ names = mod-eq-of-lt (omega arith) in
       let v : st .types % 128 ≡ st .types = mod-eq-of-lt (omega (arith, H .few-types, H .few-lines)) in
@@ -121,17 +127,21 @@ module _ {s l ts : List ℕ} {st : State} {k : Declared} {bs : List ℕ} (H : Ho
       let z : st .lines % 128 ≡ st .lines = mod-eq-of-lt (omega (arith, lines-low)) in
       record {
         scene = rw (c, n) S;
+        names = rw (c, n) N;
+        plain = refl;
         keeps = type-keeps;
         types-are = rw (v, m, more) (omega (arith, H .types-are));
         lines-are = rw z (omega (arith, H .lines-are));
         vars-are = H .vars-are;
         cells-are = H .cells-are;
         procs-are = H .procs-are;
+        parameters-are = H .parameters-are;
         bodies-are = H .bodies-are;
         few-types = rw (v, m, z) (omega (arith, H .few-types));
         few-lines = rw z (omega (arith, lines-low));
         few-vars = H .few-vars;
         few-cells = H .few-cells;
+        few-parameters = H .few-parameters;
         small-types = small;
         few-names = rw (c, n) few;
         start = one;

@@ -1,7 +1,7 @@
 -- An accepted text's bodies, held by a list of 16384 numbers, are what the engine asks for.
-use mathlib.Core.Path.{_≡_, refl}
-use mathlib.Core.List.{List, map}
-use Prim.Native.Nat.{ℕ, suc, _-_, _<_, _≤_}
+use mathlib.Core.Path.{_≡_, refl, sym, _∙_}
+use mathlib.Core.List.{List, [], _∷_, map}
+use Prim.Native.Nat.{ℕ, zero, suc, _-_, _<_, _≤_}
 use native.Mathlib.Nat.{zero-add}
 use native.Mathlib.Omega.{arith}
 use lib.ListN.{getD, length, length-map}
@@ -10,21 +10,32 @@ use Rattle.code.specs.Readback.{bodyAtPlaces, readBody}
 use Rattle.law.specs.Verdict.{Read, accepted}
 use Rattle.law.specs.Whole.{verdictOf}
 use Rattle.law_theorems.proofs.Bodies.{body-get}
-use Rattle.law_theorems.specs.CodeCalls.{CallsBody}
+use Rattle.law_theorems.specs.CodeCalls.{CallsBody, frameBy}
+use Rattle.law_theorems.specs.CodeSized.{SizedFrame}
 use Rattle.code.proofs.CodeReady.{body-ready-at-places}
 use Rattle.code.specs.CodeReady.{ReadyBody}
-use Rattle.code.proofs.Texts.{any-room-at, body-count, code-calls, code-ready, for-room-at, room-enough}
+use Rattle.code.proofs.Texts.{any-room-at, body-count, code-calls, code-ready, code-sized, for-room-at, room-enough}
 use Rattle.code.specs.LayoutBodies.{Bodies, BodiesAt}
-use Rattle.code.proofs.ListMachineRuns.{size-within}
+use Rattle.code.proofs.ListMachineRuns.{frame-read, size-within}
 use Rattle.run_linear.specs.Bodies.{noBody}
 use Rattle.run_linear.specs.BodyLoops.{loops}
 use Rattle.run_emit.specs.Plainly.{Callable}
 use Rattle.run_emit.specs.Spans.{spanBody}
 use Rattle.run_emit.specs.Whole.{spanBodies}
 use Rattle.run_fit.specs.Fit.{Fit, loopsIn}
-use Rattle.run_fit.proofs.Plainly.{plain-body}
+use Rattle.run_fit.proofs.Plainly.{Known, plain-body}
 use Rattle.run_fit.proofs.Spans.{spans, spans-fit}
 use Rattle.run_fit.proofs.Sums.{fors-sum, loops-up, readAt, spans-up, sum-up}
+
+-- the parameters of a body by its number
+frame-by : (bs : List BodyCode) (k : ℕ) → k < length bs → frameBy bs k ≡ getD bs k noBody .frame
+frame-by [] k h = absurd (omega (arith, h))
+frame-by (b ∷ bs) zero h = refl
+frame-by (b ∷ bs) (suc k) h = frame-by bs k (omega (arith, h))
+
+sized-at-places : (places : List ℕ) (b : BodyCode) → SizedFrame (b .frame) → SizedFrame (bodyAtPlaces places b .frame)
+unfolding bodyAtPlaces
+sized-at-places places b f = f
 
 -- the list holds the bodies of the text at these places; nothing is asked of what stands between them
 module _ (text : List ℕ) (work : ℕ) (r : Read) (accept : verdictOf text work ≡ accepted r)
@@ -46,7 +57,7 @@ module _ (text : List ℕ) (work : ℕ) (r : Read) (accept : verdictOf text work
   ready : (k : ℕ) → k < length (r .codes) → ReadyBody 31 (getD (r .codes) k noBody)
   ready k h = body-get noBody (code-ready text work r accept) k h
 
-  calls : (k : ℕ) → k < length (r .codes) → CallsBody k (getD (r .codes) k noBody)
+  calls : (k : ℕ) → k < length (r .codes) → CallsBody (frameBy (r .codes)) k (getD (r .codes) k noBody)
   calls k h = rw zero-add at (body-get noBody (code-calls text work r accept) k h)
 
   callable : (m : ℕ) → m ≤ length (r .codes) → (j : ℕ) → j < m → Callable l places m (getD places j 0)
@@ -54,6 +65,15 @@ module _ (text : List ℕ) (work : ℕ) (r : Read) (accept : verdictOf text work
       let i : j < length places = omega (arith, held noBody .count, h, k) in
       let n = here .number j i in
       record { below = rw n k; same = rw n refl; inside = omega (arith, here .inside j i, long) }
+
+  sized : (k : ℕ) → k < length (r .codes) → SizedFrame (getD (r .codes) k noBody .frame)
+  sized k h = body-get noBody (code-sized text work r accept) k h .frame
+
+  known : (m : ℕ) → m ≤ length (r .codes) → Known l places (frameBy (r .codes)) m
+  known m h = record {
+    callable = callable m h;
+    frames = λ j k. frame-read l (getD places j 0) (getD (r .codes) j noBody) places (read-back j (omega (arith, h, k))) ∙ sym (frame-by (r .codes) j (omega (arith, h, k)));
+  }
 
   -- ---- what all of them take
 
@@ -75,10 +95,11 @@ module _ (text : List ℕ) (work : ℕ) (r : Read) (accept : verdictOf text work
       last = refl;
       own = here .number (length places - 1) (omega (arith, held noBody .count, count));
       inside = λ k h. omega (arith, here .inside k (omega (arith, held noBody .count, count, h)), long);
-      plain = λ k h. rw (read-back k (omega (arith, count, h))) (plain-body l places k (callable k (omega (arith, count, h))) (ready k (omega (arith, count, h))) (calls k (omega (arith, count, h))));
+      plain = λ k h. rw (read-back k (omega (arith, count, h))) (plain-body l places (frameBy (r .codes)) k (known k (omega (arith, count, h))) (ready k (omega (arith, count, h))) (calls k (omega (arith, count, h))) (sized k (omega (arith, count, h))));
       room = room;
     };
     shallow = omega (arith, count, many .1);
     ready = λ k h. rw (read-back k (omega (arith, count, h))) (body-ready-at-places places (ready k (omega (arith, count, h))));
+    sized = λ k h. rw (read-back k (omega (arith, count, h))) (sized-at-places places (getD (r .codes) k noBody) (sized k (omega (arith, count, h))));
     few-loops = few-loops;
   }

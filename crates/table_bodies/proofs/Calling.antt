@@ -8,10 +8,10 @@ use lib.ListN.{length, getD, List·getD-append}
 use lib.Seq.{getD-at}
 use Rattle.leaf_integers.proofs.Order.{le-or-lt}
 use Rattle.law.specs.Environment.{PlacedBody}
-use Rattle.law.specs.Machine.{Answer, Procs, State, answer, normal, procedureAt}
+use Rattle.law.specs.Code.{noFrame}
+use Rattle.law.specs.Machine.{Proc, answer, normal, proc, procedureAt}
 use Rattle.law.specs.Whole.{markBody, markAll}
 use Rattle.table_bodies.specs.Procedures.{procsOf}
-use Rattle.table_bodies.specs.Table.{upTo}
 
 module _ {A : Type 0} (d : A) where
   pub length-snoc : (l : List A) (x : A) → length (l ++ (x ∷ [])) ≡ suc (length l)
@@ -24,39 +24,29 @@ module _ {A : Type 0} (d : A) where
   pub at-last : (l : List A) (x : A) (k : ℕ) → length l ≡ k → getD (l ++ (x ∷ [])) k d ≡ x
   at-last l x k e = getD-at l x [] d k e
 
--- ---- the numbers of procedures
-
-pub length-up : (n : ℕ) → length (upTo n) ≡ n
-unfolding upTo
-length-up zero = refl
-length-up (suc n) = length-snoc 0 (upTo n) n ∙ ap suc (length-up n)
-
-up-step : (n q : ℕ) → (q < n → getD (upTo n) q 0 ≡ q) → (n ≤ q) ⊎ (q < n) → q < suc n → getD (upTo n ++ (n ∷ [])) q 0 ≡ q
-up-step n q f (inl g) h = at-last 0 (upTo n) n q (length-up n ∙ omega (arith, g, h)) ∙ omega (arith, g, h)
-up-step n q f (inr g) h = at-before 0 (upTo n) n q (omega (arith, g, length-up n)) ∙ f g
-
-pub at-up : (n q : ℕ) → q < n → getD (upTo n) q 0 ≡ q
-unfolding upTo
-at-up zero q h = absurd (omega (arith, h))
-at-up (suc n) q h = up-step n q (at-up n q) (le-or-lt n q) h
-
 -- ---- procedures
 
 module _ (none : PlacedBody) (pbs : List PlacedBody) where
+  -- what stands for no procedure
+  abbrev nobody : Proc
+  nobody = proc noFrame (answer normal)
+
+  -- procedure q
+  abbrev pub called : ℕ → Proc
+  called q = proc (getD pbs q none .frame) (markBody (getD pbs q none) (procsOf none pbs q))
+
   pub length-procs : (n : ℕ) → length (procsOf none pbs n) ≡ n
   unfolding procsOf
   length-procs zero = refl
-  length-procs (suc n) = length-snoc (answer normal) (procsOf none pbs n) (markBody (getD pbs n none) (procsOf none pbs n)) ∙ ap suc (length-procs n)
+  length-procs (suc n) = length-snoc nobody (procsOf none pbs n) (called n) ∙ ap suc (length-procs n)
 
-  procedure-step : (n q : ℕ) → (q < n → getD (procsOf none pbs n) q (answer normal) ≡ markBody (getD pbs q none) (procsOf none pbs q)) → (n ≤ q) ⊎ (q < n) → q < suc n
-      → getD (procsOf none pbs n ++ (markBody (getD pbs n none) (procsOf none pbs n) ∷ [])) q (answer normal) ≡ markBody (getD pbs q none) (procsOf none pbs q)
+  procedure-step : (n q : ℕ) → (q < n → getD (procsOf none pbs n) q nobody ≡ called q) → (n ≤ q) ⊎ (q < n) → q < suc n → getD (procsOf none pbs n ++ (called n ∷ [])) q nobody ≡ called q
   procedure-step n q f (inl g) h =
       let o : n ≡ q = omega (arith, g, h) in
-      at-last (answer normal) (procsOf none pbs n) (markBody (getD pbs n none) (procsOf none pbs n)) q (length-procs n ∙ o)
-      ∙ ap (λ (j : ℕ). markBody (getD pbs j none) (procsOf none pbs j)) o
-  procedure-step n q f (inr g) h = at-before (answer normal) (procsOf none pbs n) (markBody (getD pbs n none) (procsOf none pbs n)) q (omega (arith, g, length-procs n)) ∙ f g
+      at-last nobody (procsOf none pbs n) (called n) q (length-procs n ∙ o) ∙ ap (λ (j : ℕ). called j) o
+  procedure-step n q f (inr g) h = at-before nobody (procsOf none pbs n) (called n) q (omega (arith, g, length-procs n)) ∙ f g
 
-  pub procedure-is : (n q : ℕ) → q < n → procedureAt (procsOf none pbs n) q ≡ markBody (getD pbs q none) (procsOf none pbs q)
+  pub procedure-is : (n q : ℕ) → q < n → procedureAt (procsOf none pbs n) q ≡ called q
   unfolding procsOf procedureAt
   procedure-is zero q h = absurd (omega (arith, h))
   procedure-is (suc n) q h = procedure-step n q (procedure-is n q) (le-or-lt n q) h
@@ -71,7 +61,7 @@ module _ (none : PlacedBody) (pbs : List PlacedBody) where
       ap (λ (x : PlacedBody). markBody x (procsOf none pbs k)) (f 0 (omega arith) ∙ ap (λ (j : ℕ). getD pbs j none) (omega arith))
       ∙ ap (λ (j : ℕ). markBody (getD pbs j none) (procsOf none pbs j)) o
   run-step n (b ∷ (c ∷ bs)) k f e h =
-      ap (λ (x : PlacedBody). markAll (c ∷ bs) (procsOf none pbs k ++ (markBody x (procsOf none pbs k) ∷ []))) (f 0 (omega arith) ∙ ap (λ (j : ℕ). getD pbs j none) (omega arith))
+      ap (λ (x : PlacedBody). markAll (c ∷ bs) (procsOf none pbs k ++ (proc (x .frame) (markBody x (procsOf none pbs k)) ∷ []))) (f 0 (omega arith) ∙ ap (λ (j : ℕ). getD pbs j none) (omega arith))
       ∙ run-step n (c ∷ bs) (suc k) (λ i g. f (suc i) (omega (arith, g)) ∙ ap (λ (j : ℕ). getD pbs j none) (omega arith)) (omega (arith, e)) (omega arith)
 
   -- is that of its last body

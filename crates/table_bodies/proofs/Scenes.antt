@@ -27,4 +27,5 @@ module _ (s l ts ts′ : List ℕ) (same : (k : ℕ) → getD ts′ k 0 ≡ getD
     cells = S .cells;
     above = S .above;
     once = S .once;
+    frames = S .frames;
   }

@@ -1,12 +1,14 @@
--- The bodies' table: body q, procedures in their order and main last, has five numbers from 5q on: the offset of its first part in the
--- text, how many name entries its environment has and the newest of them, the number of the last statement before it, and how many types
--- its environment has. A body is run with the names and types of its own line.
-use mathlib.Core.List.{List, [], _∷_, _++_}
+-- The bodies' table: body q, procedures in their order and main last, has eight numbers from 8q on: the offset of its first part in the
+-- text, the number of the last statement before it, how many types its environment has, and the five numbers of its scope. A body is run with
+-- the names and types of its own line. In the working list a procedure has a node that begins with its number and leads to its frame.
+use mathlib.Core.List.{List, map}
 use mathlib.Core.Option.{some}
 use mathlib.Core.Path.{_≡_}
-use Prim.Native.Nat.{ℕ, zero, suc, _+_, _*_, _<_, _≤_}
+use Prim.Native.Nat.{ℕ, suc, _+_, _*_, _<_, _≤_}
 use lib.ListN.{length, getD, take}
-use Rattle.law.specs.Environment.{Environment, PlacedBody}
+use Rattle.law.specs.Base.{Name, find}
+use Rattle.law.specs.Code.{Frame}
+use Rattle.law.specs.Environment.{Environment, PlacedBody, aProc, wantOf}
 use Rattle.law.specs.Names.{bodyOf}
 use Rattle.law.specs.Syntax as Syntax
 use Rattle.law.specs.Trees.{first}
@@ -14,12 +16,8 @@ use Rattle.law_theorems.specs.Readings.{stackAt}
 use Rattle.law_theorems.specs.TypeSizes.{SmallTypes}
 use Rattle.text_heads.specs.Parts.{bodyIn}
 use Rattle.table_scope.specs.declared.Scope.{Scope}
+use Rattle.table_scope.specs.Frames.{frameIn}
 use Rattle.table_scope.specs.Scene.{Scene}
-
--- the numbers before n: a procedure's name means its number
-unfoldable pub upTo : ℕ → List ℕ
-upTo zero = []
-upTo (suc n) = upTo n ++ (n ∷ [])
 
 -- how many types a body may see: 64 declared ones and the two built-in
 abbrev pub mostTypes : ℕ
@@ -37,30 +35,31 @@ pub record Clips (ts : List ℕ) (n : ℕ) (ts₀ ts′ : List ℕ) : Type 0 whe
 -- ---- a body's numbers in the table tb
 
 abbrev pub offsetOf : List ℕ → ℕ → ℕ
-offsetOf tb q = getD tb (5 * q) 0
-
-abbrev pub countOf : List ℕ → ℕ → ℕ
-countOf tb q = getD tb (5 * q + 1) 0
-
-abbrev pub newestOf : List ℕ → ℕ → ℕ
-newestOf tb q = getD tb (5 * q + 2) 0
-
-abbrev pub scopeOf : List ℕ → ℕ → Scope
-scopeOf tb q = record { count = countOf tb q; newest = newestOf tb q }
+offsetOf tb q = getD tb (8 * q) 0
 
 abbrev pub stmtsBefore : List ℕ → ℕ → ℕ
-stmtsBefore tb q = getD tb (5 * q + 3) 0
+stmtsBefore tb q = getD tb (8 * q + 1) 0
 
 abbrev pub typesOf : List ℕ → ℕ → ℕ
-typesOf tb q = getD tb (5 * q + 4) 0
+typesOf tb q = getD tb (8 * q + 2) 0
 
--- body q stands so: its environment, and what its parts read as
-pub record BodyStands (s l ts tb : List ℕ) (pb : PlacedBody) (q : ℕ) : Type 0 where
+abbrev pub scopeOf : List ℕ → ℕ → Scope
+scopeOf tb q = record {
+  count = getD tb (8 * q + 3) 0;
+  newest = getD tb (8 * q + 4) 0;
+  pairs = getD tb (8 * q + 5) 0;
+  vars = getD tb (8 * q + 6) 0;
+  parameters = getD tb (8 * q + 7) 0;
+}
+
+-- body q stands so: its environment, and what its parts read as; bs holds the places of the procedures' nodes
+pub record BodyStands (s l ts tb bs : List ℕ) (pb : PlacedBody) (q : ℕ) : Type 0 where
   pub env : Environment
   pub top : ℕ
   pub form : Syntax.Body
   pub last : ℕ
-  pub scene : Scene s l (clip (typesOf tb q) ts) (scopeOf tb q) top env (upTo q)
+  pub scene : Scene s l (clip (typesOf tb q) ts) (scopeOf tb q) top env (take q bs)
+  pub before : q ≤ length bs
   pub reads : bodyIn (stmtsBefore tb q) (first (stackAt s (offsetOf tb q))) ≡ some (form, last)
   pub names : bodyOf env form ≡ some (pb .body)
   pub types-are : pb .types ≡ env .types
@@ -70,6 +69,15 @@ pub record BodyStands (s l ts tb : List ℕ) (pb : PlacedBody) (q : ℕ) : Type 
   pub small : SmallTypes (env .types)
   pub few : last ≤ 4294967295
 
--- all bodies stand so
-pub record AllStand (s l ts tb : List ℕ) (pbs : List PlacedBody) (none : PlacedBody) : Type 0 where
-  pub each : (q : ℕ) → q < length pbs → BodyStands s l ts tb (getD pbs q none) q
+-- the node at p is that of procedure q, whose parameters have the frame f
+pub record NodeStands (l : List ℕ) (p q : ℕ) (f : Frame) : Type 0 where
+  pub number-is : getD l p 0 ≡ q
+  pub base-is : frameIn l p .base ≡ f .base
+  pub count-is : frameIn l p .count ≡ length (f .wants)
+
+-- all bodies stand so, and the nodes of the procedures, which are all but the last
+pub record AllStand (s l ts tb bs : List ℕ) (pbs : List PlacedBody) (none : PlacedBody) : Type 0 where
+  pub each : (q : ℕ) → q < length pbs → BodyStands s l ts tb bs (getD pbs q none) q
+  pub nodes : (q : ℕ) → suc q < length pbs → NodeStands l (getD bs q 0) q (getD pbs q none .frame)
+  -- what a procedure takes that a body calls
+  pub callees : (q : ℕ) (h : q < length pbs) (w : Name) (p : ℕ) (us : List ℕ) → find (each q h .env .names) w ≡ some (aProc p us) → getD pbs p none .frame .wants ≡ map (wantOf (each q h .env .types)) us

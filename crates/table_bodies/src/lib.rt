@@ -1,11 +1,11 @@
-// The bodies of a script as the marking machine finds them: a table of five numbers for each, and the types that it sees.
+// The bodies of a script as the marking machine finds them: a table of eight numbers for each, and the types that it sees.
 use table_list::at;
 ghost use mathlib.Core.Path.{_≡_};
 ghost use lib.ListN.{getD};
 ghost use Rattle.table_bodies.specs.Table.{clip, Clips};
 
 // How many numbers a body's line in the table has.
-pub const LINE_LENGTH: usize = 5;
+pub const LINE_LENGTH: usize = 8;
 
 // How many bodies a script has at most: those of 32 procedures, and main's.
 const MOST_BODIES: usize = 33;

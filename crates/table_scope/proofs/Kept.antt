@@ -1,18 +1,30 @@
 -- What is laid later leaves an environment as it is.
-use mathlib.Core.Path.{_≡_, refl, sym, _∙_}
-use mathlib.Core.Bool.{Bool, true, false, cond, false≢true}
-use mathlib.Core.List.{List}
-use Prim.Native.Nat.{ℕ, zero, suc, _+_, _*_, _≤_}
+use mathlib.Core.Path.{_≡_, refl, sym, ap, _∙_}
+use mathlib.Core.Bool.{Bool, true, false, cond, _&&_, false≢true}
+use mathlib.Core.List.{List, map}
+use mathlib.Core.Option.{Option, none, some}
+use Prim.Native.Nat.{ℕ, zero, suc, _+_, _*_, _-_, _/_, _%_, _≤_}
 use native.Mathlib.Omega.{arith}
-use lib.Dec.{eqb}
+use borrow.Author.Tests.{ltb-false}
+use lib.Dec.{eqb, ltb}
 use lib.ListN.{getD}
-use Rattle.law.specs.Environment.{Environment, NameSort}
+use Rattle.leaf_bytes.specs.Bytes.{small, same}
+use Rattle.law.specs.Base.{Name}
+use Rattle.law.specs.Environment.{Environment}
+use Rattle.law.specs.Trees.{Trees, word, form, end, _then_, Run, first, wordAt}
+use Rattle.law_theorems.specs.Readings.{stackAt}
 use Rattle.law.specs.Types.{TypeInfo, infoAt}
 use Rattle.code.specs.LayoutRegions.{Same}
-use Rattle.table_names.proofs.Chained.{entries-kept, names-kept, below-kept, below-higher}
+use Rattle.table_names.specs.Keys.{keyOf}
+use Rattle.table_names.specs.Chain.{entries, nameAt, keyAt, placeIn}
+use Rattle.table_names.specs.Chained.{Below, no-entry, one-entry}
+use Rattle.table_names.proofs.Chained.{entries-kept, below-kept, below-higher}
 use Rattle.table_scope.specs.Descriptions.{integerInfo, booleanInfo, noInfo, readInfo, infoOf, fieldsAt, Tells, EndsBelow}
 use Rattle.table_scope.specs.declared.Scope.{Scope}
-use Rattle.table_scope.specs.Scene.{meaningAt, Meant, Scene}
+use Rattle.table_scope.specs.Pairs.{afterLead, pairIn}
+use Rattle.table_scope.specs.Frames.{framed, frameAt, frameIn, TellsFrame}
+use Rattle.table_scope.specs.declared.frames.Frame.{Frame}
+use Rattle.table_scope.specs.Scene.{meaningAt, declaredIn, kindOf, parameterOf, pairedOr, meaningIn, Scene}
 use Rattle.table_scope.specs.declared.Info.{Info}
 
 -- what holds of the built-in types, of no type and of each description that stands in a list holds of every type
@@ -80,16 +92,87 @@ module _ {l l′ : List ℕ} {top : ℕ} (E : Same 0 top l′ l) where
     fields-are = info-fields-kept s ts k B ∙ T .fields-are;
   }
 
-  meant-kept : (σ : Environment) (bs : List ℕ) (p : ℕ) (m : NameSort) → p + 4 ≤ top → Meant σ bs l p m → Meant σ bs l′ p m
+  meaning-at-kept : (p : ℕ) → p + 4 ≤ top → meaningAt l′ p ≡ meaningAt l p
   unfolding meaningAt
-  meant-kept σ bs p m h M =
-      let e : meaningAt l′ p ≡ meaningAt l p = rw (E .at (p + 1) (omega arith) (omega arith), E .at (p + 2) (omega arith) (omega arith)) refl in
-      record { means = rw e (M .means) }
+  meaning-at-kept p h = rw (E .at (p + 1) (omega arith) (omega arith), E .at (p + 2) (omega arith) (omega arith)) refl
+
+  -- ---- names
+
+  place-kept : (s : List ℕ) (w : Name) {n p : ℕ} → Below l top n p
+      → meaningAt l′ (placeIn s l′ (entries n l p) w) ≡ meaningAt l (placeIn s l (entries n l p) w)
+  unfolding entries placeIn nameAt keyAt meaningAt
+  place-kept s w no-entry = refl
+  place-kept s w (one-entry {n} {p} h B) =
+      rw (E .at p (omega arith) (omega arith)) (go (eqb (getD l p 0 / 32768) (keyOf w) && same (map small (wordAt s (getD l p 0 % 32768))) w) (place-kept s w B))
+    where
+      go : (b : Bool)
+          → meaningAt l′ (placeIn s l′ (entries n l (getD l (p + 3) 0)) w) ≡ meaningAt l (placeIn s l (entries n l (getD l (p + 3) 0)) w)
+          → meaningAt l′ (cond b p (placeIn s l′ (entries n l (getD l (p + 3) 0)) w)) ≡ meaningAt l (cond b p (placeIn s l (entries n l (getD l (p + 3) 0)) w))
+      go true r = meaning-at-kept p h
+      go false r = r
+
+  module _ (s : List ℕ) (scope : Scope) (B : Below l top (scope .count) (scope .newest)) where
+    declared-kept : (w : Name) → declaredIn s l′ scope w ≡ declaredIn s l scope w
+    unfolding declaredIn
+    declared-kept w = rw (entries-kept E B) (place-kept s w B)
+
+    kind-kept : (ts : Trees Run) → kindOf s l′ scope ts ≡ kindOf s l scope ts
+    unfolding kindOf
+    kind-kept end = refl
+    kind-kept (word x then ts) = rw (declared-kept (map small x)) refl
+    kind-kept (form us then ts) = refl
+
+    pub meaning-kept : (w : Name) → meaningIn s l′ scope w ≡ meaningIn s l scope w
+    unfolding meaningIn parameterOf
+    meaning-kept w = rw (declared-kept w) (ap (cond (eqb (scope .pairs) 0) (declaredIn s l scope w)) (go (pairIn 0 (first (stackAt s (scope .pairs))) w)))
+      where
+        go : (o : Option (ℕ × Trees Run)) → pairedOr s l′ scope o (declaredIn s l scope w) ≡ pairedOr s l scope o (declaredIn s l scope w)
+        go none = refl
+        go (some p) = rw (kind-kept (afterLead (p .1))) refl
+
+  -- ---- frames
+
+  frame-at-kept : (f n : ℕ) → f + 2 ≤ top → frameAt l′ f n ≡ frameAt l f n
+  unfolding frameAt
+  frame-at-kept f n h = rw (E .at f (omega arith) (omega arith)) refl
+
+  frame-kept : (p : ℕ) → p + 5 ≤ top → getD l (p + 4) 0 + 2 ≤ top → frameIn l′ p ≡ frameIn l p
+  unfolding frameIn
+  frame-kept p h g = let e = E .at (p + 4) (omega arith) (omega arith) in
+      rw (e, E .at (getD l (p + 4) 0 + 1) (omega arith) (omega arith), frame-at-kept (getD l (p + 4) 0) (getD l (getD l (p + 4) 0 + 1) 0) g) refl
+
+  -- the types stand before the frame
+  pub types-before : (p : ℕ) → frameIn l p .types + frameIn l p .count ≤ getD l (p + 4) 0
+  unfolding frameIn frameAt
+  types-before p = go (eqb (getD l (p + 4) 0) 0) (getD l (p + 4) 0) (getD l (getD l (p + 4) 0 + 1) 0)
+    where
+      by : (f n : ℕ) (b : Bool) → ltb f n ≡ b → cond b (framed 0 0 0) (framed n (f - n) (getD l f 0)) .types + cond b (framed 0 0 0) (framed n (f - n) (getD l f 0)) .count ≤ f
+      by f n true e = omega arith
+      by f n false e = let h = ltb-false f n e in omega arith
+
+      go : (b : Bool) (f n : ℕ) → cond b (framed 0 0 0) (frameAt l f n) .types + cond b (framed 0 0 0) (frameAt l f n) .count ≤ f
+      go true f n = omega arith
+      go false f n = by f n (ltb f n) refl
+
+  pub tells-frame-kept : {top′ : ℕ} → top ≤ top′ → (p : ℕ) (us : List ℕ) → TellsFrame l top p us → TellsFrame l′ top′ p us
+  tells-frame-kept h p us T =
+      let e = frame-kept p (T .node-below) (T .frame-below) in
+      let a = T .node-below in
+      let b = T .frame-below in
+      let c = types-before p in
+      let d = T .count-is in
+      record {
+        node-below = omega arith;
+        frame-below = rw (E .at (p + 4) (omega arith) (omega arith)) (omega arith);
+        count-is = ap (λ (x : Frame). x .count) e ∙ d;
+        types-are = λ j i. rw e (E .at (frameIn l p .types + j) (omega arith) (omega arith) ∙ T .types-are j i);
+        few = T .few;
+      }
 
 pub scene-kept : {s l l′ ts : List ℕ} {scope : Scope} {top top′ : ℕ} {σ : Environment} {bs : List ℕ}
     → Scene s l ts scope top σ bs → Same 0 top l′ l → top ≤ top′ → Scene s l′ ts scope top′ σ bs
 scene-kept {s} {l} {l′} {ts} {scope} {top} {top′} {σ} {bs} S E h = record {
-  names = rw (entries-kept E (S .below)) (names-kept E (meant-kept E σ bs) (S .below) (S .names));
+  names = λ w. rw (meaning-kept E s scope (S .below) w) (S .names w);
   below = below-higher h (below-kept E (S .below));
   types = λ k. rw (info-kept E ts k (S .described k)) (tells-kept E s ts k (infoAt (σ .types) k) (S .described k) (S .types k));
   described = λ k. rw (info-kept E ts k (S .described k)) (record { end-below = λ g. let e = S .described k .end-below g in omega arith; within = S .described k .within });
@@ -99,4 +182,5 @@ scene-kept {s} {l} {l′} {ts} {scope} {top} {top′} {σ} {bs} S E h = record {
   cells = S .cells;
   above = S .above;
   once = S .once;
+  frames = λ w q us e. tells-frame-kept E h (getD bs q 0) us (S .frames w q us e);
 }

@@ -1,6 +1,9 @@
 pub mod Ways
+pub mod PairWays
+pub mod FrameWays
 pub mod Kept
 pub mod Telling
 pub mod Fields
 pub mod Looping
 pub mod Cells
+pub mod Within

@@ -17,18 +17,11 @@ use Rattle.law.specs.Types.{Shape, ordinalShape, setShape, arrayShape, recordSh
 use Rattle.table_kinds.specs.Kinds.{Kinded, ordinalBy, classBy, sideOf}
 use Rattle.table_kinds.specs.declared.Class.the-variants.{Integer, Boolean, Enum}
 use Rattle.table_kinds.proofs.Tables.{table-kinded}
-use Rattle.table_names.specs.Chain.{entries, placeIn}
-use Rattle.table_names.proofs.Chained.{Found, nothing, entry, found}
 use Rattle.table_scope.specs.Descriptions.{shapeNumber, integerInfo, booleanInfo, noInfo, readInfo, infoOf, fieldsAt, fieldPlace, EndsBelow}
 use Rattle.table_scope.specs.Sides.{hostIn, classIn, sideIn}
 use Rattle.table_scope.specs.declared.Scope.{Scope}
-use Rattle.table_scope.specs.Scene.{meaningAt, meaningIn, Meant, Told, unknown, known, Scene}
+use Rattle.table_scope.specs.Scene.{meaningIn, Told, Scene}
 use Rattle.table_scope.proofs.Kept.{info-by}
-
-told-by : {σ : Environment} {bs l : List ℕ} {w : Name} (p : ℕ) → Found (Meant σ bs l) w (σ .names) p → Told σ bs (meaningAt l p) (find (σ .names) w)
-unfolding meaningAt
-told-by p (nothing z f) = rw (z, f) unknown
-told-by p (entry a h r f) = rw f (known (r .means))
 
 -- ---- shapes by number
 
@@ -104,8 +97,7 @@ module _ {s l ts : List ℕ} {scope : Scope} {top : ℕ} {σ : Environment} {bs 
   kinded = table-kinded (σ .types) (S .table)
 
   pub meant : (w : Name) → Told σ bs (meaningIn s l scope w) (find (σ .names) w)
-  unfolding meaningIn
-  meant w = told-by (placeIn s l (entries (scope .count) l (scope .newest)) w) (found (S .names) w)
+  meant w = S .names w
 
   module _ (k : ℕ) where
     pub shape-told : infoOf l ts k .shape ≡ shapeNumber (infoAt (σ .types) k .shape)

@@ -1,7 +1,9 @@
 -- The ways through the functions of the crate.
-use mathlib.Core.Path.{_≡_, refl, sym, _∙_}
+use mathlib.Core.Path.{_≡_, refl, sym, ap, _∙_}
+use mathlib.Core.Bool.{Bool}
 use mathlib.Core.List.{List}
 use Prim.Native.Nat.{ℕ, _+_, _/_, _%_}
+use lib.IntN.{ℤ}
 use borrow.Author.Tests.{eq-eqb, ne-eqb}
 use lib.ListN.{getD}
 use Rattle.table_kinds.specs.declared.Class.{Class}
@@ -9,7 +11,19 @@ use Rattle.table_kinds.specs.declared.Class.the-variants.{Integer, Boolean, Enu
 use Rattle.law.specs.Base.{Name}
 use Rattle.table_names.specs.Chain.{entries, placeIn}
 use Rattle.table_scope.specs.Descriptions.{ordinalInfo, integerInfo, booleanInfo, noInfo, readInfo, infoOf}
-use Rattle.table_scope.specs.Scene.{meaningBy, meaningAt, meaningIn}
+use Rattle.leaf_words.specs.declared.words.Word.{Word}
+use Rattle.law.specs.Trees.{Trees, Run, first}
+use Rattle.law_theorems.specs.Readings.{stackAt}
+use Rattle.text_heads.specs.Heads.{atomOf}
+use Rattle.text_heads.specs.declared.Atom.{Atom}
+use Rattle.text_heads.specs.declared.Atom.the-variants as AT
+use Rattle.text_parts.specs.Parts.{Stands}
+use Rattle.text_parts.specs.declared.Part.{Part}
+use Rattle.text_parts.specs.declared.Part.the-variants as part
+use Rattle.table_scope.specs.Pairs.{afterLead, FollowsLead, FindsPair}
+use Rattle.table_scope.specs.declared.pairs.Paired.{Paired}
+use Rattle.table_scope.specs.declared.pairs.Paired.the-variants as paired
+use Rattle.table_scope.specs.Scene.{meaningBy, meaningAt, declaredIn, declaredHere, typeIn, kindBy, kindOf, parameterOf, meaningIn}
 use Rattle.table_scope.specs.Sides.{hostIn, classIn, sideIn}
 use Rattle.table_scope.specs.declared.Info.{Info}
 use Rattle.table_scope.specs.declared.Meaning.{Meaning}
@@ -85,18 +99,85 @@ module _ (sort more : ℕ) where
 
 pub ruleset by-laws = (by-type, by-var, by-proc, by-value)
 
--- ---- `meaning_of`
+-- ---- `declared`
 
 module _ (s l : List ℕ) (scope : Scope) (w : Name) (p : ℕ) (e : p ≡ placeIn s l (entries (scope .count) l (scope .newest)) w) where
-  pub meaning-none : p ≡ 0 → meaning.Unknown ≡ meaningIn s l scope w
-  unfolding meaningIn meaningAt
-  meaning-none f = rw (sym e ∙ f) refl
+  pub declared-none : p ≡ 0 → meaning.Unknown ≡ declaredIn s l scope w
+  unfolding declaredIn meaningAt
+  declared-none f = rw (sym e ∙ f) refl
 
-  pub meaning-some : ((p ≡ 0) → ⊥) → (a b : ℕ) → a ≡ getD l (p + 1) 0 → b ≡ getD l (p + 2) 0 → (x : Meaning) → x ≡ meaningBy a b → x ≡ meaningIn s l scope w
-  unfolding meaningIn meaningAt
-  meaning-some n a b f g x h = h ∙ rw (← e, ne-eqb p 0 n, f, g) refl
+  pub declared-some : ((p ≡ 0) → ⊥) → (a b : ℕ) → a ≡ getD l (p + 1) 0 → b ≡ getD l (p + 2) 0 → (x : Meaning) → x ≡ meaningBy a b → x ≡ declaredIn s l scope w
+  unfolding declaredIn meaningAt
+  declared-some n a b f g x h = h ∙ rw (← e, ne-eqb p 0 n, f, g) refl
 
-pub ruleset meaning-laws = (meaning-none, meaning-some)
+pub ruleset declared-laws = (declared-none, declared-some)
+
+-- ---- `kind_by`, `kind_in`
+
+module _ (a b : Atom) (e : a ≡ b) (m : Meaning) where
+  pub number-kind : (z : ℤ) → a ≡ AT.Number z → 0 ≡ kindBy b m
+  number-kind z f = rw (sym e ∙ f) refl
+
+  pub named-kind : a ≡ AT.Named → (m′ : Meaning) (t : ℕ) → m′ ≡ m → t ≡ typeIn m′ → t ≡ kindBy b m
+  named-kind f m′ t g h = h ∙ rw (sym e ∙ f, g) refl
+
+  pub truth-kind : (q : Bool) → a ≡ AT.Truth q → 0 ≡ kindBy b m
+  truth-kind q f = rw (sym e ∙ f) refl
+
+  pub last-kind : a ≡ AT.ErrorNumber → 0 ≡ kindBy b m
+  last-kind f = rw (sym e ∙ f) refl
+
+  pub base-kind : (k : ℕ) → a ≡ AT.Base k → k ≡ kindBy b m
+  base-kind k f = rw (sym e ∙ f) refl
+
+  pub no-kind : a ≡ AT.Nothing → 0 ≡ kindBy b m
+  no-kind f = rw (sym e ∙ f) refl
+
+pub ruleset atom-laws = (number-kind, named-kind, truth-kind, last-kind, base-kind, no-kind)
+
+module _ (s l : List ℕ) (scope : Scope) (at q : ℕ) (F : FollowsLead s at q) (v : Part) (S : Stands s q v) where
+  abbrev us : Trees Run
+  us = afterLead (first (stackAt s at))
+
+  pub kind-leaf : (w : Word) (p r : ℕ) → v ≡ part.Leaf w p r → (k : ℕ) → k ≡ kindBy (atomOf w) (declaredHere s l scope p) → k ≡ kindOf s l scope us
+  unfolding kindOf
+  kind-leaf w p r e k g = let h = rw e at (S .says) in
+      g ∙ ap (λ (x : Word). kindBy (atomOf x) (declaredHere s l scope p)) (h .1) ∙ sym (ap (kindOf s l scope) (sym (F .follows) ∙ h .0 .leaf .here))
+
+  pub kind-form : (p : ℕ) → v ≡ part.Form p → 0 ≡ kindOf s l scope us
+  unfolding kindOf
+  kind-form p e = let h = rw e at (S .says) in sym (ap (kindOf s l scope) (sym (F .follows) ∙ h .here))
+
+  pub kind-shut : (p : ℕ) → v ≡ part.Shut p → 0 ≡ kindOf s l scope us
+  unfolding kindOf
+  kind-shut p e = let h = rw e at (S .says) in sym (ap (kindOf s l scope) (sym (F .follows) ∙ h .here))
+
+pub ruleset kind-laws = (kind-leaf, kind-form, kind-shut)
+
+-- ---- `parameter`
+
+pub parameter-is : (s l : List ℕ) (scope : Scope) (j i k : ℕ) (ts : Trees Run) → k ≡ kindOf s l scope (afterLead ts) → i ≡ j % 65536
+    → meaning.Var (scope .vars % 256 + i) k (2048 + scope .parameters % 256 + i) ≡ parameterOf s l scope j ts
+unfolding parameterOf
+parameter-is s l scope j i k ts e f = rw (e, f) refl
+
+-- ---- `meaning_of`
+
+module _ (s l : List ℕ) (scope : Scope) (w : Name) (x : Meaning) where
+  pub meaning-plain : scope .pairs ≡ 0 → x ≡ declaredIn s l scope w → x ≡ meaningIn s l scope w
+  unfolding meaningIn
+  meaning-plain e f = f ∙ rw (eq-eqb (scope .pairs) 0 e) refl
+
+  module _ (n : (scope .pairs ≡ 0) → ⊥) (v : Paired) (F : FindsPair s (scope .pairs) w v) where
+    pub meaning-paired : (j q : ℕ) → v ≡ paired.Found j q → x ≡ parameterOf s l scope j (first (stackAt s q)) → x ≡ meaningIn s l scope w
+    unfolding meaningIn
+    meaning-paired j q e f = let h = rw e at (F .says) in f ∙ rw (ne-eqb (scope .pairs) 0 n, h) refl
+
+    pub meaning-declared : v ≡ paired.Nothing → x ≡ declaredIn s l scope w → x ≡ meaningIn s l scope w
+    unfolding meaningIn
+    meaning-declared e f = let h = rw e at (F .says) in f ∙ rw (ne-eqb (scope .pairs) 0 n, h) refl
+
+pub ruleset meaning-laws = (meaning-plain, meaning-paired, meaning-declared)
 
 -- ---- `host_of`
 

@@ -1,17 +1,32 @@
 // What the working list holds of an environment: the meanings of names and the descriptions of types.
+pub mod frames;
+pub mod pairs;
+
+use crate::pairs::PAIR_NUMBERS;
+use crate::pairs::Paired;
+use crate::pairs::find_pair;
+use crate::pairs::type_word;
+use leaf_words::words::Word;
 use table_kinds::Class;
 use table_kinds::Side;
 use table_list::at;
 use table_names::lookup;
 use table_names::same_word;
+use text_heads::Atom;
+use text_heads::atom_of;
+use text_parts::Part;
+use text_parts::part_at;
 ghost use mathlib.Core.Path.{_≡_};
 ghost use mathlib.Core.List.{map};
 ghost use Prim.Native.Nat.{_+_, _*_, _<_, _≤_};
 ghost use Rattle.leaf_bytes.specs.Bytes.{small};
-ghost use Rattle.law.specs.Trees.{wordAt};
+ghost use Rattle.law.specs.Trees.{first, wordAt};
+ghost use Rattle.law_theorems.specs.Readings.{stackAt};
 ghost use Rattle.table_scope.specs.Descriptions.{ordinalInfo, integerInfo, booleanInfo, noInfo, readInfo, infoOf, fieldPlace};
 ghost use Rattle.table_scope.specs.Loops.{noLoops, listedLoops, loopsOver, withLoop};
-ghost use Rattle.table_scope.specs.Scene.{meaningBy, meaningHere};
+ghost use Rattle.table_scope.specs.Pairs.{afterLead};
+ghost use Rattle.table_scope.specs.Scene.{meaningBy, declaredHere, typeIn, kindBy, kindOf, parameterOf, meaningHere};
+ghost use Rattle.text_heads.specs.Heads.{atomOf};
 ghost use Rattle.table_scope.specs.Sides.{hostIn, classIn, sideIn};
 
 // What is known of a type: its shape (0 ordinal, 1 set, 2 array, 3 record), its host, its bounds in 32 bits, how many cells it has, its
@@ -28,10 +43,14 @@ pub struct Info {
     pub place: u32,
 }
 
-// What is known on a line: how many names are declared before it, and the newest entry of them.
+// What is known on a line: how many names are declared before it, and the newest entry of them. In a procedure with parameters also where in
+// the text their pairs begin, and how many variables there are before, and parameters of other procedures; of any other line these are 0.
 pub struct Scope {
     pub count: u32,
     pub newest: u32,
+    pub pairs: usize,
+    pub vars: u32,
+    pub parameters: u32,
 }
 
 // What a name means.
@@ -148,9 +167,9 @@ fn meaning_by(sort: u32, more: u32) -> Meaning
     Meaning::Value(sort / 4, more)
 }
 
-// The meaning of the word at an offset.
-pub fn meaning_of(text: &[u8], work: &[u32], scope: Scope, offset: usize) -> Meaning
-    ensures { λ r. ⌜ r ≡ meaningHere (now (text .entry)) (now (work .entry)) scope offset ⌝ }
+// The meaning of the word at an offset among the names that lines declare.
+fn declared(text: &[u8], work: &[u32], scope: Scope, offset: usize) -> Meaning
+    ensures { λ r. ⌜ r ≡ declaredHere (now (text .entry)) (now (work .entry)) scope offset ⌝ }
 {
     let place = lookup(text, work, scope.count, scope.newest, offset);
     if place == 0 {
@@ -158,6 +177,79 @@ pub fn meaning_of(text: &[u8], work: &[u32], scope: Scope, offset: usize) -> Mea
     }
     let p = place as usize;
     meaning_by(at(work, p + 1), at(work, p + 2))
+}
+
+// The type that a meaning is, 0 where it is none.
+fn type_in(m: Meaning) -> u32
+    ensures { λ r. ⌜ r ≡ typeIn m ⌝ }
+{
+    match m {
+        Meaning::Unknown => 0,
+        Meaning::Type(t) => t,
+        Meaning::Var(_, _, _) => 0,
+        Meaning::Proc(_) => 0,
+        Meaning::Value(_, _) => 0,
+    }
+}
+
+// The type that the word w at p names, 0 where it names none.
+fn kind_by(text: &[u8], work: &[u32], scope: Scope, w: Word, p: usize) -> u32
+    ensures { λ r. ⌜ r ≡ kindBy (atomOf w) (declaredHere (now (text .entry)) (now (work .entry)) scope p) ⌝ }
+{
+    let a = atom_of(w);
+    match a {
+        Atom::Number(_) => 0,
+        Atom::Named => type_in(declared(text, work, scope, p)),
+        Atom::Truth(_) => 0,
+        Atom::ErrorNumber => 0,
+        Atom::Base(k) => k,
+        Atom::Nothing => 0,
+    }
+}
+
+// The type of the parameter whose pair's parts begin at an offset.
+fn kind_in(text: &[u8], work: &[u32], scope: Scope, at: usize) -> u32
+    ensures { λ r. ⌜ r ≡ kindOf (now (text .entry)) (now (work .entry)) scope (afterLead (first (stackAt (now (text .entry)) at))) ⌝ }
+{
+    let part = part_at(text, type_word(text, at));
+    match part {
+        Part::Leaf(w, p, _) => kind_by(text, work, scope, w, p),
+        Part::Form(_) => 0,
+        Part::Shut(_) => 0,
+    }
+}
+
+// Variables, and parameters, are counted modulo this, so that no sum is too large: there are at most 128 of both.
+const VAR_NUMBERS: u32 = 256;
+
+// Parameters have their cells past the 2,048 that may be lent.
+pub const LENT_CELLS: u32 = 2048;
+
+// Parameter j of the procedure, whose pair's parts begin at an offset.
+fn parameter(text: &[u8], work: &[u32], scope: Scope, j: u32, at: usize) -> Meaning
+    ensures { λ r. ⌜ r ≡ parameterOf (now (text .entry)) (now (work .entry)) scope j (first (stackAt (now (text .entry)) at)) ⌝ }
+{
+    let k = kind_in(text, work, scope, at);
+    let i = j % PAIR_NUMBERS;
+    Meaning::Var(
+        scope.vars % VAR_NUMBERS + i,
+        k,
+        LENT_CELLS + scope.parameters % VAR_NUMBERS + i,
+    )
+}
+
+// The meaning of the word at an offset.
+pub fn meaning_of(text: &[u8], work: &[u32], scope: Scope, offset: usize) -> Meaning
+    ensures { λ r. ⌜ r ≡ meaningHere (now (text .entry)) (now (work .entry)) scope offset ⌝ }
+{
+    if scope.pairs == 0 {
+        return declared(text, work, scope, offset);
+    }
+    let f = find_pair(text, scope.pairs, offset);
+    match f {
+        Paired::Found(j, q) => parameter(text, work, scope, j, q),
+        Paired::Nothing => declared(text, work, scope, offset),
+    }
 }
 
 // The kind of type k: an ordinal's host, any other type itself.

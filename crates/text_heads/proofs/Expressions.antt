@@ -123,22 +123,25 @@ each-parts d (t then ts) =
         go (some e) none = refl
         go (some e) (some es) = refl
 
+-- all parts are expressions, and then h
+pub exprs-then : {C : Type 0} (d : ℕ) (h : Exprs → C) (us : Trees Run)
+    → (wordedAll us >>= λ (vs : Trees Word). each (expr d) (list vs) >>= λ (es : List Expr). some (h (exprsOf es))) ≡ (exprsIn d us >>= λ (es : Exprs). some (h es))
+unfolding _>>=_
+exprs-then {C} d h us =
+    bind-cong (wordedAll us) (λ (vs : Trees Word). sym (bind-assoc (each (expr d) (list vs)) (λ (es : List Expr). some (exprsOf es)) (λ (es : Exprs). some (h es))))
+    ∙ sym (bind-assoc (wordedAll us) (λ (vs : Trees Word). each (expr d) (list vs) >>= λ (es : List Expr). some (exprsOf es)) (λ (es : Exprs). some (h es)))
+    ∙ ap (λ (o : Option Exprs). o >>= λ (es : Exprs). some (h es)) (each-parts d us)
+
 pub members-parts : (d : ℕ) (us : Trees Run)
     → (wordedAll us >>= λ (vs : Trees Word). exprForm (λ (t : Item). expr d t) (λ (t : Item). target d t) hMembers (list vs))
     ≡ (typeNameIn us >>= λ (n : TypeName). exprsIn d (rest us) >>= λ (es : Exprs). some (members n es))
 unfolding exprForm typeNameIn _>>=_
 members-parts d us =
     next-part (λ (vs : List Item). exprForm (λ (t : Item). expr d t) (λ (t : Item). target d t) hMembers vs) typeName more refl (λ v vs. refl) us
-    ∙ bind-cong (typeNameIn us) (λ (n : TypeName).
-    bind-cong (wordedAll (rest us)) (λ (vs : Trees Word). sym (bind-assoc (each E2 (list vs)) (λ (es : List Expr). some (exprsOf es)) (λ (es : Exprs). some (members n es))))
-    ∙ sym (bind-assoc (wordedAll (rest us)) (λ (vs : Trees Word). each E2 (list vs) >>= λ (es : List Expr). some (exprsOf es)) (λ (es : Exprs). some (members n es)))
-    ∙ ap (λ (o : Option Exprs). o >>= λ (es : Exprs). some (members n es)) (each-parts d (rest us)))
+    ∙ bind-cong (typeNameIn us) (λ (n : TypeName). exprs-then d (members n) (rest us))
   where
-    E2 : Item → Option Expr
-    E2 t = expr d t
-
     more : TypeName → List Item → Option Expr
-    more n vs = each E2 vs >>= λ (es : List Expr). some (members n (exprsOf es))
+    more n vs = each (expr d) vs >>= λ (es : List Expr). some (members n (exprsOf es))
 
 -- ---- `-`: a constant, an operator with one side or with two
 

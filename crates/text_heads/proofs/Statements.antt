@@ -7,13 +7,14 @@ use Prim.Native.Nat.{ℕ, zero, suc}
 use Rattle.leaf_bytes.specs.Bytes.{bytes, same}
 use Rattle.leaf_words.specs.Words.{wordOf}
 use Rattle.law.specs.Base.{Name, _>>=_, each, given}
-use Rattle.law.specs.Forms.{Item, ArmHead, isArm, isElse, Verb, vAssign, vBegin, vIf, vWhile, vFor, vCase, vCall, vRaise, verbs, among, armHeads, arms, armsFirst, body, caseForm, constant, elseOf, ending, expr, first?, forForm, free, handlerOf, headed, ifForm, keyOf, one, oneArm, some?, stmt, stmtForm, stmts, target, two}
-use Rattle.law.specs.Syntax.{Arms, Body, Constant, Expr, Stmt, Stmts, Target, _next_, arm, assign, begin, call, case, elseArm, for, ifElse, raise, while}
+use Rattle.law.specs.Forms.{Item, ArmHead, isArm, isElse, Verb, vAssign, vBegin, vIf, vWhile, vFor, vCase, vCall, vRaise, verbs, among, armHeads, arms, armsFirst, body, caseForm, constant, elseOf, ending, expr, exprsOf, first?, forForm, free, handlerOf, headed, ifForm, keyOf, one, oneArm, some?, stmt, stmtForm, stmts, target, two}
+use Rattle.law.specs.Syntax.{Arms, Body, Constant, Expr, Exprs, Stmt, Stmts, Target, _next_, arm, assign, begin, call, case, elseArm, for, ifElse, raise, while}
 use Rattle.law.specs.Trees.{Tree, word, form, Trees, end, _then_, Run, list}
 use Rattle.law.specs.Words.{Word, worded, wordedAll, wordBy}
-use Rattle.text_heads.specs.Parts.{partOf, rest, closed, keyIn, exprIn, targetIn, nameIn, stmtIn, stmtsIn, elseIn, armIn, armHeadIn, elseArmIn, armsIn, handlerIn, handling, withFirst, handlerLast, bodyIn}
+use Rattle.text_heads.specs.Parts.{partOf, rest, closed, keyIn, exprIn, exprsIn, targetIn, nameIn, stmtIn, stmtsIn, elseIn, armIn, armHeadIn, elseArmIn, armsIn, handlerIn, handling, withFirst, handlerLast, bodyIn}
 use Rattle.text_heads.specs.Heads.{isException}
 use Rattle.text_heads.proofs.Heads.{exception-is}
+use Rattle.text_heads.proofs.Expressions.{exprs-then}
 use Rattle.text_heads.proofs.Walks.{bind-none, bind-nones, bind-cong, bind-assoc, bind-swap, first-part, next-part, ended, ended-part, one-then, two-then, headed-form, empty-form, headless-form}
 
 -- ---- a statement by its head word
@@ -72,9 +73,12 @@ module _ (d m : ℕ) (us : Trees Run) where
   unfolding stmtForm stmtIn exprIn
   while-parts = two-then (expr 33) (stmt d m) (λ (e : Expr) (a : Stmt × ℕ). (while m e (a .0), a .1)) us
 
-  pub call-parts : (wordedAll us >>= λ (vs : Trees Word). stmtForm (stmt d) vCall m (list vs)) ≡ (nameIn us >>= λ (p : Name). closed (rest us) (call m p, m))
+  pub call-parts : (wordedAll us >>= λ (vs : Trees Word). stmtForm (stmt d) vCall m (list vs))
+      ≡ (nameIn us >>= λ (p : Name). exprsIn 33 (rest us) >>= λ (es : Exprs). some (call m p es, m))
   unfolding stmtForm nameIn
-  call-parts = one-then free (λ (p : Name). (call m p, m)) us
+  call-parts =
+      next-part (λ (vs : List Item). stmtForm (stmt d) vCall m vs) free (λ (p : Name) (vs : List Item). each (expr 33) vs >>= λ (es : List Expr). some (call m p (exprsOf es), m)) refl (λ v vs. refl) us
+      ∙ bind-cong (nameIn us) (λ (p : Name). exprs-then 33 (λ (es : Exprs). (call m p es, m)) (rest us))
 
   pub raise-parts : (wordedAll us >>= λ (vs : Trees Word). stmtForm (stmt d) vRaise m (list vs)) ≡ (exprIn 33 us >>= λ (e : Expr). closed (rest us) (raise m e, m))
   unfolding stmtForm exprIn

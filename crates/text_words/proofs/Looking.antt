@@ -24,26 +24,26 @@ use Rattle.text_words.specs.Sights.{Looks, Ends, Reads}
 -- ---- `look`: k₀ is what stands where it began
 module _ (s : List ℕ) (p : ℕ) (k₀ : List (Trees Run)) (i : k₀ ≡ stackAt s p) where
   pub look-none : length s ≤ p → Looks s k₀ (Shut p)
-  look-none h = record { says = (rw (i, none-stack s p h), rw (i, none-stack s p h)) }
+  look-none h = record { says = (rw (i, none-stack s p h), rw (i, none-stack s p h)); past = tt }
 
   module _ (k : Class) (h : p < length s) (e : k ≡ classOf (getD s p 0)) where
     pub look-space : k ≡ Space → k₀ ≡ stackAt s (p + 1)
     look-space c = i ∙ space-stack s p k h e c
 
     pub look-open : k ≡ Open → Looks s k₀ (Form (p + 1))
-    look-open c = record { says = i ∙ open-stack s p k h e c }
+    look-open c = record { says = i ∙ open-stack s p k h e c; past = (omega arith, omega arith) }
 
     pub look-close : k ≡ Close → Looks s k₀ (Shut (p + 1))
-    look-close c = record { says = (rw (i, close-stack s p k h e c), rw (i, close-stack s p k h e c)) }
+    look-close c = record { says = (rw (i, close-stack s p k h e c), rw (i, close-stack s p k h e c)); past = tt }
 
     pub look-feed : k ≡ Feed → Looks s k₀ (Shut p)
-    look-feed c = record { says = (rw (i, feed-stack s p k h e c), rw (i, feed-stack s p k h e c)) }
+    look-feed c = record { says = (rw (i, feed-stack s p k h e c), rw (i, feed-stack s p k h e c)); past = tt }
 
     pub look-refused : k ≡ Refused → Looks s k₀ (Shut p)
-    look-refused c = record { says = (rw (i, refused-stack s p k h e c), rw (i, refused-stack s p k h e c)) }
+    look-refused c = record { says = (rw (i, refused-stack s p k h e c), rw (i, refused-stack s p k h e c)); past = tt }
 
     pub look-word : k ≡ Visible → Looks s k₀ (Leaf p)
-    look-word c = record { says = (i ∙ word-stack s p k h e c, h) }
+    look-word c = record { says = (i ∙ word-stack s p k h e c, h); past = tt }
 
 pub ruleset look-laws = (look-none, look-space, look-open, look-close, look-feed, look-refused, look-word)
 

@@ -16,9 +16,16 @@ LooksBy s k (sight.the-variants.Form p) = k ≡ push (form (first (stackAt s p))
 LooksBy s k (sight.the-variants.Leaf p) = (k ≡ push (word (wordAt s p)) (restAt s p)) × (p < length s)
 LooksBy s k (sight.the-variants.Shut p) = (first k ≡ end) × (later k ≡ stackAt s p)
 
+-- a bracket stands before the parts of a form
+abbrev pub PastBracket : List ℕ → Sight → Type 0
+PastBracket s (sight.the-variants.Form p) = (1 ≤ p) × (p ≤ length s)
+PastBracket s (sight.the-variants.Leaf p) = Unit {0}
+PastBracket s (sight.the-variants.Shut p) = Unit {0}
+
 -- as a record, so that a proof finds its arguments
 pub record Looks (s : List ℕ) (k : List (Trees Run)) (r : Sight) : Type 0 where
   pub says : LooksBy s k r
+  pub past : PastBracket s r
 
 -- the word that goes on at p ends at q: its bytes, and what stands from there on
 pub record Ends (s : List ℕ) (p q : ℕ) : Type 0 where

@@ -9,7 +9,7 @@ pub offset-in-spec : {M : Type 1} → statement M
 offset-in-spec =
     tie.close
     (tie.spec
-    (λ c. search needs)  -- cast-result src/lib.rt:12:16
-    (λ c. search offset-laws)  -- returns src/lib.rt:12:9
-    (λ c. search needs)  -- cast-result-2 src/lib.rt:14:5
-    (λ c. search offset-laws))  -- returns-2 src/lib.rt:8:1
+    (λ c. search needs)  -- cast-result src/lib.rt:21:16
+    (λ c. search offset-laws)  -- returns src/lib.rt:21:9
+    (λ c. search needs)  -- cast-result-2 src/lib.rt:23:5
+    (λ c. search offset-laws))  -- returns-2 src/lib.rt:17:1

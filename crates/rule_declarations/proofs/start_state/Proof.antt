@@ -8,4 +8,4 @@ pub start-state-spec : {M : Type 1} → statement M
 start-state-spec =
     tie.close
     (tie.spec
-    (λ c. search start-is))  -- returns src/lib.rt:225:1
+    (λ c. search start-is))  -- returns src/lib.rt:289:1

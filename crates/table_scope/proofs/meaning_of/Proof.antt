@@ -4,20 +4,20 @@ use Rattle.table_scope.proofs.meaning_of.Statement.{statement}
 use Rattle.table_scope.proofs.meaning_of.Tie as tie
 use Rattle.table_scope.proofs.meaning_of.Reads as reads
 use Rattle.table_scope.proofs.meaning_of.Lts as lts
-use Rattle.table_names.proofs.lookup.Reads as lookup-reads
-use Rattle.table_scope.proofs.meaning_by.Reads as meaning-by-reads
-use Rattle.table_list.proofs.at.Reads as at-reads
+use Rattle.table_scope.proofs.declared.Reads as declared-reads
+use Rattle.table_scope.proofs.pairs.find_pair.Reads as find-pair-reads
+use Rattle.table_scope.proofs.parameter.Reads as parameter-reads
 
 pub meaning-of-spec : {M : Type 1} → statement M
 meaning-of-spec =
     tie.close
     (tie.spec
-    (λ c κs. search needs)  -- lookup-requires src/lib.rt:152:9
-    (λ c. search meaning-laws)  -- returns src/lib.rt:154:9
-    (λ c. search needs)  -- cast-p src/lib.rt:156:13
-    (λ c. search needs)  -- add-at src/lib.rt:157:25
-    (λ c κs. search needs)  -- at-requires src/lib.rt:157:16
-    (λ c. search needs)  -- add-at-2 src/lib.rt:157:42
-    (λ c κs. search needs)  -- at-requires-2 src/lib.rt:157:33
-    (λ c κs. search needs)  -- meaning-by-requires src/lib.rt:157:5
-    (λ c. search meaning-laws))  -- returns-2 src/lib.rt:149:1
+    (λ c κs. search needs)  -- declared-requires src/lib.rt:245:9
+    (λ c. search meaning-laws)  -- returns src/lib.rt:245:9
+    (λ c κs. search needs)  -- find-pair-requires src/lib.rt:247:9
+    (λ c. search needs)  -- enum-known-f src/lib.rt:249:23
+    (λ c κs. search needs)  -- parameter-requires src/lib.rt:249:32
+    (λ c. search needs)  -- enum-told src/lib.rt:250:28
+    (λ c κs. search needs)  -- declared-requires-2 src/lib.rt:250:28
+    (λ c. search meaning-laws)  -- returns-2 src/lib.rt:241:1
+    (λ c. search meaning-laws))  -- returns-3 src/lib.rt:241:1

@@ -12,11 +12,11 @@ pub proc-line-spec : {M : Type 1} → statement M
 proc-line-spec =
     tie.close
     (tie.spec
-    (λ c κs. search needs)  -- name-at-requires src/entering.rt:126:9
-    (λ c. search needs)  -- enum-known-n src/entering.rt:128:24
-    (λ c κs. search needs)  -- proc-named-requires src/entering.rt:128:33
-    (λ c. search needs)  -- enum-told src/entering.rt:129:39
-    (λ c κs. search needs)  -- faulty-requires src/entering.rt:129:28
-    (λ c. search needs)  -- same-length src/entering.rt:123:1
-    (λ c. search proc-line-laws)  -- returns src/entering.rt:123:1
-    (λ c. search proc-line-laws))  -- returns-2 src/entering.rt:123:1
+    (λ c κs. search needs)  -- name-at-requires src/entering.rt:167:9
+    (λ c. search needs)  -- enum-known-n src/entering.rt:169:24
+    (λ c κs. search needs)  -- proc-named-requires src/entering.rt:169:33
+    (λ c. search needs)  -- enum-told src/entering.rt:170:39
+    (λ c κs. search needs)  -- faulty-requires src/entering.rt:170:28
+    (λ c. search needs)  -- same-length src/entering.rt:164:1
+    (λ c. search proc-line-laws)  -- returns src/entering.rt:164:1
+    (λ c. search proc-line-laws))  -- returns-2 src/entering.rt:164:1

@@ -10,5 +10,5 @@ pub main-entry-spec : {M : Type 1} → statement M
 main-entry-spec =
     tie.close
     (tie.spec
-    (λ c κs. search needs)  -- with-body-requires src/bodied.rt:42:9
-    (λ c. search main-entry-is))  -- returns src/bodied.rt:37:1
+    (λ c κs. search needs)  -- with-body-requires src/bodied.rt:38:9
+    (λ c. search main-entry-is))  -- returns src/bodied.rt:33:1

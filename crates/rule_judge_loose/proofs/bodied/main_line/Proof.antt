@@ -5,16 +5,16 @@ use Rattle.rule_judge_loose.proofs.bodied.main_line.Tie as tie
 use Rattle.rule_judge_loose.proofs.bodied.main_line.Reads as reads
 use Rattle.rule_judge_loose.proofs.bodied.main_line.Lts as lts
 use Rattle.rule_judge_loose.proofs.bodied.main_entry.Reads as main-entry-reads
-use Rattle.rule_judge_loose.proofs.easing.loose_body.Reads as loose-body-reads
-use Rattle.rule_body_notes.proofs.note_body.Reads as note-body-reads
+use Rattle.rule_judge_loose.proofs.bodied.noted_body.Reads as noted-body-reads
+use Rattle.rule_parameters.proofs.framing.open_main.Reads as open-main-reads
 
 pub main-line-spec : {M : Type 1} → statement M
 main-line-spec =
     tie.close
     (tie.spec
-    (λ c κs. search needs)  -- loose-body-requires src/bodied.rt:72:9
-    (λ c κs. search needs)  -- note-body-requires src/bodied.rt:73:5
-    (λ c κs. search needs)  -- main-entry-requires src/bodied.rt:74:5
-    (λ c. search needs)  -- same-length src/bodied.rt:62:1
-    (λ c. search needs)  -- same-length-2 src/bodied.rt:62:1
-    (λ c. search main-enters))  -- returns src/bodied.rt:62:1
+    (λ c κs. search needs)  -- open-main-requires src/bodied.rt:77:9
+    (λ c κs. search needs)  -- noted-body-requires src/bodied.rt:78:9
+    (λ c κs. search needs)  -- main-entry-requires src/bodied.rt:79:5
+    (λ c. search needs)  -- same-length src/bodied.rt:66:1
+    (λ c. search needs)  -- same-length-2 src/bodied.rt:66:1
+    (λ c. search main-enters))  -- returns src/bodied.rt:66:1

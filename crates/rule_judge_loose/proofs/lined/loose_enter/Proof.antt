@@ -5,10 +5,10 @@ use Rattle.rule_judge_loose.proofs.lined.loose_enter.Tie as tie
 use Rattle.rule_judge_loose.proofs.lined.loose_enter.Reads as reads
 use Rattle.rule_judge_loose.proofs.lined.loose_enter.Lts as lts
 use Rattle.rule_declarations.proofs.var_line.Reads as var-line-reads
-use Rattle.rule_known.proofs.judging.declared.Reads as declared-reads
-use Rattle.rule_judge_loose.proofs.bodied.faulty.Reads as faulty-reads
+use Rattle.rule_judge.proofs.entering.faulty.Reads as faulty-reads
 use Rattle.rule_judge_loose.proofs.bodied.main_line.Reads as main-line-reads
 use Rattle.rule_judge_loose.proofs.bodied.proc_line.Reads as proc-line-reads
+use Rattle.rule_known.proofs.judging.declared.Reads as declared-reads
 use Rattle.rule_type_forms.proofs.type_line.Reads as type-line-reads
 
 pub loose-enter-spec : {M : Type 1} → statement M

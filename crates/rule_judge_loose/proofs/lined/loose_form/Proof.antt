@@ -4,8 +4,8 @@ use Rattle.rule_judge_loose.proofs.lined.loose_form.Statement.{statemen
 use Rattle.rule_judge_loose.proofs.lined.loose_form.Tie as tie
 use Rattle.rule_judge_loose.proofs.lined.loose_form.Reads as reads
 use Rattle.rule_judge_loose.proofs.lined.loose_form.Lts as lts
-use Rattle.rule_known.proofs.judging.refused.Reads as refused-reads
 use Rattle.rule_judge_loose.proofs.lined.loose_headed.Reads as loose-headed-reads
+use Rattle.rule_known.proofs.judging.refused.Reads as refused-reads
 use Rattle.text_parts.proofs.part_at.Reads as part-at-reads
 
 pub loose-form-spec : {M : Type 1} → statement M

@@ -4,8 +4,8 @@ use Rattle.rule_judge_loose.proofs.lined.loose_headed.Statement.{statem
 use Rattle.rule_judge_loose.proofs.lined.loose_headed.Tie as tie
 use Rattle.rule_judge_loose.proofs.lined.loose_headed.Reads as reads
 use Rattle.rule_judge_loose.proofs.lined.loose_headed.Lts as lts
-use Rattle.rule_known.proofs.judging.judge.Reads as judge-reads
 use Rattle.rule_judge_loose.proofs.lined.loose_enter.Reads as loose-enter-reads
+use Rattle.rule_known.proofs.judging.judge.Reads as judge-reads
 use Rattle.text_heads.proofs.line_head.Reads as line-head-reads
 
 pub loose-headed-spec : {M : Type 1} → statement M

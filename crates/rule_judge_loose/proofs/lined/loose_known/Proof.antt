@@ -4,8 +4,8 @@ use Rattle.rule_judge_loose.proofs.lined.loose_known.Statement.{stateme
 use Rattle.rule_judge_loose.proofs.lined.loose_known.Tie as tie
 use Rattle.rule_judge_loose.proofs.lined.loose_known.Reads as reads
 use Rattle.rule_judge_loose.proofs.lined.loose_known.Lts as lts
-use Rattle.rule_known.proofs.judging.refused.Reads as refused-reads
 use Rattle.rule_judge_loose.proofs.lined.loose_form.Reads as loose-form-reads
+use Rattle.rule_known.proofs.judging.refused.Reads as refused-reads
 use Rattle.text_parts.proofs.part_at.Reads as part-at-reads
 use Rattle.text_words.proofs.lines.count_nodes.Reads as count-nodes-reads
 

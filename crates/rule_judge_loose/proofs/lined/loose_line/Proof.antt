@@ -4,8 +4,8 @@ use Rattle.rule_judge_loose.proofs.lined.loose_line.Statement.{statemen
 use Rattle.rule_judge_loose.proofs.lined.loose_line.Tie as tie
 use Rattle.rule_judge_loose.proofs.lined.loose_line.Reads as reads
 use Rattle.rule_judge_loose.proofs.lined.loose_line.Lts as lts
-use Rattle.rule_known.proofs.judging.refused.Reads as refused-reads
 use Rattle.rule_judge_loose.proofs.lined.loose_known.Reads as loose-known-reads
+use Rattle.rule_known.proofs.judging.refused.Reads as refused-reads
 use Rattle.text_lines.proofs.lines.balance.Reads as balance-reads
 use Rattle.text_words.proofs.lines.words_known.Reads as words-known-reads
 

@@ -48,17 +48,18 @@ use Rattle.rule_restrictions.proofs.walk.+all_arms+arm+case_arms+case_o
 use Rattle.rule_restrictions.proofs.walk.while_loop.Reads as while-loop
 use Rattle.rule_restrictions.proofs.walk.while_loop.Kinds as while-loop-kinds
 use Rattle.rule_restrictions.proofs.walk.+all_arms+arm+case_arms+case_of+else_part+for_loop+headed+if_else+if_then+inner+stmt+stmts+while_loop.Lts-while_loop as while-loop-lts
+use Rattle.rule_constants.proofs.plain_part.Reads as plain-part-reads
 use Rattle.rule_labels.proofs.loose.labels_differ.Reads as labels-differ-reads
 use Rattle.rule_restrictions.proofs.arm_parts.after_labels.Reads as after-labels-reads
+use Rattle.rule_restrictions.proofs.calls.call_kept.Reads as call-kept-reads
 use Rattle.rule_restrictions.proofs.control.assign_kept.Reads as assign-kept-reads
 use Rattle.rule_restrictions.proofs.control.start_at.Reads as start-at-reads
-use Rattle.text_parts.proofs.end_at.Reads as end-at-reads
-use Rattle.text_parts.proofs.part_at.Reads as part-at-reads
-use Rattle.rule_constants.proofs.plain_part.Reads as plain-part-reads
-use Rattle.text_heads.proofs.verb_of.Reads as verb-of-reads
-use Rattle.text_skips.proofs.skip.Reads as skip-reads
 use Rattle.rule_statements.proofs.arms.arm_at.Reads as arm-at-reads
 use Rattle.table_scope.proofs.with_loop.Reads as with-loop-reads
+use Rattle.text_heads.proofs.verb_of.Reads as verb-of-reads
+use Rattle.text_parts.proofs.end_at.Reads as end-at-reads
+use Rattle.text_parts.proofs.part_at.Reads as part-at-reads
+use Rattle.text_skips.proofs.skip.Reads as skip-reads
 use Rattle.rule_restrictions.proofs.walk.+all_arms+arm+case_arms+case_of+else_part+for_loop+headed+if_else+if_then+inner+stmt+stmts+while_loop.{
   statement,
 }
@@ -195,7 +196,7 @@ all-arms-Inv-loop text work scope loops depth at p₀ p = Arming text work scope
 abbrev all-arms-μ-loop : all-arms-lts.MeasureT-loop
 all-arms-μ-loop text work scope loops depth at p₀ p = many (first (stackAt text p))
 
--- src/walk.rt:259:5
+-- src/walk.rt:190:5
 all-arms-loop-holds : (t : ℕ) → all-arms-lts.Need-loop-holds (
   arm-at-reads.Asked,
   arm-at-reads.Learnt,
@@ -214,7 +215,7 @@ stmts-Inv-loop text work scope loops depth at p₀ p = Doing text work scope loo
 abbrev stmts-μ-loop : stmts-lts.MeasureT-loop
 stmts-μ-loop text work scope loops depth at p₀ p = many (first (stackAt text p))
 
--- src/walk.rt:195:5
+-- src/walk.rt:147:5
 stmts-loop-holds : (t : ℕ) → stmts-lts.Need-loop-holds (
   end-at-reads.Asked,
   end-at-reads.Learnt,
@@ -257,20 +258,20 @@ pub +all-arms+arm+case-arms+case-of+else-part+for-loop+headed+if-else+if-then+in
     all-arms-Inv-loop
     all-arms-μ-loop
     (all-arms-loop-holds t)
-    (λ c κs. search needs)  -- all-arms-arm-at-requires src/walk.rt:260:13
-    (λ c. search needs)  -- all-arms-enum-told src/walk.rt:263:17
-    (λ c. search arms-laws)  -- all-arms-returns src/walk.rt:263:17
-    (λ c. search needs)  -- all-arms-enum-known-e src/walk.rt:265:27
-    (λ c κs. search needs)  -- all-arms-stmt-requires src/walk.rt:266:17
-    (λ c. search arms-laws)  -- all-arms-returns-2 src/walk.rt:266:17
-    (λ c. search needs)  -- all-arms-enum-told-2 src/walk.rt:269:17
-    (λ c. search arms-laws)  -- all-arms-returns-3 src/walk.rt:269:17
-    (λ c. search needs)  -- all-arms-enum-known-e-2 src/walk.rt:271:26
-    (λ c κs. search needs)  -- all-arms-arm-requires src/walk.rt:272:20
-    (λ c κs. search needs)  -- all-arms-skip-requires src/walk.rt:273:21
-    (λ c. search arms-falls)  -- all-arms-loop-less src/walk.rt:259:5
-    (λ c. search arms-laws)  -- all-arms-loop-again src/walk.rt:259:5
-    (λ c. search arms-laws))  -- all-arms-returns-4 src/walk.rt:275:21
+    (λ c κs. search needs)  -- all-arms-arm-at-requires src/walk.rt:191:13
+    (λ c. search needs)  -- all-arms-enum-told src/walk.rt:194:17
+    (λ c. search arms-laws)  -- all-arms-returns src/walk.rt:194:17
+    (λ c. search needs)  -- all-arms-enum-known-e src/walk.rt:196:27
+    (λ c κs. search needs)  -- all-arms-stmt-requires src/walk.rt:197:17
+    (λ c. search arms-laws)  -- all-arms-returns-2 src/walk.rt:197:17
+    (λ c. search needs)  -- all-arms-enum-told-2 src/walk.rt:200:17
+    (λ c. search arms-laws)  -- all-arms-returns-3 src/walk.rt:200:17
+    (λ c. search needs)  -- all-arms-enum-known-e-2 src/walk.rt:202:26
+    (λ c κs. search needs)  -- all-arms-arm-requires src/walk.rt:203:20
+    (λ c κs. search needs)  -- all-arms-skip-requires src/walk.rt:204:21
+    (λ c. search arms-falls)  -- all-arms-loop-less src/walk.rt:190:5
+    (λ c. search arms-laws)  -- all-arms-loop-again src/walk.rt:190:5
+    (λ c. search arms-laws))  -- all-arms-returns-4 src/walk.rt:206:21
     (λ t. arm-lts.spec (
       after-labels-reads.Asked,
       after-labels-reads.Learnt,
@@ -279,14 +280,14 @@ pub +all-arms+arm+case-arms+case-of+else-part+for-loop+headed+if-else+if-then+in
     )
     (arm-at t)
     arm.Post
-    (λ c κs. search needs)  -- arm-after-labels-requires src/walk.rt:293:9
-    (λ c. search needs)  -- arm-enum-known-x src/walk.rt:295:24
-    (λ c κs. search needs)  -- arm-stmt-requires src/walk.rt:295:30
-    (λ c. search needs)  -- arm-enum-told src/walk.rt:296:29
-    (λ c. search needs)  -- arm-enum-told-2 src/walk.rt:297:30
-    (λ c. search arm-laws)  -- arm-returns src/walk.rt:283:1
-    (λ c. search arm-laws)  -- arm-returns-2 src/walk.rt:283:1
-    (λ c. search arm-laws))  -- arm-returns-3 src/walk.rt:283:1
+    (λ c κs. search needs)  -- arm-after-labels-requires src/walk.rt:217:9
+    (λ c. search needs)  -- arm-enum-known-x src/walk.rt:219:24
+    (λ c κs. search needs)  -- arm-stmt-requires src/walk.rt:219:30
+    (λ c. search needs)  -- arm-enum-told src/walk.rt:220:29
+    (λ c. search needs)  -- arm-enum-told-2 src/walk.rt:221:30
+    (λ c. search arm-laws)  -- arm-returns src/walk.rt:214:1
+    (λ c. search arm-laws)  -- arm-returns-2 src/walk.rt:214:1
+    (λ c. search arm-laws))  -- arm-returns-3 src/walk.rt:214:1
     (λ t. case-arms-lts.spec (
       all-arms-below t,
       all-arms.Post,
@@ -295,10 +296,10 @@ pub +all-arms+arm+case-arms+case-of+else-part+for-loop+headed+if-else+if-then+in
     )
     (case-arms-at t)
     case-arms.Post
-    (λ c κs. search needs)  -- case-arms-all-arms-requires src/walk.rt:241:8
-    (λ c κs. search needs)  -- case-arms-labels-differ-requires src/walk.rt:242:9
-    (λ c. search cases-laws)  -- case-arms-returns src/walk.rt:242:9
-    (λ c. search cases-laws))  -- case-arms-returns-2 src/walk.rt:231:1
+    (λ c κs. search needs)  -- case-arms-all-arms-requires src/walk.rt:179:8
+    (λ c κs. search needs)  -- case-arms-labels-differ-requires src/walk.rt:180:9
+    (λ c. search cases-laws)  -- case-arms-returns src/walk.rt:180:9
+    (λ c. search cases-laws))  -- case-arms-returns-2 src/walk.rt:176:1
     (λ t. case-of-lts.spec (
       plain-part-reads.Asked,
       plain-part-reads.Learnt,
@@ -309,21 +310,21 @@ pub +all-arms+arm+case-arms+case-of+else-part+for-loop+headed+if-else+if-then+in
     )
     (case-of-at t)
     case-of.Post
-    (λ c κs. search needs)  -- case-of-plain-part-requires src/walk.rt:223:8
-    (λ c κs. search needs)  -- case-of-skip-requires src/walk.rt:224:13
-    (λ c κs. search needs)  -- case-of-case-arms-requires src/walk.rt:225:9
-    (λ c. search case-laws)  -- case-of-returns src/walk.rt:225:9
-    (λ c. search case-laws))  -- case-of-returns-2 src/walk.rt:213:1
+    (λ c κs. search needs)  -- case-of-plain-part-requires src/walk.rt:168:8
+    (λ c κs. search needs)  -- case-of-skip-requires src/walk.rt:169:13
+    (λ c κs. search needs)  -- case-of-case-arms-requires src/walk.rt:170:9
+    (λ c. search case-laws)  -- case-of-returns src/walk.rt:170:9
+    (λ c. search case-laws))  -- case-of-returns-2 src/walk.rt:165:1
     (λ t. else-part-lts.spec
     (end-at-reads.Asked, end-at-reads.Learnt, stmt-below t, stmt.Post)
     (else-part-at t)
     else-part.Post
-    (λ c κs. search needs)  -- else-part-end-at-requires src/walk.rt:158:9
-    (λ c. search needs)  -- else-part-enum-told src/walk.rt:160:25
-    (λ c. search needs)  -- else-part-enum-told-2 src/walk.rt:161:22
-    (λ c κs. search needs)  -- else-part-stmt-requires src/walk.rt:161:22
-    (λ c. search else-laws)  -- else-part-returns src/walk.rt:148:1
-    (λ c. search else-laws))  -- else-part-returns-2 src/walk.rt:148:1
+    (λ c κs. search needs)  -- else-part-end-at-requires src/walk.rt:124:9
+    (λ c. search needs)  -- else-part-enum-told src/walk.rt:126:25
+    (λ c. search needs)  -- else-part-enum-told-2 src/walk.rt:127:22
+    (λ c κs. search needs)  -- else-part-stmt-requires src/walk.rt:127:22
+    (λ c. search else-laws)  -- else-part-returns src/walk.rt:121:1
+    (λ c. search else-laws))  -- else-part-returns-2 src/walk.rt:121:1
     (λ t. for-loop-lts.spec (
       start-at-reads.Asked,
       start-at-reads.Learnt,
@@ -334,13 +335,13 @@ pub +all-arms+arm+case-arms+case-of+else-part+for-loop+headed+if-else+if-then+in
     )
     (for-loop-at t)
     for-loop.Post
-    (λ c κs. search needs)  -- for-loop-start-at-requires src/walk.rt:176:9
-    (λ c. search needs)  -- for-loop-enum-known-x src/walk.rt:178:21
-    (λ c κs. search needs)  -- for-loop-with-loop-requires src/walk.rt:178:54
-    (λ c κs. search needs)  -- for-loop-stmt-requires src/walk.rt:178:30
-    (λ c. search needs)  -- for-loop-enum-told src/walk.rt:179:26
-    (λ c. search for-laws)  -- for-loop-returns src/walk.rt:166:1
-    (λ c. search for-laws))  -- for-loop-returns-2 src/walk.rt:166:1
+    (λ c κs. search needs)  -- for-loop-start-at-requires src/walk.rt:135:9
+    (λ c. search needs)  -- for-loop-enum-known-x src/walk.rt:137:21
+    (λ c κs. search needs)  -- for-loop-with-loop-requires src/walk.rt:137:54
+    (λ c κs. search needs)  -- for-loop-stmt-requires src/walk.rt:137:30
+    (λ c. search needs)  -- for-loop-enum-told src/walk.rt:138:26
+    (λ c. search for-laws)  -- for-loop-returns src/walk.rt:132:1
+    (λ c. search for-laws))  -- for-loop-returns-2 src/walk.rt:132:1
     (λ t. headed-lts.spec (
       assign-kept-reads.Asked,
       assign-kept-reads.Learnt,
@@ -354,36 +355,39 @@ pub +all-arms+arm+case-arms+case-of+else-part+for-loop+headed+if-else+if-then+in
       for-loop.Post,
       case-of-below t,
       case-of.Post,
+      call-kept-reads.Asked,
+      call-kept-reads.Learnt,
       plain-part-reads.Asked,
       plain-part-reads.Learnt,
     )
     (headed-at t)
     headed.Post
-    (λ c. search needs)  -- headed-enum-told src/walk.rt:81:25
-    (λ c κs. search needs)  -- headed-assign-kept-requires src/walk.rt:81:25
-    (λ c. search needs)  -- headed-enum-told-2 src/walk.rt:82:24
-    (λ c κs. search needs)  -- headed-stmts-requires src/walk.rt:82:24
-    (λ c. search needs)  -- headed-enum-told-3 src/walk.rt:83:21
-    (λ c κs. search needs)  -- headed-if-else-requires src/walk.rt:83:21
-    (λ c. search needs)  -- headed-enum-told-4 src/walk.rt:84:24
-    (λ c κs. search needs)  -- headed-while-loop-requires src/walk.rt:84:24
-    (λ c. search needs)  -- headed-enum-told-5 src/walk.rt:85:22
-    (λ c κs. search needs)  -- headed-for-loop-requires src/walk.rt:85:22
-    (λ c. search needs)  -- headed-enum-told-6 src/walk.rt:86:23
-    (λ c κs. search needs)  -- headed-case-of-requires src/walk.rt:86:23
-    (λ c. search needs)  -- headed-enum-told-7 src/walk.rt:87:23
-    (λ c. search needs)  -- headed-enum-told-8 src/walk.rt:88:24
-    (λ c κs. search needs)  -- headed-plain-part-requires src/walk.rt:88:24
-    (λ c. search needs)  -- headed-enum-told-9 src/walk.rt:89:26
-    (λ c. search verb-laws)  -- headed-returns src/walk.rt:69:1
-    (λ c. search verb-laws)  -- headed-returns-2 src/walk.rt:69:1
-    (λ c. search verb-laws)  -- headed-returns-3 src/walk.rt:69:1
-    (λ c. search verb-laws)  -- headed-returns-4 src/walk.rt:69:1
-    (λ c. search verb-laws)  -- headed-returns-5 src/walk.rt:69:1
-    (λ c. search verb-laws)  -- headed-returns-6 src/walk.rt:69:1
-    (λ c. search verb-laws)  -- headed-returns-7 src/walk.rt:69:1
-    (λ c. search verb-laws)  -- headed-returns-8 src/walk.rt:69:1
-    (λ c. search verb-laws))  -- headed-returns-9 src/walk.rt:69:1
+    (λ c. search needs)  -- headed-enum-told src/walk.rt:68:25
+    (λ c κs. search needs)  -- headed-assign-kept-requires src/walk.rt:68:25
+    (λ c. search needs)  -- headed-enum-told-2 src/walk.rt:69:24
+    (λ c κs. search needs)  -- headed-stmts-requires src/walk.rt:69:24
+    (λ c. search needs)  -- headed-enum-told-3 src/walk.rt:70:21
+    (λ c κs. search needs)  -- headed-if-else-requires src/walk.rt:70:21
+    (λ c. search needs)  -- headed-enum-told-4 src/walk.rt:71:24
+    (λ c κs. search needs)  -- headed-while-loop-requires src/walk.rt:71:24
+    (λ c. search needs)  -- headed-enum-told-5 src/walk.rt:72:22
+    (λ c κs. search needs)  -- headed-for-loop-requires src/walk.rt:72:22
+    (λ c. search needs)  -- headed-enum-told-6 src/walk.rt:73:23
+    (λ c κs. search needs)  -- headed-case-of-requires src/walk.rt:73:23
+    (λ c. search needs)  -- headed-enum-told-7 src/walk.rt:74:23
+    (λ c κs. search needs)  -- headed-call-kept-requires src/walk.rt:74:23
+    (λ c. search needs)  -- headed-enum-told-8 src/walk.rt:75:24
+    (λ c κs. search needs)  -- headed-plain-part-requires src/walk.rt:75:24
+    (λ c. search needs)  -- headed-enum-told-9 src/walk.rt:76:26
+    (λ c. search verb-laws)  -- headed-returns src/walk.rt:56:1
+    (λ c. search verb-laws)  -- headed-returns-2 src/walk.rt:56:1
+    (λ c. search verb-laws)  -- headed-returns-3 src/walk.rt:56:1
+    (λ c. search verb-laws)  -- headed-returns-4 src/walk.rt:56:1
+    (λ c. search verb-laws)  -- headed-returns-5 src/walk.rt:56:1
+    (λ c. search verb-laws)  -- headed-returns-6 src/walk.rt:56:1
+    (λ c. search verb-laws)  -- headed-returns-7 src/walk.rt:56:1
+    (λ c. search verb-laws)  -- headed-returns-8 src/walk.rt:56:1
+    (λ c. search verb-laws))  -- headed-returns-9 src/walk.rt:56:1
     (λ t. if-else-lts.spec (
       plain-part-reads.Asked,
       plain-part-reads.Learnt,
@@ -394,11 +398,11 @@ pub +all-arms+arm+case-arms+case-of+else-part+for-loop+headed+if-else+if-then+in
     )
     (if-else-at t)
     if-else.Post
-    (λ c κs. search needs)  -- if-else-plain-part-requires src/walk.rt:122:8
-    (λ c κs. search needs)  -- if-else-skip-requires src/walk.rt:123:13
-    (λ c κs. search needs)  -- if-else-if-then-requires src/walk.rt:124:9
-    (λ c. search if-laws)  -- if-else-returns src/walk.rt:124:9
-    (λ c. search if-laws))  -- if-else-returns-2 src/walk.rt:112:1
+    (λ c κs. search needs)  -- if-else-plain-part-requires src/walk.rt:102:8
+    (λ c κs. search needs)  -- if-else-skip-requires src/walk.rt:103:13
+    (λ c κs. search needs)  -- if-else-if-then-requires src/walk.rt:104:9
+    (λ c. search if-laws)  -- if-else-returns src/walk.rt:104:9
+    (λ c. search if-laws))  -- if-else-returns-2 src/walk.rt:99:1
     (λ t. if-then-lts.spec (
       stmt-below t,
       stmt.Post,
@@ -409,11 +413,11 @@ pub +all-arms+arm+case-arms+case-of+else-part+for-loop+headed+if-else+if-then+in
     )
     (if-then-at t)
     if-then.Post
-    (λ c κs. search needs)  -- if-then-stmt-requires src/walk.rt:140:8
-    (λ c κs. search needs)  -- if-then-skip-requires src/walk.rt:141:13
-    (λ c κs. search needs)  -- if-then-else-part-requires src/walk.rt:142:9
-    (λ c. search then-laws)  -- if-then-returns src/walk.rt:142:9
-    (λ c. search then-laws))  -- if-then-returns-2 src/walk.rt:130:1
+    (λ c κs. search needs)  -- if-then-stmt-requires src/walk.rt:113:8
+    (λ c κs. search needs)  -- if-then-skip-requires src/walk.rt:114:13
+    (λ c κs. search needs)  -- if-then-else-part-requires src/walk.rt:115:9
+    (λ c. search then-laws)  -- if-then-returns src/walk.rt:115:9
+    (λ c. search then-laws))  -- if-then-returns-2 src/walk.rt:110:1
     (λ t. inner-lts.spec (
       part-at-reads.Asked,
       part-at-reads.Learnt,
@@ -424,29 +428,29 @@ pub +all-arms+arm+case-arms+case-of+else-part+for-loop+headed+if-else+if-then+in
     )
     (inner-at t)
     inner.Post
-    (λ c κs. search needs)  -- inner-part-at-requires src/walk.rt:57:9
-    (λ c. search needs)  -- inner-enum-known-part src/walk.rt:59:20
-    (λ c κs. search needs)  -- inner-verb-of-requires src/walk.rt:60:17
-    (λ c κs. search needs)  -- inner-headed-requires src/walk.rt:61:13
-    (λ c. search needs)  -- inner-enum-told src/walk.rt:63:26
-    (λ c. search needs)  -- inner-enum-told-2 src/walk.rt:64:26
-    (λ c. search inner-laws)  -- inner-returns src/walk.rt:47:1
-    (λ c. search inner-laws)  -- inner-returns-2 src/walk.rt:47:1
-    (λ c. search inner-laws))  -- inner-returns-3 src/walk.rt:47:1
+    (λ c κs. search needs)  -- inner-part-at-requires src/walk.rt:44:9
+    (λ c. search needs)  -- inner-enum-known-part src/walk.rt:46:20
+    (λ c κs. search needs)  -- inner-verb-of-requires src/walk.rt:47:17
+    (λ c κs. search needs)  -- inner-headed-requires src/walk.rt:48:13
+    (λ c. search needs)  -- inner-enum-told src/walk.rt:50:26
+    (λ c. search needs)  -- inner-enum-told-2 src/walk.rt:51:26
+    (λ c. search inner-laws)  -- inner-returns src/walk.rt:41:1
+    (λ c. search inner-laws)  -- inner-returns-2 src/walk.rt:41:1
+    (λ c. search inner-laws))  -- inner-returns-3 src/walk.rt:41:1
     (λ t. stmt-lts.spec
     (part-at-reads.Asked, part-at-reads.Learnt, inner-below t, inner.Post)
     (stmt-at t)
     stmt.Post
-    (λ c. search stmt-laws)  -- stmt-returns src/walk.rt:36:9
-    (λ c κs. search needs)  -- stmt-part-at-requires src/walk.rt:38:9
-    (λ c. search needs)  -- stmt-enum-told src/walk.rt:40:32
-    (λ c. search needs)  -- stmt-enum-known-part src/walk.rt:41:20
-    (λ c. search needs)  -- stmt-sub-inner src/walk.rt:41:58
-    (λ c κs. search needs)  -- stmt-inner-requires src/walk.rt:41:26
-    (λ c. search needs)  -- stmt-enum-told-2 src/walk.rt:42:26
-    (λ c. search stmt-laws)  -- stmt-returns-2 src/walk.rt:25:1
-    (λ c. search stmt-laws)  -- stmt-returns-3 src/walk.rt:25:1
-    (λ c. search stmt-laws))  -- stmt-returns-4 src/walk.rt:25:1
+    (λ c. search stmt-laws)  -- stmt-returns src/walk.rt:30:9
+    (λ c κs. search needs)  -- stmt-part-at-requires src/walk.rt:32:9
+    (λ c. search needs)  -- stmt-enum-told src/walk.rt:34:32
+    (λ c. search needs)  -- stmt-enum-known-part src/walk.rt:35:20
+    (λ c. search needs)  -- stmt-sub-inner src/walk.rt:35:58
+    (λ c κs. search needs)  -- stmt-inner-requires src/walk.rt:35:26
+    (λ c. search needs)  -- stmt-enum-told-2 src/walk.rt:36:26
+    (λ c. search stmt-laws)  -- stmt-returns-2 src/walk.rt:26:1
+    (λ c. search stmt-laws)  -- stmt-returns-3 src/walk.rt:26:1
+    (λ c. search stmt-laws))  -- stmt-returns-4 src/walk.rt:26:1
     (λ t. stmts-lts.spec (
       end-at-reads.Asked,
       end-at-reads.Learnt,
@@ -460,15 +464,15 @@ pub +all-arms+arm+case-arms+case-of+else-part+for-loop+headed+if-else+if-then+in
     stmts-Inv-loop
     stmts-μ-loop
     (stmts-loop-holds t)
-    (λ c κs. search needs)  -- stmts-end-at-requires src/walk.rt:196:13
-    (λ c. search needs)  -- stmts-enum-told src/walk.rt:199:17
-    (λ c. search do-laws)  -- stmts-returns src/walk.rt:199:17
-    (λ c. search needs)  -- stmts-enum-told-2 src/walk.rt:202:20
-    (λ c κs. search needs)  -- stmts-stmt-requires src/walk.rt:202:20
-    (λ c κs. search needs)  -- stmts-skip-requires src/walk.rt:203:21
-    (λ c. search do-falls)  -- stmts-loop-less src/walk.rt:195:5
-    (λ c. search do-laws)  -- stmts-loop-again src/walk.rt:195:5
-    (λ c. search do-laws))  -- stmts-returns-2 src/walk.rt:205:21
+    (λ c κs. search needs)  -- stmts-end-at-requires src/walk.rt:148:13
+    (λ c. search needs)  -- stmts-enum-told src/walk.rt:151:17
+    (λ c. search do-laws)  -- stmts-returns src/walk.rt:151:17
+    (λ c. search needs)  -- stmts-enum-told-2 src/walk.rt:154:20
+    (λ c κs. search needs)  -- stmts-stmt-requires src/walk.rt:154:20
+    (λ c κs. search needs)  -- stmts-skip-requires src/walk.rt:155:21
+    (λ c. search do-falls)  -- stmts-loop-less src/walk.rt:147:5
+    (λ c. search do-laws)  -- stmts-loop-again src/walk.rt:147:5
+    (λ c. search do-laws))  -- stmts-returns-2 src/walk.rt:157:21
     λ t. while-loop-lts.spec (
       plain-part-reads.Asked,
       plain-part-reads.Learnt,
@@ -479,8 +483,8 @@ pub +all-arms+arm+case-arms+case-of+else-part+for-loop+headed+if-else+if-then+in
     )
     (while-loop-at t)
     while-loop.Post
-    (λ c κs. search needs)  -- while-loop-plain-part-requires src/walk.rt:104:8
-    (λ c κs. search needs)  -- while-loop-skip-requires src/walk.rt:105:13
-    (λ c κs. search needs)  -- while-loop-stmt-requires src/walk.rt:106:9
-    (λ c. search while-laws)  -- while-loop-returns src/walk.rt:106:9
-    (λ c. search while-laws)  -- while-loop-returns-2 src/walk.rt:94:1
+    (λ c κs. search needs)  -- while-loop-plain-part-requires src/walk.rt:91:8
+    (λ c κs. search needs)  -- while-loop-skip-requires src/walk.rt:92:13
+    (λ c κs. search needs)  -- while-loop-stmt-requires src/walk.rt:93:9
+    (λ c. search while-laws)  -- while-loop-returns src/walk.rt:93:9
+    (λ c. search while-laws)  -- while-loop-returns-2 src/walk.rt:81:1

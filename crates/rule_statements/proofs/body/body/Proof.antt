@@ -11,7 +11,7 @@ pub body-spec : {M : Type 1} → statement M
 body-spec =
     tie.close
     (tie.spec
-    (λ c κs. search needs)  -- slot-requires src/body.rt:25:9
-    (λ c κs. search needs)  -- body-from-requires src/body.rt:26:5
-    (λ c. search needs)  -- same-length src/body.rt:22:1
-    (λ c. search body-way))  -- returns src/body.rt:22:1
+    (λ c κs. search needs)  -- slot-requires src/body.rt:37:9
+    (λ c κs. search needs)  -- body-from-requires src/body.rt:38:5
+    (λ c. search needs)  -- same-length src/body.rt:25:1
+    (λ c. search body-way))  -- returns src/body.rt:25:1

@@ -11,8 +11,8 @@ pub handled-node-spec : {M : Type 1} → statement M
 handled-node-spec =
     tie.close
     (tie.spec
-    (λ c κs. search needs)  -- lowest-requires src/last.rt:66:19
-    (λ c. search needs)  -- slice-aggregate-node-if src/last.rt:66:56
-    (λ c κs. search needs)  -- node-if-requires src/last.rt:66:5
-    (λ c. search needs)  -- same-length src/last.rt:60:1
-    (λ c. search handled-is))  -- returns src/last.rt:60:1
+    (λ c κs. search needs)  -- lowest-requires src/last.rt:72:19
+    (λ c. search needs)  -- slice-aggregate-node-if src/last.rt:72:56
+    (λ c κs. search needs)  -- node-if-requires src/last.rt:72:5
+    (λ c. search needs)  -- same-length src/last.rt:66:1
+    (λ c. search handled-is))  -- returns src/last.rt:66:1

@@ -11,8 +11,8 @@ pub plain-node-spec : {M : Type 1} → statement M
 plain-node-spec =
     tie.close
     (tie.spec
-    (λ c κs. search needs)  -- slot-requires src/last.rt:53:9
-    (λ c. search needs)  -- slice-aggregate-node-if src/last.rt:56:36
-    (λ c κs. search needs)  -- node-if-requires src/last.rt:56:5
-    (λ c. search needs)  -- same-length src/last.rt:50:1
-    (λ c. search plain-is))  -- returns src/last.rt:50:1
+    (λ c κs. search needs)  -- slot-requires src/last.rt:59:9
+    (λ c. search needs)  -- slice-aggregate-node-if src/last.rt:62:36
+    (λ c κs. search needs)  -- node-if-requires src/last.rt:62:5
+    (λ c. search needs)  -- same-length src/last.rt:56:1
+    (λ c. search plain-is))  -- returns src/last.rt:56:1

@@ -1,0 +1,23 @@
+use Rattle.table_scope.proofs.Ways.{declared-laws}
+use borrow.Author.Needs.{needs}
+use Rattle.table_scope.proofs.declared.Statement.{statement}
+use Rattle.table_scope.proofs.declared.Tie as tie
+use Rattle.table_scope.proofs.declared.Reads as reads
+use Rattle.table_scope.proofs.declared.Lts as lts
+use Rattle.table_list.proofs.at.Reads as at-reads
+use Rattle.table_names.proofs.lookup.Reads as lookup-reads
+use Rattle.table_scope.proofs.meaning_by.Reads as meaning-by-reads
+
+pub declared-spec : {M : Type 1} → statement M
+declared-spec =
+    tie.close
+    (tie.spec
+    (λ c κs. search needs)  -- lookup-requires src/lib.rt:173:9
+    (λ c. search declared-laws)  -- returns src/lib.rt:175:9
+    (λ c. search needs)  -- cast-p src/lib.rt:177:13
+    (λ c. search needs)  -- add-at src/lib.rt:178:25
+    (λ c κs. search needs)  -- at-requires src/lib.rt:178:16
+    (λ c. search needs)  -- add-at-2 src/lib.rt:178:42
+    (λ c κs. search needs)  -- at-requires-2 src/lib.rt:178:33
+    (λ c κs. search needs)  -- meaning-by-requires src/lib.rt:178:5
+    (λ c. search declared-laws))  -- returns-2 src/lib.rt:170:1
