@@ -34,10 +34,11 @@ enum {
     DRIVE_BYTE = 3,    /* a byte that no script may have */
     DRIVE_BRACKET = 4, /* line not one balanced form, depth over 32, or no line feed at its end */
     DRIVE_WORD = 5,    /* a word that is no name, number or operator */
-    DRIVE_FORM = 6,    /* shape not in the list; line after `main`; `main` missing */
-    DRIVE_NAME = 7,    /* name unknown, of the wrong sort, or declared twice */
-    DRIVE_TYPE = 8,    /* kinds don't fit; range reversed; label repeated; loop variable assigned */
-    DRIVE_LIMIT = 9,   /* a ceiling passed */
+    DRIVE_FORM = 6,    /* shape not in the list, as an empty parameter list; line after `main`; `main` missing */
+    DRIVE_NAME = 7,    /* name unknown, of the wrong sort, or declared twice, as a parameter named like a variable before it */
+    DRIVE_TYPE = 8,    /* kinds don't fit; more or fewer arguments than parameters; a parameter of an array or record; range reversed;
+                          label repeated; loop variable assigned */
+    DRIVE_LIMIT = 9,   /* a ceiling passed; parameters count among the variables and cells */
     DRIVE_STORE = 10,  /* a store list whose length isn't the script's cell count */
     DRIVE_CELL = 11    /* mark not 0 or 1; mark 0 with a value other than 0; mark 1 with a value outside its type */
 };
@@ -54,7 +55,7 @@ enum {
 enum {
     DRIVE_NUMERIC_ERROR = -101,   /* result outside -2147483648 to 2147483647, divisor, exponent */
     DRIVE_SYSTEM_ERROR = -102,    /* `raise 0` before any exception */
-    DRIVE_RANGE_ERROR = -103,     /* index, assignment, `for` bound or member outside its type; pred, succ, setmin, setmax of nothing */
+    DRIVE_RANGE_ERROR = -103,     /* index, assignment, argument, `for` bound or member outside its type; pred, succ, setmin, setmax of nothing */
     DRIVE_UNDEFINED_ERROR = -104, /* an undefined cell was read */
     DRIVE_CASE_ERROR = -105       /* no label and no else */
 };
@@ -64,7 +65,7 @@ typedef struct drive_reply {
     uint32_t refusal;   /* 0, or a refusal; then only `line` says more */
     uint32_t outcome;   /* drive_run, drive_mark: DRIVE_NORMAL, DRIVE_EXCEPTION or DRIVE_SPENT; drive_mark also DRIVE_STUCK */
     size_t line;        /* of a refusal, from 1; 0 for refusals 1, 2, 10, 11; one past the last for a missing `main` */
-    size_t cells;       /* drive_cells, drive_owners, drive_mark_owners: how many cells the script has, 0 to DRIVE_CELLS */
+    size_t cells;       /* drive_cells, drive_owners, drive_mark_owners: how many cells the script's `var` lines have, 0 to DRIVE_CELLS */
     int64_t exception;  /* the exception's number, in 32 bits */
     uint32_t statement; /* the exception's statement, counted from 1 over the text by opening bracket */
     uint32_t steps;     /* drive_run, drive_mark: the steps taken, at most the budget */
@@ -83,7 +84,7 @@ drive_reply drive_owners(const uint8_t *text, size_t text_len, uint32_t *work, s
 
 /* Checks a text, tests the store, and runs the script on it for at most `budget` steps. Any refusal of 1 to 11 leaves the store
    as lent. The store is two lists, each as long as the script has cells: values, and marks (0 undefined, then the value is 0;
-   1 defined). The cells of a variable lie together, variables in the order of their lines. After an exception and after a spent
+   1 defined). The cells of a variable lie together, variables in the order of their lines; parameters are not among them. After an exception and after a spent
    run too, the store is as the steps taken left it, and may be lent again. */
 drive_reply drive_run(const uint8_t *text, size_t text_len, uint32_t *work, size_t work_len, int64_t *values, size_t values_len,
                       uint8_t *marks, size_t marks_len, uint32_t budget);

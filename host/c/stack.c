@@ -116,18 +116,22 @@ static void put_nested(const char *head, const char *before, size_t times, const
     put(end);
 }
 
-/* Calls from `main` through 32 procedures, each from within a form that is nested; `head` opens one bracket that stays open. */
-static void put_calls(const char *head, const char *before, size_t times, const char *after)
+/* Calls from `main` through 32 procedures, each from within a form that is nested; `head` opens one bracket that stays open. Each procedure has
+   the parameter list, each call the arguments. */
+static void put_calls(const char *list, const char *arguments, const char *head, const char *before, size_t times, const char *after)
 {
     put(declarations);
     for (size_t i = 1; i <= 33; i++) {
         put(i <= 32 ? "(proc p" : "(main");
-        if (i <= 32)
+        if (i <= 32) {
             put_number(i);
+            put(list);
+        }
         put(head);
         put_times(before, times);
         put(i > 1 ? "(call p" : "(:= a ");
         put_number(i > 1 ? i - 1 : 1);
+        put(i > 1 ? arguments : "");
         put(")");
         put_times(after, times);
         put("))\n");
@@ -180,6 +184,10 @@ static void rows_of_long_lines(void)
     row("2,030 statements");
     put_flat("(main ", "a()", 10850, ")\n");
     row("21,700 nodes on a line");
+    put_flat("(proc p(", "(x t)", 6500, "))\n");
+    row("6,500 parameters");
+    put_flat("(proc p ((x t)))\n(main (call p", " a", 16200, "))\n");
+    row("16,200 arguments");
 }
 
 static void nested(const char *what, const char *before, size_t times, const char *inmost, const char *after)
@@ -204,6 +212,9 @@ static void rows_of_depth(void)
     nested("30 ifs, one in another's second part", "(if false (begin) ", 30, "(begin)", ")");
     nested("30 begins", "(begin ", 30, "(begin)", ")");
     nested("30 whiles", "(while true ", 30, "(begin)", ")");
+    put(declarations);
+    put_nested("(proc p ((x integer) (y integer)))\n(main (call p 1 ", "(+ 1 ", 29, "1", ")", "))\n");
+    row("an argument of 29 sums");
     expression("30 sums", "(+ 1 ", 30, "1", ")");
     expression("30 minus signs", "(- ", 30, "a", ")");
     expression("30 indices", "(at c ", 30, "1", ")");
@@ -214,7 +225,13 @@ static void rows_of_depth(void)
 
 static void calls(const char *what, const char *head, const char *before, size_t times, const char *after)
 {
-    put_calls(head, before, times, after);
+    put_calls("", "", head, before, times, after);
+    row(what);
+}
+
+static void calls_with_arguments(const char *what, const char *head, const char *before, size_t times, const char *after)
+{
+    put_calls(" ((x t) (y t) (z integer))", " 1 2 3", head, before, times, after);
     row(what);
 }
 
@@ -228,6 +245,9 @@ static void rows_of_calls(void)
     calls("32 calls, each in 14 cases", " (begin ", "(case 1 (arm 1 ", 14, "))");
     calls("32 calls, each in 30 whiles", " (while true ", "(while true ", 29, ")");
     calls("32 calls, each in 29 whiles in a handler", " (raise 1) (exception ", "(while true ", 29, ")");
+    calls_with_arguments("32 calls of 3 arguments", " (begin ", "", 0, "");
+    calls_with_arguments("32 calls of 3 arguments, in 30 begins", " (begin ", "(begin ", 29, ")");
+    calls_with_arguments("32 calls of 3 arguments, in 14 cases", " (begin ", "(case 1 (arm 1 ", 14, "))");
 }
 
 int main(int argc, char **argv)

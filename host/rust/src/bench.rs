@@ -152,6 +152,39 @@ mod tests {
     }
 
     #[test]
+    fn parameters_are_no_cells() {
+        let mut bench = Bench::new();
+        let text = b"(var sum integer)\n(proc add ((left integer)) (:= sum (+ sum left)) (:= left 0))\n(proc twice ((left integer)) (call add left) (call add left))\n(main (:= sum 0) (call twice 21))\n";
+        assert_eq!(bench.owners(text), Ok(vec!["sum".to_string()]));
+        for budget in 0..12 {
+            let (mut ran, mut marked) = (Store::undefined(1), Store::undefined(1));
+            assert_eq!(bench.mark(text, &mut marked, budget), bench.run(text, &mut ran, budget));
+            assert_eq!(marked, ran);
+        }
+        let mut store = Store::undefined(1);
+        assert_eq!(bench.run(text, &mut store, 10_000), Ok(Answer { outcome: Outcome::Normal, steps: 8 }));
+        assert_eq!(store.get(0), Some(42));
+    }
+
+    /// The guide's ramps as the chair runs them: one run a tick, with stick and mode put into the store that the run before left.
+    #[test]
+    fn a_ramp_tick_by_tick() {
+        let desk = include_str!("../../../examples/ramps.txt");
+        let lines = desk.lines().filter(|line| !line.starts_with("(proc hold") && !line.starts_with("(main"));
+        let text: String = lines.chain(["(var mode drive)", "(main (call move mode))"]).map(|line| format!("{line}\n")).collect();
+        let mut bench = Bench::new();
+        assert_eq!(bench.owners(text.as_bytes()), Ok(["stick", "speed", "turn", "next", "mode"].map(String::from).to_vec()));
+        let mut store = Store { values: vec![80, 0, 0, 0, 0], marks: vec![1, 1, 1, 0, 1] };
+        for (mode, ticks, speed, turn) in [(0, 5, 50, 0), (1, 3, 35, 0), (2, 7, 35, 20)] {
+            store.values[4] = mode;
+            for _ in 0..ticks {
+                assert_eq!(bench.run(text.as_bytes(), &mut store, 100).map(|answer| answer.outcome), Ok(Outcome::Normal));
+            }
+            assert_eq!((store.get(1), store.get(2)), (Some(speed), Some(turn)));
+        }
+    }
+
+    #[test]
     fn marking_sticks_where_kinds_do_not_fit() {
         let mut bench = Bench::new();
         let text = b"(var a integer)\n(proc p (:= a true))\n(main (:= a 1) (call p) (:= a 2) (exception (:= a 3)))\n";

@@ -63,8 +63,8 @@ fn remedy(row: Row) -> &'static str {
         Row::Word => "Correct the word that is no name of at most 31 letters, digits and single underscores, no number up to 2147483647, and no operator.",
         Row::Form => "Write the line as one of the forms, each with the parts that it takes; `main` stands once, as the last line.",
         Row::Name => "Declare the name on an earlier line, spell it as it is declared, use it as what it is, or choose one that is not taken.",
-        Row::Type => "Make the kinds fit: the value to its variable, both sides to the operator, a condition boolean; a range must not be reversed, a label not repeated, a loop's variable not assigned.",
-        Row::Limit => "Make the script smaller: it passes one of the ceilings on types, variables, procedures, words, cells, index or set values.",
+        Row::Type => "Make the kinds fit: the value to its variable or parameter, both sides to the operator, a condition boolean; a call gives a value for each parameter, which is no array or record; a range must not be reversed, a label not repeated, a loop's variable not assigned.",
+        Row::Limit => "Make the script smaller: it passes one of the ceilings on types, variables, procedures, their parameters, words, cells, index or set values.",
         Row::Store => "Lend a store with exactly as many cells as the script has.",
         Row::Cell => "Correct the cell whose mark is not 0 or 1, whose mark is 0 and value not 0, or whose value is outside its type.",
     }
@@ -75,7 +75,7 @@ fn cure(exception: Exception) -> &'static str {
     match exception {
         Exception::Numeric => "Keep each result within -2147483648 to 2147483647, each divisor of `div` other than 0 and of `mod` above 0, and each exponent allowed.",
         Exception::System => "Use `(raise 0)` only after an exception has come, as in a handler.",
-        Exception::Range => "Keep the index, value, bound or member within its type.",
+        Exception::Range => "Keep the index, value, argument, bound or member within its type.",
         Exception::Undefined => "Give each variable and each part of an array or record a value before it is read.",
         Exception::Case => "Add an arm for this value, or an `(else ..)`.",
         Exception::Own(_) => "Handle it by an `(exception ..)`, or see why the script raises it.",

@@ -47,7 +47,7 @@ fn examples_print_as_runscript_does() {
             seen += 1;
         }
     }
-    assert_eq!(seen, 10);
+    assert_eq!(seen, 11);
 }
 
 #[test]
@@ -97,6 +97,22 @@ fn exceptions() {
         (1, "exception -101 2 2\n1 a -\n".to_string(), String::new())
     );
     assert_eq!(drive(&["run", "-"], "(main (raise 42))\n").1, "exception 42 1 1\n");
+}
+
+#[test]
+fn parameters() {
+    let script = "(type slot (range 1 4))\n(var a integer)\n(proc set ((to slot)) (:= a to) (exception (:= a 0)))\n(main (call set 4) (call set 5))\n";
+    assert_eq!(drive(&["check", "-"], script).1, "accepted\n");
+    for command in ["run", "mark"] {
+        assert_eq!(drive(&[command, "-"], script), (1, "exception -103 4 3\n1 a 4\n".to_string(), String::new()));
+    }
+    let counted = script.replace("(call set 5)", "(call set 3 2)");
+    let misfit = script.replace("(call set 5)", "(call set true)");
+    assert_eq!(drive(&["mark", "-"], &counted).1, "refused 8 4\n");
+    assert_eq!(drive(&["run", "-"], &misfit).1, "refused 8 4\n");
+    assert_eq!(drive(&["mark", "-"], &misfit).1, "stuck 3\n1 a 4\n");
+    let (_, said, _) = drive(&["run", "-", "--explain"], script);
+    assert!(said.contains("Exception -103, Range_Error, at statement 4, on line 4:"), "{said}");
 }
 
 #[test]

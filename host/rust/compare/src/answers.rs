@@ -72,10 +72,11 @@ fn library_played(
 
 /// The peer's answers.
 pub fn of_peer(case: &Case) -> Answers {
+    let (level, text, work_len) = (case.level, &case.text, case.work_len);
     Answers {
-        verdict: peer::verdict(&case.text, case.work_len).map(|_| ()).map_err(peer_told),
-        run: peer_played(peer::owners(&case.text, case.work_len), case.run()),
-        mark: peer_played(peer::mark_owners(&case.text, case.work_len), case.mark()),
+        verdict: peer::verdict(level, text, work_len).map(|_| ()).map_err(peer_told),
+        run: peer_played(peer::owners(level, text, work_len), case.run()),
+        mark: peer_played(peer::mark_owners(level, text, work_len), case.mark()),
     }
 }
 

@@ -55,7 +55,7 @@ mod tests {
 
     #[test]
     fn keeps_what_matters() {
-        let mut case = peer::gen::case(0);
+        let mut case = peer::gen::case(peer::LANDED, 0);
         case.text = b"(var a integer)\n(main (begin (raise 1) (begin)) (begin))\n(a b)\n".to_vec();
         let small = shrunk(&case, |c| c.text.windows(9).any(|w| w == b"(raise 1)"));
         let kept = String::from_utf8(small.text).unwrap();

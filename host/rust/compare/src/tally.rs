@@ -1,7 +1,11 @@
 //! How many cases got which answer.
 use crate::answers::{Answers, End, Ended, Refused};
+use peer::gen::Case;
 use std::collections::BTreeMap;
 use std::fmt;
+
+/// Calls that nest so deep are counted.
+const DEEP: usize = 3;
 
 #[derive(Default)]
 pub struct Tally {
@@ -14,10 +18,13 @@ pub struct Tally {
 
 impl Tally {
     /// Counts a case.
-    pub fn add(&mut self, text: &[u8], answers: &Answers) {
+    pub fn add(&mut self, case: &Case, answers: &Answers) {
         let Answers { verdict, run, mark } = answers;
         self.cases += 1;
-        self.bytes += text.len() as u64;
+        self.bytes += case.text.len() as u64;
+        if case.deepest().is_some_and(|deepest| deepest >= DEEP) {
+            *self.counts.entry(format!("calls {DEEP} deep or deeper")).or_default() += 1;
+        }
         self.run_steps += steps(&run.ended);
         self.mark_steps += steps(&mark.ended);
         let verdict = match verdict {

@@ -1,10 +1,12 @@
 //! Texts to time.
+use peer::LANDED;
 
-/// Scripts that run for more steps than are timed: integers, arrays, sets.
-pub const LOOPS: [(&str, &[u8]); 3] = [
+/// Scripts that run for more steps than are timed: integers, arrays, sets, calls with arguments (`texts/calls.lua` is Lua's peer of the last).
+pub const LOOPS: [(&str, &[u8]); 4] = [
     ("loops: integers", include_bytes!("../texts/loops.txt")),
     ("sieve: arrays", include_bytes!("../texts/sieve.txt")),
     ("sets", include_bytes!("../texts/sets.txt")),
+    ("calls: arguments", include_bytes!("../texts/calls.txt")),
 ];
 
 /// The examples of the repository.
@@ -17,7 +19,8 @@ pub fn examples() -> Vec<Vec<u8>> {
 
 /// So many generated texts that the peer accepts, or refuses.
 pub fn generated(count: usize, accepted: bool) -> Vec<Vec<u8>> {
-    (0..).map(peer::gen::text).filter(|text| peer::verdict(text, drive::WORK).is_ok() == accepted).take(count).collect()
+    let texts = (0..).map(|seed| peer::gen::text(LANDED, seed));
+    texts.filter(|text| peer::verdict(LANDED, text, drive::WORK).is_ok() == accepted).take(count).collect()
 }
 
 /// A text of nearly 32,768 bytes and 4,096 nodes.

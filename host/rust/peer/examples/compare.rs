@@ -5,6 +5,7 @@ use std::io::Write;
 use std::process::{Command, Stdio};
 
 use peer::print::{runscript, BUDGET};
+use peer::LANDED;
 
 /// What a program prints for a text on its standard input.
 fn output(program: &str, text: &[u8]) -> std::io::Result<Vec<u8>> {
@@ -25,8 +26,8 @@ fn main() -> std::io::Result<()> {
     let first: u64 = words.next().map_or(0, |word| word.parse().expect("a seed"));
     let mut faults = 0;
     for seed in first..first + count {
-        let text = peer::gen::text(seed);
-        let (wanted, got) = (runscript(&text, BUDGET), output(&program, &text)?);
+        let text = peer::gen::text(LANDED, seed);
+        let (wanted, got) = (runscript(LANDED, &text, BUDGET), output(&program, &text)?);
         if got != wanted.as_bytes() {
             faults += 1;
             std::fs::create_dir_all("disagree")?;

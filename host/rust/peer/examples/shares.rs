@@ -3,7 +3,7 @@
 use std::collections::BTreeMap;
 
 use peer::gen::{case, sorted_text};
-use peer::{Answer, Outcome, Refusal};
+use peer::{Answer, Outcome, Refusal, LANDED};
 
 type Table = BTreeMap<String, usize>;
 
@@ -39,8 +39,8 @@ fn main() {
     let (mut verdicts, mut runs, mut marks) = (Table::new(), Table::new(), Table::new());
     let (mut bytes, mut longest) = (0, 0);
     for seed in first..first + count {
-        let (sort, text) = sorted_text(seed);
-        let verdict = match peer::verdict(&text, peer::bytes::WORK) {
+        let (sort, text) = sorted_text(LANDED, seed);
+        let verdict = match peer::verdict(LANDED, &text, peer::bytes::WORK) {
             Ok(_) => "accepted".to_string(),
             Err(refusal) => format!("refused {}", refusal.number),
         };
@@ -48,7 +48,7 @@ fn main() {
         add(&mut verdicts, format!("all: {verdict}"));
         bytes += text.len();
         longest = longest.max(text.len());
-        let case = case(seed);
+        let case = case(LANDED, seed);
         add(&mut runs, word(&case.run().0));
         add(&mut marks, word(&case.mark().0));
     }

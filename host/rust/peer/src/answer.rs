@@ -20,6 +20,10 @@ pub enum Outcome {
     Stuck,
 }
 
+/// The parameter cells of all procedures when a run stops. They are gone but for those of the calls
+/// that a spent or stuck run leaves under way, and no public answer holds them: only tests ask.
+pub type Alive = Vec<Option<i64>>;
+
 /// An outcome beside the steps taken.
 #[derive(Clone, Copy, Debug, PartialEq, Eq, Hash)]
 pub struct Answer {

@@ -1,5 +1,6 @@
 //! An accepted script as the chair's runner takes it: names looked up, kinds known, no types left.
 
+use crate::scope::Cell;
 use crate::syntax::{Function, Operator};
 
 #[derive(Clone, Debug, Default)]
@@ -33,7 +34,7 @@ pub enum Act {
     If(Expr, Box<Statement>, Option<Box<Statement>>),
     While(Expr, Box<Statement>),
     For {
-        cell: usize,
+        cell: Cell,
         low: i64,
         high: i64,
         from: Expr,
@@ -45,14 +46,26 @@ pub enum Act {
         arms: Vec<(Vec<i64>, Statement)>,
         otherwise: Option<Box<Statement>>,
     },
-    Call(usize),
+    Call {
+        procedure: usize,
+        arguments: Vec<Argument>,
+    },
     Raise(Expr),
 }
 
-/// A place in the store: a first cell, moved on by indices in text order.
+/// An argument, with its parameter's number and the bounds that it is tested against.
+#[derive(Clone, Debug)]
+pub struct Argument {
+    pub value: Expr,
+    pub parameter: Cell,
+    pub low: i64,
+    pub high: i64,
+}
+
+/// A place: a first cell, moved on by indices in text order.
 #[derive(Clone, Debug)]
 pub struct Place {
-    pub cell: usize,
+    pub cell: Cell,
     pub indices: Vec<Index>,
 }
 

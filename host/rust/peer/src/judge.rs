@@ -5,6 +5,8 @@ use crate::body::Judge;
 use crate::bytes;
 use crate::code;
 use crate::faults::{Faults, Fits};
+use crate::level::Level;
+use crate::scope::{Scope, Variable};
 use crate::shape;
 use crate::syntax::{Body, Line};
 use crate::tree;
@@ -13,7 +15,7 @@ use crate::world::World;
 const NODES: usize = 4_096;
 
 /// Everything known of a script after its lines are judged.
-#[derive(Clone, Debug, Default)]
+#[derive(Clone, Debug)]
 pub struct Script {
     pub world: World,
     /// The bodies as written; the marking machine runs these.
@@ -22,15 +24,15 @@ pub struct Script {
     /// The same bodies as code; empty for a script whose kinds don't fit.
     pub procedure_code: Vec<code::Body>,
     pub main_code: code::Body,
+    reader: shape::Reader,
     nodes: usize,
-    statements: u32,
     ended: bool,
 }
 
 /// Rows 1 to 9.
-pub fn judge(text: &[u8], work_len: usize, fits: Fits) -> Result<Script, Refusal> {
+pub fn judge(level: Level, text: &[u8], work_len: usize, fits: Fits) -> Result<Script, Refusal> {
     bytes::plain(text, work_len)?;
-    let mut script = Script::default();
+    let mut script = Script::new(level);
     let mut line = 1;
     for bytes in bytes::lines(text) {
         if let Some(number) = script.line(&bytes, fits) {
@@ -45,6 +47,20 @@ pub fn judge(text: &[u8], work_len: usize, fits: Fits) -> Result<Script, Refusal
 }
 
 impl Script {
+    /// Before the first line.
+    fn new(level: Level) -> Script {
+        Script {
+            world: World::new(),
+            procedures: Vec::new(),
+            main: Body::default(),
+            procedure_code: Vec::new(),
+            main_code: code::Body::default(),
+            reader: shape::Reader::new(level),
+            nodes: 0,
+            ended: false,
+        }
+    }
+
     /// The lowest of 4 to 9 that applies to the next line.
     fn line(&mut self, bytes: &bytes::Line, fits: Fits) -> Option<u32> {
         let Some(form) = tree::form(bytes) else {
@@ -56,7 +72,7 @@ impl Script {
         if self.ended {
             return Some(6);
         }
-        let Some(line) = shape::line(&form.tree, &mut self.statements) else {
+        let Some(line) = shape::line(&form.tree, &mut self.reader) else {
             return Some(6);
         };
         self.nodes += form.nodes;
@@ -70,27 +86,28 @@ impl Script {
         match line {
             Line::Type(name, form) => self.world.type_line(&name, &form),
             Line::Var(name, ty) => self.world.var_line(&name, &ty),
-            Line::Proc(name, body) => {
-                let (mut faults, code) = self.body(&body);
+            Line::Proc(name, pairs, body) => {
+                let mut faults = Faults::default();
                 self.world.proc_name(&name, &mut faults);
-                self.world.declare_proc(&name);
+                let parameters = self.world.parameters(&name, &pairs, &mut faults);
+                let code = self.body(&body, &parameters, &mut faults);
+                self.world.declare_proc(&name, parameters);
                 self.procedures.push(body);
                 self.procedure_code.push(code);
                 faults
             }
             Line::Main(body) => {
-                let (faults, code) = self.body(&body);
+                let mut faults = Faults::default();
+                self.main_code = self.body(&body, &[], &mut faults);
                 self.main = body;
-                self.main_code = code;
                 self.ended = true;
                 faults
             }
         }
     }
 
-    fn body(&self, body: &Body) -> (Faults, code::Body) {
-        let mut judge = Judge::new(&self.world);
-        let code = judge.body(body);
-        (judge.faults, code.unwrap_or_default())
+    fn body(&self, body: &Body, parameters: &[Variable], faults: &mut Faults) -> code::Body {
+        let scope = Scope { world: &self.world, parameters };
+        Judge::new(scope, faults).body(body).unwrap_or_default()
     }
 }

@@ -1,9 +1,11 @@
 //! The marking machine: it runs a script as written, keeps a type with every value, and sticks
 //! when a part that it carries out meets a type which the forms don't admit there.
 
-use crate::answer::{Answer, Outcome};
+use crate::answer::{Alive, Answer, Outcome};
 use crate::arith::{self, *};
+use crate::frames::Memory;
 use crate::judge::Script;
+use crate::scope::{Cell, Scope};
 use crate::syntax::{Act, Arm, Body, Constant, Expr, Function, Operator, Statement, Target};
 use crate::types::{Type, TypeId, BOOLEAN, INTEGER};
 use crate::world::{Meaning, World};
@@ -35,17 +37,16 @@ struct Value {
     cells: Vec<i64>,
 }
 
-/// A part of the store with its type.
+/// A part of the store, or a parameter, with its type.
 struct Place {
     ty: TypeId,
-    cell: usize,
+    cell: Cell,
 }
 
 struct Machine<'a> {
     world: &'a World,
     procedures: &'a [Body],
-    values: &'a mut [i64],
-    marks: &'a mut [u8],
+    memory: Memory<'a>,
     budget: u32,
     steps: u32,
     /// Number and statement of the last exception; the number is 0 before any.
@@ -53,9 +54,27 @@ struct Machine<'a> {
 }
 
 /// Marks a script that breaks no rule but the fitting of kinds in a body, on a store that fits it.
-pub fn mark(script: &Script, values: &mut [i64], marks: &mut [u8], budget: u32) -> Answer {
+pub fn mark(script: &Script, values: &mut [i64], marks: &mut [u8], budget: u32) -> (Answer, Alive) {
+    let (machine, outcome) = marked(script, values, marks, budget);
+    let alive = machine.memory.alive(script.world.parameter_cells);
+    (Answer { outcome, steps: machine.steps }, alive)
+}
+
+/// How deep the calls nest when the script is marked.
+pub fn deepest(script: &Script, values: &mut [i64], marks: &mut [u8], budget: u32) -> usize {
+    marked(script, values, marks, budget).0.memory.deepest
+}
+
+/// The machine when it stops, and how it ended.
+fn marked<'a>(
+    script: &'a Script,
+    values: &'a mut [i64],
+    marks: &'a mut [u8],
+    budget: u32,
+) -> (Machine<'a>, Outcome) {
     let (world, procedures) = (&script.world, script.procedures.as_slice());
-    let mut machine = Machine { world, procedures, values, marks, budget, steps: 0, last: (0, 0) };
+    let memory = Memory::new(values, marks);
+    let mut machine = Machine { world, procedures, memory, budget, steps: 0, last: (0, 0) };
     let outcome = match machine.body(&script.main) {
         Ok(()) => Outcome::Normal,
         Err(Stop::Spent) => Outcome::Spent,
@@ -64,7 +83,7 @@ pub fn mark(script: &Script, values: &mut [i64], marks: &mut [u8], budget: u32) 
             Outcome::Exception { number: machine.last.0, statement: machine.last.1 }
         }
     };
-    Answer { outcome, steps: machine.steps }
+    (machine, outcome)
 }
 
 fn one(ty: TypeId, value: i64) -> Value {
@@ -85,7 +104,12 @@ impl Value {
     }
 }
 
-impl Machine<'_> {
+impl<'a> Machine<'a> {
+    /// The names that are known where the machine is.
+    fn scope(&self) -> Scope<'a> {
+        Scope { world: self.world, parameters: self.memory.parameters() }
+    }
+
     fn body(&mut self, body: &Body) -> Result<(), Stop> {
         match (self.statements(&body.statements), &body.handler) {
             (Err(Stop::Exception), Some(handler)) => self.statements(handler),
@@ -142,11 +166,37 @@ impl Machine<'_> {
                 let chosen = self.choose(selector, arms, otherwise.as_deref());
                 self.at(number, chosen).and_then(|inner| self.statement(inner))
             }
-            Act::Call(name) => match self.world.meaning(name) {
-                Some(Meaning::Procedure(which)) => self.body(&self.procedures[which]),
-                _ => Err(Stop::Stuck),
-            },
+            Act::Call(name, arguments) => self.call(number, name, arguments),
             Act::Raise(value) => self.raise(number, value),
+        }
+    }
+
+    /// The arguments are worked out among the caller's names, the body runs among its own.
+    fn call(&mut self, number: u32, name: &str, arguments: &[Expr]) -> Result<(), Stop> {
+        let Some(Meaning::Procedure(which)) = self.scope().meaning(name) else {
+            return Err(Stop::Stuck);
+        };
+        let parameters = &self.world.procedures[which];
+        let mut values = Vec::new();
+        for (argument, parameter) in arguments.iter().zip(parameters) {
+            let worked = self.argument(argument, parameter.ty);
+            values.push(self.at(number, worked)?);
+        }
+        self.memory.enter(parameters, values);
+        let end = self.body(&self.procedures[which]);
+        // A run that is spent or stuck stays where it is; all else returns.
+        if !matches!(end, Err(Stop::Spent | Stop::Stuck)) {
+            self.memory.leave();
+        }
+        end
+    }
+
+    /// The value, the meeting of types, the range test: all before the next argument.
+    fn argument(&self, argument: &Expr, ty: TypeId) -> Worked<i64> {
+        let value = self.expr(argument)?.of(self.world.types.host(ty))?;
+        match self.world.types.bounds(ty) {
+            Some((low, high)) => Ok(within(value, low, high)?),
+            None => Ok(value),
         }
     }
 
@@ -165,13 +215,8 @@ impl Machine<'_> {
         if let Some((low, high)) = self.world.types.bounds(place.ty) {
             within(value.cells[0], low, high)?;
         }
-        self.store(place.cell, &value.cells);
+        self.memory.store(place.cell, &value.cells);
         Ok(())
-    }
-
-    fn store(&mut self, first: usize, cells: &[i64]) {
-        self.values[first..first + cells.len()].copy_from_slice(cells);
-        self.marks[first..first + cells.len()].fill(1);
     }
 
     fn count(
@@ -187,14 +232,14 @@ impl Machine<'_> {
         };
         for value in from..=to {
             self.step()?;
-            self.store(cell, &[value]);
+            self.memory.store(cell, &[value]);
             self.statement(inner)?;
         }
         Ok(())
     }
 
     /// The control variable's cell, first and last value; none if there is no round (R8).
-    fn rounds(&self, name: &str, from: &Expr, to: &Expr) -> Worked<Option<(usize, i64, i64)>> {
+    fn rounds(&self, name: &str, from: &Expr, to: &Expr) -> Worked<Option<(Cell, i64, i64)>> {
         let from = self.expr(from)?;
         let to = self.expr(to)?;
         let control = self.place(&Target::Name(name.to_string()))?;
@@ -252,14 +297,14 @@ impl Machine<'_> {
     }
 
     fn enum_name(&self, name: &str) -> Option<Value> {
-        match self.world.meaning(name) {
+        match self.scope().meaning(name) {
             Some(Meaning::EnumName(ty, value)) => Some(one(ty, value)),
             _ => None,
         }
     }
 
     fn type_of(&self, name: &str) -> Worked<TypeId> {
-        match self.world.meaning(name) {
+        match self.scope().meaning(name) {
             Some(Meaning::Type(ty)) => Ok(ty),
             _ => Err(Failure::Misfit),
         }
@@ -268,11 +313,8 @@ impl Machine<'_> {
     fn place(&self, target: &Target) -> Worked<Place> {
         let types = &self.world.types;
         match target {
-            Target::Name(name) => match self.world.meaning(name) {
-                Some(Meaning::Variable(which)) => {
-                    let variable = &self.world.variables[which];
-                    Ok(Place { ty: variable.ty, cell: variable.place })
-                }
+            Target::Name(name) => match self.scope().meaning(name) {
+                Some(Meaning::Variable(ty, cell)) => Ok(Place { ty, cell }),
                 _ => Err(Failure::Misfit),
             },
             Target::At(inner, index) => {
@@ -283,15 +325,13 @@ impl Machine<'_> {
                 };
                 let (low, high) = types.bounds(*index).ok_or(Failure::Misfit)?;
                 let index = within(value.of(types.host(*index))?, low, high)? - low;
-                Ok(Place {
-                    ty: *element,
-                    cell: inner.cell + index as usize * types.cells(*element),
-                })
+                let cells = index as usize * types.cells(*element);
+                Ok(Place { ty: *element, cell: inner.cell.on(cells) })
             }
             Target::Dot(inner, name) => {
                 let inner = self.place(inner)?;
                 let field = types.field(inner.ty, name).ok_or(Failure::Misfit)?;
-                Ok(Place { ty: field.ty, cell: inner.cell + field.offset })
+                Ok(Place { ty: field.ty, cell: inner.cell.on(field.offset) })
             }
         }
     }
@@ -299,11 +339,9 @@ impl Machine<'_> {
     /// Reading comes before the meeting of types, so that -104 wins over sticking (R4).
     fn read(&self, target: &Target) -> Worked<Value> {
         let place = self.place(target)?;
-        let cells = place.cell..place.cell + self.world.types.cells(place.ty);
-        if self.marks[cells.clone()].contains(&0) {
-            return Err(Failure::Exception(UNDEFINED_ERROR));
-        }
-        Ok(Value { ty: self.world.types.host(place.ty), cells: self.values[cells].to_vec() })
+        let cells = self.memory.read(place.cell, self.world.types.cells(place.ty));
+        let cells = cells.ok_or(UNDEFINED_ERROR)?;
+        Ok(Value { ty: self.world.types.host(place.ty), cells })
     }
 
     fn expr(&self, expr: &Expr) -> Worked<Value> {

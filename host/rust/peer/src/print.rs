@@ -1,9 +1,10 @@
 //! What `runscript` prints.
 
-use crate::answer::{Answer, Outcome, Refusal};
+use crate::answer::{Alive, Answer, Outcome, Refusal};
 use crate::faults::Fits;
 use crate::judge::{judge, Script};
-use crate::{bytes, mark, run};
+use crate::level::Level;
+use crate::{bytes, mark, names, run};
 
 /// The budget of `runscript`.
 pub const BUDGET: u32 = 10_000;
@@ -27,10 +28,9 @@ pub fn refused(refusal: &Refusal) -> String {
 }
 
 /// Each cell: its number, its variable in small letters, its value or `-`.
-pub fn cells(script: &Script, values: &[i64], marks: &[u8]) -> String {
+pub fn cells(owners: &[String], values: &[i64], marks: &[u8]) -> String {
     let mut text = String::new();
-    for (cell, owner) in script.world.owners().into_iter().enumerate() {
-        let name = &script.world.variables[owner].name;
+    for (cell, name) in owners.iter().enumerate() {
         let value = match marks[cell] {
             0 => "-".to_string(),
             _ => values[cell].to_string(),
@@ -40,26 +40,26 @@ pub fn cells(script: &Script, values: &[i64], marks: &[u8]) -> String {
     text
 }
 
-type Machine = fn(&Script, &mut [i64], &mut [u8], u32) -> Answer;
+type Machine = fn(&Script, &mut [i64], &mut [u8], u32) -> (Answer, Alive);
 
-fn print(text: &[u8], fits: Fits, machine: Machine, budget: u32) -> String {
-    match judge(text, bytes::WORK, fits) {
+fn print(level: Level, text: &[u8], fits: Fits, machine: Machine, budget: u32) -> String {
+    match judge(level, text, bytes::WORK, fits) {
         Err(refusal) => refused(&refusal),
         Ok(script) => {
             let mut values = vec![0; script.world.cells];
             let mut marks = vec![0; script.world.cells];
-            let answer = machine(&script, &mut values, &mut marks, budget);
-            outcome(&answer) + &cells(&script, &values, &marks)
+            let (answer, _) = machine(&script, &mut values, &mut marks, budget);
+            outcome(&answer) + &cells(&names(&script), &values, &marks)
         }
     }
 }
 
 /// `runscript` at a budget: every cell undefined at the start.
-pub fn runscript(text: &[u8], budget: u32) -> String {
-    print(text, Fits::Judged, run::run, budget)
+pub fn runscript(level: Level, text: &[u8], budget: u32) -> String {
+    print(level, text, Fits::Judged, run::run, budget)
 }
 
 /// The same for the marking machine.
-pub fn markscript(text: &[u8], budget: u32) -> String {
-    print(text, Fits::LeftOut, mark::mark, budget)
+pub fn markscript(level: Level, text: &[u8], budget: u32) -> String {
+    print(level, text, Fits::LeftOut, mark::mark, budget)
 }

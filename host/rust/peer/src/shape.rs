@@ -1,18 +1,49 @@
 //! From trees to syntax (row 6). `None` means that a shape is not in the list of forms.
 
+use crate::level::Level;
 use crate::syntax::*;
 use crate::tree::Tree;
 use crate::word::Word;
 
-/// Reads one line; `count` is the number of statements so far over the text.
-pub fn line(tree: &Tree, count: &mut u32) -> Option<Line> {
+/// What reading a line depends on beside its tree.
+#[derive(Clone, Debug)]
+pub struct Reader {
+    level: Level,
+    /// Statements so far over the text.
+    statements: u32,
+}
+
+impl Reader {
+    pub fn new(level: Level) -> Reader {
+        Reader { level, statements: 0 }
+    }
+}
+
+/// Reads one line.
+pub fn line(tree: &Tree, reader: &mut Reader) -> Option<Line> {
     let (head, parts) = head(tree)?;
     match (head, parts) {
         ("type", [name, form]) => Some(Line::Type(self::name(name)?, type_form(form)?)),
         ("var", [name, ty]) => Some(Line::Var(self::name(name)?, type_name(ty)?)),
-        ("proc", [name, rest @ ..]) => Some(Line::Proc(self::name(name)?, body(rest, count)?)),
-        ("main", rest) => Some(Line::Main(body(rest, count)?)),
+        ("proc", [name, rest @ ..]) => {
+            let (pairs, rest) = parameters(rest, reader.level)?;
+            Some(Line::Proc(self::name(name)?, pairs, body(rest, reader)?))
+        }
+        ("main", rest) => Some(Line::Main(body(rest, reader)?)),
         _ => None,
+    }
+}
+
+/// The pairs of a parameter list, and the parts after it. No statement begins with two brackets
+/// or is empty, so that a part which does is a list, and an empty one is short of a pair.
+fn parameters(parts: &[Tree], level: Level) -> Option<(Vec<Pair>, &[Tree])> {
+    match parts {
+        [Tree::List(pairs), rest @ ..] if level.has(Level::PARAMETERS) => match pairs.first() {
+            None => None,
+            Some(Tree::List(_)) => Some((pairs.iter().map(pair).collect::<Option<_>>()?, rest)),
+            Some(Tree::Word(_)) => Some((Vec::new(), parts)),
+        },
+        _ => Some((Vec::new(), parts)),
     }
 }
 
@@ -65,16 +96,17 @@ fn type_form(tree: &Tree) -> Option<TypeForm> {
             Some(TypeForm::Array(type_name(index)?, type_name(element)?))
         }
         ("record", fields) if !fields.is_empty() => {
-            Some(TypeForm::Record(fields.iter().map(field).collect::<Option<_>>()?))
+            Some(TypeForm::Record(fields.iter().map(pair).collect::<Option<_>>()?))
         }
         ("setof", [base]) => Some(TypeForm::SetOf(type_name(base)?)),
         _ => None,
     }
 }
 
-fn field(tree: &Tree) -> Option<(String, String)> {
+/// `(N T)`: a field or a parameter.
+fn pair(tree: &Tree) -> Option<Pair> {
     match list(tree)? {
-        [field, ty] => Some((name(field)?, type_name(ty)?)),
+        [first, ty] => Some((name(first)?, type_name(ty)?)),
         _ => None,
     }
 }
@@ -94,43 +126,46 @@ fn constant(tree: &Tree) -> Option<Constant> {
 }
 
 /// Statements, then at most one `(exception S..)`.
-fn body(parts: &[Tree], count: &mut u32) -> Option<Body> {
+fn body(parts: &[Tree], reader: &mut Reader) -> Option<Body> {
     let Some((last, before)) = parts.split_last() else {
         return Some(Body::default());
     };
     match head(last)? {
         ("exception", handler) => Some(Body {
-            statements: statements(before, count)?,
-            handler: Some(statements(handler, count)?),
+            statements: statements(before, reader)?,
+            handler: Some(statements(handler, reader)?),
         }),
-        _ => Some(Body { statements: statements(parts, count)?, handler: None }),
+        _ => Some(Body { statements: statements(parts, reader)?, handler: None }),
     }
 }
 
-fn statements(parts: &[Tree], count: &mut u32) -> Option<Vec<Statement>> {
-    parts.iter().map(|part| statement(part, count)).collect()
+fn statements(parts: &[Tree], reader: &mut Reader) -> Option<Vec<Statement>> {
+    parts.iter().map(|part| statement(part, reader)).collect()
 }
 
-fn boxed(tree: &Tree, count: &mut u32) -> Option<Box<Statement>> {
-    Some(Box::new(statement(tree, count)?))
+fn boxed(tree: &Tree, reader: &mut Reader) -> Option<Box<Statement>> {
+    Some(Box::new(statement(tree, reader)?))
 }
 
-fn statement(tree: &Tree, count: &mut u32) -> Option<Statement> {
-    *count += 1;
-    let number = *count;
+fn statement(tree: &Tree, reader: &mut Reader) -> Option<Statement> {
+    reader.statements += 1;
+    let number = reader.statements;
     let act = match head(tree)? {
         (":=", [to, value]) => Act::Assign(target(to)?, expr(value)?),
-        ("begin", parts) => Act::Begin(statements(parts, count)?),
-        ("if", [test, yes]) => Act::If(expr(test)?, boxed(yes, count)?, None),
+        ("begin", parts) => Act::Begin(statements(parts, reader)?),
+        ("if", [test, yes]) => Act::If(expr(test)?, boxed(yes, reader)?, None),
         ("if", [test, yes, no]) => {
-            Act::If(expr(test)?, boxed(yes, count)?, Some(boxed(no, count)?))
+            Act::If(expr(test)?, boxed(yes, reader)?, Some(boxed(no, reader)?))
         }
-        ("while", [test, inner]) => Act::While(expr(test)?, boxed(inner, count)?),
+        ("while", [test, inner]) => Act::While(expr(test)?, boxed(inner, reader)?),
         ("for", [control, from, to, inner]) => {
-            Act::For(name(control)?, expr(from)?, expr(to)?, boxed(inner, count)?)
+            Act::For(name(control)?, expr(from)?, expr(to)?, boxed(inner, reader)?)
         }
-        ("case", [selector, branches @ ..]) => case(selector, branches, count)?,
-        ("call", [procedure]) => Act::Call(name(procedure)?),
+        ("case", [selector, branches @ ..]) => case(selector, branches, reader)?,
+        ("call", [procedure]) => Act::Call(name(procedure)?, Vec::new()),
+        ("call", [procedure, parts @ ..]) if reader.level.has(Level::PARAMETERS) => {
+            Act::Call(name(procedure)?, parts.iter().map(expr).collect::<Option<_>>()?)
+        }
         ("raise", [value]) => Act::Raise(expr(value)?),
         _ => return None,
     };
@@ -138,7 +173,7 @@ fn statement(tree: &Tree, count: &mut u32) -> Option<Statement> {
 }
 
 /// One or more arms, then at most one `(else S)`.
-fn case(selector: &Tree, branches: &[Tree], count: &mut u32) -> Option<Act> {
+fn case(selector: &Tree, branches: &[Tree], reader: &mut Reader) -> Option<Act> {
     let selector = expr(selector)?;
     let (last, before) = branches.split_last()?;
     let (arms, otherwise) = match head(last)? {
@@ -148,16 +183,16 @@ fn case(selector: &Tree, branches: &[Tree], count: &mut u32) -> Option<Act> {
     if arms.is_empty() {
         return None;
     }
-    let arms = arms.iter().map(|part| arm(part, count)).collect::<Option<_>>()?;
+    let arms = arms.iter().map(|part| arm(part, reader)).collect::<Option<_>>()?;
     let otherwise = match otherwise {
-        Some(inner) => Some(boxed(inner, count)?),
+        Some(inner) => Some(boxed(inner, reader)?),
         None => None,
     };
     Some(Act::Case(selector, arms, otherwise))
 }
 
 /// The last part is the statement and all before it are labels (R16).
-fn arm(tree: &Tree, count: &mut u32) -> Option<Arm> {
+fn arm(tree: &Tree, reader: &mut Reader) -> Option<Arm> {
     let ("arm", [labels @ .., inner]) = head(tree)? else {
         return None;
     };
@@ -165,7 +200,7 @@ fn arm(tree: &Tree, count: &mut u32) -> Option<Arm> {
         return None;
     }
     let labels = labels.iter().map(constant).collect::<Option<_>>()?;
-    Some(Arm { labels, statement: statement(inner, count)? })
+    Some(Arm { labels, statement: statement(inner, reader)? })
 }
 
 fn target(tree: &Tree) -> Option<Target> {

@@ -4,9 +4,13 @@
 pub enum Line {
     Type(String, TypeForm),
     Var(String, String),
-    Proc(String, Body),
+    /// Its name, the pairs of its parameters, and its body.
+    Proc(String, Vec<Pair>, Body),
     Main(Body),
 }
+
+/// A name and a type's name.
+pub type Pair = (String, String);
 
 /// `integer` and `boolean` are type names like others.
 #[derive(Clone, Debug)]
@@ -15,7 +19,7 @@ pub enum TypeForm {
     Enum(Vec<String>),
     Range(Constant, Constant),
     Array(String, String),
-    Record(Vec<(String, String)>),
+    Record(Vec<Pair>),
     SetOf(String),
 }
 
@@ -49,7 +53,7 @@ pub enum Act {
     While(Expr, Box<Statement>),
     For(String, Expr, Expr, Box<Statement>),
     Case(Expr, Vec<Arm>, Option<Box<Statement>>),
-    Call(String),
+    Call(String, Vec<Expr>),
     Raise(Expr),
 }
 

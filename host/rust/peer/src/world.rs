@@ -3,7 +3,8 @@
 use std::collections::{HashMap, HashSet};
 
 use crate::faults::Faults;
-use crate::syntax::{Constant, TypeForm};
+use crate::scope::{Cell, Variable};
+use crate::syntax::{Constant, Pair, TypeForm};
 use crate::types::{Field, Type, TypeId, Types, BOOLEAN, INTEGER};
 
 const TYPES: usize = 64;
@@ -19,27 +20,24 @@ const LAST_MEMBER: i64 = 31;
 #[derive(Clone, Copy, Debug, PartialEq, Eq)]
 pub enum Meaning {
     Type(TypeId),
-    Variable(usize),
+    /// Its type and its first cell.
+    Variable(TypeId, Cell),
     Procedure(usize),
     EnumName(TypeId, i64),
 }
 
 #[derive(Clone, Debug)]
-pub struct Variable {
-    pub name: String,
-    pub ty: TypeId,
-    /// Its first cell.
-    pub place: usize,
-}
-
-#[derive(Clone, Debug)]
 pub struct World {
     pub types: Types,
+    /// Those of `var` lines; the store has their cells alone.
     pub variables: Vec<Variable>,
     pub cells: usize,
+    /// The parameters of each procedure.
+    pub procedures: Vec<Vec<Variable>>,
+    /// One cell for each parameter of all procedures.
+    pub parameter_cells: usize,
     names: HashMap<String, Meaning>,
     type_lines: usize,
-    procedures: usize,
 }
 
 impl World {
@@ -52,9 +50,10 @@ impl World {
             types: Types::new(),
             variables: Vec::new(),
             cells: 0,
+            procedures: Vec::new(),
+            parameter_cells: 0,
             names,
             type_lines: 0,
-            procedures: 0,
         }
     }
 
@@ -108,7 +107,8 @@ impl World {
         cells
     }
 
-    fn fresh(&self, name: &str, faults: &mut Faults) {
+    /// A name that is declared must not be known.
+    pub fn fresh(&self, name: &str, faults: &mut Faults) {
         faults.name |= self.names.contains_key(name);
     }
 
@@ -188,7 +188,7 @@ impl World {
         Some(Type::Array { index, element })
     }
 
-    fn record(&self, written: &[(String, String)], faults: &mut Faults) -> Option<Type> {
+    fn record(&self, written: &[Pair], faults: &mut Faults) -> Option<Type> {
         let mut seen = HashSet::new();
         let mut fields = Vec::new();
         let mut offset = 0;
@@ -216,29 +216,36 @@ impl World {
     pub fn var_line(&mut self, name: &str, ty: &str) -> Faults {
         let mut faults = Faults::default();
         self.fresh(name, &mut faults);
-        faults.limit |= self.variables.len() == VARIABLES;
         if let Some(ty) = self.type_of(ty, &mut faults) {
-            let cells = self.cells + self.types.cells(ty);
-            faults.limit |= cells > CELLS;
+            let cells = self.types.cells(ty);
+            faults.limit |= !self.has_room(1, cells);
             if faults.none() {
-                self.declare(name, Meaning::Variable(self.variables.len()));
-                self.variables.push(Variable { name: name.to_string(), ty, place: self.cells });
-                self.cells = cells;
+                let cell = Cell::Store(self.cells);
+                self.declare(name, Meaning::Variable(ty, cell));
+                self.variables.push(Variable { name: name.to_string(), ty, cell });
+                self.cells += cells;
             }
         }
         faults
     }
 
+    /// Is there room for so many more variables and cells? All parameters count among both.
+    pub fn has_room(&self, variables: usize, cells: usize) -> bool {
+        self.variables.len() + self.parameter_cells + variables <= VARIABLES
+            && self.cells + self.parameter_cells + cells <= CELLS
+    }
+
     /// Judges the name and number of a `proc` line. Its body is judged before the name is known.
     pub fn proc_name(&self, name: &str, faults: &mut Faults) {
         self.fresh(name, faults);
-        faults.limit |= self.procedures == PROCEDURES;
+        faults.limit |= self.procedures.len() == PROCEDURES;
     }
 
     /// Makes a procedure known to the lines after its own.
-    pub fn declare_proc(&mut self, name: &str) {
-        self.declare(name, Meaning::Procedure(self.procedures));
-        self.procedures += 1;
+    pub fn declare_proc(&mut self, name: &str, parameters: Vec<Variable>) {
+        self.declare(name, Meaning::Procedure(self.procedures.len()));
+        self.parameter_cells += parameters.len();
+        self.procedures.push(parameters);
     }
 }
 

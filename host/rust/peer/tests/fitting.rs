@@ -2,7 +2,7 @@
 
 use peer::bytes::WORK;
 use peer::print::{markscript, runscript, BUDGET};
-use peer::{Answer, Outcome, Refusal};
+use peer::{Answer, Outcome, Refusal, LANDED};
 
 /// The value of an integer expression, or the number of its exception.
 fn value(expr: &str) -> Result<i64, i64> {
@@ -10,7 +10,8 @@ fn value(expr: &str) -> Result<i64, i64> {
         "(type o (range 0 31))\n(type s (setof o))\n(var x integer)\n(main (:= x {expr}))\n"
     );
     let (mut values, mut marks) = ([0], [0]);
-    match peer::run(text.as_bytes(), WORK, &mut values, &mut marks, 100).expect(expr).outcome {
+    let answer = peer::run(LANDED, text.as_bytes(), WORK, &mut values, &mut marks, 100);
+    match answer.expect(expr).outcome {
         Outcome::Normal => Ok(values[0]),
         Outcome::Exception { number, statement: 1 } => Err(number),
         other => panic!("{expr}: {other:?}"),
@@ -18,7 +19,7 @@ fn value(expr: &str) -> Result<i64, i64> {
 }
 
 fn refusal(text: &str) -> (u32, u32) {
-    match peer::verdict(text.as_bytes(), WORK) {
+    match peer::verdict(LANDED, text.as_bytes(), WORK) {
         Ok(_) => (0, 0),
         Err(Refusal { number, line }) => (number, line),
     }
@@ -73,14 +74,15 @@ fn sets() {
 #[test]
 fn loops() {
     let near = "(var i integer)\n(main (for i 2147483646 2147483647 (begin)))\n";
-    assert_eq!(runscript(near.as_bytes(), BUDGET), "normal 5\n1 i 2147483647\n");
+    assert_eq!(runscript(LANDED, near.as_bytes(), BUDGET), "normal 5\n1 i 2147483647\n");
     let none = "(type r (range 1 4))\n(var i r)\n(main (for i 5 1 (begin)))\n";
-    assert_eq!(runscript(none.as_bytes(), BUDGET), "normal 1\n1 i -\n");
+    assert_eq!(runscript(LANDED, none.as_bytes(), BUDGET), "normal 1\n1 i -\n");
 }
 
 #[test]
 fn outcomes() {
-    let at = |text: &str, budget| peer::run(text.as_bytes(), WORK, &mut [], &mut [], budget);
+    let at =
+        |text: &str, budget| peer::run(LANDED, text.as_bytes(), WORK, &mut [], &mut [], budget);
     assert_eq!(at("(main)\n", 0), Ok(Answer { outcome: Outcome::Normal, steps: 0 }));
     let system = Outcome::Exception { number: -102, statement: 1 };
     assert_eq!(at("(main (raise 0))\n", 1), Ok(Answer { outcome: system, steps: 1 }));
@@ -92,7 +94,7 @@ fn sticking() {
     for act in ["(raise (+ 1 true))", "(if 1 (begin))"] {
         let text = format!("(main {act})\n");
         assert_eq!(refusal(&text), (8, 1));
-        assert_eq!(markscript(text.as_bytes(), BUDGET), "stuck 1\n");
+        assert_eq!(markscript(LANDED, text.as_bytes(), BUDGET), "stuck 1\n");
     }
 }
 
@@ -100,13 +102,13 @@ fn sticking() {
 fn sheet() {
     let text = b"(type slot (range 1 4))\n(var at_slot slot)\n(var sum integer)\n\
                  (main (:= at_slot 3) (:= sum (** 2 (+ at_slot 1))))\n";
-    assert_eq!(runscript(text, BUDGET), "normal 2\n1 at_slot 3\n2 sum 16\n");
-    assert_eq!(runscript(text, 1), "spent 1\n1 at_slot 3\n2 sum -\n");
+    assert_eq!(runscript(LANDED, text, BUDGET), "normal 2\n1 at_slot 3\n2 sum 16\n");
+    assert_eq!(runscript(LANDED, text, 1), "spent 1\n1 at_slot 3\n2 sum -\n");
 }
 
 #[test]
 fn refusals() {
-    assert_eq!(peer::cells(b"(main)\n", WORK - 1), Err(Refusal { number: 1, line: 0 }));
+    assert_eq!(peer::cells(LANDED, b"(main)\n", WORK - 1), Err(Refusal { number: 1, line: 0 }));
     assert_eq!(refusal(&" ".repeat(32_769)), (2, 0));
     assert_eq!(refusal("(main)\n\t\n"), (3, 2));
     assert_eq!(refusal("(main)"), (4, 1));
@@ -133,7 +135,7 @@ fn store() {
     let text = b"(type t (range 2 5))\n(type s (setof t))\n(var x s)\n(var y t)\n(main)\n";
     let number = |values: &[i64], marks: &[u8]| {
         let (mut left, mut right) = (values.to_vec(), marks.to_vec());
-        let answer = peer::run(text, WORK, &mut left, &mut right, 0);
+        let answer = peer::run(LANDED, text, WORK, &mut left, &mut right, 0);
         assert_eq!((left, right), (values.to_vec(), marks.to_vec()));
         answer.map_or_else(|refusal| refusal.number, |_| 0)
     };
@@ -158,6 +160,6 @@ fn deep_calls() {
     }
     text += &format!("(main {})\n", wrap("(call p31)"));
     let report = "exception 5 31 1023\n";
-    assert_eq!(runscript(text.as_bytes(), BUDGET), report);
-    assert_eq!(markscript(text.as_bytes(), BUDGET), report);
+    assert_eq!(runscript(LANDED, text.as_bytes(), BUDGET), report);
+    assert_eq!(markscript(LANDED, text.as_bytes(), BUDGET), report);
 }

@@ -5,6 +5,7 @@ use std::path::Path;
 
 use peer::bytes::WORK;
 use peer::print::{markscript, runscript, BUDGET};
+use peer::LANDED;
 
 const ROOT: &str = concat!(env!("CARGO_MANIFEST_DIR"), "/../../..");
 
@@ -66,7 +67,7 @@ fn kinds_of_boxes() {
 fn scripts_print_what_is_shown() {
     let guide = guide();
     for (script, output) in scripts(&guide) {
-        assert_eq!(runscript(script.as_bytes(), BUDGET), output, "{script}");
+        assert_eq!(runscript(LANDED, script.as_bytes(), BUDGET), output, "{script}");
     }
 }
 
@@ -78,7 +79,7 @@ fn marked_scripts_print_what_is_shown() {
         match kind {
             "script" => script = text,
             "marked" => {
-                assert_eq!(markscript(script.as_bytes(), BUDGET), text, "{script}");
+                assert_eq!(markscript(LANDED, script.as_bytes(), BUDGET), text, "{script}");
                 seen += 1;
             }
             _ => {}
@@ -103,7 +104,7 @@ fn values_are_as_told() {
             "{}(var ok boolean)\n(main {STORED} (:= ok (= {form} {other})))\n",
             declared(&guide)
         );
-        let report = runscript(script.as_bytes(), BUDGET);
+        let report = runscript(LANDED, script.as_bytes(), BUDGET);
         match verb {
             "gives" => assert!(report.ends_with(" ok 1\n"), "{form}: {report}"),
             "raises" => {
@@ -125,7 +126,7 @@ fn lines_are_judged_as_told() {
     let line_number = before.lines().count() as u32 + 1;
     for (line, answer) in answers(&guide, "judged") {
         let end = if line.starts_with("(main") { "" } else { "(main)\n" };
-        let verdict = peer::verdict(format!("{before}{line}\n{end}").as_bytes(), WORK);
+        let verdict = peer::verdict(LANDED, format!("{before}{line}\n{end}").as_bytes(), WORK);
         let got = match verdict {
             Ok(_) => "accepted".to_string(),
             Err(refusal) => {
@@ -153,7 +154,7 @@ fn examples_are_those_of_the_repository() {
             count += 1;
         }
     }
-    assert_eq!(count, 10);
+    assert_eq!(count, 11);
 }
 
 /// A form inside a sentence is a pattern with capitals, or stands in a box too.

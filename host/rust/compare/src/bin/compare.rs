@@ -1,9 +1,11 @@
-//! `compare FROM TO [misfits]`: both on the cases of the seeds from FROM up to, not with, TO; with `misfits`, on scripts in whose bodies some
-//! kinds do not fit. Exit status 1 if they differ on any.
+//! `compare FROM TO [misfits|calls]`: both on the cases of the seeds from FROM up to, not with, TO; with `misfits`, on scripts in whose bodies
+//! some kinds do not fit; with `calls`, on scripts of procedures that call one another through their parameters. Exit status 1 if they differ
+//! on any.
 use compare::answers::{differ, of_library, of_peer};
 use compare::shrink::shrunk;
 use compare::tally::Tally;
-use peer::gen::{case, misfit_case, Case};
+use peer::gen::{call_case, case, misfit_case, Case};
+use peer::{Level, LANDED};
 use std::process::ExitCode;
 
 /// Differences that are shown; the rest are only counted.
@@ -11,15 +13,15 @@ const SHOWN: u64 = 5;
 
 fn main() -> ExitCode {
     let Some((from, to, made)) = read(&std::env::args().skip(1).collect::<Vec<_>>()) else {
-        eprintln!("usage: compare FROM TO [misfits]");
+        eprintln!("usage: compare FROM TO [misfits|calls]");
         return ExitCode::from(2);
     };
     let mut tally = Tally::default();
     let mut bad = 0;
     for seed in from..to {
-        let case = made(seed);
+        let case = made(LANDED, seed);
         let answers = of_library(&case);
-        tally.add(&case.text, &answers);
+        tally.add(&case, &answers);
         if answers != of_peer(&case) {
             bad += 1;
             if bad <= SHOWN {
@@ -32,11 +34,15 @@ fn main() -> ExitCode {
     ExitCode::from(u8::from(bad > 0))
 }
 
+/// What makes a case of a seed.
+type Maker = fn(Level, u64) -> Case;
+
 /// The seeds, and what makes a case of one.
-fn read(words: &[String]) -> Option<(u64, u64, fn(u64) -> Case)> {
-    let made = match words.get(2).map(String::as_str) {
+fn read(words: &[String]) -> Option<(u64, u64, Maker)> {
+    let made: Maker = match words.get(2).map(String::as_str) {
         None => case,
         Some("misfits") => misfit_case,
+        Some("calls") => call_case,
         Some(_) => return None,
     };
     Some((words.first()?.parse().ok()?, words.get(1)?.parse().ok()?, made))

@@ -3,6 +3,7 @@
 //! clears it again is part of its time. The peer lends no working list and makes its own lists.
 use compare::workloads::{enum_names, examples, first_name, full, generated, mixed_labels, passing, LOOPS};
 use drive::{Bench, Store, WORK};
+use peer::{Level, LANDED};
 use std::hint::black_box;
 use std::time::Instant;
 
@@ -14,13 +15,14 @@ struct Check {
     peer: fn(&[u8]) -> bool,
 }
 
-const VERDICT: Check = Check { library: |bench, text| bench.verdict(text).is_ok(), peer: |text| peer::verdict(text, WORK).is_ok() };
-const LOOSELY: Check = Check { library: |bench, text| bench.mark_owners(text).is_ok(), peer: |text| peer::mark_owners(text, WORK).is_ok() };
+const VERDICT: Check = Check { library: |bench, text| bench.verdict(text).is_ok(), peer: |text| peer::verdict(LANDED, text, WORK).is_ok() };
+const LOOSELY: Check =
+    Check { library: |bench, text| bench.mark_owners(text).is_ok(), peer: |text| peer::mark_owners(LANDED, text, WORK).is_ok() };
 
 /// A machine of both.
 struct Machine {
     library: fn(&mut Bench, &[u8], &mut Store, u32) -> Result<drive::Answer, drive::Refusal>,
-    peer: fn(&[u8], usize, &mut [i64], &mut [u8], u32) -> Result<peer::Answer, peer::Refusal>,
+    peer: fn(Level, &[u8], usize, &mut [i64], &mut [u8], u32) -> Result<peer::Answer, peer::Refusal>,
 }
 
 const CHAIR: Machine = Machine { library: Bench::run, peer: peer::run };
@@ -59,7 +61,7 @@ fn nanoseconds(work: impl FnOnce()) -> f64 {
 }
 
 fn checks(check: &Check) {
-    bytes("the ten examples", &examples(), 100, check);
+    bytes("the eleven examples", &examples(), 100, check);
     bytes("300 generated texts, accepted", &generated(300, true), 1, check);
     bytes("300 generated texts, refused", &generated(300, false), 1, check);
     bytes("a text of 4,096 nodes", &[full()], 10, check);
@@ -97,7 +99,7 @@ fn steps(what: &str, text: &[u8], budget: u32, machine: &Machine) {
         library = library.min(nanoseconds(run));
         let mut other = Store::undefined(cells);
         let (values, marks) = (&mut other.values, &mut other.marks);
-        let run = || assert_eq!((machine.peer)(text, WORK, values, marks, budget).map(|a| a.steps), Ok(budget));
+        let run = || assert_eq!((machine.peer)(LANDED, text, WORK, values, marks, budget).map(|a| a.steps), Ok(budget));
         peer = peer.min(nanoseconds(run));
         assert_eq!(store, other);
     }

@@ -4,6 +4,7 @@ use super::exprs::{Writer, CLASHING, SMOOTH, UNEVEN};
 use super::node::{form, word, Node};
 use super::rng::Rng;
 use super::scene::{Scene, BOOLEAN, INTEGER};
+use crate::level::Level;
 
 /// How large a script is, and how often its kinds don't fit (in 1,000 expressions).
 #[derive(Clone, Copy, Debug)]
@@ -13,13 +14,16 @@ pub struct Size {
     pub procedures: usize,
     pub statements: usize,
     pub wild: usize,
+    /// Most bodies call the procedure before them, with arguments.
+    pub calls: bool,
 }
 
 const DEPTH: usize = 16;
 
 /// A script that breaks no rule, if `wild` is 0.
-pub fn script(rng: Rng, size: Size) -> Scene {
-    let mut scene = Scene::new(rng);
+pub fn script(level: Level, rng: Rng, size: Size) -> Scene {
+    let mut scene = Scene::new(level, rng);
+    scene.calls = size.calls;
     for _ in 0..size.types {
         scene.type_line();
     }
@@ -31,13 +35,17 @@ pub fn script(rng: Rng, size: Size) -> Scene {
         };
         scene.var_line(ty);
     }
+    if size.calls {
+        scene.var_line(INTEGER);
+    }
     for _ in 0..size.procedures {
         let room = 1 + scene.rng.below(2 * size.statements / (size.procedures + 1) + 1);
         let name = scene.fresh();
         let mut parts = vec![word(&name)];
+        parts.extend(scene.enter());
         parts.extend(body(&mut scene, room, size.wild));
         scene.lines.push(form("proc", parts));
-        scene.procedures.push(name);
+        scene.leave(name);
     }
     let mut parts = if scene.rng.percent(80) { starts(&mut scene, size.wild) } else { Vec::new() };
     parts.extend(body(&mut scene, size.statements, size.wild));
@@ -49,10 +57,11 @@ fn body(scene: &mut Scene, room: usize, wild: usize) -> Vec<Node> {
     let handled = scene.rng.percent(35);
     let rough = if wild > 0 { UNEVEN } else { SMOOTH };
     let mut writer = Writer { scene, wild, rough, controls: Vec::new(), room };
-    let mut parts = Vec::new();
+    let mut parts: Vec<Node> = writer.deeper().into_iter().collect();
     while writer.room > 0 {
         parts.push(writer.statement(DEPTH));
     }
+    parts.extend(writer.at_the_end(handled));
     if handled {
         writer.room = writer.scene.rng.below(4);
         let mut handler = Vec::new();
@@ -103,6 +112,9 @@ impl Writer<'_> {
 
     /// A statement as handlers have them: raising again, keeping the number.
     pub fn in_handler(&mut self) -> Node {
+        if let Some(told) = self.tell(40) {
+            return told;
+        }
         match self.scene.rng.below(6) {
             0 => {
                 self.room = self.room.saturating_sub(1);
@@ -138,7 +150,9 @@ impl Writer<'_> {
     /// A statement of which several parts raise: the first one counts.
     fn clash(&mut self, depth: usize) -> Node {
         let before = std::mem::replace(&mut self.rough, CLASHING);
+        let calls = self.scene.level.has(Level::PARAMETERS) && self.scene.rng.percent(25);
         let statement = match self.scene.rng.below(6) {
+            _ if calls => self.call(),
             0 => self.count(depth),
             1 => self.case(depth),
             2 => self.choice(depth),
@@ -186,6 +200,7 @@ impl Writer<'_> {
         if list.is_empty() {
             return form("begin", vec![]);
         }
+        let list = self.own_first(list);
         let place = *self.scene.rng.pick(&list);
         let (name, ty) = self.scene.variables[place].clone();
         let (from, to) = self.rounds(ty);
@@ -245,8 +260,8 @@ impl Writer<'_> {
         match self.scene.procedures.is_empty() {
             true => self.assign(4),
             false => {
-                let name = self.scene.rng.pick(&self.scene.procedures).clone();
-                form("call", vec![word(name)])
+                let procedure = self.scene.rng.pick(&self.scene.procedures).clone();
+                self.call_of(&procedure)
             }
         }
     }

@@ -28,12 +28,12 @@ pub fn text(rng: &mut Rng) -> Vec<u8> {
 }
 
 /// A count at a ceiling or beside it.
-fn near(most: usize, rng: &mut Rng) -> usize {
+pub fn near(most: usize, rng: &mut Rng) -> usize {
     most + [0, 1, 2, 0, 0][rng.below(5)] - [0, 0, 0, 1, 0][rng.below(5)]
 }
 
 /// A pattern for each number.
-fn many(pattern: &str, count: usize) -> String {
+pub fn many(pattern: &str, count: usize) -> String {
     (0..count).map(|n| pattern.replace("{}", &n.to_string())).collect()
 }
 
@@ -242,12 +242,15 @@ fn wide(rng: &mut Rng) -> String {
 #[cfg(test)]
 mod tests {
     use super::*;
+    use crate::level::Level;
     use std::collections::BTreeSet;
 
     /// The answers for many texts of one sort, 0 for accepted.
     fn answers(sort: fn(&mut Rng) -> String) -> BTreeSet<u32> {
-        let verdict =
-            |seed| crate::verdict(sort(&mut Rng::new(seed)).as_bytes(), crate::bytes::WORK);
+        let verdict = |seed| {
+            let text = sort(&mut Rng::new(seed));
+            crate::verdict(Level::BASE, text.as_bytes(), crate::bytes::WORK)
+        };
         (0..60).map(|seed| verdict(seed).map_or_else(|refusal| refusal.number, |_| 0)).collect()
     }
 

@@ -116,10 +116,10 @@ fn rename(lines: &mut [Node], old: &str, rng: &mut Rng) {
     }
 }
 
-type Spot = (usize, usize, Node);
+pub type Spot = (usize, usize, Node);
 
 /// The nodes that pass a test, with line and place.
-fn collect(lines: &[Node], test: &dyn Fn(&Node) -> bool) -> Vec<Spot> {
+pub fn collect(lines: &[Node], test: &dyn Fn(&Node) -> bool) -> Vec<Spot> {
     let mut spots = Vec::new();
     for (which, line) in lines.iter().enumerate() {
         let mut nodes = Vec::new();
@@ -133,7 +133,8 @@ fn collect(lines: &[Node], test: &dyn Fn(&Node) -> bool) -> Vec<Spot> {
     spots
 }
 
-fn choose(spots: &[Spot], rng: &mut Rng) -> Option<Spot> {
+/// One of the spots, if there is any.
+pub fn choose(spots: &[Spot], rng: &mut Rng) -> Option<Spot> {
     (!spots.is_empty()).then(|| rng.pick(spots).clone())
 }
 
@@ -303,7 +304,7 @@ fn parts(lines: &mut [Node], rng: &mut Rng) {
 }
 
 /// A part that fits some places and not others.
-fn extra(rng: &mut Rng) -> Node {
+pub fn extra(rng: &mut Rng) -> Node {
     match rng.below(9) {
         0 => Node::List(vec![]),
         1 => form("begin", vec![]),

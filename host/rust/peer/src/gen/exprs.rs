@@ -32,7 +32,7 @@ pub const FUNCTIONS: [&str; 11] =
     ["-", "not", "abs", "sqr", "odd", "ord", "pred", "succ", "card", "setmin", "setmax"];
 
 /// Integer expressions that raise -101 or -103, each written like one word.
-const RAISING: [&str; 6] = [
+pub const RAISING: [&str; 6] = [
     "(div 1 0)", "(mod 5 0)", "(** 0 0)", "(div #80000000 (- 1))", "(succ 2147483647)",
     "(pred (first integer))",
 ];
@@ -99,7 +99,7 @@ impl Writer<'_> {
         self.scene.constant(self.scene.host(ty), value)
     }
 
-    fn number(&mut self) -> Node {
+    pub fn number(&mut self) -> Node {
         let value = match self.scene.rng.below(4) {
             0 => *self.scene.rng.pick(&EDGES),
             1 => self.scene.rng.between(-100, 100),
@@ -272,6 +272,18 @@ impl Writer<'_> {
         }
     }
 
+    /// Now and then an index or a field of something that may have none.
+    fn wild_part(&mut self, of: &Node) -> Option<Node> {
+        if self.is_wild() {
+            let index = match self.scene.rng.percent(40) {
+                true => word(self.scene.rng.pick(&RAISING)),
+                false => self.number(),
+            };
+            return Some(form("at", vec![of.clone(), index]));
+        }
+        self.is_wild().then(|| form("dot", vec![of.clone(), word("speed")]))
+    }
+
     /// A target whose type passes the test, with its type.
     pub fn target(
         &mut self,
@@ -283,18 +295,12 @@ impl Writer<'_> {
         if list.is_empty() {
             return None;
         }
+        let list = self.own_first(list);
         let (name, mut ty) = self.scene.variables[*self.scene.rng.pick(&list)].clone();
         let mut node = word(name);
         let mut left = depth;
-        if self.is_wild() {
-            let index = match self.scene.rng.percent(40) {
-                true => word(self.scene.rng.pick(&RAISING)),
-                false => self.number(),
-            };
-            return Some((form("at", vec![node, index]), ty));
-        }
-        if self.is_wild() {
-            return Some((form("dot", vec![node, word("speed")]), ty));
+        if let Some(misfit) = self.wild_part(&node) {
+            return Some((misfit, ty));
         }
         while !test(self.scene, ty) {
             left -= 1;

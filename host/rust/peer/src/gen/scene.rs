@@ -4,6 +4,7 @@ use std::collections::HashSet;
 
 use super::node::{form, word, Node};
 use super::rng::Rng;
+use crate::level::Level;
 
 pub const INTEGER: usize = 0;
 pub const BOOLEAN: usize = 1;
@@ -31,15 +32,30 @@ pub struct Known {
     pub cells: usize,
 }
 
+/// A procedure, with the types of its parameters.
+#[derive(Clone, Debug)]
+pub struct Procedure {
+    pub name: String,
+    pub parameters: Vec<usize>,
+}
+
 #[derive(Clone, Debug)]
 pub struct Scene {
+    pub level: Level,
     pub rng: Rng,
     pub lines: Vec<Node>,
     pub types: Vec<Known>,
+    /// While a procedure's body is written, its parameters stand last.
     pub variables: Vec<(String, usize)>,
-    pub procedures: Vec<String>,
+    /// How many of the variables are parameters.
+    pub own: usize,
+    pub procedures: Vec<Procedure>,
+    /// Is it a script of many calls?
+    pub calls: bool,
     pub cells: usize,
-    used: HashSet<String>,
+    /// The parameters of all procedures so far.
+    pub parameters: usize,
+    pub used: HashSet<String>,
 }
 
 /// Names that look like reserved words, and plain ones.
@@ -50,7 +66,7 @@ const STEMS: [&str; 28] = [
 ];
 
 impl Scene {
-    pub fn new(rng: Rng) -> Scene {
+    pub fn new(level: Level, rng: Rng) -> Scene {
         let plain =
             |name: &str, root, shape| Known { name: name.to_string(), root, shape, cells: 1 };
         let types = vec![
@@ -58,12 +74,16 @@ impl Scene {
             plain("boolean", BOOLEAN, Shape::Boolean),
         ];
         Scene {
+            level,
             rng,
             lines: Vec::new(),
             types,
             variables: Vec::new(),
+            own: 0,
             procedures: Vec::new(),
+            calls: false,
             cells: 0,
+            parameters: 0,
             used: HashSet::new(),
         }
     }
@@ -118,7 +138,7 @@ impl Scene {
         word(&self.types[ty].name)
     }
 
-    fn add(&mut self, shape: Shape, written: Node, cells: usize) {
+    pub fn add(&mut self, shape: Shape, written: Node, cells: usize) {
         let name = self.fresh();
         self.lines.push(form("type", vec![word(&name), written]));
         let root = self.types.len();
@@ -221,11 +241,16 @@ impl Scene {
 
     /// Adds a `var` line of this type, if its cells fit.
     pub fn var_line(&mut self, ty: usize) {
-        if self.cells + self.types[ty].cells > 2_048 {
+        if self.cells + self.parameters + self.types[ty].cells > 2_048 {
             return;
         }
-        self.cells += self.types[ty].cells;
         let name = self.fresh();
+        self.var_named(name, ty);
+    }
+
+    /// Adds a `var` line with this name.
+    pub fn var_named(&mut self, name: String, ty: usize) {
+        self.cells += self.types[ty].cells;
         self.lines.push(form("var", vec![word(&name), self.type_word(ty)]));
         self.variables.push((name, ty));
     }

@@ -1,4 +1,4 @@
-//! A reader for the little JSON that the vectors use: one flat object a line.
+//! A reader for the little JSON that the vectors use: one object of texts, numbers and lists a line.
 
 use std::collections::HashMap;
 
@@ -6,7 +6,7 @@ use std::collections::HashMap;
 pub enum Json {
     Text(String),
     Number(i64),
-    List(Vec<i64>),
+    List(Vec<Json>),
 }
 
 pub struct Reader<'a> {
@@ -52,11 +52,11 @@ impl Reader<'_> {
         }
     }
 
-    fn list(&mut self) -> Vec<i64> {
+    fn list(&mut self) -> Vec<Json> {
         let mut list = Vec::new();
         self.expect('[');
         while !self.take(']') {
-            list.push(self.number());
+            list.push(self.value());
             self.take(',');
         }
         list

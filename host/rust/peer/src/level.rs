@@ -1,0 +1,23 @@
+//! The level of the language: how many requests of document 02 have landed.
+
+/// Document 01 with the first so many requests of document 02.
+#[derive(Clone, Copy, Debug, PartialEq, Eq, PartialOrd, Ord, Hash)]
+pub struct Level(u8);
+
+/// The level of the library that the peer is compared with: the one setting that a landing moves.
+pub const LANDED: Level = Level::PARAMETERS;
+
+impl Level {
+    /// Document 01 alone.
+    pub const BASE: Level = Level(0);
+    /// Point 1: procedures take value parameters.
+    pub const PARAMETERS: Level = Level(1);
+
+    /// All levels that the peer knows.
+    pub const ALL: [Level; 2] = [Level::BASE, Level::PARAMETERS];
+
+    /// Has the request that brought this level landed?
+    pub fn has(self, request: Level) -> bool {
+        self >= request
+    }
+}
