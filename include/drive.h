@@ -1,5 +1,7 @@
 /* Drive scripts, checked, run and marked: the functions of libhostlink.a (`rt staticlib hostlink`). Each function is proved to do what
-   it says here, for every text, list and budget.
+   it says here, for every text, list and budget; docs/EMBEDDING.md says what that covers on machines other than x86-64 (`tools/cross`).
+
+   All widths are fixed, lengths too: the proof's lengths have 64 bits, on every machine. C99, C11 or later, or C++11 or later.
 
    What the caller provides
      - Each pointer points to at least as many elements as the length beside it says; it is not null, also where the length
@@ -22,9 +24,13 @@
 extern "C" {
 #endif
 
-#define DRIVE_WORK 16384  /* numbers in the working list; with fewer every text is refused by DRIVE_BENCH */
-#define DRIVE_TEXT 32768  /* most bytes of a text */
-#define DRIVE_CELLS 2048  /* most cells of a script */
+/* The header's version. A host that was written for another major number must be changed. */
+#define DRIVE_VERSION_MAJOR 1 /* raised where a layout, a signature or a promise changes so that a host's code no longer fits */
+#define DRIVE_VERSION_MINOR 1 /* the language: how many requests of document 02 have landed */
+
+#define DRIVE_WORK 16384u /* numbers in the working list; with fewer every text is refused by DRIVE_BENCH */
+#define DRIVE_TEXT 32768u /* most bytes of a text */
+#define DRIVE_CELLS 2048u /* most cells of a script */
 
 /* Refusals. The order: 1, 2, then 3 at the first such byte, then the first faulty line by the lowest of 4 to 9 that applies
    to it, then 10, 11. */
@@ -64,43 +70,61 @@ enum {
 typedef struct drive_reply {
     uint32_t refusal;   /* 0, or a refusal; then only `line` says more */
     uint32_t outcome;   /* drive_run, drive_mark: DRIVE_NORMAL, DRIVE_EXCEPTION or DRIVE_SPENT; drive_mark also DRIVE_STUCK */
-    size_t line;        /* of a refusal, from 1; 0 for refusals 1, 2, 10, 11; one past the last for a missing `main` */
-    size_t cells;       /* drive_cells, drive_owners, drive_mark_owners: how many cells the script's `var` lines have, 0 to DRIVE_CELLS */
+    uint64_t line;      /* of a refusal, from 1; 0 for refusals 1, 2, 10, 11; one past the last for a missing `main` */
+    uint64_t cells;     /* drive_cells, drive_owners, drive_mark_owners: how many cells the script's `var` lines have, 0 to DRIVE_CELLS */
     int64_t exception;  /* the exception's number, in 32 bits */
     uint32_t statement; /* the exception's statement, counted from 1 over the text by opening bracket */
     uint32_t steps;     /* drive_run, drive_mark: the steps taken, at most the budget */
 } drive_reply;
 
+/* A compiler that lays things out in another way is told so here, and not by a wrong answer. */
+#if defined(__cplusplus)
+#define DRIVE_ASSERT(what, is_so) static_assert(is_so, #what)
+#elif defined(__STDC_VERSION__) && __STDC_VERSION__ >= 201112L
+#define DRIVE_ASSERT(what, is_so) _Static_assert(is_so, #what)
+#else
+#define DRIVE_ASSERT(what, is_so) typedef char what[(is_so) ? 1 : -1]
+#endif
+DRIVE_ASSERT(drive_outcome_at_4, offsetof(drive_reply, outcome) == 4u);
+DRIVE_ASSERT(drive_line_at_8, offsetof(drive_reply, line) == 8u);
+DRIVE_ASSERT(drive_cells_at_16, offsetof(drive_reply, cells) == 16u);
+DRIVE_ASSERT(drive_exception_at_24, offsetof(drive_reply, exception) == 24u);
+DRIVE_ASSERT(drive_statement_at_32, offsetof(drive_reply, statement) == 32u);
+DRIVE_ASSERT(drive_steps_at_36, offsetof(drive_reply, steps) == 36u);
+DRIVE_ASSERT(drive_reply_has_40_bytes, sizeof(drive_reply) == 40u);
+DRIVE_ASSERT(drive_pointers_fit_8_bytes, sizeof(void *) <= 8u);
+#undef DRIVE_ASSERT
+
 /* The verdict on a text: a refusal of 1 to 9, or none, and then the text may be loaded. */
-drive_reply drive_verdict(const uint8_t *text, size_t text_len, uint32_t *work, size_t work_len);
+drive_reply drive_verdict(const uint8_t *text, uint64_t text_len, uint32_t *work, uint64_t work_len);
 
 /* The same, and the number of cells. */
-drive_reply drive_cells(const uint8_t *text, size_t text_len, uint32_t *work, size_t work_len);
+drive_reply drive_cells(const uint8_t *text, uint64_t text_len, uint32_t *work, uint64_t work_len);
 
 /* The same as drive_cells; and where there is no refusal, names[i] becomes the offset in the text of the name of cell i's variable, for
    each cell that `names` has room for. The name goes up to the next space, bracket or line feed; case is ignored in names.
    All other elements of `names` stay as they were: those past the cells, and on a refusal all of them. */
-drive_reply drive_owners(const uint8_t *text, size_t text_len, uint32_t *work, size_t work_len, size_t *names, size_t names_len);
+drive_reply drive_owners(const uint8_t *text, uint64_t text_len, uint32_t *work, uint64_t work_len, uint64_t *names, uint64_t names_len);
 
 /* Checks a text, tests the store, and runs the script on it for at most `budget` steps. Any refusal of 1 to 11 leaves the store
    as lent. The store is two lists, each as long as the script has cells: values, and marks (0 undefined, then the value is 0;
    1 defined). The cells of a variable lie together, variables in the order of their lines; parameters are not among them. After an exception and after a spent
    run too, the store is as the steps taken left it, and may be lent again. */
-drive_reply drive_run(const uint8_t *text, size_t text_len, uint32_t *work, size_t work_len, int64_t *values, size_t values_len,
-                      uint8_t *marks, size_t marks_len, uint32_t budget);
+drive_reply drive_run(const uint8_t *text, uint64_t text_len, uint32_t *work, uint64_t work_len, int64_t *values, uint64_t values_len,
+                      uint8_t *marks, uint64_t marks_len, uint32_t budget);
 
 /* ---- the marking machine, for a desk program. It keeps a type with every value, and runs a text also where kinds do not fit inside the
    bodies of `proc` and `main`, until it meets such a place. It is slower than drive_run. The chair runs nothing by it. */
 
 /* As drive_owners, of a text that drive_mark takes: a refusal of 1 to 9, where 8 for kinds that do not fit inside a body is left out, or
    none. With names_len 0 it only counts the cells. */
-drive_reply drive_mark_owners(const uint8_t *text, size_t text_len, uint32_t *work, size_t work_len, size_t *names, size_t names_len);
+drive_reply drive_mark_owners(const uint8_t *text, uint64_t text_len, uint32_t *work, uint64_t work_len, uint64_t *names, uint64_t names_len);
 
 /* As drive_run, by the marking machine: the refusals are those of drive_mark_owners, 10 and 11. Where the next part to be carried out
    meets kinds that do not fit, the outcome is DRIVE_STUCK, which no handler takes; the steps include that of the statement that met
    them, and the store is as the steps taken left it. For a text that drive_verdict accepts, reply and store are those of drive_run. */
-drive_reply drive_mark(const uint8_t *text, size_t text_len, uint32_t *work, size_t work_len, int64_t *values, size_t values_len,
-                       uint8_t *marks, size_t marks_len, uint32_t budget);
+drive_reply drive_mark(const uint8_t *text, uint64_t text_len, uint32_t *work, uint64_t work_len, int64_t *values, uint64_t values_len,
+                       uint8_t *marks, uint64_t marks_len, uint32_t budget);
 
 #ifdef __cplusplus
 }

@@ -1,14 +1,21 @@
-/* Measures the stack that a call takes: it runs in a thread whose stack was filled with a pattern, and the bytes that lost the
-   pattern are counted, less those that a thread takes which calls nothing. The texts are the worst that are known.
-   usage: stack LIMIT MARK_LIMIT    exit status 1 if a verdict or run takes more than LIMIT bytes, or a marking more than MARK_LIMIT */
+/* Measures the stack that a call takes: it runs on a stack that was filled with a pattern, and the bytes that lost the pattern are counted, less
+   those that are taken where nothing is called. The texts are the worst that are known.
+   usage: stack LIMIT MARK_LIMIT    exit status 1 if a verdict or run takes more than LIMIT bytes, or a marking more than MARK_LIMIT
+          stack texts FOLDER        writes the texts there, and measures nothing */
 #define _GNU_SOURCE
 #include "drive.h"
-#include <pthread.h>
 #include <stdio.h>
 #include <stdlib.h>
 #include <string.h>
 
+#if defined(__ARM_ARCH_PROFILE) && __ARM_ARCH_PROFILE == 'M'
+#define BARE 1
+#define STACK (2u << 20)
+#else
+#include <pthread.h>
+#define BARE 0
 #define STACK (8u << 20)
+#endif
 #define PATTERN 0xa5
 
 static uint8_t stack[STACK] __attribute__((aligned(4096)));
@@ -17,7 +24,7 @@ static size_t len;
 static uint32_t work[DRIVE_WORK];
 static int64_t values[DRIVE_CELLS];
 static uint8_t marks[DRIVE_CELLS];
-static size_t names[1];
+static uint64_t names[1];
 static drive_reply reply, marked;
 
 /* ---- the calls, each a thread's work */
@@ -35,7 +42,7 @@ static void *call_verdict(void *p)
 
 static void *call_run(void *p)
 {
-    size_t cells = drive_cells(text, len, work, DRIVE_WORK).cells;
+    uint64_t cells = drive_cells(text, len, work, DRIVE_WORK).cells;
     memset(values, 0, sizeof values);
     memset(marks, 0, sizeof marks);
     reply = drive_run(text, len, work, DRIVE_WORK, values, cells, marks, cells, 100000);
@@ -44,19 +51,27 @@ static void *call_run(void *p)
 
 static void *call_mark(void *p)
 {
-    size_t cells = drive_mark_owners(text, len, work, DRIVE_WORK, names, 0).cells;
+    uint64_t cells = drive_mark_owners(text, len, work, DRIVE_WORK, names, 0).cells;
     memset(values, 0, sizeof values);
     memset(marks, 0, sizeof marks);
     marked = drive_mark(text, len, work, DRIVE_WORK, values, cells, marks, cells, 100000);
     return p;
 }
 
-static size_t used_by(void *(*call)(void *))
+#if BARE
+/* On a controller: the stack pointer is moved for the call. */
+static void call_on_stack(void *(*call)(void *))
+{
+    __asm volatile("mov r4, sp\n\tmov sp, %0\n\tblx %1\n\tmov sp, r4"
+                   :
+                   : "r"(stack + STACK), "r"(call)
+                   : "r0", "r1", "r2", "r3", "r4", "r12", "lr", "cc", "memory");
+}
+#else
+static void call_on_stack(void *(*call)(void *))
 {
     pthread_attr_t attr;
     pthread_t thread;
-    size_t free = 0;
-    memset(stack, PATTERN, STACK);
     pthread_attr_init(&attr);
     if (pthread_attr_setstack(&attr, stack, STACK) != 0 || pthread_create(&thread, &attr, call, NULL) != 0) {
         fprintf(stderr, "stack: no thread\n");
@@ -64,6 +79,14 @@ static size_t used_by(void *(*call)(void *))
     }
     pthread_join(thread, NULL);
     pthread_attr_destroy(&attr);
+}
+#endif
+
+static size_t used_by(void *(*call)(void *))
+{
+    size_t free = 0;
+    memset(stack, PATTERN, STACK);
+    call_on_stack(call);
     while (free < STACK && stack[free] == PATTERN)
         free++;
     return STACK - free;
@@ -87,7 +110,7 @@ static void put(const char *s)
 static void put_number(size_t n)
 {
     char digits[24];
-    snprintf(digits, sizeof digits, "%zu", n);
+    snprintf(digits, sizeof digits, "%lu", (unsigned long)n); /* newlib may lack %zu */
     put(digits);
 }
 
@@ -141,14 +164,20 @@ static void put_calls(const char *list, const char *arguments, const char *head,
 /* ---- the table */
 
 static size_t idle, most_checked, most_ran, most_marked;
+static const char *folder; /* where the texts go, if they are only written */
 
 static void print_ending(drive_reply r)
 {
     static const char *const outcomes[] = {"normal", "exception", "spent", "stuck"};
     if (r.refusal != 0)
-        printf("  refused %u %zu", (unsigned)r.refusal, r.line);
+        printf("  refused %u %lu", (unsigned)r.refusal, (unsigned long)r.line);
     else
         printf("  %s %u", outcomes[r.outcome], (unsigned)r.steps);
+}
+
+static void print_bytes(size_t checked, size_t ran, size_t by_mark)
+{
+    printf("%9lu %9lu %9lu", (unsigned long)checked, (unsigned long)ran, (unsigned long)by_mark);
 }
 
 /* The bytes that a call takes. */
@@ -159,17 +188,40 @@ static size_t taken(void *(*call)(void *), size_t *most)
     return used;
 }
 
-static void row(const char *what)
+static void write_text(void)
+{
+    static unsigned number;
+    char path[512];
+    FILE *f;
+    snprintf(path, sizeof path, "%s/%02u.txt", folder, ++number);
+    f = fopen(path, "wb");
+    if (f == NULL || fwrite(text, 1, len, f) != len || fclose(f) != 0) {
+        fprintf(stderr, "stack: %s cannot be written\n", path);
+        exit(2);
+    }
+    len = 0;
+}
+
+static void measure(const char *what)
 {
     size_t checked = taken(call_verdict, &most_checked);
     size_t ran = taken(call_run, &most_ran);
     size_t by_mark = taken(call_mark, &most_marked);
-    printf("%-46s %6zu %9zu %9zu %9zu", what, len, checked, ran, by_mark);
+    printf("%-46s %6lu ", what, (unsigned long)len);
+    print_bytes(checked, ran, by_mark);
     print_ending(reply);
     if (reply.refusal != marked.refusal)
         print_ending(marked);
     printf("\n");
     len = 0;
+}
+
+static void row(const char *what)
+{
+    if (folder != NULL)
+        write_text();
+    else
+        measure(what);
 }
 
 static void rows_of_long_lines(void)
@@ -250,15 +302,27 @@ static void rows_of_calls(void)
     calls_with_arguments("32 calls of 3 arguments, in 14 cases", " (begin ", "(case 1 (arm 1 ", 14, "))");
 }
 
+static void all_rows(void)
+{
+    rows_of_long_lines();
+    rows_of_depth();
+    rows_of_calls();
+}
+
 int main(int argc, char **argv)
 {
     size_t limit = argc == 3 ? strtoul(argv[1], NULL, 10) : 0;
     size_t mark_limit = argc == 3 ? strtoul(argv[2], NULL, 10) : 0;
+    folder = argc == 3 && strcmp(argv[1], "texts") == 0 ? argv[2] : NULL;
+    if (folder != NULL) {
+        all_rows();
+        return 0;
+    }
     idle = used_by(call_nothing);
     printf("%-46s %6s %9s %9s %9s  bytes of stack\n", "text", "bytes", "verdict", "run", "mark");
-    rows_of_long_lines();
-    rows_of_depth();
-    rows_of_calls();
-    printf("%-46s %6s %9zu %9zu %9zu\n", "most", "", most_checked, most_ran, most_marked);
+    all_rows();
+    printf("%-46s %6s ", "most", "");
+    print_bytes(most_checked, most_ran, most_marked);
+    printf("\n");
     return most_checked > limit || most_ran > limit || most_marked > mark_limit;
 }
