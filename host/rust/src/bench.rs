@@ -166,22 +166,31 @@ mod tests {
         assert_eq!(store.get(0), Some(42));
     }
 
-    /// The guide's ramps as the chair runs them: one run a tick, with stick and mode put into the store that the run before left.
+    /// The guide's ramps as the chair runs them: one run a period, with stick and mode put into the store that the run before left.
     #[test]
-    fn a_ramp_tick_by_tick() {
-        let desk = include_str!("../../../examples/ramps.txt");
-        let lines = desk.lines().filter(|line| !line.starts_with("(proc hold") && !line.starts_with("(main"));
-        let text: String = lines.chain(["(var mode drive)", "(main (call move mode))"]).map(|line| format!("{line}\n")).collect();
+    fn a_ramp_period_by_period() {
+        let text = include_bytes!("../../../examples/ramps.txt");
         let mut bench = Bench::new();
-        assert_eq!(bench.owners(text.as_bytes()), Ok(["stick", "speed", "turn", "next", "mode"].map(String::from).to_vec()));
-        let mut store = Store { values: vec![80, 0, 0, 0, 0], marks: vec![1, 1, 1, 0, 1] };
-        for (mode, ticks, speed, turn) in [(0, 5, 50, 0), (1, 3, 35, 0), (2, 7, 35, 20)] {
-            store.values[4] = mode;
-            for _ in 0..ticks {
-                assert_eq!(bench.run(text.as_bytes(), &mut store, 100).map(|answer| answer.outcome), Ok(Outcome::Normal));
+        assert_eq!(bench.owners(text), Ok(["stick", "mode", "speed", "turn", "next"].map(String::from).to_vec()));
+        let mut store = Store { values: vec![80, 0, 0, 0, 0], marks: vec![1, 1, 1, 1, 0] };
+        for (mode, periods, speed, turn) in [(0, 5, 50, 0), (1, 3, 35, 0), (2, 7, 35, 20)] {
+            store.values[1] = mode;
+            for _ in 0..periods {
+                assert_eq!(bench.run(text, &mut store, 100).map(|answer| answer.outcome), Ok(Outcome::Normal));
             }
-            assert_eq!((store.get(1), store.get(2)), (Some(speed), Some(turn)));
+            assert_eq!((store.get(2), store.get(3)), (Some(speed), Some(turn)));
         }
+    }
+
+    /// As the guide says of smooth-stop.
+    #[test]
+    fn a_smooth_stop_takes_twelve_periods() {
+        let text = include_bytes!("../../../examples/smooth-stop.txt");
+        let mut store = Store { values: vec![80, 0], marks: vec![1, 1] };
+        for _ in 0..20 {
+            assert_eq!(Bench::new().run(text, &mut store, 100).map(|answer| answer.outcome), Ok(Outcome::Normal));
+        }
+        assert_eq!((store.get(0), store.get(1)), (Some(0), Some(12)));
     }
 
     #[test]

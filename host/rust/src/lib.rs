@@ -1,12 +1,11 @@
 //! Drive scripts, checked and run by the proved library. The numbers and words are those of document 01.
 mod bench;
-pub mod explain;
 mod library;
 mod outcome;
 mod refusal;
 pub mod report;
-mod statement;
 mod store;
+pub mod words;
 
 pub use bench::{Bench, CELLS_MOST, TEXT_MOST, WORK};
 pub use outcome::{Answer, Exception, Outcome};

@@ -1,22 +1,14 @@
-//! `drive`: checks, runs and marks drive scripts.
+//! `drive`: checks, runs, marks and tidies drive scripts.
 mod arguments;
 mod files;
 
 use arguments::{Check, Command, Run};
-use drive::{explain, report, Answer, Bench, Refusal, Store};
+use drive::words::{self, Machine};
+use drive::{report, Bench, Refusal, Row, Store};
 use std::io::Write;
 use std::process::ExitCode;
 
-/// A machine's calls: the names of the cells, and the run.
-struct Machine {
-    owners: fn(&mut Bench, &[u8]) -> Result<Vec<String>, Refusal>,
-    run: fn(&mut Bench, &[u8], &mut Store, u32) -> Result<Answer, Refusal>,
-}
-
-const CHAIR: Machine = Machine { owners: Bench::owners, run: Bench::run };
-const MARKING: Machine = Machine { owners: Bench::mark_owners, run: Bench::mark };
-
-/// What is printed, and whether the script was accepted, or ran to its normal end.
+/// What is printed, and whether the script was accepted, ran to its normal end, or is tidy.
 struct Said {
     rows: String,
     good: bool,
@@ -48,47 +40,95 @@ fn obey(command: &Command) -> Result<Said, String> {
     match command {
         Command::Help => Ok(Said { rows: arguments::USAGE.to_string(), good: true }),
         Command::Check(check) => obey_check(check),
-        Command::Run(run) => obey_run(run, &CHAIR),
-        Command::Mark(run) => obey_run(run, &MARKING),
+        Command::Run(run) => obey_run(run, Machine::Chair),
+        Command::Mark(run) => obey_run(run, Machine::Marking),
+        Command::Tidy(file) => obey_tidy(file),
     }
 }
 
 fn obey_check(check: &Check) -> Result<Said, String> {
     let text = files::script(&check.file)?;
     let cells = match Bench::new().cells(&text) {
-        Err(refusal) => return Ok(refused(&text, &refusal, check.explain)),
+        Err(refusal) => return Ok(refused(&text, &refusal, Machine::Chair, check.plain)),
         Ok(cells) => cells,
     };
-    let words = if check.explain { explain::accepted(cells) } else { String::new() };
+    let words = if check.plain { String::new() } else { words::accepted(cells) };
     Ok(Said { rows: format!("accepted\n{words}"), good: true })
 }
 
-fn obey_run(run: &Run, machine: &Machine) -> Result<Said, String> {
+fn obey_run(run: &Run, machine: Machine) -> Result<Said, String> {
     let text = files::script(&run.file)?;
     let mut bench = Bench::new();
-    let owners = match (machine.owners)(&mut bench, &text) {
-        Err(refusal) => return Ok(refused(&text, &refusal, run.explain)),
+    let owners = match machine {
+        Machine::Chair => bench.owners(&text),
+        Machine::Marking => bench.mark_owners(&text),
+    };
+    let owners = match owners {
+        Err(refusal) => return Ok(refused(&text, &refusal, machine, run.plain)),
         Ok(owners) => owners,
     };
-    let mut store = match &run.store {
-        Some(path) => files::store(path)?,
+    let layout = words::layout(&text, &owners, machine);
+    let lent = match &run.store {
+        Some(path) => files::store(path, layout.as_ref())?,
         None => Store::undefined(owners.len()),
     };
-    let answer = match (machine.run)(&mut bench, &text, &mut store, run.budget) {
-        Err(refusal) => return Ok(refused(&text, &refusal, run.explain)),
-        Ok(answer) => answer,
+    let mut store = lent.clone();
+    let answer = match machine {
+        Machine::Chair => bench.run(&text, &mut store, run.budget),
+        Machine::Marking => bench.mark(&text, &mut store, run.budget),
     };
-    let mut rows = report::of_run(&answer, &owners, &store);
-    if run.explain {
-        rows += &explain::answer(&text, &answer);
+    match answer {
+        Err(refusal) => Ok(refused_store(&text, &refusal, &lent, machine, run.plain)),
+        Ok(answer) => {
+            let named = layout.filter(|_| !run.plain).map(|layout| layout.rows(&store.values, &store.marks));
+            if let Some(path) = &run.save {
+                files::write(path, named.clone().unwrap_or_else(|| store.to_string()).as_bytes())?;
+            }
+            let words = || words::answer(&text, &lent, run.budget, &answer, machine).to_string();
+            let rows = match named {
+                Some(named) => format!("{answer}\n{}{named}", words()),
+                None => report::of_run(&answer, &owners, &store) + &if run.plain { String::new() } else { words() },
+            };
+            Ok(Said { rows, good: answer.outcome == drive::Outcome::Normal })
+        }
     }
-    Ok(Said { rows, good: answer.outcome == drive::Outcome::Normal })
 }
 
-fn refused(text: &[u8], refusal: &Refusal, words: bool) -> Said {
-    let mut rows = format!("{refusal}\n");
-    if words {
-        rows += &explain::refusal(text, refusal);
+fn refused(text: &[u8], refusal: &Refusal, machine: Machine, plain: bool) -> Said {
+    let words = if plain { String::new() } else { words::refusal(text, refusal, machine).to_string() };
+    Said { rows: format!("{refusal}\n{words}"), good: false }
+}
+
+/// A refusal of the run: of the store, as the text was taken before.
+fn refused_store(text: &[u8], refusal: &Refusal, store: &Store, machine: Machine, plain: bool) -> Said {
+    match refusal.row {
+        Row::Store | Row::Cell if !plain => {
+            let words = words::store_refusal(text, refusal.row, store, machine);
+            Said { rows: format!("{refusal}\n{words}"), good: false }
+        }
+        _ => refused(text, refusal, machine, plain),
     }
-    Said { rows, good: false }
+}
+
+fn obey_tidy(file: &str) -> Result<Said, String> {
+    let text = files::script(file)?;
+    if text.len() > explain::HUGE {
+        return Err(format!("drive: {file} has more than {} bytes: this is no script", explain::HUGE));
+    }
+    let tidied = explain::tidy(&text);
+    let mut told: String = tidied.changes.iter().map(|change| format!("{change}\n")).collect();
+    if tidied.changes.is_empty() {
+        told += "nothing to mend\n";
+    }
+    tidied.left.iter().for_each(|left| told += &format!("{left}: this is left for you to mend\n"));
+    let good = tidied.left.is_empty();
+    if file == "-" {
+        eprint!("{told}");
+        std::io::stdout().write_all(&tidied.text).map_err(|error| format!("drive: cannot write: {error}"))?;
+        return Ok(Said { rows: String::new(), good });
+    }
+    if tidied.text != text {
+        files::write(file, &tidied.text)?;
+    }
+    Ok(Said { rows: told, good })
 }

@@ -40,14 +40,7 @@ impl Exception {
 
     /// Document 01's name; the script's own exceptions have none.
     pub fn name(self) -> Option<&'static str> {
-        match self {
-            Exception::Numeric => Some("Numeric_Error"),
-            Exception::System => Some("System_Error"),
-            Exception::Range => Some("Range_Error"),
-            Exception::Undefined => Some("Undefined_Error"),
-            Exception::Case => Some("Case_Error"),
-            Exception::Own(_) => None,
-        }
+        explain::exception_name(self.number())
     }
 }
 

@@ -34,8 +34,7 @@ impl Row {
 
     /// The word in the table.
     pub fn word(self) -> &'static str {
-        const WORDS: [&str; 11] = ["bench", "length", "byte", "bracket", "word", "form", "name", "type", "limit", "store", "cell"];
-        WORDS[self as usize - 1]
+        explain::refusal_word(self.number())
     }
 }
 

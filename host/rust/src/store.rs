@@ -18,7 +18,7 @@ impl fmt::Display for StoreError {
     fn fmt(&self, f: &mut fmt::Formatter<'_>) -> fmt::Result {
         write!(
             f,
-            "line {}: a cell is a line `VALUE MARK`, two numbers with a space between, the mark 0 (undefined) or 1 (defined)",
+            "line {}: a cell is a line `VALUE MARK`, two numbers with a space between, the mark 0 (undefined) or 1 (defined); a store by names has lines `NAME VALUE`",
             self.line
         )
     }

@@ -1,13 +1,21 @@
-//! Tries every box of docs/GUIDE.md with the peer, and compares the examples with their files.
+//! Tries every box of docs/GUIDE.md with the peer and the explainer, and compares the examples with
+//! their files.
 
-use std::collections::HashMap;
 use std::path::Path;
 
+use explain::{Fits, Layout};
 use peer::bytes::WORK;
-use peer::print::{markscript, runscript, BUDGET};
+use peer::print::{self, markscript, runscript, BUDGET};
+use peer::word::RESERVED;
 use peer::LANDED;
 
 const ROOT: &str = concat!(env!("CARGO_MANIFEST_DIR"), "/../../..");
+
+/// The kinds of boxes. All but `sh` are tried.
+const BOXES: [&str; 11] = [
+    "script", "store", "output", "marked", "told", "told-mark", "tidied", "declare", "values",
+    "judged", "sh",
+];
 
 /// What the guide says is stored before a box of values is tried.
 const STORED: &str = "(:= now medium) (:= n 5) (:= place 4)";
@@ -31,16 +39,69 @@ fn declared(guide: &str) -> String {
     list.map(|(_, text)| text).collect()
 }
 
-/// Pairs of a script and its output.
-fn scripts(guide: &str) -> Vec<(&str, &str)> {
-    let list: Vec<_> =
-        boxes(guide).into_iter().filter(|(kind, _)| matches!(*kind, "script" | "output")).collect();
-    list.chunks(2)
-        .map(|pair| match pair {
-            [("script", script), ("output", output)] => (*script, *output),
-            _ => panic!("a script without an output: {pair:?}"),
-        })
-        .collect()
+/// A script with the boxes below it that say what it does.
+#[derive(Debug)]
+struct Shown<'a> {
+    script: &'a str,
+    /// What is in the store at the start, by names.
+    store: &'a str,
+    /// What is printed, each with the kind of its box.
+    printed: Vec<(&'a str, &'a str)>,
+}
+
+/// All scripts of the guide.
+fn scripts(guide: &str) -> Vec<Shown<'_>> {
+    let mut list: Vec<Shown> = Vec::new();
+    for (kind, text) in boxes(guide) {
+        match (kind, list.last_mut()) {
+            ("script", _) => list.push(Shown { script: text, store: "", printed: Vec::new() }),
+            ("store", Some(shown)) => shown.store = text,
+            ("output" | "marked" | "told" | "told-mark", Some(shown)) => {
+                shown.printed.push((kind, text));
+            }
+            _ => {}
+        }
+    }
+    list
+}
+
+/// What `drive` prints of a script, by the peer's answers and the explainer's words.
+fn told(shown: &Shown, fits: Fits) -> String {
+    let text = shown.script.as_bytes();
+    let owners = match fits {
+        Fits::Judged => peer::owners(LANDED, text, WORK),
+        Fits::LeftOut => peer::mark_owners(LANDED, text, WORK),
+    };
+    if let Err(refusal) = owners {
+        let words = explain::refusal(text, refusal.number, refusal.line as usize, fits);
+        return format!("{}{words}", print::refused(&refusal));
+    }
+    let layout = Layout::of(text, fits).expect("the cells");
+    let (values, marks) = layout.read(shown.store).expect("a store by names");
+    let (mut after, mut left) = (values.clone(), marks.clone());
+    let machine = if fits == Fits::Judged { peer::run } else { peer::mark };
+    match machine(LANDED, text, WORK, &mut after, &mut left, BUDGET) {
+        Err(refusal) => {
+            let words = explain::store_refusal(text, refusal.number, (&values, &marks), fits);
+            format!("{}{words}", print::refused(&refusal))
+        }
+        Ok(answer) => {
+            let words = explain::ended(text, (&values, &marks), BUDGET, handed(answer), fits);
+            format!("{}{words}{}", print::outcome(&answer), layout.rows(&after, &left))
+        }
+    }
+}
+
+fn handed(answer: peer::Answer) -> explain::Answer {
+    let outcome = match answer.outcome {
+        peer::Outcome::Normal => explain::Outcome::Normal,
+        peer::Outcome::Exception { number, statement } => {
+            explain::Outcome::Raised { number, statement }
+        }
+        peer::Outcome::Spent => explain::Outcome::Spent,
+        peer::Outcome::Stuck => explain::Outcome::Stuck,
+    };
+    explain::Answer { outcome, steps: answer.steps }
 }
 
 /// The lines of the boxes of one kind: a form, two spaces or more, and the answer.
@@ -56,36 +117,39 @@ fn answers<'a>(guide: &'a str, kind: &str) -> Vec<(&'a str, &'a str)> {
 #[test]
 fn kinds_of_boxes() {
     for (kind, _) in boxes(&guide()) {
-        assert!(
-            ["script", "output", "marked", "declare", "values", "judged", "sh"].contains(&kind),
-            "{kind}"
-        );
+        assert!(BOXES.contains(&kind), "{kind}");
     }
 }
 
 #[test]
 fn scripts_print_what_is_shown() {
     let guide = guide();
-    for (script, output) in scripts(&guide) {
-        assert_eq!(runscript(LANDED, script.as_bytes(), BUDGET), output, "{script}");
+    for shown in scripts(&guide) {
+        assert!(!shown.printed.is_empty(), "{shown:?} is not tried");
+        let text = shown.script.as_bytes();
+        for (kind, output) in &shown.printed {
+            let got = match *kind {
+                "output" => runscript(LANDED, text, BUDGET),
+                "marked" => markscript(LANDED, text, BUDGET),
+                "told" => told(&shown, Fits::Judged),
+                _ => told(&shown, Fits::LeftOut),
+            };
+            assert_eq!(got, *output, "{}", shown.script);
+        }
     }
 }
 
+/// A text with all that `drive tidy` mends.
+const UNTIDY: &str =
+    "\u{feff}(var\ta integer)\r\n\r\n(main (:= a \u{201c}5\u{201d}) (:= a (\u{2013} 5)))";
+
 #[test]
-fn marked_scripts_print_what_is_shown() {
+fn tidy_says_what_is_shown() {
     let guide = guide();
-    let (mut script, mut seen) = ("", 0);
-    for (kind, text) in boxes(&guide) {
-        match kind {
-            "script" => script = text,
-            "marked" => {
-                assert_eq!(markscript(LANDED, script.as_bytes(), BUDGET), text, "{script}");
-                seen += 1;
-            }
-            _ => {}
-        }
-    }
-    assert!(seen > 0);
+    let (_, shown) = boxes(&guide).into_iter().find(|(kind, _)| *kind == "tidied").expect("a box");
+    let tidied = explain::tidy(UNTIDY.as_bytes());
+    assert_eq!(tidied.changes.join("\n") + "\n", shown);
+    assert!(peer::verdict(LANDED, &tidied.text, WORK).is_ok());
 }
 
 #[test]
@@ -141,20 +205,30 @@ fn lines_are_judged_as_told() {
 #[test]
 fn examples_are_those_of_the_repository() {
     let guide = guide();
-    let shown: HashMap<&str, &str> = scripts(&guide).into_iter().collect();
+    let list = scripts(&guide);
+    let read = |path: &Path| std::fs::read_to_string(path);
     let mut count = 0;
     for entry in std::fs::read_dir(format!("{ROOT}/examples")).expect("the examples") {
         let path = entry.expect("an entry").path();
         if path.extension().is_some_and(|end| end == "txt") {
-            let read = |path: &Path| std::fs::read_to_string(path).expect("a file");
-            let script = read(&path);
-            let output =
-                shown.get(script.as_str()).unwrap_or_else(|| panic!("{path:?} is not shown"));
-            assert_eq!(**output, read(&path.with_extension("out")));
+            let script = read(&path).expect("a file");
+            let store = read(&path.with_extension("store")).unwrap_or_default();
+            let shown = list.iter().find(|shown| shown.script == script && shown.store == store);
+            let shown = shown.unwrap_or_else(|| panic!("{path:?} is not shown"));
+            let output = read(&path.with_extension("out")).expect("a file");
+            assert!(shown.printed.contains(&("told", &output)), "{path:?}");
             count += 1;
         }
     }
-    assert_eq!(count, 11);
+    assert_eq!(count, 12);
+}
+
+#[test]
+fn reserved_words_are_listed() {
+    let guide = guide();
+    let (_, list) = guide.split_once("## Reserved words").expect("the list");
+    let listed: Vec<&str> = list.split('`').skip(1).step_by(2).collect();
+    assert_eq!(listed, RESERVED);
 }
 
 /// A form inside a sentence is a pattern with capitals, or stands in a box too.
