@@ -55,7 +55,7 @@ starred-hold = refl & refl & refl & refl & refl & refl & refl & refl & refl & re
 -- the others: the two loops, the two misfits (marked m), and the sample script at two budgets
 unfoldable pub unstarred : List Case
 unstarred =
-    case "(var i integer)\n(main (for i 2147483646 2147483647 (begin)))\n" 9 "normal 5\n1 i 2147483647\n" ∷
+    case "(var i integer)\n(main (for i 2147483646 2147483647 (begin)))\n" 9 "normal 5\n1 i -\n" ∷
     case "(type r (range 1 4))\n(var i r)\n(main (for i 5 1 (begin)))\n" 9 "normal 1\n1 i -\n" ∷
     case "(var x integer)\n(main (:= x (+ 1 true)))\n" 9 "refused 8 2\n" ∷
     case "(main (if 1 (begin)))\n" 9 "refused 8 1\n" ∷

@@ -1,3 +1,4 @@
 pub mod Open
 pub mod FittingSheet
 pub mod Sticking
+pub mod Counters

@@ -23,4 +23,5 @@ pub mod Whole
 pub mod Rest
 pub mod Demands
 pub mod Parameters
+pub mod Counters
 pub mod Print

@@ -136,15 +136,19 @@ unfoldable pub whileRounds : ℕ → (State → (Bool → Answer) → Answer) �
 whileRounds zero condition body s = condition s λ b. branch b (answer spent) (answer normal) s
 whileRounds (suc f) condition body s = condition s λ b. branch b (λ t. step t (λ s′. andThen (body s′) (whileRounds f condition body))) (answer normal) s
 
--- `for`: so many rounds, from z on. Each round, after its step, sets the control variable (cell a) from the loop's own count
+-- "when a `for` ends normally, also with no round, its control variable has mark 0 and value 0": cell a. It takes no step
+abbrev pub ended : ℕ → State → Answer
+ended a s = answer normal (state (forgotten a 1 (s .store)) (s .left))
+
+-- so many rounds, from z on, and the end. Each round, after its step, sets the control variable from the loop's own count
 abbrev pub setControl : ℕ → ℤ → State → State
 setControl a z s = state (stored a (z ∷ []) (s .store)) (s .left)
 
 unfoldable pub forRounds : ℕ → ℕ → (State → Answer) → ℤ → State → Answer
-forRounds zero a body z s = answer normal s
+forRounds zero a body z s = ended a s
 forRounds (suc k) a body z s = step s λ s′. andThen (body (setControl a z s′)) (forRounds k a body (sucℤ z))
 
--- with no round the control variable is untouched; otherwise both bounds must fit its type, lo to hi, before round one
+-- where there is a round, both bounds must fit the control variable's type, lo to hi, before round one
 pub data Plan : Type 0 where
   noRound outside : Plan
   rounds : ℕ → Plan
@@ -152,14 +156,10 @@ pub data Plan : Type 0 where
 unfoldable pub planned : ℤ → ℤ → ℤ → ℤ → Plan
 planned lo hi x y = pick (leZ x y) (pick (inside lo hi x && inside lo hi y) (rounds (natOf (sucℤ (y -ℤ x)))) outside) noRound
 
--- the end of a `for` over cell a, whose rounds have all come to theirs
-abbrev pub ended : ℕ → State → Answer
-ended a = answer normal
-
 unfoldable pub opened : Plan → ℕ → ℕ → ℤ → (State → Answer) → State → Answer
 opened noRound n a x body s = ended a s
 opened outside n a x body s = raising rangeError n s
-opened (rounds k) n a x body s = andThen (forRounds k a body x s) (ended a)
+opened (rounds k) n a x body s = forRounds k a body x s
 
 unfoldable pub countUp : ℕ → ℕ → ℤ → ℤ → ℤ → ℤ → (State → Answer) → State → Answer
 countUp n a lo hi x y body = opened (planned lo hi x y) n a x body

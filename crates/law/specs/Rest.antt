@@ -13,7 +13,7 @@ pub data Rest : Type 0 where
   statement : Act → Rest
   statements : Acts → Rest
   whileFrom : ℕ → Code → Act → Rest  -- a `while` from its test on: its statement's number, condition and body
-  forFrom : ℕ → ℕ → Act → ℤ → Rest  -- so many rounds of a `for` over a cell with that body, from a count on
+  forFrom : ℕ → ℕ → Act → ℤ → Rest  -- so many rounds of a `for` over a cell with that body, from a count on, and its end
   before : Rest → Rest → Rest  -- one and then the other
   handledBy : Rest → Acts → Rest  -- inside a body whose handler still stands
   inBody : List BodyCode → Rest → Rest  -- inside a body that calls these, the latest first

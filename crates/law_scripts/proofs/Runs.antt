@@ -47,11 +47,11 @@ first-hold = refl & refl & refl & refl & refl & refl & refl & refl & refl & refl
 -- Loops, cases, operators, functions, sets, arrays, records, names, steps
 unfoldable pub second : List Case
 second =
-    case "(var i integer)\n(var n integer)\n(main (:= n 0) (for i 1 3 (:= n (+ n i))))\n" 100 "normal 8\n1 i 3\n2 n 6\n" ∷  -- for: a step for each round
-    case "(type c (enum red green blue))\n(var x c)\n(var n integer)\n(main (:= n 0) (for x red blue (:= n (+ (* n 10) (ord x)))))\n" 100 "normal 8\n1 x 2\n2 n 12\n" ∷  -- for over an enumeration
-    case "(var b boolean)\n(main (for b false true (begin)))\n" 100 "normal 5\n1 b 1\n" ∷  -- for over booleans
-    case "(var i integer)\n(proc p (:= i 9))\n(main (for i 1 2 (call p)))\n" 100 "normal 7\n1 i 9\n" ∷  -- the loop keeps its own count
-    case "(var i integer)\n(main (:= i 3) (for i i (+ i 1) (begin)))\n" 100 "normal 6\n1 i 4\n" ∷  -- bounds are worked out once, with the old value
+    case "(var i integer)\n(var n integer)\n(main (:= n 0) (for i 1 3 (:= n (+ n i))))\n" 100 "normal 8\n1 i -\n2 n 6\n" ∷  -- for: a step for each round
+    case "(type c (enum red green blue))\n(var x c)\n(var n integer)\n(main (:= n 0) (for x red blue (:= n (+ (* n 10) (ord x)))))\n" 100 "normal 8\n1 x -\n2 n 12\n" ∷  -- for over an enumeration
+    case "(var b boolean)\n(main (for b false true (begin)))\n" 100 "normal 5\n1 b -\n" ∷  -- for over booleans
+    case "(var i integer)\n(proc p (:= i 9))\n(main (for i 1 2 (call p)))\n" 100 "normal 7\n1 i -\n" ∷  -- the loop keeps its own count
+    case "(var i integer)\n(main (:= i 3) (for i i (+ i 1) (begin)))\n" 100 "normal 6\n1 i -\n" ∷  -- bounds are worked out once, with the old value
     case "(var n integer)\n(main (:= n 3) (while (> n 0) (:= n (- n 1))))\n" 100 "normal 8\n1 n 0\n" ∷  -- while
     case "(main (while false (raise 1)))\n" 100 "normal 1\n" ∷  -- while with no round
     case "(var n integer)\n(main (if false (:= n 1) (:= n 2)))\n" 100 "normal 2\n1 n 2\n" ∷  -- else
@@ -94,7 +94,7 @@ second =
     case "(var i integer)\n(main (for i 1 3 (begin)))\n" 1 "spent 1\n1 i -\n" ∷  -- the control variable is set after the round's step
     case "(type a (array boolean integer))\n(type b a)\n(var x a)\n(var y b)\n(main (:= (at x false) 1) (:= (at x true) 2) (:= y x))\n" 100 "normal 3\n1 x 1\n2 x 2\n3 y 1\n4 y 2\n" ∷  -- an alias is the same type
     case "(var f integer)\n(type r (record (f integer) (r boolean)))\n(main)\n" 100 "normal 0\n1 f -\n" ∷  -- fields have a space of their own
-    case "(var i integer)\n(var j integer)\n(main (for i 1 2 (for j i i (begin))))\n" 100 "normal 9\n1 i 2\n2 j 2\n" ∷  -- a control variable may be read
+    case "(var i integer)\n(var j integer)\n(main (for i 1 2 (for j i i (begin))))\n" 100 "normal 9\n1 i -\n2 j -\n" ∷  -- a control variable may be read
     []
 
 pub second-hold : Print second

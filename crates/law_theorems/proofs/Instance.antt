@@ -65,7 +65,7 @@ sample-runs = refl
 -- ---- an array, a record, a set, a procedure with a handler, both loops
 
 unfoldable pub mixed : List ℕ
-mixed = bytes "(type color (enum red green blue))\n(type hues (setof color))\n(type row (array color integer))\n(type spot (record (x integer) (seen hues)))\n(var c color)\n(var totals row)\n(var s spot)\n(var t spot)\n(proc count (for c red blue (:= (at totals c) (ord c))) (:= (dot s x) (div (at totals blue) 0)) (exception (:= (dot s x) (- error_number 99))))\n(main (:= (dot s seen) (members hues red blue)) (call count) (while (< (dot s x) (- 100)) (:= (dot s x) (+ (dot s x) 50))) (:= t s) (if (in blue (dot t seen)) (case c (arm red (raise 7)) (else (begin)))))\n"
+mixed = bytes "(type color (enum red green blue))\n(type hues (setof color))\n(type row (array color integer))\n(type spot (record (x integer) (seen hues)))\n(var c color)\n(var totals row)\n(var s spot)\n(var t spot)\n(proc count (for c red blue (:= (at totals c) (ord c))) (:= (dot s x) (div (at totals blue) 0)) (exception (:= (dot s x) (- error_number 99))))\n(main (:= (dot s seen) (members hues red blue)) (call count) (while (< (dot s x) (- 100)) (:= (dot s x) (+ (dot s x) 50))) (:= t s) (if (in blue (dot t seen)) (case blue (arm red (raise 7)) (else (begin)))))\n"
 
 pub mixed-met : Met mixed
 unfolding mixed read values marks readOf everything

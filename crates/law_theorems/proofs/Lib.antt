@@ -32,4 +32,5 @@ pub mod ElaboratedSafe
 pub mod Demand3
 pub mod DemandsHold
 pub mod ParametersHold
+pub mod CountersHold
 pub mod Instance

@@ -10,7 +10,7 @@ use Rattle.leaf_integers.specs.Integers.{inside, isZero}
 use Rattle.law.specs.Calculate.{Result, fails, is, isTrue, stuck}
 use Rattle.law.specs.Chair.{condition, evalCode, matches, placeCode, runAct, runActs, runArguments, runCases}
 use Rattle.law.specs.Code.{Act, Acts, Cases, Code, Frame, _also_, assignOrdinal, assignWhole, branchOn, callTo, caseOf, elseCase, forLoop, noCase, noAct, oneCase, raiseWith, sequence, stop, whileLoop}
-use Rattle.law.specs.Machine.{Answer, Outcome, Proc, Procs, State, Store, andThen, answer, branch, continued, Plan, countUp, entered, forRounds, noRound, opened, outside, planned, rounds, normal, passOn, procedureAt, raiseNumber, raised, raising, returning, setControl, sole, spent, state, step, stepIf, sticks, stored, storeOrdinal, storeWhole, whileRounds, withResult}
+use Rattle.law.specs.Machine.{Answer, Outcome, Proc, Procs, State, Store, andThen, answer, branch, continued, Plan, countUp, ended, entered, forRounds, noRound, opened, outside, planned, rounds, normal, passOn, procedureAt, raiseNumber, raised, raising, returning, setControl, sole, spent, state, step, stepIf, sticks, stored, storeOrdinal, storeWhole, whileRounds, withResult}
 
 abbrev pub more : ℕ → State → State
 more k s = state (s .store) (s .left + k)
@@ -108,16 +108,19 @@ module _ (k : ℕ) where
   pub set-f : (a : ℕ) (z : ℤ) {body : State → Answer} → Stable k body → Stable k (λ s. body (setControl a z s))
   set-f a z h = record { at = λ s e. h .at (setControl a z s) e }
 
+  ended-f : (a : ℕ) → Stable k (ended a)
+  ended-f a = record { at = λ s e. refl }
+
   pub turns-f : (j a : ℕ) {body : State → Answer} → Stable k body → (z : ℤ) → Stable k (forRounds j a body z)
   unfolding forRounds
-  turns-f zero a h z = answer-f normal
+  turns-f zero a h z = ended-f a
   turns-f (suc j) a h z = step-f (then-f (set-f a z h) (turns-f j a h (sucℤ z)))
 
   opened-f : (q : Plan) (n a : ℕ) (x : ℤ) {body : State → Answer} → Stable k body → Stable k (opened q n a x body)
   unfolding opened
-  opened-f noRound n a x h = answer-f normal
+  opened-f noRound n a x h = ended-f a
   opened-f outside n a x h = raising-f _ n
-  opened-f (rounds j) n a x h = then-f (turns-f j a h x) (answer-f normal)
+  opened-f (rounds j) n a x h = turns-f j a h x
 
   counting-f : (n a : ℕ) (lo hi x y : ℤ) {body : State → Answer} → Stable k body → Stable k (countUp n a lo hi x y body)
   unfolding countUp

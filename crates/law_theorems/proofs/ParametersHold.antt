@@ -100,7 +100,7 @@ module _ {A : Type 0} (d : A) where
   sets-before zero xs a i h = refl
   sets-before (suc k) xs a i h = sets-before k (set xs a d) (suc a) i (omega arith) ∙ getD-set-other xs a i d d (λ e. omega arith)
 
-  sets-blank : (k : ℕ) (xs : List A) (a i : ℕ) → a ≤ i → i < a + k → getD (sets xs a (replicate k d)) i d ≡ d
+  pub sets-blank : (k : ℕ) (xs : List A) (a i : ℕ) → a ≤ i → i < a + k → getD (sets xs a (replicate k d)) i d ≡ d
   sets-blank zero xs a i h g = absurd (omega arith)
   sets-blank (suc k) xs a i h g = go (ℕ-discrete i a) (λ n. sets-blank k (set xs a d) (suc a) i (omega arith) (omega arith))
     where

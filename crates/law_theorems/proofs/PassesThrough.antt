@@ -10,10 +10,10 @@ use Rattle.leaf_integers.specs.Integers.{inside, isZero}
 use Rattle.law.specs.Calculate.{Result, fails, is, isTrue, stuck}
 use Rattle.law.specs.Chair.{condition, evalCode, matches, placeCode, runAct, runActs, runArguments, runCases}
 use Rattle.law.specs.Code.{Act, Acts, BodyCode, Cases, Code, Frame, _also_, assignOrdinal, assignWhole, branchOn, callTo, caseOf, elseCase, forLoop, noCase, noAct, oneCase, raiseWith, sequence, stop, whileLoop}
-use Rattle.law.specs.Machine.{Answer, Outcome, Proc, Procs, State, Store, andThen, answer, branch, caught, continued, Plan, countUp, entered, forRounds, noRound, opened, outside, planned, rounds, handled, normal, passOn, proc, procedureAt, raiseNumber, raised, raising, returned, returning, setControl, sole, spent, state, step, stepIf, sticks, stored, storeOrdinal, storeWhole, whileRounds, withResult}
+use Rattle.law.specs.Machine.{Answer, Outcome, Proc, Procs, State, Store, andThen, answer, branch, caught, continued, Plan, countUp, ended, entered, forRounds, noRound, opened, outside, planned, rounds, handled, normal, passOn, proc, procedureAt, raiseNumber, raised, raising, returned, returning, setControl, sole, spent, state, step, stepIf, sticks, stored, storeOrdinal, storeWhole, whileRounds, withResult}
 use Rattle.law.specs.Whole.{runAll, runBody}
 use Rattle.law.specs.Rest.{Rest, before, forFrom, handledBy, inBody, leaving, procsOf, resume, statement, statements, whileFrom}
-use Rattle.law_theorems.proofs.MoreBudget.{Ends, Stable, answer-f, more, moreA, run-f, runs-f, set-f, turns-f}
+use Rattle.law_theorems.proofs.MoreBudget.{Ends, Stable, answer-f, more, moreA, run-f, runs-f, set-f}
 use Rattle.law_theorems.proofs.SpentOnly as Spent
 use Rattle.law_theorems.proofs.SpentOnly.{Falls, answer-d, run-d}
 use Rattle.law_theorems.proofs.Programs.{body-f, body-d, calling-all, no-procs}
@@ -42,6 +42,9 @@ module _ (bs : List BodyCode) where
 
   answer-p : (s : State) → Pauses (answer normal) s
   answer-p s = record { at = λ e. not-normal e }
+
+  ended-p : (a : ℕ) (s : State) → Pauses (ended a) s
+  ended-p a s = record { at = λ e. not-normal e }
 
   raising-p : (z : ℤ) (n : ℕ) (s : State) → Pauses (raising z n) s
   raising-p z n s = record { at = λ e. not-raised e }
@@ -229,15 +232,15 @@ module _ (bs : List BodyCode) where
 
     turns-p : (j a : ℕ) (b : Act) → ((s : State) → Pauses (runAct ps b) s) → (z : ℤ) (s : State) → Pauses (forRounds j a (runAct ps b) z) s
     unfolding forRounds resume
-    turns-p zero a b h z s = answer-p s
+    turns-p zero a b h z s = ended-p a s
     turns-p (suc j) a b h z s = step-p (forFrom (suc j) a b z) _ (λ t. refl) (λ t. then-p (forFrom j a b (sucℤ z)) (λ u. runAct ps b (setControl a z u)) _ refl
         (λ k. set-f k a z (stays b k)) t (set-p a z b h t) (λ _. turns-p j a b h (sucℤ z) _)) s
 
     opened-p : (q : Plan) (n a : ℕ) (x : ℤ) (b : Act) → ((s : State) → Pauses (runAct ps b) s) → (s : State) → Pauses (opened q n a x (runAct ps b)) s
-    unfolding opened resume runAct
-    opened-p noRound n a x b h s = answer-p s
+    unfolding opened
+    opened-p noRound n a x b h s = ended-p a s
     opened-p outside n a x b h s = raising-p _ n s
-    opened-p (rounds j) n a x b h s = then-p (statements stop) (forRounds j a (runAct ps b) x) _ refl (λ k. turns-f k j a (stays b k) x) s (turns-p j a b h x s) (λ _. answer-p _)
+    opened-p (rounds j) n a x b h s = turns-p j a b h x s
 
     counting-p : (n a : ℕ) (lo hi x y : ℤ) (b : Act) → ((s : State) → Pauses (runAct ps b) s) → (s : State) → Pauses (countUp n a lo hi x y (runAct ps b)) s
     unfolding countUp

@@ -9,7 +9,7 @@ use Rattle.leaf_integers.specs.Integers.{inside, isZero}
 use Rattle.law.specs.Calculate.{Result, fails, is, isTrue, stuck}
 use Rattle.law.specs.Chair.{condition, evalCode, matches, placeCode, runAct, runActs, runArguments, runCases}
 use Rattle.law.specs.Code.{Act, Acts, Cases, Code, Frame, _also_, assignOrdinal, assignWhole, branchOn, callTo, caseOf, elseCase, forLoop, noCase, noAct, oneCase, raiseWith, sequence, stop, whileLoop}
-use Rattle.law.specs.Machine.{Answer, Outcome, Proc, Procs, State, Store, andThen, answer, branch, continued, Plan, countUp, entered, forRounds, noRound, opened, outside, planned, rounds, normal, passOn, procedureAt, raiseNumber, raised, raising, returning, setControl, sole, spent, state, step, stepIf, sticks, stored, storeOrdinal, storeWhole, whileRounds, withResult}
+use Rattle.law.specs.Machine.{Answer, Outcome, Proc, Procs, State, Store, andThen, answer, branch, continued, Plan, countUp, ended, entered, forRounds, noRound, opened, outside, planned, rounds, normal, passOn, procedureAt, raiseNumber, raised, raising, returning, setControl, sole, spent, state, step, stepIf, sticks, stored, storeOrdinal, storeWhole, whileRounds, withResult}
 
 -- nothing is asked but of `spent`
 pub data Ended (n : ℕ) : Outcome → Type 0 where
@@ -84,16 +84,19 @@ unfolding whileRounds
 rounds-d zero n c h = check-d n c λ q. branch-d q (record { at = λ s l. used (omega arith) (spending (omega arith)) }) (answer-d λ _. normally)
 rounds-d (suc b) n c h = check-d n c λ q. branch-d q (step-d (then-d (h b) (rounds-d b n c h))) (answer-d λ _. normally)
 
+ended-d : (a b : ℕ) → Falls b (ended a)
+ended-d a b = record { at = λ s l. used (omega arith) normally }
+
 turns-d : (j a : ℕ) {body : State → Answer} → ((k : ℕ) → Falls k body) → (z : ℤ) (b : ℕ) → Falls b (forRounds j a body z)
 unfolding forRounds
-turns-d zero a h z b = answer-d λ _. normally
+turns-d zero a h z b = ended-d a b
 turns-d (suc j) a h z b = lower (omega arith) (step-d {b = b} (then-d (record { at = λ s l. (h b) .at (setControl a z s) l }) (turns-d j a h (sucℤ z) b)))
 
 opened-d : (q : Plan) (n a : ℕ) (x : ℤ) {body : State → Answer} → ((k : ℕ) → Falls k body) → (b : ℕ) → Falls b (opened q n a x body)
 unfolding opened
-opened-d noRound n a x h b = answer-d λ _. normally
+opened-d noRound n a x h b = ended-d a b
 opened-d outside n a x h b = raising-d _ n
-opened-d (rounds j) n a x h b = then-d (turns-d j a h x b) (answer-d λ _. normally)
+opened-d (rounds j) n a x h b = turns-d j a h x b
 
 counting-d : (n a : ℕ) (lo hi x y : ℤ) {body : State → Answer} → ((k : ℕ) → Falls k body) → (b : ℕ) → Falls b (countUp n a lo hi x y body)
 unfolding countUp

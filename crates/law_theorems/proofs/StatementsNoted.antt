@@ -8,7 +8,7 @@ use Rattle.law.specs.Calculate.{Result, caseError, fails, is, isTrue, rangeErro
 use Rattle.law.specs.Chair.{condition, evalCode, matches, placeCode, runAct, runActs, runArguments, runCases}
 use Rattle.law.specs.Code as C
 use Rattle.law.specs.Code.{BodyCode}
-use Rattle.law.specs.Machine.{Answer, Outcome, Plan, Proc, Procs, State, andThen, answer, branch, caught, continued, countUp, entered, forRounds, handled, noRound, normal, opened, outside, passOn, planned, proc, procedureAt, raiseNumber, raised, raising, returning, rounds, setControl, sole, spent, state, step, stepIf, sticks, stored, storeOrdinal, storeWhole, whileRounds, withResult}
+use Rattle.law.specs.Machine.{Answer, Outcome, Plan, Proc, Procs, State, andThen, answer, branch, caught, continued, countUp, ended, entered, forRounds, handled, noRound, normal, opened, outside, passOn, planned, proc, procedureAt, raiseNumber, raised, raising, returning, rounds, setControl, sole, spent, state, step, stepIf, sticks, stored, storeOrdinal, storeWhole, whileRounds, withResult}
 use Rattle.law.specs.Whole.{runAll, runBody}
 use Rattle.law_theorems.specs.Bodies as Numbered
 use Rattle.law_theorems.specs.Bodies.{Bodies}
@@ -88,16 +88,19 @@ unfolding whileRounds
 while-n N c h zero = check-n N c λ b. branch-n b (answer-n spent) (answer-n normal)
 while-n N c h (suc f) = check-n N c λ b. branch-n b (step-n (then-n h (while-n N c h f))) (answer-n normal)
 
+ended-n : (a : ℕ) → Notes (ended a)
+ended-n a = record { at = λ s g. g }
+
 for-n : (a : ℕ) {body : State → Answer} → Notes body → (k : ℕ) (z : ℤ) → Notes (forRounds k a body z)
 unfolding forRounds
-for-n a h zero z = answer-n normal
+for-n a h zero z = ended-n a
 for-n a {body} h (suc k) z = step-n (then-n {f = λ s. body (setControl a z s)} (record { at = λ s g. h .at (setControl a z s) g }) (for-n a h k (sucℤ z)))
 
 opened-n : {n : ℕ} → Number 4096 n → (a : ℕ) (x : ℤ) {body : State → Answer} → Notes body → (p : Plan) → Notes (opened p n a x body)
 unfolding opened
-opened-n N a x h noRound = answer-n normal
+opened-n N a x h noRound = ended-n a
 opened-n N a x h outside = raising-n rangeError N
-opened-n N a x h (rounds k) = then-n (for-n a h k x) (answer-n normal)
+opened-n N a x h (rounds k) = for-n a h k x
 
 count-n : {n : ℕ} → Number 4096 n → (a : ℕ) (lo hi x y : ℤ) {body : State → Answer} → Notes body → Notes (countUp n a lo hi x y body)
 unfolding countUp

@@ -11,7 +11,7 @@ use Rattle.leaf_integers.specs.Integers.{inside, isZero}
 use Rattle.law.specs.Calculate.{Result, fails, is, isTrue, stuck, systemError}
 use Rattle.law.specs.Chair.{condition, evalCode, matches, placeCode, runAct, runActs, runArguments, runCases}
 use Rattle.law.specs.Code.{Act, Acts, BodyCode, Cases, Code, Frame, _also_, assignOrdinal, assignWhole, branchOn, callTo, caseOf, elseCase, forLoop, noCase, noAct, oneCase, raiseWith, sequence, stop, whileLoop}
-use Rattle.law.specs.Machine.{Answer, Outcome, Proc, Procs, State, Store, andThen, answer, branch, caught, continued, Plan, countUp, entered, forRounds, noRound, opened, outside, planned, rounds, handled, normal, passOn, procedureAt, raiseNumber, raised, raising, returning, setControl, sole, spent, state, step, stepIf, sticks, stored, storeOrdinal, storeWhole, whileRounds, withResult}
+use Rattle.law.specs.Machine.{Answer, Outcome, Proc, Procs, State, Store, andThen, answer, branch, caught, continued, Plan, countUp, ended, entered, forRounds, noRound, opened, outside, planned, rounds, handled, normal, passOn, procedureAt, raiseNumber, raised, raising, returning, setControl, sole, spent, state, step, stepIf, sticks, stored, storeOrdinal, storeWhole, whileRounds, withResult}
 use Rattle.law.specs.Whole.{runAll, runBody}
 use Rattle.law_theorems.proofs.MoreBudget.{more, moreA, returning-f}
 use Rattle.law_theorems.proofs.Programs.{all-bodies, no-procs}
@@ -121,16 +121,19 @@ rounds-one n c h b d e = rw e (rounds-l n c h b)
 set-l : (a : ℕ) (z : ℤ) {b : ℕ} {body : State → Answer} → Lower b body body → Lower b (λ s. body (setControl a z s)) (λ s. body (setControl a z s))
 set-l a z h = record { less-f = record { by = λ s. h .less-f .by (setControl a z s) }; less-g = record { by = λ s. h .less-g .by (setControl a z s) }; at = λ s l e. h .at (setControl a z s) l e }
 
+ended-l : (b a : ℕ) → Lower b (ended a) (ended a)
+ended-l b a = record { less-f = record { by = λ s. omega arith }; less-g = record { by = λ s. omega arith }; at = λ s l e. refl }
+
 turns-l : (j a : ℕ) {body : State → Answer} → ((b : ℕ) → Lower b body body) → (z : ℤ) (b : ℕ) → Lower b (forRounds j a body z) (forRounds j a body z)
 unfolding forRounds
-turns-l zero a h z b = answer-l
+turns-l zero a h z b = ended-l b a
 turns-l (suc j) a h z b = step-any (λ b. then-l (set-l a z (h b)) (turns-l j a h (sucℤ z) b)) b
 
 opened-l : (q : Plan) (n a : ℕ) (x : ℤ) {body : State → Answer} → ((b : ℕ) → Lower b body body) → (b : ℕ) → Lower b (opened q n a x body) (opened q n a x body)
 unfolding opened
-opened-l noRound n a x h b = answer-l
+opened-l noRound n a x h b = ended-l b a
 opened-l outside n a x h b = raising-l _ n
-opened-l (rounds j) n a x h b = then-l (turns-l j a h x b) answer-l
+opened-l (rounds j) n a x h b = turns-l j a h x b
 
 counting-l : (n a : ℕ) (lo hi x y : ℤ) {body : State → Answer} → ((b : ℕ) → Lower b body body) → (b : ℕ) → Lower b (countUp n a lo hi x y body) (countUp n a lo hi x y body)
 unfolding countUp

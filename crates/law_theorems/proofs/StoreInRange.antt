@@ -16,7 +16,7 @@ use Rattle.law.specs.Chair.{condition, evalCode, matches, placeCode, runAct, ru
 use Rattle.law.specs.Code.{Act, Acts, Cases, Code, Codes, Frame, anySet, assignOrdinal, assignWhole, ranged}
 use Rattle.law.specs.Elaborate.{Located, elabArguments, elabArms, elabStmt, elabStmts, expects}
 use Rattle.law.specs.Environment.{wantOf}
-use Rattle.law.specs.Machine.{Answer, Outcome, Proc, Procs, State, Store, admitted, andThen, answer, branch, continued, countUp, entered, forRounds, forgotten, noRound, normal, opened, outside, passOn, planned, procedureAt, raiseNumber, raised, raising, returning, rounds, setControl, sole, spent, state, step, stepIf, stored, storeOrdinal, storeWhole, undefined, whileRounds, withResult}
+use Rattle.law.specs.Machine.{Answer, Outcome, Proc, Procs, State, Store, admitted, andThen, answer, branch, continued, countUp, ended, entered, forRounds, forgotten, noRound, normal, opened, outside, passOn, planned, procedureAt, raiseNumber, raised, raising, returning, rounds, setControl, sole, spent, state, step, stepIf, stored, storeOrdinal, storeWhole, undefined, whileRounds, withResult}
 use Rattle.law.specs.Script.{Arms, Expr, Exprs, Stmt, Stmts, _and_, _next_, arm, assign, begin, call, case, done, elseArm, for, ifElse, nil, noElse, raise, skip, while}
 use Rattle.law.specs.Store.{cellFits}
 use Rattle.law.specs.Types.{Types, Vars, cellsOf, hostOf, infoAt, ordinal?, set?}
@@ -94,12 +94,15 @@ module _ {tests : List Test} where
   unfolding raiseNumber
   raises-s n {z} i = branch-s (isZero z) (λ _. passes-s n) (λ _. raising-s i n)
 
-  -- ---- a call's return: its parameters are undefined
+  -- ---- cells that become undefined: a control variable at its loop's end, parameters at a return
 
   forgotten-all : (k : ℕ) {m : Store} (a : ℕ) → Sound tests m → Sound tests (forgotten a k m)
   unfolding isZero
   forgotten-all zero a s = record { long = s .long; enough = s .enough; each = s .each; number = s .number }
   forgotten-all (suc k) {m} a s = forgotten-all k (suc a) (put-one tests m a (pos 0) undefined refl s)
+
+  ended-s : (a : ℕ) → Safely tests (ended a)
+  ended-s a = record { at = λ s g. fine normally (forgotten-all 1 a g) }
 
   returning-s : (q : Frame) {o : Outcome} (s : State) → Moved o → Sound tests (s .store) → Fine tests (returning q o s)
   returning-s q s normally g = fine normally (forgotten-all (length (q .wants)) (q .base) g)
@@ -142,7 +145,7 @@ module _ (Γ : Types) (Δ : Vars) (tests : List Test) (𝓕 : Formed Γ Δ tests
   turns-s : (t a : ℕ) → ordinal? Γ t ≡ true → Here Γ tests a (cellsOf Γ t) → {body : State → Answer} → Safely tests body → (j : ℕ) (z : ℤ)
       → ((i : ℕ) → i < j → inside (infoAt Γ t .low) (infoAt Γ t .high) (z +ℤ pos i) ≡ true) → Safely tests (forRounds j a body z)
   unfolding forRounds
-  turns-s t a o h b zero z p = answer-s normally
+  turns-s t a o h b zero z p = ended-s a
   turns-s t a o h b (suc j) z p = step-s (then-s (set-s t a o h z (rw +ℤ-idr at (p 0 (omega arith))) b)
       (turns-s t a o h b j (sucℤ z) (λ i l. rw (sucℤ-+ℤ z (pos i), ← +ℤ-sucℤ z (pos i)) (p (suc i) (omega arith)))))
 
@@ -153,9 +156,9 @@ module _ (Γ : Types) (Δ : Vars) (tests : List Test) (𝓕 : Formed Γ Δ tests
     where
       go : (p q : Bool) → (inside (infoAt Γ t .low) (infoAt Γ t .high) x && inside (infoAt Γ t .low) (infoAt Γ t .high) y) ≡ q
           → Safely tests (opened (pick p (pick q (rounds (natOf (sucℤ (y -ℤ x)))) outside) noRound) n a x body)
-      go false q e = answer-s normally
+      go false q e = ended-s a
       go true false e = raising-s e-range n
-      go true true e = let w = and-true _ _ e in then-s (turns-s t a o h b _ x (λ i l. span-inside _ _ x y i (w .0) (w .1) l)) (answer-s normally)
+      go true true e = let w = and-true _ _ e in turns-s t a o h b _ x (λ i l. span-inside _ _ x y i (w .0) (w .1) l)
 
   -- ---- calls
 

@@ -16,7 +16,7 @@ use Rattle.leaf_integers.specs.Integers.{inside, isZero}
 use Rattle.leaf_integers.proofs.Order.{le-or-lt}
 use Rattle.law.specs.Base.{pick}
 use Rattle.law.specs.Calculate.{Result, is, fails, stuck, natOf, systemError}
-use Rattle.law.specs.Machine.{Store, state, Answer, answer, andThen, continued, ended, Outcome, normal, spent, sticks, raised, raising, noting, readCell, storeCells, branch, passOn, raiseNumber}
+use Rattle.law.specs.Machine.{Store, state, Answer, answer, normal, spent, raised, raising, noting, readCell, storeCells, branch, passOn, raiseNumber}
 use Rattle.code_calc.specs.Words.{greatest, faultBase, InRange, Ranged, wordOf, Means, latestAt, latestIn, placeAt, storeWord, storeWords, undefinedWord}
 use Rattle.code_calc.proofs.Ranging.{range-value, above-fault, small-fault}
 use Rattle.mark_steps.proofs.Noting.{fault-back}
@@ -180,16 +180,6 @@ module _ (z : ℤ) (n : ℕ) (ws : List ℤ) where
   }
 
 -- ---- ends
-
--- after rounds a `for` does no more
-pub ended-same : (a : ℕ) (v : Answer) → andThen v (ended a) ≡ v
-ended-same a v = go (v .outcome)
-  where
-    go : (o : Outcome) → continued o (v .state) (ended a) ≡ answer o (v .state)
-    go normal = refl
-    go spent = refl
-    go sticks = refl
-    go (raised z n) = refl
 
 module _ (ws : List ℤ) (s : ℕ) (m : Store) (S : Stands ws s m) where
   pub normal-ends : Ends (answer normal (state m s)) ws s

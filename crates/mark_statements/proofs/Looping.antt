@@ -16,7 +16,7 @@ use Rattle.leaf_integers.proofs.Machine.{wire}
 use Rattle.leaf_integers.proofs.Order.{le-not, not-le}
 use Rattle.law.specs.Base.{Name, pick, _>>=_}
 use Rattle.law.specs.Calculate.{Result, is, isTrue, natOf, rangeError}
-use Rattle.law.specs.Machine.{Store, State, state, Answer, answer, normal, spent, andThen, branch, countUp, forRounds, raising, stored, whileRounds, withResult, noRound, outside, planned, rounds}
+use Rattle.law.specs.Machine.{Store, State, state, Answer, answer, normal, spent, andThen, branch, countUp, ended, forRounds, forgotten, raising, stored, whileRounds, withResult, noRound, outside, planned, rounds}
 use Rattle.law.specs.Script as Script
 use Rattle.law.specs.Syntax.{Expr}
 use Rattle.law.specs.Trees.{end, first}
@@ -30,9 +30,9 @@ use Rattle.code_calc.specs.Words.{greatest, InRange}
 use Rattle.mark_steps.specs.Ends.{leftIn, stepWord, Raises}
 use Rattle.mark_steps.specs.Stands.{Goes, Stands, after}
 use Rattle.mark_steps.specs.Turns.{Increments}
-use Rattle.mark_cells.specs.Cells.{Puts}
+use Rattle.mark_cells.specs.Cells.{Forgets, Puts}
 use Rattle.mark_cells.proofs.Ending.{left-most, left-of, raised-fewer, step-spent, step-taken, step-fewer, step-stands}
-use Rattle.mark_cells.proofs.Stored.{put-stands}
+use Rattle.mark_cells.proofs.Stored.{forgotten-stands, put-stands}
 use Rattle.mark_values.specs.Carrying.{Broken}
 use Rattle.mark_acts.specs.declared.bounds.Span.{Span}
 use Rattle.mark_acts.specs.declared.bounds.Span.the-variants as span
@@ -46,7 +46,7 @@ use Rattle.mark_statements.specs.declared.finding.Plan.{Plan}
 use Rattle.mark_statements.specs.declared.finding.Plan.the-variants as plan
 use Rattle.mark_statements.specs.Finding.{planAs, planOf, planBy}
 use Rattle.mark_statements.specs.Marks.{Found, FoundExpr, Setting, machine, testing, MarksStmt, MarksVerb, MarksWhile, MarksRounds}
-use Rattle.mark_statements.proofs.Machines.{goes-next, stops-there, ends-there, goes-ends, spent-marks}
+use Rattle.mark_statements.proofs.Machines.{goes-next, stops-there, goes-ends, spent-marks}
 use Rattle.mark_statements.proofs.Turning.{onward, rounds-by, onward-spent, onward-round, count-one, count-rest, count-last, next-up, next-ranged, for-spent, for-round, for-none as rounds-none, counts-none, counts-out, counts-in}
 use Rattle.mark_statements.proofs.Founding.{found-as, for-found, past}
 use Rattle.mark_statements.proofs.Branching.{known, test-halts, test-gives}
@@ -160,6 +160,10 @@ pub ruleset while-laws = (while-halts, while-done, while-spent, while-stops, sfi
 
 -- ---- `rounds`
 
+-- its control variable undefined, a `for` ends
+ended-marks : (ws : List ℤ) (left : ℕ) (m : Store) (a : ℕ) (es : List ℤ) → Stands ws left m → Forgets ws a 1 es → MarkEnds (ended a (state m left)) es left
+ended-marks ws left m a es S G = normal-marks es left (forgotten a 1 m) (forgotten-stands ws left m a 1 es S G)
+
 -- rounds from z to y are left
 pub record TurnsLeft (v : Answer) (a : ℕ) (body : State → Answer) (z y : ℤ) (ws : List ℤ) (t : ℕ) : Type 0 where
   pub up : leZ z y ≡ true
@@ -221,14 +225,14 @@ module _ (s l us ts tb : List ℕ) (scope : Scope) (calls d n a : ℕ) (x y : �
         pub turn-falls : o ≤ 4294967295 → o < t
         turn-falls q = omega (arith, left-of o q, B .fewer, turned)
 
-        -- the last round
-        turn-last : o ≤ 4294967295 → leZ y z ≡ true → MarksRounds s l us ts tb scope calls d n a x y b ws left os o
-        turn-last q i = turn-from os o (omega (arith, B .fewer, turned, C .fewer)) (λ F X Q k h R S.
-            subst (λ (v : Answer). MarkEnds v os o)
+        -- the last round, and the end
+        turn-last : o ≤ 4294967295 → leZ y z ≡ true → (es : List ℤ) → Forgets os a 1 es → MarksRounds s l us ts tb scope calls d n a x y b ws left es o
+        turn-last q i es G = turn-from es o (omega (arith, B .fewer, turned, C .fewer)) (λ F X Q k h R S.
+            subst (λ (v : Answer). MarkEnds v es o)
             (sym (turn-round F X (natOf (y -ℤ z)) k
             ∙ ap (λ (e : ℕ). andThen (machine F (X .stmt) (state (stored a (z ∷ []) k) u)) (forRounds e a (machine F (X .stmt)) (sucℤ z))) (count-last y z h i)))
-            (ends-there (machine F (X .stmt) (state (stored a (z ∷ []) k) u)) (forRounds 0 a (machine F (X .stmt)) (sucℤ z)) os o (turn-ends F X k R S) q
-            (λ v. rounds-none a (machine F (X .stmt)) (sucℤ z) v)))
+            (goes-ends (goes-next (machine F (X .stmt) (state (stored a (z ∷ []) k) u)) (forRounds 0 a (machine F (X .stmt)) (sucℤ z)) os o (turn-ends F X k R S) q)
+            (λ m T. subst (λ (v : Answer). MarkEnds v es o) (sym (rounds-none a (machine F (X .stmt)) (sucℤ z) (state m o))) (ended-marks os o m a es T G))))
 
         turn-next : (r : ℤ) → o ≤ 4294967295 → leZ y z ≡ false → r ≡ sucℤ z → Counting s l us ts tb scope calls d n a x y b ws left r os o
         turn-next r q i e = subst (λ (v : ℤ). Counting s l us ts tb scope calls d n a x y b ws left v os o) (sym e) (record {
@@ -269,8 +273,8 @@ module _ (s l us ts tb : List ℕ) (scope : Scope) (calls d n a : ℕ) (x y : �
       pub rounds-stop : 4294967295 < o → MarksRounds s l us ts tb scope calls d n a x y b ws left os o
       rounds-stop q = plainly os o (turn-stops s l us ts tb scope calls d n a (wire x) (wire y) b ws left z vs t C u U j qs os o P B q)
 
-      pub rounds-end : (k : Bool) → o ≤ 4294967295 → k ≡ leZ (wire y) z → k ≡ true → MarksRounds s l us ts tb scope calls d n a x y b ws left os o
-      rounds-end k q K e = plainly os o (turn-last s l us ts tb scope calls d n a (wire x) (wire y) b ws left z vs t C u U j qs os o P B q (sym K ∙ e))
+      pub rounds-end : (k : Bool) (es : List ℤ) → o ≤ 4294967295 → k ≡ leZ (wire y) z → k ≡ true → Forgets os a 1 es → MarksRounds s l us ts tb scope calls d n a x y b ws left es o
+      rounds-end k es q K e G = plainly es o (turn-last s l us ts tb scope calls d n a (wire x) (wire y) b ws left z vs t C u U j qs os o P B q (sym K ∙ e) es G)
 
       pub rounds-next : (k : Bool) (r : ℤ) → o ≤ 4294967295 → k ≡ leZ (wire y) z → k ≡ false → Increments z (wire y) r → SFits w64 r
           → Counting s l us ts tb scope calls d n a (wire x) (wire y) b ws left (wire r) os o
@@ -287,7 +291,7 @@ name-end = refl
 -- what a plan says of what v is, where w was worked out
 abbrev PlanFor : (n : ℕ) (body : State → Answer) (t : State) → Result Counted → Answer → Plan → Type 0
 PlanFor n body t w v (plan.Rounds a x y) = (leZ x y ≡ true) × (InRange x × (InRange y × (v ≡ forRounds (natOf (sucℤ (y -ℤ x))) a body x t)))
-PlanFor n body t w v plan.Nothing = v ≡ answer normal t
+PlanFor n body t w v (plan.NoRound a) = v ≡ ended a t
 PlanFor n body t w v plan.Outside = v ≡ raising rangeError n t
 PlanFor n body t w v (plan.Halted u) = Broken u w
 
@@ -340,8 +344,8 @@ module _ (s l us ts tb : List ℕ) (scope : Scope) (calls d n at : ℕ) (ws : Li
   for-halts u ws′ r e g H = for-from ws′ r (H .fewer) (λ F C w x y hw hx hy k S v T.
       halts-ends ws left k n v u (over (F .env .types) n (machine F (C .stmt)) (state k left) v) ws′ r S (rw e at T) (rw (toZ-ofZ g) at H))
 
-  pub for-none : p ≡ plan.Nothing → MarksVerb s l us ts tb scope calls VB.For d n at ws left ws left
-  for-none e = for-from ws left (left-most left) (λ F C w x y hw hx hy k S v T. subst (λ (a : Answer). MarkEnds a ws left) (sym (rw e at T)) (normal-marks ws left k S))
+  pub for-none : (a : ℕ) (es : List ℤ) → p ≡ plan.NoRound a → Forgets ws a 1 es → MarksVerb s l us ts tb scope calls VB.For d n at ws left es left
+  for-none a es e G = for-from es left (left-most left) (λ F C w x y hw hx hy k S v T. subst (λ (r : Answer). MarkEnds r es left) (sym (rw e at T)) (ended-marks ws left k a es S G))
 
   pub for-outside : (ws′ : List ℤ) (r : ℕ) → p ≡ plan.Outside → Raises (negsuc 102) n ws left ws′ r → MarksVerb s l us ts tb scope calls VB.For d n at ws left ws′ r
   unfolding InRange inside

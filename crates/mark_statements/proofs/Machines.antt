@@ -68,12 +68,6 @@ module _ (a : Answer) (f : State → Answer) (ws : List ℤ) (w : ℕ) (E : Mark
       subst (λ (x : Answer). MarkEnds x ws w)
       (sym (ap (λ (o : Outcome). continued o (a .state) f) (E .outcome) ∙ mark-stops w ws (a .state) f h ∙ ap (λ (o : Outcome). answer o (a .state)) (sym (E .outcome)))) E
 
-  -- where nothing comes after a normal end
-  pub ends-there : w ≤ 4294967295 → ((t : State) → f t ≡ answer normal t) → MarkEnds (andThen a f) ws w
-  ends-there e h =
-      subst (λ (x : Answer). MarkEnds x ws w)
-      (sym (ap (λ (o : Outcome). continued o (a .state) f) (E .outcome ∙ mark-normal w ws e) ∙ h (a .state) ∙ ap (λ (o : Outcome). answer o (a .state)) (sym (E .outcome ∙ mark-normal w ws e)))) E
-
 -- what is left of a machine ends it
 pub goes-ends : {a : Answer} {f : State → Answer} {ws ws′ : List ℤ} {t r : ℕ} → Goes a f ws t → ((m : Store) → Stands ws t m → MarkEnds (f (state m t)) ws′ r) → MarkEnds a ws′ r
 goes-ends {a} {f} {ws} {ws′} {t} {r} G h = subst (λ (x : Answer). MarkEnds x ws′ r) (sym (G .rest)) (h (G .store) (G .stands))

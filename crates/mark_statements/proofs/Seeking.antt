@@ -190,7 +190,7 @@ module _ (a : ℕ) (lo hi x y : ℤ) (fl : SFits w64 lo) (fh : SFits w64 hi) (fx
   planned-is : planned lo hi x y ≡ planFrom (wire x) (wire y) p
   planned-is = subst (λ (q : Machine.Plan). q ≡ planFrom (wire x) (wire y) p) (rw (toZ-ofZ fl, toZ-ofZ fh, toZ-ofZ fx, toZ-ofZ fy)) (P .says)
 
-  pub plan-none : p ≡ steps.NoRound → plan.Nothing ≡ planOf a lo hi x y
+  pub plan-none : p ≡ steps.NoRound → plan.NoRound a ≡ planOf a lo hi x y
   unfolding planOf
   plan-none e = sym (ap (planAs a x y) (planned-is ∙ ap (planFrom (wire x) (wire y)) e))
 

@@ -14,9 +14,8 @@ use Rattle.leaf_integers.proofs.Order.{leZ-diff, leZ-trans, up-le, add-high}
 use Rattle.leaf_integers.proofs.Ranges.{inside-is, inside-both}
 use Rattle.law.specs.Base.{pick}
 use Rattle.law.specs.Calculate.{natOf, rangeError}
-use Rattle.law.specs.Machine.{Store, State, state, Answer, answer, normal, spent, andThen, branch, countUp, forRounds, raising, step, stored, whileRounds, noRound, opened, outside, planned, rounds}
+use Rattle.law.specs.Machine.{Store, State, state, Answer, answer, normal, spent, andThen, branch, countUp, ended, forRounds, raising, step, stored, whileRounds, noRound, opened, outside, planned, rounds}
 use Rattle.code_calc.specs.Words.{lowest, greatest, InRange}
-use Rattle.mark_cells.proofs.Ending.{ended-same}
 
 -- ---- `while`
 module _ (test : State → (Bool → Answer) → Answer) (body : State → Answer) where
@@ -85,7 +84,7 @@ module _ (a : ℕ) (body : State → Answer) (z : ℤ) where
   unfolding forRounds
   for-round k m n = refl
 
-  pub for-none : (t : State) → forRounds 0 a body z t ≡ answer normal t
+  pub for-none : (t : State) → forRounds 0 a body z t ≡ ended a t
   unfolding forRounds
   for-none t = refl
 
@@ -98,7 +97,7 @@ module _ (n a : ℕ) (lo hi x y : ℤ) (body : State → Answer) (t : State) whe
   unfolding countUp planned countBy
   count-by = refl
 
-  pub counts-none : leZ x y ≡ false → countUp n a lo hi x y body t ≡ answer normal t
+  pub counts-none : leZ x y ≡ false → countUp n a lo hi x y body t ≡ ended a t
   unfolding countBy opened pick
   counts-none h = count-by ∙ ap (λ (b : Bool). countBy b (inside lo hi x && inside lo hi y)) h
 
@@ -109,4 +108,4 @@ module _ (n a : ℕ) (lo hi x y : ℤ) (body : State → Answer) (t : State) whe
 
     pub counts-in : (inside lo hi x && inside lo hi y) ≡ true → countUp n a lo hi x y body t ≡ forRounds (natOf (sucℤ (y -ℤ x))) a body x t
     unfolding countBy opened pick
-    counts-in g = count-by ∙ ap (λ (b : Bool). countBy b (inside lo hi x && inside lo hi y)) h ∙ ap (λ (b : Bool). countBy true b) g ∙ ended-same a (forRounds (natOf (sucℤ (y -ℤ x))) a body x t)
+    counts-in g = count-by ∙ ap (λ (b : Bool). countBy b (inside lo hi x && inside lo hi y)) h ∙ ap (λ (b : Bool). countBy true b) g

@@ -69,7 +69,7 @@ pub record Handles (s : List ℕ) (n at : ℕ) (r : Handler) : Type 0 where
 -- ---- a `for` after its bounds: its rounds from x to y in cell a, if both lie from lo to hi
 
 abbrev pub planAs : ℕ → ℤ → ℤ → Machine.Plan → Plan
-planAs a x y Machine.noRound = plan.Nothing
+planAs a x y Machine.noRound = plan.NoRound a
 planAs a x y Machine.outside = plan.Outside
 planAs a x y (Machine.rounds k) = plan.Rounds a x y
 

@@ -40,10 +40,10 @@ pub enum Handler {
     Nothing,
 }
 
-// What a `for` does after its bounds are worked out: rounds of its cell from a value to another, nothing, a Range_Error, or what no value does.
+// What a `for` does after its bounds are worked out: rounds of its cell from a value to another, none of them, a Range_Error, or what no value does.
 pub enum Plan {
     Rounds(u32, i64, i64),
-    Nothing,
+    NoRound(u32),
     Outside,
     Halted(i64),
 }
@@ -133,7 +133,7 @@ fn within(a: u32, lo: i64, hi: i64, x: i64, y: i64) -> Plan
 {
     let p = planned(lo, hi, x, y);
     match p {
-        turns::Plan::NoRound => Plan::Nothing,
+        turns::Plan::NoRound => Plan::NoRound(a),
         turns::Plan::Outside => Plan::Outside,
         turns::Plan::Rounds => Plan::Rounds(a, x, y),
     }

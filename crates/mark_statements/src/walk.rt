@@ -23,6 +23,7 @@ use mark_acts::ends::sticking;
 use mark_arms::Arm;
 use mark_arms::choose_arm;
 use mark_arms::later;
+use mark_cells::cells::forget;
 use mark_cells::cells::put;
 use mark_counts::count_statements;
 use mark_steps::ends::RAISED;
@@ -480,13 +481,16 @@ fn count_up(
                 q,
             )
         }
-        Plan::Nothing => left,
+        Plan::NoRound(a) => {
+            forget(store, a, 1);
+            left
+        }
         Plan::Outside => raising(store, left, RANGE_ERROR, n),
         Plan::Halted(w) => halting(store, left, w, n),
     }
 }
 
-// The rounds of a `for` whose cell is a, from x to y; its statement stands at b.
+// The rounds of a `for` whose cell is a, from x to y, and its end; its statement stands at b.
 fn rounds(
     text: &[u8],
     work: &[u32],
@@ -532,6 +536,7 @@ fn rounds(
             return o;
         }
         if at_last(z, y) {
+            forget(store, a, 1);
             return o;
         }
         z = next_of(z, y);

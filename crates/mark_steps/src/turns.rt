@@ -4,7 +4,7 @@ ghost use mathlib.Core.Path.{_≡_};
 ghost use lib.Signed.{leZ};
 ghost use Rattle.mark_steps.specs.Turns.{Increments, Plans};
 
-// What a `for` does after its bounds are worked out: nothing, a Range_Error, or its rounds.
+// What a `for` does after its bounds are worked out: no round, a Range_Error, or its rounds.
 pub enum Plan {
     NoRound,
     Outside,

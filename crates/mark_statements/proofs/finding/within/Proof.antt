@@ -10,10 +10,10 @@ pub within-spec : {M : Type 1} → statement M
 within-spec =
     tie.close
     (tie.spec
-    (λ c κs. search needs)  -- planned-requires src/finding.rt:106:9
-    (λ c. search needs)  -- enum-told src/finding.rt:108:33
-    (λ c. search needs)  -- enum-told-2 src/finding.rt:109:33
-    (λ c. search needs)  -- enum-told-3 src/finding.rt:110:32
-    (λ c. search within-laws)  -- returns src/finding.rt:103:1
-    (λ c. search within-laws)  -- returns-2 src/finding.rt:103:1
-    (λ c. search within-laws))  -- returns-3 src/finding.rt:103:1
+    (λ c κs. search needs)  -- planned-requires src/finding.rt:134:9
+    (λ c. search needs)  -- enum-told src/finding.rt:136:33
+    (λ c. search needs)  -- enum-told-2 src/finding.rt:137:33
+    (λ c. search needs)  -- enum-told-3 src/finding.rt:138:32
+    (λ c. search within-laws)  -- returns src/finding.rt:131:1
+    (λ c. search within-laws)  -- returns-2 src/finding.rt:131:1
+    (λ c. search within-laws))  -- returns-3 src/finding.rt:131:1

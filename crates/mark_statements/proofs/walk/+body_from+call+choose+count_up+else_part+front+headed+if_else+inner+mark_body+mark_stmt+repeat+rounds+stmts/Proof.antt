@@ -70,6 +70,7 @@ use Rattle.mark_acts.proofs.ends.halting.Reads as halting-reads
 use Rattle.mark_acts.proofs.ends.sticking.Reads as sticking-reads
 use Rattle.mark_arms.proofs.choose_arm.Reads as choose-arm-reads
 use Rattle.mark_arms.proofs.later.Reads as later-reads
+use Rattle.mark_cells.proofs.cells.forget.Reads as forget-reads
 use Rattle.mark_cells.proofs.cells.put.Reads as put-reads
 use Rattle.mark_counts.proofs.count_statements.Reads as count-statements-reads
 use Rattle.mark_statements.proofs.finding.callee_named.Reads as callee-named-reads
@@ -280,16 +281,16 @@ pub +body-from+call+choose+count-up+else-part+front+headed+if-else+inner+mark-bo
     )
     (body-from-at t)
     body-from.Post
-    (λ c κs. search needs)  -- body-from-front-requires src/walk.rt:686:9
-    (λ c. search within-laws)  -- body-from-returns src/walk.rt:700:9
-    (λ c. search within-laws)  -- body-from-returns-2 src/walk.rt:703:9
-    (λ c κs. search needs)  -- body-from-handler-of-requires src/walk.rt:705:9
-    (λ c. search needs)  -- body-from-enum-known-h src/walk.rt:707:23
-    (λ c κs. search needs)  -- body-from-left-in-requires src/walk.rt:717:13
-    (λ c κs. search needs)  -- body-from-stmts-requires src/walk.rt:707:32
-    (λ c. search needs)  -- body-from-enum-told src/walk.rt:721:29
-    (λ c. search within-laws)  -- body-from-returns-3 src/walk.rt:671:1
-    (λ c. search within-laws))  -- body-from-returns-4 src/walk.rt:671:1
+    (λ c κs. search needs)  -- body-from-front-requires src/walk.rt:691:9
+    (λ c. search within-laws)  -- body-from-returns src/walk.rt:705:9
+    (λ c. search within-laws)  -- body-from-returns-2 src/walk.rt:708:9
+    (λ c κs. search needs)  -- body-from-handler-of-requires src/walk.rt:710:9
+    (λ c. search needs)  -- body-from-enum-known-h src/walk.rt:712:23
+    (λ c κs. search needs)  -- body-from-left-in-requires src/walk.rt:722:13
+    (λ c κs. search needs)  -- body-from-stmts-requires src/walk.rt:712:32
+    (λ c. search needs)  -- body-from-enum-told src/walk.rt:726:29
+    (λ c. search within-laws)  -- body-from-returns-3 src/walk.rt:676:1
+    (λ c. search within-laws))  -- body-from-returns-4 src/walk.rt:676:1
     (λ t. call-lts.spec (
       callee-named-reads.Asked,
       callee-named-reads.Learnt,
@@ -304,15 +305,15 @@ pub +body-from+call+choose+count-up+else-part+front+headed+if-else+inner+mark-bo
     )
     (call-at t)
     call.Post
-    (λ c. search call-laws)  -- call-returns src/walk.rt:603:9
-    (λ c κs. search needs)  -- call-callee-named-requires src/walk.rt:605:9
-    (λ c κs. search needs)  -- call-pass-requires src/walk.rt:607:9
-    (λ c κs. search needs)  -- call-halting-requires src/walk.rt:609:9
-    (λ c. search call-laws)  -- call-returns-2 src/walk.rt:609:9
-    (λ c. search needs)  -- call-sub-mark-body src/walk.rt:611:48
-    (λ c κs. search needs)  -- call-mark-body-requires src/walk.rt:611:9
-    (λ c κs. search needs)  -- call-take-back-requires src/walk.rt:612:5
-    (λ c. search call-laws))  -- call-returns-3 src/walk.rt:586:1
+    (λ c. search call-laws)  -- call-returns src/walk.rt:608:9
+    (λ c κs. search needs)  -- call-callee-named-requires src/walk.rt:610:9
+    (λ c κs. search needs)  -- call-pass-requires src/walk.rt:612:9
+    (λ c κs. search needs)  -- call-halting-requires src/walk.rt:614:9
+    (λ c. search call-laws)  -- call-returns-2 src/walk.rt:614:9
+    (λ c. search needs)  -- call-sub-mark-body src/walk.rt:616:48
+    (λ c κs. search needs)  -- call-mark-body-requires src/walk.rt:616:9
+    (λ c κs. search needs)  -- call-take-back-requires src/walk.rt:617:5
+    (λ c. search call-laws))  -- call-returns-3 src/walk.rt:591:1
     (λ t. choose-lts.spec (
       selector-reads.Asked,
       selector-reads.Learnt,
@@ -331,20 +332,20 @@ pub +body-from+call+choose+count-up+else-part+front+headed+if-else+inner+mark-bo
     )
     (choose-at t)
     choose.Post
-    (λ c κs. search needs)  -- choose-selector-requires src/walk.rt:559:9
-    (λ c κs. search needs)  -- choose-halting-requires src/walk.rt:562:9
-    (λ c. search case-laws)  -- choose-returns src/walk.rt:562:9
-    (λ c κs. search needs)  -- choose-skip-requires src/walk.rt:564:57
-    (λ c κs. search needs)  -- choose-choose-arm-requires src/walk.rt:564:9
-    (λ c. search needs)  -- choose-enum-known-a src/walk.rt:566:20
-    (λ c κs. search needs)  -- choose-mark-stmt-requires src/walk.rt:566:29
-    (λ c. search needs)  -- choose-enum-told src/walk.rt:580:32
-    (λ c κs. search needs)  -- choose-raising-requires src/walk.rt:580:24
-    (λ c. search needs)  -- choose-enum-told-2 src/walk.rt:581:23
-    (λ c κs. search needs)  -- choose-sticking-requires src/walk.rt:581:23
-    (λ c. search case-laws)  -- choose-returns-2 src/walk.rt:543:1
-    (λ c. search case-laws)  -- choose-returns-3 src/walk.rt:543:1
-    (λ c. search case-laws))  -- choose-returns-4 src/walk.rt:543:1
+    (λ c κs. search needs)  -- choose-selector-requires src/walk.rt:564:9
+    (λ c κs. search needs)  -- choose-halting-requires src/walk.rt:567:9
+    (λ c. search case-laws)  -- choose-returns src/walk.rt:567:9
+    (λ c κs. search needs)  -- choose-skip-requires src/walk.rt:569:57
+    (λ c κs. search needs)  -- choose-choose-arm-requires src/walk.rt:569:9
+    (λ c. search needs)  -- choose-enum-known-a src/walk.rt:571:20
+    (λ c κs. search needs)  -- choose-mark-stmt-requires src/walk.rt:571:29
+    (λ c. search needs)  -- choose-enum-told src/walk.rt:585:32
+    (λ c κs. search needs)  -- choose-raising-requires src/walk.rt:585:24
+    (λ c. search needs)  -- choose-enum-told-2 src/walk.rt:586:23
+    (λ c κs. search needs)  -- choose-sticking-requires src/walk.rt:586:23
+    (λ c. search case-laws)  -- choose-returns-2 src/walk.rt:548:1
+    (λ c. search case-laws)  -- choose-returns-3 src/walk.rt:548:1
+    (λ c. search case-laws))  -- choose-returns-4 src/walk.rt:548:1
     (λ t. count-up-lts.spec (
       bounds-reads.Asked,
       bounds-reads.Learnt,
@@ -354,6 +355,8 @@ pub +body-from+call+choose+count-up+else-part+front+headed+if-else+inner+mark-bo
       skip-reads.Learnt,
       rounds-below t,
       rounds.Post,
+      forget-reads.Asked,
+      forget-reads.Learnt,
       raising-reads.Asked,
       raising-reads.Learnt,
       halting-reads.Asked,
@@ -361,22 +364,23 @@ pub +body-from+call+choose+count-up+else-part+front+headed+if-else+inner+mark-bo
     )
     (count-up-at t)
     count-up.Post
-    (λ c κs. search needs)  -- count-up-bounds-requires src/walk.rt:460:9
-    (λ c κs. search needs)  -- count-up-plan-for-requires src/walk.rt:461:9
-    (λ c. search needs)  -- count-up-enum-known-p src/walk.rt:463:22
-    (λ c κs. search needs)  -- count-up-skip-requires src/walk.rt:464:43
-    (λ c κs. search needs)  -- count-up-skip-requires-2 src/walk.rt:464:32
-    (λ c κs. search needs)  -- count-up-skip-requires-3 src/walk.rt:464:17
-    (λ c κs. search needs)  -- count-up-rounds-requires src/walk.rt:465:13
-    (λ c. search needs)  -- count-up-enum-told src/walk.rt:483:26
-    (λ c. search needs)  -- count-up-enum-told-2 src/walk.rt:484:34
-    (λ c κs. search needs)  -- count-up-raising-requires src/walk.rt:484:26
-    (λ c. search needs)  -- count-up-enum-known-p-2 src/walk.rt:485:22
-    (λ c κs. search needs)  -- count-up-halting-requires src/walk.rt:485:28
-    (λ c. search for-laws)  -- count-up-returns src/walk.rt:444:1
-    (λ c. search for-laws)  -- count-up-returns-2 src/walk.rt:444:1
-    (λ c. search for-laws)  -- count-up-returns-3 src/walk.rt:444:1
-    (λ c. search for-laws))  -- count-up-returns-4 src/walk.rt:444:1
+    (λ c κs. search needs)  -- count-up-bounds-requires src/walk.rt:461:9
+    (λ c κs. search needs)  -- count-up-plan-for-requires src/walk.rt:462:9
+    (λ c. search needs)  -- count-up-enum-known-p src/walk.rt:464:22
+    (λ c κs. search needs)  -- count-up-skip-requires src/walk.rt:465:43
+    (λ c κs. search needs)  -- count-up-skip-requires-2 src/walk.rt:465:32
+    (λ c κs. search needs)  -- count-up-skip-requires-3 src/walk.rt:465:17
+    (λ c κs. search needs)  -- count-up-rounds-requires src/walk.rt:466:13
+    (λ c. search needs)  -- count-up-enum-known-p-2 src/walk.rt:484:23
+    (λ c κs. search needs)  -- count-up-forget-requires src/walk.rt:485:13
+    (λ c. search needs)  -- count-up-enum-told src/walk.rt:488:34
+    (λ c κs. search needs)  -- count-up-raising-requires src/walk.rt:488:26
+    (λ c. search needs)  -- count-up-enum-known-p-3 src/walk.rt:489:22
+    (λ c κs. search needs)  -- count-up-halting-requires src/walk.rt:489:28
+    (λ c. search for-laws)  -- count-up-returns src/walk.rt:445:1
+    (λ c. search for-laws)  -- count-up-returns-2 src/walk.rt:445:1
+    (λ c. search for-laws)  -- count-up-returns-3 src/walk.rt:445:1
+    (λ c. search for-laws))  -- count-up-returns-4 src/walk.rt:445:1
     (λ t. else-part-lts.spec (
       end-at-reads.Asked,
       end-at-reads.Learnt,
@@ -385,12 +389,12 @@ pub +body-from+call+choose+count-up+else-part+front+headed+if-else+inner+mark-bo
     )
     (else-part-at t)
     else-part.Post
-    (λ c κs. search needs)  -- else-part-end-at-requires src/walk.rt:371:9
-    (λ c. search needs)  -- else-part-enum-told src/walk.rt:373:25
-    (λ c. search needs)  -- else-part-enum-told-2 src/walk.rt:383:13
-    (λ c κs. search needs)  -- else-part-mark-stmt-requires src/walk.rt:374:22
-    (λ c. search else-laws)  -- else-part-returns src/walk.rt:355:1
-    (λ c. search else-laws))  -- else-part-returns-2 src/walk.rt:355:1
+    (λ c κs. search needs)  -- else-part-end-at-requires src/walk.rt:372:9
+    (λ c. search needs)  -- else-part-enum-told src/walk.rt:374:25
+    (λ c. search needs)  -- else-part-enum-told-2 src/walk.rt:384:13
+    (λ c κs. search needs)  -- else-part-mark-stmt-requires src/walk.rt:375:22
+    (λ c. search else-laws)  -- else-part-returns src/walk.rt:356:1
+    (λ c. search else-laws))  -- else-part-returns-2 src/walk.rt:356:1
     (λ t. front-lts.spec (
       next-at-reads.Asked,
       next-at-reads.Learnt,
@@ -409,21 +413,21 @@ pub +body-from+call+choose+count-up+else-part+front+headed+if-else+inner+mark-bo
     front.Post
     front-Inv-loop
     front-μ-loop
-    (λ c. search front-start)  -- front-loop-holds src/walk.rt:635:5
-    (λ c κs. search needs)  -- front-next-at-requires src/walk.rt:636:13
-    (λ c. search needs)  -- front-enum-told src/walk.rt:639:17
-    (λ c. search front-laws)  -- front-returns src/walk.rt:639:17
-    (λ c. search needs)  -- front-enum-told-2 src/walk.rt:642:17
-    (λ c. search front-laws)  -- front-returns-2 src/walk.rt:642:17
-    (λ c. search needs)  -- front-enum-told-3 src/walk.rt:654:21
-    (λ c κs. search needs)  -- front-mark-stmt-requires src/walk.rt:645:21
-    (λ c κs. search needs)  -- front-stopped-requires src/walk.rt:659:20
-    (λ c. search front-laws)  -- front-returns-3 src/walk.rt:660:21
-    (λ c κs. search needs)  -- front-count-statements-requires src/walk.rt:663:30
-    (λ c κs. search needs)  -- front-later-requires src/walk.rt:663:17
-    (λ c κs. search needs)  -- front-skip-requires src/walk.rt:664:17
-    (λ c. search front-falls)  -- front-loop-less src/walk.rt:635:5
-    (λ c. search front-next))  -- front-loop-again src/walk.rt:635:5
+    (λ c. search front-start)  -- front-loop-holds src/walk.rt:640:5
+    (λ c κs. search needs)  -- front-next-at-requires src/walk.rt:641:13
+    (λ c. search needs)  -- front-enum-told src/walk.rt:644:17
+    (λ c. search front-laws)  -- front-returns src/walk.rt:644:17
+    (λ c. search needs)  -- front-enum-told-2 src/walk.rt:647:17
+    (λ c. search front-laws)  -- front-returns-2 src/walk.rt:647:17
+    (λ c. search needs)  -- front-enum-told-3 src/walk.rt:659:21
+    (λ c κs. search needs)  -- front-mark-stmt-requires src/walk.rt:650:21
+    (λ c κs. search needs)  -- front-stopped-requires src/walk.rt:664:20
+    (λ c. search front-laws)  -- front-returns-3 src/walk.rt:665:21
+    (λ c κs. search needs)  -- front-count-statements-requires src/walk.rt:668:30
+    (λ c κs. search needs)  -- front-later-requires src/walk.rt:668:17
+    (λ c κs. search needs)  -- front-skip-requires src/walk.rt:669:17
+    (λ c. search front-falls)  -- front-loop-less src/walk.rt:640:5
+    (λ c. search front-next))  -- front-loop-again src/walk.rt:640:5
     (λ t. headed-lts.spec (
       assign-reads.Asked,
       assign-reads.Learnt,
@@ -446,33 +450,33 @@ pub +body-from+call+choose+count-up+else-part+front+headed+if-else+inner+mark-bo
     )
     (headed-at t)
     headed.Post
-    (λ c. search needs)  -- headed-enum-told src/walk.rt:156:58
-    (λ c κs. search needs)  -- headed-assign-requires src/walk.rt:156:25
-    (λ c. search needs)  -- headed-enum-told-2 src/walk.rt:166:13
-    (λ c κs. search needs)  -- headed-stmts-requires src/walk.rt:157:24
-    (λ c. search needs)  -- headed-enum-told-3 src/walk.rt:180:13
-    (λ c κs. search needs)  -- headed-if-else-requires src/walk.rt:171:21
-    (λ c. search needs)  -- headed-enum-told-4 src/walk.rt:194:13
-    (λ c κs. search needs)  -- headed-skip-requires src/walk.rt:198:13
-    (λ c κs. search needs)  -- headed-repeat-requires src/walk.rt:185:24
-    (λ c. search needs)  -- headed-enum-told-5 src/walk.rt:209:13
-    (λ c κs. search needs)  -- headed-count-up-requires src/walk.rt:200:22
-    (λ c. search needs)  -- headed-enum-told-6 src/walk.rt:223:13
-    (λ c κs. search needs)  -- headed-choose-requires src/walk.rt:214:23
-    (λ c. search needs)  -- headed-enum-told-7 src/walk.rt:237:13
-    (λ c κs. search needs)  -- headed-call-requires src/walk.rt:228:23
-    (λ c. search needs)  -- headed-enum-told-8 src/walk.rt:242:56
-    (λ c κs. search needs)  -- headed-raise-requires src/walk.rt:242:24
-    (λ c. search needs)  -- headed-enum-told-9 src/walk.rt:243:26
-    (λ c. search verb-laws)  -- headed-returns src/walk.rt:138:1
-    (λ c. search verb-laws)  -- headed-returns-2 src/walk.rt:138:1
-    (λ c. search verb-laws)  -- headed-returns-3 src/walk.rt:138:1
-    (λ c. search verb-laws)  -- headed-returns-4 src/walk.rt:138:1
-    (λ c. search verb-laws)  -- headed-returns-5 src/walk.rt:138:1
-    (λ c. search verb-laws)  -- headed-returns-6 src/walk.rt:138:1
-    (λ c. search verb-laws)  -- headed-returns-7 src/walk.rt:138:1
-    (λ c. search verb-laws)  -- headed-returns-8 src/walk.rt:138:1
-    (λ c. search verb-laws))  -- headed-returns-9 src/walk.rt:138:1
+    (λ c. search needs)  -- headed-enum-told src/walk.rt:157:58
+    (λ c κs. search needs)  -- headed-assign-requires src/walk.rt:157:25
+    (λ c. search needs)  -- headed-enum-told-2 src/walk.rt:167:13
+    (λ c κs. search needs)  -- headed-stmts-requires src/walk.rt:158:24
+    (λ c. search needs)  -- headed-enum-told-3 src/walk.rt:181:13
+    (λ c κs. search needs)  -- headed-if-else-requires src/walk.rt:172:21
+    (λ c. search needs)  -- headed-enum-told-4 src/walk.rt:195:13
+    (λ c κs. search needs)  -- headed-skip-requires src/walk.rt:199:13
+    (λ c κs. search needs)  -- headed-repeat-requires src/walk.rt:186:24
+    (λ c. search needs)  -- headed-enum-told-5 src/walk.rt:210:13
+    (λ c κs. search needs)  -- headed-count-up-requires src/walk.rt:201:22
+    (λ c. search needs)  -- headed-enum-told-6 src/walk.rt:224:13
+    (λ c κs. search needs)  -- headed-choose-requires src/walk.rt:215:23
+    (λ c. search needs)  -- headed-enum-told-7 src/walk.rt:238:13
+    (λ c κs. search needs)  -- headed-call-requires src/walk.rt:229:23
+    (λ c. search needs)  -- headed-enum-told-8 src/walk.rt:243:56
+    (λ c κs. search needs)  -- headed-raise-requires src/walk.rt:243:24
+    (λ c. search needs)  -- headed-enum-told-9 src/walk.rt:244:26
+    (λ c. search verb-laws)  -- headed-returns src/walk.rt:139:1
+    (λ c. search verb-laws)  -- headed-returns-2 src/walk.rt:139:1
+    (λ c. search verb-laws)  -- headed-returns-3 src/walk.rt:139:1
+    (λ c. search verb-laws)  -- headed-returns-4 src/walk.rt:139:1
+    (λ c. search verb-laws)  -- headed-returns-5 src/walk.rt:139:1
+    (λ c. search verb-laws)  -- headed-returns-6 src/walk.rt:139:1
+    (λ c. search verb-laws)  -- headed-returns-7 src/walk.rt:139:1
+    (λ c. search verb-laws)  -- headed-returns-8 src/walk.rt:139:1
+    (λ c. search verb-laws))  -- headed-returns-9 src/walk.rt:139:1
     (λ t. if-else-lts.spec (
       condition-reads.Asked,
       condition-reads.Learnt,
@@ -491,17 +495,17 @@ pub +body-from+call+choose+count-up+else-part+front+headed+if-else+inner+mark-bo
     )
     (if-else-at t)
     if-else.Post
-    (λ c κs. search needs)  -- if-else-condition-requires src/walk.rt:316:9
-    (λ c κs. search needs)  -- if-else-halting-requires src/walk.rt:318:9
-    (λ c. search if-laws)  -- if-else-returns src/walk.rt:318:9
-    (λ c κs. search needs)  -- if-else-skip-requires src/walk.rt:320:9
-    (λ c κs. search needs)  -- if-else-mark-stmt-requires src/walk.rt:322:9
-    (λ c. search if-laws)  -- if-else-returns-2 src/walk.rt:322:9
-    (λ c κs. search needs)  -- if-else-count-statements-requires src/walk.rt:337:22
-    (λ c κs. search needs)  -- if-else-later-requires src/walk.rt:337:9
-    (λ c κs. search needs)  -- if-else-skip-requires-2 src/walk.rt:350:9
-    (λ c κs. search needs)  -- if-else-else-part-requires src/walk.rt:338:5
-    (λ c. search if-laws))  -- if-else-returns-3 src/walk.rt:300:1
+    (λ c κs. search needs)  -- if-else-condition-requires src/walk.rt:317:9
+    (λ c κs. search needs)  -- if-else-halting-requires src/walk.rt:319:9
+    (λ c. search if-laws)  -- if-else-returns src/walk.rt:319:9
+    (λ c κs. search needs)  -- if-else-skip-requires src/walk.rt:321:9
+    (λ c κs. search needs)  -- if-else-mark-stmt-requires src/walk.rt:323:9
+    (λ c. search if-laws)  -- if-else-returns-2 src/walk.rt:323:9
+    (λ c κs. search needs)  -- if-else-count-statements-requires src/walk.rt:338:22
+    (λ c κs. search needs)  -- if-else-later-requires src/walk.rt:338:9
+    (λ c κs. search needs)  -- if-else-skip-requires-2 src/walk.rt:351:9
+    (λ c κs. search needs)  -- if-else-else-part-requires src/walk.rt:339:5
+    (λ c. search if-laws))  -- if-else-returns-3 src/walk.rt:301:1
     (λ t. inner-lts.spec (
       part-at-reads.Asked,
       part-at-reads.Learnt,
@@ -516,18 +520,18 @@ pub +body-from+call+choose+count-up+else-part+front+headed+if-else+inner+mark-bo
     )
     (inner-at t)
     inner.Post
-    (λ c κs. search needs)  -- inner-part-at-requires src/walk.rt:109:9
-    (λ c. search needs)  -- inner-enum-known-part src/walk.rt:111:20
-    (λ c κs. search needs)  -- inner-stepped-requires src/walk.rt:112:17
-    (λ c. search inner-laws)  -- inner-returns src/walk.rt:114:17
-    (λ c κs. search needs)  -- inner-later-requires src/walk.rt:127:17
-    (λ c κs. search needs)  -- inner-verb-of-requires src/walk.rt:128:17
-    (λ c κs. search needs)  -- inner-headed-requires src/walk.rt:116:13
-    (λ c. search needs)  -- inner-enum-told src/walk.rt:132:26
-    (λ c. search needs)  -- inner-enum-told-2 src/walk.rt:133:26
-    (λ c. search inner-laws)  -- inner-returns-2 src/walk.rt:93:1
-    (λ c. search inner-laws)  -- inner-returns-3 src/walk.rt:93:1
-    (λ c. search inner-laws))  -- inner-returns-4 src/walk.rt:93:1
+    (λ c κs. search needs)  -- inner-part-at-requires src/walk.rt:110:9
+    (λ c. search needs)  -- inner-enum-known-part src/walk.rt:112:20
+    (λ c κs. search needs)  -- inner-stepped-requires src/walk.rt:113:17
+    (λ c. search inner-laws)  -- inner-returns src/walk.rt:115:17
+    (λ c κs. search needs)  -- inner-later-requires src/walk.rt:128:17
+    (λ c κs. search needs)  -- inner-verb-of-requires src/walk.rt:129:17
+    (λ c κs. search needs)  -- inner-headed-requires src/walk.rt:117:13
+    (λ c. search needs)  -- inner-enum-told src/walk.rt:133:26
+    (λ c. search needs)  -- inner-enum-told-2 src/walk.rt:134:26
+    (λ c. search inner-laws)  -- inner-returns-2 src/walk.rt:94:1
+    (λ c. search inner-laws)  -- inner-returns-3 src/walk.rt:94:1
+    (λ c. search inner-laws))  -- inner-returns-4 src/walk.rt:94:1
     (λ t. mark-body-lts.spec (
       line-of-reads.Asked,
       line-of-reads.Learnt,
@@ -538,12 +542,12 @@ pub +body-from+call+choose+count-up+else-part+front+headed+if-else+inner+mark-bo
     )
     (mark-body-at t)
     mark-body.Post
-    (λ c κs. search needs)  -- mark-body-line-of-requires src/walk.rt:738:9
-    (λ c. search needs)  -- mark-body-slice-aggregate-clip-types src/walk.rt:740:32
-    (λ c κs. search needs)  -- mark-body-clip-types-requires src/walk.rt:740:5
-    (λ c. search needs)  -- mark-body-slice-aggregate-body-from src/walk.rt:745:9
-    (λ c κs. search needs)  -- mark-body-body-from-requires src/walk.rt:741:5
-    (λ c. search (body-is, needs)))  -- mark-body-returns src/walk.rt:726:1
+    (λ c κs. search needs)  -- mark-body-line-of-requires src/walk.rt:743:9
+    (λ c. search needs)  -- mark-body-slice-aggregate-clip-types src/walk.rt:745:32
+    (λ c κs. search needs)  -- mark-body-clip-types-requires src/walk.rt:745:5
+    (λ c. search needs)  -- mark-body-slice-aggregate-body-from src/walk.rt:750:9
+    (λ c κs. search needs)  -- mark-body-body-from-requires src/walk.rt:746:5
+    (λ c. search (body-is, needs)))  -- mark-body-returns src/walk.rt:731:1
     (λ t. mark-stmt-lts.spec (
       part-at-reads.Asked,
       part-at-reads.Learnt,
@@ -552,16 +556,16 @@ pub +body-from+call+choose+count-up+else-part+front+headed+if-else+inner+mark-bo
     )
     (mark-stmt-at t)
     mark-stmt.Post
-    (λ c. search stmt-laws)  -- mark-stmt-returns src/walk.rt:69:9
-    (λ c κs. search needs)  -- mark-stmt-part-at-requires src/walk.rt:71:9
-    (λ c. search needs)  -- mark-stmt-enum-told src/walk.rt:73:32
-    (λ c. search needs)  -- mark-stmt-enum-known-part src/walk.rt:74:20
-    (λ c. search needs)  -- mark-stmt-sub-inner src/walk.rt:82:13
-    (λ c κs. search needs)  -- mark-stmt-inner-requires src/walk.rt:74:26
-    (λ c. search needs)  -- mark-stmt-enum-told-2 src/walk.rt:88:26
-    (λ c. search stmt-laws)  -- mark-stmt-returns-2 src/walk.rt:52:1
-    (λ c. search stmt-laws)  -- mark-stmt-returns-3 src/walk.rt:52:1
-    (λ c. search stmt-laws))  -- mark-stmt-returns-4 src/walk.rt:52:1
+    (λ c. search stmt-laws)  -- mark-stmt-returns src/walk.rt:70:9
+    (λ c κs. search needs)  -- mark-stmt-part-at-requires src/walk.rt:72:9
+    (λ c. search needs)  -- mark-stmt-enum-told src/walk.rt:74:32
+    (λ c. search needs)  -- mark-stmt-enum-known-part src/walk.rt:75:20
+    (λ c. search needs)  -- mark-stmt-sub-inner src/walk.rt:83:13
+    (λ c κs. search needs)  -- mark-stmt-inner-requires src/walk.rt:75:26
+    (λ c. search needs)  -- mark-stmt-enum-told-2 src/walk.rt:89:26
+    (λ c. search stmt-laws)  -- mark-stmt-returns-2 src/walk.rt:53:1
+    (λ c. search stmt-laws)  -- mark-stmt-returns-3 src/walk.rt:53:1
+    (λ c. search stmt-laws))  -- mark-stmt-returns-4 src/walk.rt:53:1
     (λ t. repeat-lts.spec (
       condition-reads.Asked,
       condition-reads.Learnt,
@@ -576,17 +580,17 @@ pub +body-from+call+choose+count-up+else-part+front+headed+if-else+inner+mark-bo
     repeat.Post
     repeat-Inv-loop
     repeat-μ-loop
-    (λ c. search while-start)  -- repeat-loop-holds src/walk.rt:410:5
-    (λ c κs. search needs)  -- repeat-condition-requires src/walk.rt:411:13
-    (λ c κs. search needs)  -- repeat-halting-requires src/walk.rt:413:13
-    (λ c. search while-laws)  -- repeat-returns src/walk.rt:413:13
-    (λ c. search while-laws)  -- repeat-returns-2 src/walk.rt:416:13
-    (λ c κs. search needs)  -- repeat-stepped-requires src/walk.rt:418:13
-    (λ c. search while-laws)  -- repeat-returns-3 src/walk.rt:420:13
-    (λ c κs. search needs)  -- repeat-mark-stmt-requires src/walk.rt:422:13
-    (λ c. search (while-stops, sfits-of))  -- repeat-returns-4 src/walk.rt:437:13
-    (λ c. search (while-falls, sfits-of))  -- repeat-loop-less src/walk.rt:410:5
-    (λ c. search (while-next, sfits-of)))  -- repeat-loop-again src/walk.rt:410:5
+    (λ c. search while-start)  -- repeat-loop-holds src/walk.rt:411:5
+    (λ c κs. search needs)  -- repeat-condition-requires src/walk.rt:412:13
+    (λ c κs. search needs)  -- repeat-halting-requires src/walk.rt:414:13
+    (λ c. search while-laws)  -- repeat-returns src/walk.rt:414:13
+    (λ c. search while-laws)  -- repeat-returns-2 src/walk.rt:417:13
+    (λ c κs. search needs)  -- repeat-stepped-requires src/walk.rt:419:13
+    (λ c. search while-laws)  -- repeat-returns-3 src/walk.rt:421:13
+    (λ c κs. search needs)  -- repeat-mark-stmt-requires src/walk.rt:423:13
+    (λ c. search (while-stops, sfits-of))  -- repeat-returns-4 src/walk.rt:438:13
+    (λ c. search (while-falls, sfits-of))  -- repeat-loop-less src/walk.rt:411:5
+    (λ c. search (while-next, sfits-of)))  -- repeat-loop-again src/walk.rt:411:5
     (λ t. rounds-lts.spec (
       stepped-reads.Asked,
       stepped-reads.Learnt,
@@ -596,6 +600,8 @@ pub +body-from+call+choose+count-up+else-part+front+headed+if-else+inner+mark-bo
       mark-stmt.Post,
       at-last-reads.Asked,
       at-last-reads.Learnt,
+      forget-reads.Asked,
+      forget-reads.Learnt,
       next-of-reads.Asked,
       next-of-reads.Learnt,
     )
@@ -603,17 +609,18 @@ pub +body-from+call+choose+count-up+else-part+front+headed+if-else+inner+mark-bo
     rounds.Post
     rounds-Inv-loop
     rounds-μ-loop
-    (λ c. search (turn-start, needs))  -- rounds-loop-holds src/walk.rt:511:5
-    (λ c κs. search needs)  -- rounds-stepped-requires src/walk.rt:512:13
-    (λ c. search rounds-laws)  -- rounds-returns src/walk.rt:514:13
-    (λ c κs. search needs)  -- rounds-put-requires src/walk.rt:516:9
-    (λ c κs. search needs)  -- rounds-mark-stmt-requires src/walk.rt:517:13
-    (λ c. search rounds-laws)  -- rounds-returns-2 src/walk.rt:532:13
-    (λ c κs. search needs)  -- rounds-at-last-requires src/walk.rt:534:12
-    (λ c. search rounds-laws)  -- rounds-returns-3 src/walk.rt:535:13
-    (λ c κs. search needs)  -- rounds-next-of-requires src/walk.rt:537:9
-    (λ c. search (turn-falls, sfits-of))  -- rounds-loop-less src/walk.rt:511:5
-    (λ c. search (rounds-next, sfits-of)))  -- rounds-loop-again src/walk.rt:511:5
+    (λ c. search (turn-start, needs))  -- rounds-loop-holds src/walk.rt:515:5
+    (λ c κs. search needs)  -- rounds-stepped-requires src/walk.rt:516:13
+    (λ c. search rounds-laws)  -- rounds-returns src/walk.rt:518:13
+    (λ c κs. search needs)  -- rounds-put-requires src/walk.rt:520:9
+    (λ c κs. search needs)  -- rounds-mark-stmt-requires src/walk.rt:521:13
+    (λ c. search rounds-laws)  -- rounds-returns-2 src/walk.rt:536:13
+    (λ c κs. search needs)  -- rounds-at-last-requires src/walk.rt:538:12
+    (λ c κs. search needs)  -- rounds-forget-requires src/walk.rt:539:13
+    (λ c. search rounds-laws)  -- rounds-returns-3 src/walk.rt:540:13
+    (λ c κs. search needs)  -- rounds-next-of-requires src/walk.rt:542:9
+    (λ c. search (turn-falls, sfits-of))  -- rounds-loop-less src/walk.rt:515:5
+    (λ c. search (rounds-next, sfits-of)))  -- rounds-loop-again src/walk.rt:515:5
     λ t. stmts-lts.spec (
       end-at-reads.Asked,
       end-at-reads.Learnt,
@@ -632,16 +639,16 @@ pub +body-from+call+choose+count-up+else-part+front+headed+if-else+inner+mark-bo
     stmts.Post
     stmts-Inv-loop
     stmts-μ-loop
-    (λ c. search stmts-start)  -- stmts-loop-holds src/walk.rt:267:5
-    (λ c κs. search needs)  -- stmts-end-at-requires src/walk.rt:268:13
-    (λ c. search needs)  -- stmts-enum-told src/walk.rt:271:17
-    (λ c. search stmts-laws)  -- stmts-returns src/walk.rt:271:17
-    (λ c. search needs)  -- stmts-enum-told-2 src/walk.rt:283:21
-    (λ c κs. search needs)  -- stmts-mark-stmt-requires src/walk.rt:274:21
-    (λ c κs. search needs)  -- stmts-stopped-requires src/walk.rt:288:20
-    (λ c. search stmts-laws)  -- stmts-returns-2 src/walk.rt:289:21
-    (λ c κs. search needs)  -- stmts-count-statements-requires src/walk.rt:292:30
-    (λ c κs. search needs)  -- stmts-later-requires src/walk.rt:292:17
-    (λ c κs. search needs)  -- stmts-skip-requires src/walk.rt:293:17
-    (λ c. search stmts-falls)  -- stmts-loop-less src/walk.rt:267:5
-    (λ c. search stmts-next)  -- stmts-loop-again src/walk.rt:267:5
+    (λ c. search stmts-start)  -- stmts-loop-holds src/walk.rt:268:5
+    (λ c κs. search needs)  -- stmts-end-at-requires src/walk.rt:269:13
+    (λ c. search needs)  -- stmts-enum-told src/walk.rt:272:17
+    (λ c. search stmts-laws)  -- stmts-returns src/walk.rt:272:17
+    (λ c. search needs)  -- stmts-enum-told-2 src/walk.rt:284:21
+    (λ c κs. search needs)  -- stmts-mark-stmt-requires src/walk.rt:275:21
+    (λ c κs. search needs)  -- stmts-stopped-requires src/walk.rt:289:20
+    (λ c. search stmts-laws)  -- stmts-returns-2 src/walk.rt:290:21
+    (λ c κs. search needs)  -- stmts-count-statements-requires src/walk.rt:293:30
+    (λ c κs. search needs)  -- stmts-later-requires src/walk.rt:293:17
+    (λ c κs. search needs)  -- stmts-skip-requires src/walk.rt:294:17
+    (λ c. search stmts-falls)  -- stmts-loop-less src/walk.rt:268:5
+    (λ c. search stmts-next)  -- stmts-loop-again src/walk.rt:268:5
