@@ -26,7 +26,7 @@ extern "C" {
 
 /* The header's version. A host that was written for another major number must be changed. */
 #define DRIVE_VERSION_MAJOR 1 /* raised where a layout, a signature or a promise changes so that a host's code no longer fits */
-#define DRIVE_VERSION_MINOR 1 /* the language: how many requests of document 02 have landed */
+#define DRIVE_VERSION_MINOR 2 /* the language: how many requests of document 02 have landed */
 
 #define DRIVE_WORK 16384u /* numbers in the working list; with fewer every text is refused by DRIVE_BENCH */
 #define DRIVE_TEXT 32768u /* most bytes of a text */
@@ -62,7 +62,7 @@ enum {
     DRIVE_NUMERIC_ERROR = -101,   /* result outside -2147483648 to 2147483647, divisor, exponent */
     DRIVE_SYSTEM_ERROR = -102,    /* `raise 0` before any exception */
     DRIVE_RANGE_ERROR = -103,     /* index, assignment, argument, `for` bound or member outside its type; pred, succ, setmin, setmax of nothing */
-    DRIVE_UNDEFINED_ERROR = -104, /* an undefined cell was read */
+    DRIVE_UNDEFINED_ERROR = -104, /* an undefined cell was read; a loop's variable is one after the loop */
     DRIVE_CASE_ERROR = -105       /* no label and no else */
 };
 

@@ -52,7 +52,7 @@ pub fn cure(number: i64) -> &'static str {
         -101 => "Test the value with `if` first, or keep the numbers small.",
         -102 => "Use `(raise 0)` only after an exception has come, as in a handler.",
         -103 => "Limit the value with `if` first, or widen the range.",
-        -104 => "Give it a value before it is read: put it into the store, or store it at the top of `main`.",
+        -104 => "Give it a value before it is read: put it into the store, or store it at the top of `main`; a loop's variable has none after the loop.",
         -105 => "Add an arm for this value, or an `(else ..)`.",
         _ => "Handle it by an `(exception ..)`, or see why the script raises it.",
     }

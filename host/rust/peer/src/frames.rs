@@ -62,10 +62,19 @@ impl<'a> Memory<'a> {
                 Cell::Store(which) => (self.values[which], self.marks[which]) = (*value, 1),
                 cell => {
                     if let Some(frame) = self.frames.last_mut() {
-                        frame.store(cell, *value);
+                        frame.set(cell, Some(*value));
                     }
                 }
             }
+        }
+    }
+
+    /// A cell has no value from now on.
+    pub fn undefine(&mut self, cell: Cell) {
+        match (cell, self.frames.last_mut()) {
+            (Cell::Store(which), _) => (self.values[which], self.marks[which]) = (0, 0),
+            (_, Some(frame)) => frame.set(cell, None),
+            (_, None) => {}
         }
     }
 
@@ -88,9 +97,9 @@ impl Frame<'_> {
         self.parameters.iter().position(|parameter| parameter.cell == cell)
     }
 
-    fn store(&mut self, cell: Cell, value: i64) {
+    fn set(&mut self, cell: Cell, value: Option<i64>) {
         if let Some(place) = self.place(cell) {
-            self.cells[place] = Some(value);
+            self.cells[place] = value;
         }
     }
 }

@@ -17,6 +17,8 @@ const NODES: usize = 4_096;
 /// Everything known of a script after its lines are judged.
 #[derive(Clone, Debug)]
 pub struct Script {
+    /// The rules that it was judged by, and that it runs by.
+    pub level: Level,
     pub world: World,
     /// The bodies as written; the marking machine runs these.
     pub procedures: Vec<Body>,
@@ -50,6 +52,7 @@ impl Script {
     /// Before the first line.
     fn new(level: Level) -> Script {
         Script {
+            level,
             world: World::new(),
             procedures: Vec::new(),
             main: Body::default(),

@@ -5,16 +5,18 @@
 pub struct Level(u8);
 
 /// The level of the library that the peer is compared with: the one setting that a landing moves.
-pub const LANDED: Level = Level::PARAMETERS;
+pub const LANDED: Level = Level::COUNTERS;
 
 impl Level {
     /// Document 01 alone.
     pub const BASE: Level = Level(0);
     /// Point 1: procedures take value parameters.
     pub const PARAMETERS: Level = Level(1);
+    /// Point 2: a `for` that ends leaves its control variable undefined.
+    pub const COUNTERS: Level = Level(2);
 
     /// All levels that the peer knows.
-    pub const ALL: [Level; 2] = [Level::BASE, Level::PARAMETERS];
+    pub const ALL: [Level; 3] = [Level::BASE, Level::PARAMETERS, Level::COUNTERS];
 
     /// Has the request that brought this level landed?
     pub fn has(self, request: Level) -> bool {

@@ -5,6 +5,7 @@ use crate::answer::{Alive, Answer, Outcome};
 use crate::arith::{self, *};
 use crate::frames::Memory;
 use crate::judge::Script;
+use crate::level::Level;
 use crate::scope::{Cell, Scope};
 use crate::syntax::{Act, Arm, Body, Constant, Expr, Function, Operator, Statement, Target};
 use crate::types::{Type, TypeId, BOOLEAN, INTEGER};
@@ -44,6 +45,7 @@ struct Place {
 }
 
 struct Machine<'a> {
+    level: Level,
     world: &'a World,
     procedures: &'a [Body],
     memory: Memory<'a>,
@@ -74,7 +76,8 @@ fn marked<'a>(
 ) -> (Machine<'a>, Outcome) {
     let (world, procedures) = (&script.world, script.procedures.as_slice());
     let memory = Memory::new(values, marks);
-    let mut machine = Machine { world, procedures, memory, budget, steps: 0, last: (0, 0) };
+    let (level, steps, last) = (script.level, 0, (0, 0));
+    let mut machine = Machine { level, world, procedures, memory, budget, steps, last };
     let outcome = match machine.body(&script.main) {
         Ok(()) => Outcome::Normal,
         Err(Stop::Spent) => Outcome::Spent,
@@ -227,31 +230,31 @@ impl<'a> Machine<'a> {
         inner: &Statement,
     ) -> Result<(), Stop> {
         let rounds = self.rounds(name, from, to);
-        let Some((cell, from, to)) = self.at(number, rounds)? else {
-            return Ok(());
-        };
+        let (cell, from, to) = self.at(number, rounds)?;
         for value in from..=to {
             self.step()?;
             self.memory.store(cell, &[value]);
             self.statement(inner)?;
         }
+        if self.level.has(Level::COUNTERS) {
+            self.memory.undefine(cell);
+        }
         Ok(())
     }
 
-    /// The control variable's cell, first and last value; none if there is no round (R8).
-    fn rounds(&self, name: &str, from: &Expr, to: &Expr) -> Worked<Option<(Cell, i64, i64)>> {
+    /// The control variable's cell, first and last value; these fit its type if there is a round (R8).
+    fn rounds(&self, name: &str, from: &Expr, to: &Expr) -> Worked<(Cell, i64, i64)> {
         let from = self.expr(from)?;
         let to = self.expr(to)?;
         let control = self.place(&Target::Name(name.to_string()))?;
         let (low, high) = self.world.types.bounds(control.ty).ok_or(Failure::Misfit)?;
         let host = self.world.types.host(control.ty);
         let (from, to) = (from.of(host)?, to.of(host)?);
-        if from > to {
-            return Ok(None);
+        if from <= to {
+            within(from, low, high)?;
+            within(to, low, high)?;
         }
-        within(from, low, high)?;
-        within(to, low, high)?;
-        Ok(Some((control.cell, from, to)))
+        Ok((control.cell, from, to))
     }
 
     /// A case meets its labels in text order up to the match.

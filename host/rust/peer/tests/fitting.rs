@@ -74,7 +74,7 @@ fn sets() {
 #[test]
 fn loops() {
     let near = "(var i integer)\n(main (for i 2147483646 2147483647 (begin)))\n";
-    assert_eq!(runscript(LANDED, near.as_bytes(), BUDGET), "normal 5\n1 i 2147483647\n");
+    assert_eq!(runscript(LANDED, near.as_bytes(), BUDGET), "normal 5\n1 i -\n");
     let none = "(type r (range 1 4))\n(var i r)\n(main (for i 5 1 (begin)))\n";
     assert_eq!(runscript(LANDED, none.as_bytes(), BUDGET), "normal 1\n1 i -\n");
 }

@@ -72,7 +72,7 @@ fn generated_cases() {
 fn parameter_cells_agree() {
     let mut deepest = 0;
     for seed in 0..CASES {
-        let case = case(Level::PARAMETERS, seed);
+        let case = case(LANDED, seed);
         for budget in 0..BUDGETS {
             let store = (case.values.as_slice(), case.marks.as_slice());
             let Ok((run, mark)) = alive(case.level, &case.text, store, budget) else { break };

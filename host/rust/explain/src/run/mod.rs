@@ -6,6 +6,7 @@ mod expr;
 pub use arith::{CASE_ERROR, NUMERIC_ERROR, RANGE_ERROR, SYSTEM_ERROR, UNDEFINED_ERROR};
 
 use std::cell::Cell as StdCell;
+use std::ops::RangeInclusive;
 
 use crate::fault::Fault;
 use crate::judge::Script;
@@ -257,20 +258,18 @@ impl<'a> Machine<'a> {
 
     fn count(&mut self, statement: &'a Statement, name: &Name, bounds: (&Expr, &Expr), inner: &'a Statement) -> Result<(), Stop> {
         let rounds = self.rounds(name, bounds.0, bounds.1);
-        let (place, from, to) = match self.at(statement, rounds)? {
-            Some(rounds) => rounds,
-            None => return Ok(()),
-        };
-        for value in from..=to {
+        let (place, values) = self.at(statement, rounds)?;
+        for value in values {
             self.step(statement, true)?;
             self.store(&place, &[value]);
             self.statement(inner)?;
         }
+        self.set(place.cell, None);
         Ok(())
     }
 
-    /// The control variable, first and last value; none if there is no round.
-    fn rounds(&self, name: &Name, from: &Expr, to: &Expr) -> Worked<Option<(Place, i64, i64)>> {
+    /// The control variable and its values, of which there may be none.
+    fn rounds(&self, name: &Name, from: &Expr, to: &Expr) -> Worked<(Place, RangeInclusive<i64>)> {
         let (first, last) = (self.expr(from)?, self.expr(to)?);
         let control = self.place(&Target::Name(name.clone()))?;
         if !self.world.types.is_ordinal(control.ty) {
@@ -280,12 +279,11 @@ impl<'a> Machine<'a> {
         let why = || format!("as `{}` counts", name.text);
         let first = self.meets(&first, host, from.span, why)?;
         let last = self.meets(&last, host, to.span, why)?;
-        if first > last {
-            return Ok(None);
+        if first <= last {
+            self.within(("first bound", first), control.ty, from.span)?;
+            self.within(("last bound", last), control.ty, to.span)?;
         }
-        self.within(("first bound", first), control.ty, from.span)?;
-        self.within(("last bound", last), control.ty, to.span)?;
-        Ok(Some((control, first, last)))
+        Ok((control, first..=last))
     }
 
     /// A case meets its labels in text order up to the match.
@@ -327,17 +325,19 @@ impl<'a> Machine<'a> {
     /// Defines cells, one after the other.
     fn store(&mut self, place: &Place, values: &[i64]) {
         for (offset, value) in values.iter().enumerate() {
-            match place.cell.on(offset) {
-                Cell::Store(which) => {
-                    self.values[which] = *value;
-                    self.marks[which] = 1;
-                }
-                cell => {
-                    if let Some(frame) = self.frames.last_mut() {
-                        frame.store(cell, *value);
-                    }
-                }
+            self.set(place.cell.on(offset), Some(*value));
+        }
+    }
+
+    /// Gives a cell a value, or takes it away.
+    fn set(&mut self, cell: Cell, value: Option<i64>) {
+        match (cell, self.frames.last_mut()) {
+            (Cell::Store(which), _) => {
+                self.values[which] = value.unwrap_or(0);
+                self.marks[which] = u8::from(value.is_some());
             }
+            (_, Some(frame)) => frame.set(cell, value),
+            (_, None) => {}
         }
     }
 
@@ -354,9 +354,9 @@ impl Frame<'_> {
         self.parameters.iter().position(|parameter| parameter.cell == cell)
     }
 
-    fn store(&mut self, cell: Cell, value: i64) {
+    fn set(&mut self, cell: Cell, value: Option<i64>) {
         if let Some(place) = self.place(cell) {
-            self.cells[place] = Some(value);
+            self.cells[place] = value;
         }
     }
 }

@@ -20,6 +20,14 @@ pub struct Size {
 
 const DEPTH: usize = 16;
 
+/// In 100: how often what follows a loop reads its counter, sets it, or does neither.
+const READ_AFTER: usize = 12;
+const SET_AFTER: usize = 48;
+const NOTHING_AFTER: usize = 40;
+
+/// In 100: how often a statement of a handler reads a counter of its body.
+const IN_HANDLER: usize = 30;
+
 /// A script that breaks no rule, if `wild` is 0.
 pub fn script(level: Level, rng: Rng, size: Size) -> Scene {
     let mut scene = Scene::new(level, rng);
@@ -56,7 +64,8 @@ pub fn script(level: Level, rng: Rng, size: Size) -> Scene {
 fn body(scene: &mut Scene, room: usize, wild: usize) -> Vec<Node> {
     let handled = scene.rng.percent(35);
     let rough = if wild > 0 { UNEVEN } else { SMOOTH };
-    let mut writer = Writer { scene, wild, rough, controls: Vec::new(), room };
+    let (controls, counted) = (Vec::new(), Vec::new());
+    let mut writer = Writer { scene, wild, rough, controls, counted, room };
     let mut parts: Vec<Node> = writer.deeper().into_iter().collect();
     while writer.room > 0 {
         parts.push(writer.statement(DEPTH));
@@ -79,7 +88,8 @@ fn starts(scene: &mut Scene, wild: usize) -> Vec<Node> {
     for place in 0..scene.variables.len().min(20) {
         let (name, ty) = scene.variables[place].clone();
         if scene.bounds(ty).is_some() && scene.rng.percent(85) {
-            let mut writer = Writer { scene, wild, rough: SMOOTH, controls: Vec::new(), room: 1 };
+            let (controls, counted) = (Vec::new(), Vec::new());
+            let mut writer = Writer { scene, wild, rough: SMOOTH, controls, counted, room: 1 };
             let value = writer.constant(ty);
             parts.push(form(":=", vec![word(name), value]));
         }
@@ -114,6 +124,9 @@ impl Writer<'_> {
     pub fn in_handler(&mut self) -> Node {
         if let Some(told) = self.tell(40) {
             return told;
+        }
+        if let Some(read) = self.counter_in_handler() {
+            return read;
         }
         match self.scene.rng.below(6) {
             0 => {
@@ -207,7 +220,46 @@ impl Writer<'_> {
         self.controls.push(place);
         let inner = self.statement(depth - 1);
         self.controls.pop();
-        form("for", vec![word(name), from, to, inner])
+        let counting = form("for", vec![word(name), from, to, inner]);
+        match self.after_loop(place) {
+            Some(after) => form("begin", vec![counting, after]),
+            None => counting,
+        }
+    }
+
+    /// Point 2: what follows a loop reads its counter, which has no value then, or gives it one.
+    fn after_loop(&mut self, counter: usize) -> Option<Node> {
+        if !self.scene.level.has(Level::COUNTERS) {
+            return None;
+        }
+        self.counted.push(counter);
+        let (name, ty) = self.scene.variables[counter].clone();
+        match self.scene.rng.weighted(&[READ_AFTER, SET_AFTER, NOTHING_AFTER]) {
+            0 => self.counter_read(counter),
+            1 => Some(form(":=", vec![word(name), self.constant(ty)])),
+            _ => None,
+        }
+    }
+
+    /// A counter kept in an integer variable.
+    fn counter_read(&mut self, counter: usize) -> Option<Node> {
+        let (name, ty) = self.scene.variables[counter].clone();
+        self.scene.bounds(ty)?;
+        let (target, _) = self.target(2, &|_, ty| ty == INTEGER)?;
+        if self.is_control(&target) {
+            return None;
+        }
+        Some(form(":=", vec![target, form("ord", vec![word(name)])]))
+    }
+
+    /// A counter of the body that the handler belongs to: it has kept its value where an exception left its loop.
+    fn counter_in_handler(&mut self) -> Option<Node> {
+        if self.counted.is_empty() || !self.scene.rng.percent(IN_HANDLER) {
+            return None;
+        }
+        let counter = *self.scene.rng.pick(&self.counted);
+        self.room = self.room.saturating_sub(1);
+        self.counter_read(counter)
     }
 
     /// Bounds of a loop, with few rounds most often.

@@ -12,6 +12,8 @@ pub struct Writer<'a> {
     pub rough: usize,
     /// Control variables of the loops around.
     pub controls: Vec<usize>,
+    /// Control variables of the loops of this body so far.
+    pub counted: Vec<usize>,
     /// Statements that may still be written.
     pub room: usize,
 }
