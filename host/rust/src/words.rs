@@ -20,7 +20,7 @@ impl Machine {
 
 /// An accepted text.
 pub fn accepted(cells: usize) -> String {
-    format!("The script may be loaded; it has {cells} {}.\n", if cells == 1 { "cell" } else { "cells" })
+    explain::accepted(cells) + "\n"
 }
 
 /// A refused text.

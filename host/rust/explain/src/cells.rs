@@ -76,6 +76,16 @@ impl Layout {
         self.cells.get(cell).map_or_else(|| value.to_string(), |named| self.types.shown(named.ty, value))
     }
 
+    /// Least and greatest value of a cell; nothing for a set.
+    pub fn bounds(&self, cell: usize) -> Option<(i64, i64)> {
+        self.cells.get(cell).and_then(|named| self.types.bounds(named.ty))
+    }
+
+    /// Are a cell's values names, as of an enumeration, and not numbers?
+    pub fn is_named(&self, cell: usize) -> bool {
+        self.cells.get(cell).map_or(false, |named| self.types.is_named(named.ty))
+    }
+
     /// A line `NAME VALUE` for each cell; an undefined one has `-`.
     pub fn rows(&self, values: &[i64], marks: &[u8]) -> String {
         let mut rows = String::new();
@@ -201,6 +211,8 @@ mod tests {
             ("fast".into(), "true".into(), "{slow fast}".into(), "-7".into())
         );
         assert_eq!(layout.shown(8, 0), "{}");
+        assert_eq!((layout.bounds(1), layout.bounds(4), layout.bounds(8), layout.bounds(99)), (Some((0, 100)), Some((0, 100)), None, None));
+        assert_eq!([0, 1, 5, 8, 99].map(|cell| layout.is_named(cell)), [true, false, true, false, false]);
     }
 
     #[test]

@@ -30,7 +30,7 @@ pub use judge::Fits;
 pub use message::{ended, refusal, statements, store_refusal, Message};
 pub use run::{Answer, Outcome};
 pub use span::Span;
-pub use told::{exception as exception_name, refusal as refusal_word};
+pub use told::{accepted, exception as exception_name, refusal as refusal_word};
 
 /// Number and line of the refusal to which the explainer comes itself, for comparison; nothing where it refuses nothing.
 pub fn own_verdict(text: &[u8], fits: Fits) -> Option<(u32, usize)> {

@@ -1,5 +1,7 @@
 //! The words of the tables of document 01, and general remedies.
 
+use crate::fault::count;
+
 /// The word of a refusal.
 pub fn refusal(number: u32) -> &'static str {
     match number {
@@ -15,6 +17,11 @@ pub fn refusal(number: u32) -> &'static str {
         10 => "store",
         _ => "cell",
     }
+}
+
+/// What is said of an accepted text.
+pub fn accepted(cells: usize) -> String {
+    format!("The script may be loaded; it has {}.", count(cells, "cell"))
 }
 
 /// The name of an exception; the script's own have none.

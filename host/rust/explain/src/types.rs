@@ -119,6 +119,11 @@ impl Types {
         }
     }
 
+    /// Do the values have names, in place of numbers?
+    pub fn is_named(&self, id: TypeId) -> bool {
+        self.is_ordinal(id) && !self.list[self.host(id)].values.is_empty()
+    }
+
     pub fn base(&self, id: TypeId) -> Option<TypeId> {
         match self.kind(id) {
             Kind::Set { base } => Some(*base),

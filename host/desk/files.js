@@ -1,0 +1,45 @@
+// Examples, and files of this computer: read and written by the browser, sent nowhere.
+
+const MOST_BYTES = 1 << 20;
+
+function download(name, content) {
+    const link = make("a", { download: name, href: URL.createObjectURL(new Blob([content], { type: "text/plain" })) });
+    link.click();
+    setTimeout(() => URL.revokeObjectURL(link.href), 1000);
+}
+
+/** Takes a script, and what is stored before its first period. */
+function openScript(desk, name, bytes, store) {
+    desk.name = name;
+    setStart(desk, pairsOf(store));
+    el("step").value = el("step").max;
+    el("tidied").textContent = "";
+    desk.editor.set(shown(bytes));
+    settle(desk);
+}
+
+async function openFile(field, take) {
+    const file = field.files[0];
+    field.value = "";
+    if (file) take(file.name, new Uint8Array(await file.slice(0, MOST_BYTES).arrayBuffer()));
+}
+
+function openExample(desk, name) {
+    const example = DESK.examples.find((e) => e.name === name);
+    if (example) openScript(desk, name + ".txt", new TextEncoder().encode(example.text), example.store);
+}
+
+/** A store file: lines `NAME VALUE`. A name that the script does not have is told. */
+function openStore(desk, bytes) {
+    const pairs = pairsOf(new TextDecoder().decode(bytes));
+    setStart(desk, pairs);
+    settle(desk);
+    const unknown = pairs.find(([path]) => !desk.cells.some((cell) => cell.path === path));
+    if (unknown) el("store-told").textContent = `The script has nothing called \`${safe(unknown[0])}\`.`;
+}
+
+function saveStore(desk) {
+    if (!desk.run || desk.run.reply.refusal) return;
+    const words = storeWords(desk, desk.run.end);
+    download(desk.name.replace(/\.[^.]*$/, "") + ".store", desk.cells.map((cell, i) => `${cell.path} ${words[i]}\n`).join(""));
+}

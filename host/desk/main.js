@@ -1,0 +1,71 @@
+// The desk: what is on the page follows the text, the store and the choices. The verdict is at once, all else when the typing pauses.
+
+const PAUSE = 120;
+
+/** Brings all that depends on the text and the store up to date. */
+function settle(desk) {
+    clearTimeout(desk.later);
+    runAll(desk);
+    if (desk.run) drawChoices(desk);
+    drawCurve(desk);
+    drawSheet(desk);
+}
+
+function settleLater(desk) {
+    clearTimeout(desk.later);
+    desk.later = setTimeout(() => settle(desk), PAUSE);
+}
+
+function typed(desk) {
+    judge(desk);
+    settleLater(desk);
+}
+
+function listenToFiles(desk) {
+    el("example").addEventListener("change", (event) => openExample(desk, event.target.value));
+    el("open-script").addEventListener("change", (event) => openFile(event.target, (name, bytes) => openScript(desk, name, bytes, "")));
+    el("save-script").addEventListener("click", () => download(desk.name, desk.bytes));
+    el("open-store").addEventListener("change", (event) => openFile(event.target, (_, bytes) => openStore(desk, bytes)));
+    el("save-store").addEventListener("click", () => saveStore(desk));
+    el("print").addEventListener("click", () => { settle(desk); window.print(); });
+}
+
+function listenToRun(desk) {
+    const then = (act) => () => { act(desk); settle(desk); };
+    el("cells").addEventListener("input", (event) => {
+        desk.start.set(event.target.dataset.path, event.target.value);
+        settleLater(desk);
+    });
+    for (const id of ["machine", "budget", "curve-y", "curve-from", "curve-to", "curve-periods"]) el(id).addEventListener("input", () => settleLater(desk));
+    el("curve-x").addEventListener("input", then(fitReadings));
+    el("step").addEventListener("input", () => drawStep(desk));
+    el("next-period").addEventListener("click", then(nextPeriod));
+    el("clear-store").addEventListener("click", then(() => setStart(desk, [])));
+    el("tidy").addEventListener("click", then(tidyText));
+    el("to-fault").addEventListener("click", () => desk.editor.goToMark());
+    document.addEventListener("keydown", (event) => { if (event.key === "F8") desk.editor.goToMark(); });
+    window.addEventListener("resize", () => settleLater(desk));
+}
+
+function drawFrame() {
+    el("example").append(...DESK.examples.map(({ name }) => make("option", { value: name }, name)));
+    el("foot").append(make("p", { class: DESK.proved ? "" : "fault-words" }, DESK.said),
+        make("p", {}, "This page works without a network and sends nothing. Nothing is kept when you close it: save the script and the store."));
+}
+
+async function open(base64) {
+    const bytes = Uint8Array.from(atob(base64), (sign) => sign.charCodeAt(0));
+    return (await WebAssembly.instantiate(bytes)).instance.exports;
+}
+
+async function start() {
+    drawFrame();
+    const desk = { library: openLibrary(await open(DESK.library)), words: openWords(await open(DESK.words)), start: new Map(), cells: [], filled: 0, name: "script.txt" };
+    desk.editor = openEditor(el("area"), el("back"), () => typed(desk));
+    listenToFiles(desk);
+    listenToRun(desk);
+    openExample(desk, DESK.examples[0].name);
+    window.desk = { desk, settle: () => settle(desk), open: (bytes, store) => openScript(desk, "script.txt", Uint8Array.from(bytes), store) }; // for host/desk-test
+}
+
+start().catch((error) => { el("verdict").textContent = "The desk cannot start in this browser: " + error; });
