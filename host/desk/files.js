@@ -9,13 +9,28 @@ function download(name, content) {
 }
 
 /** Takes a script, and what is stored before its first period. */
-function openScript(desk, name, bytes, store) {
+function takeScript(desk, name, bytes, store) {
     desk.name = name;
     setStart(desk, pairsOf(store));
     el("step").value = el("step").max;
     el("tidied").textContent = "";
     desk.editor.set(shown(bytes));
+    desk.kept = desk.editor.signs();
+}
+
+function openScript(desk, name, bytes, store) {
+    takeScript(desk, name, bytes, store);
     settle(desk);
+}
+
+/** May the text in the editor go? What is not saved is asked about. */
+function mayLeave(desk) {
+    return desk.editor.signs() === desk.kept || confirm("The script in the editor is not saved. Replace it?");
+}
+
+function saveScript(desk) {
+    download(desk.name, desk.bytes);
+    desk.kept = desk.editor.signs();
 }
 
 async function openFile(field, take) {
@@ -26,7 +41,7 @@ async function openFile(field, take) {
 
 function openExample(desk, name) {
     const example = DESK.examples.find((e) => e.name === name);
-    if (example) openScript(desk, name + ".txt", new TextEncoder().encode(example.text), example.store);
+    if (example && mayLeave(desk)) openScript(desk, name + ".txt", new TextEncoder().encode(example.text), example.store);
 }
 
 /** A store file: lines `NAME VALUE`. A name that the script does not have is told. */

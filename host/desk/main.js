@@ -23,8 +23,8 @@ function typed(desk) {
 
 function listenToFiles(desk) {
     el("example").addEventListener("change", (event) => openExample(desk, event.target.value));
-    el("open-script").addEventListener("change", (event) => openFile(event.target, (name, bytes) => openScript(desk, name, bytes, "")));
-    el("save-script").addEventListener("click", () => download(desk.name, desk.bytes));
+    el("open-script").addEventListener("change", (event) => openFile(event.target, (name, bytes) => mayLeave(desk) && openScript(desk, name, bytes, "")));
+    el("save-script").addEventListener("click", () => saveScript(desk));
     el("open-store").addEventListener("change", (event) => openFile(event.target, (_, bytes) => openStore(desk, bytes)));
     el("save-store").addEventListener("click", () => saveStore(desk));
     el("print").addEventListener("click", () => { settle(desk); window.print(); });
@@ -45,6 +45,7 @@ function listenToRun(desk) {
     el("to-fault").addEventListener("click", () => desk.editor.goToMark());
     document.addEventListener("keydown", (event) => { if (event.key === "F8") desk.editor.goToMark(); });
     window.addEventListener("resize", () => settleLater(desk));
+    window.addEventListener("beforeunload", (event) => { if (desk.editor.signs() !== desk.kept) event.preventDefault(); });
 }
 
 function drawFrame() {
@@ -58,14 +59,22 @@ async function open(base64) {
     return (await WebAssembly.instantiate(bytes)).instance.exports;
 }
 
+/** What host/desk-test calls beside the keys that it presses: scripts of any bytes, and no waiting. */
+function forTests(desk) {
+    const run = () => { clearTimeout(desk.later); runAll(desk); };
+    const take = (bytes) => { takeScript(desk, "script.txt", Uint8Array.from(bytes), ""); run(); };
+    return { desk, take, run, settle: () => settle(desk), startStore: () => startStore(desk), setStart: (pairs) => setStart(desk, pairs),
+        storeWords: (store) => storeWords(desk, store), firstRow };
+}
+
 async function start() {
     drawFrame();
-    const desk = { library: openLibrary(await open(DESK.library)), words: openWords(await open(DESK.words)), start: new Map(), cells: [], filled: 0, name: "script.txt" };
+    const desk = { library: openLibrary(await open(DESK.library)), words: openWords(await open(DESK.words)), start: new Map(), cells: [], filled: 0, name: "script.txt", kept: "" };
     desk.editor = openEditor(el("area"), el("back"), () => typed(desk));
     listenToFiles(desk);
     listenToRun(desk);
     openExample(desk, DESK.examples[0].name);
-    window.desk = { desk, settle: () => settle(desk), open: (bytes, store) => openScript(desk, "script.txt", Uint8Array.from(bytes), store) }; // for host/desk-test
+    window.desk = forTests(desk);
 }
 
 start().catch((error) => { el("verdict").textContent = "The desk cannot start in this browser: " + error; });

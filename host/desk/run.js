@@ -25,9 +25,9 @@ function runAll(desk) {
 
 /** A text that the machine does not take. What the verdict has said already is not said twice. */
 function drawNotTaken(desk, reply) {
-    const same = firstRow(reply) === firstRow(desk.verdict);
-    const lines = same ? ["Not run: the script is refused."] : desk.words.refusal(desk.bytes, reply, desk.marking).lines;
-    drawSaid(el("outcome"), "bad", same ? "" : firstRow(reply), lines);
+    const { lines } = desk.words.refusal(desk.bytes, reply, desk.marking);
+    const same = firstRow(reply) === firstRow(desk.verdict) && String(lines) === String(desk.verdictSaid.lines);
+    drawSaid(el("outcome"), "bad", same ? "" : firstRow(reply), same ? ["Not run: the script is refused."] : lines);
 }
 
 function drawStoreFault(fault) {

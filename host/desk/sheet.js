@@ -47,11 +47,16 @@ function sheetCurve(desk) {
     return [make("div", { class: "whole" }, make("h2", {}, "Curve"), drawChart(desk.curve, 640), make("p", {}, curveTold(desk.curve).join(" ")))];
 }
 
+/** The day where the page is open, as 2026-11-17. */
+function today() {
+    const now = new Date(), two = (n) => String(n).padStart(2, "0");
+    return `${now.getFullYear()}-${two(now.getMonth() + 1)}-${two(now.getDate())}`;
+}
+
 function drawSheet(desk) {
-    const printed = new Date().toISOString().slice(0, 10);
     const rules = make("dl", { class: "whole" }, ...LINES.map((word) => make("div", {}, make("dt", {}, word), make("dd", {}))));
     el("sheet").replaceChildren(
-        make("h1", {}, "Fitting sheet"), make("p", {}, `${desk.name}, printed on ${printed}`),
+        make("h1", {}, "Fitting sheet"), make("p", {}, `${desk.name}, printed on ${today()}`),
         make("h2", {}, "Verdict"), sheetVerdict(desk), make("p", { class: DESK.proved ? "" : "fault-words" }, DESK.said),
         make("h2", {}, "Script"), make("p", {}, "Lines are numbered at the left, statements by the small numbers."), sheetScript(desk),
         ...sheetStore(desk), ...sheetCurve(desk), rules);

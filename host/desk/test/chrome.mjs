@@ -51,6 +51,7 @@ export async function openPage(chrome, url, width, height = 900) {
         if (method === "Network.requestWillBeSent") requests.push(params.request.url);
         if (method === "Runtime.exceptionThrown") faults.push(params.exceptionDetails.exception?.description ?? params.exceptionDetails.text);
         if (method === "Page.loadEventFired") loaded();
+        if (method === "Page.javascriptDialogOpening") send("Page.handleJavaScriptDialog", { accept: true });
     });
     for (const domain of ["Network", "Runtime", "Page"]) await send(domain + ".enable");
     await send("Emulation.setDeviceMetricsOverride", { width, height, deviceScaleFactor: 1, mobile: false });
