@@ -2,8 +2,8 @@
 
 const HEIGHT = 300, TOP = 14, BOTTOM = 46, RIGHT = 16, LEFT = 60, LETTER = 7.5;
 
-/** Round numbers between two, some five of them; of names each, where there is room. */
-function ticks(cell, low, high, most) {
+/** Round numbers between two, not more than there is room for. */
+function ticks(low, high, most) {
     if (high === low) return [low];
     const rough = (high - low) / most, ten = 10 ** Math.floor(Math.log10(rough));
     const step = Math.max(1, [1, 2, 5, 10].map((n) => n * ten).find((n) => n >= rough));
@@ -12,12 +12,13 @@ function ticks(cell, low, high, most) {
     return list;
 }
 
-/** What the axes span. A flat curve gets room above and below. */
-function spans({ points, y }) {
+/** What the axes span. A flat curve gets room above and below, names at the sides. */
+function spans({ points, x, y }) {
     const values = points.filter((p) => p.value !== null).map((p) => p.value);
     const bounds = isWide(y) ? [Math.min(0, ...values), Math.max(0, ...values)] : y.bounds;
     const [low, high] = bounds[0] === bounds[1] ? [bounds[0] - 1, bounds[1] + 1] : bounds;
-    return { x: [points[0].reading, points[points.length - 1].reading], y: [low, high] };
+    const side = x.names.length ? 0.5 : 0;
+    return { x: [points[0].reading - side, points[points.length - 1].reading + side], y: [low, high] };
 }
 
 /** Runs of neighbouring points that have a value. */
@@ -33,10 +34,10 @@ function stretches(points) {
 function axes({ x, y }, place, width) {
     const { x: xs, y: ys } = place.spans, foot = HEIGHT - BOTTOM;
     const widest = Math.max(...[...xs, ...x.names].map((v) => String(v).length)) * LETTER + 8;
-    const lines = ticks(y, ...ys, 5).flatMap((v) => [
+    const lines = ticks(...ys, 5).flatMap((v) => [
         makeSvg("line", { class: v === 0 ? "zero" : "grid", x1: LEFT, x2: width - RIGHT, y1: place.y(v), y2: place.y(v) }),
         makeSvg("text", { x: LEFT - 8, y: place.y(v) + 4, "text-anchor": "end" }, valueWord(y, v).slice(0, 7))]);
-    const marks = ticks(x, ...xs, Math.max(1, Math.floor((width - LEFT - RIGHT) / widest))).flatMap((v) => [
+    const marks = ticks(...xs, Math.max(1, Math.floor((width - LEFT - RIGHT) / widest))).flatMap((v) => [
         makeSvg("line", { class: "grid", x1: place.x(v), x2: place.x(v), y1: TOP, y2: foot }),
         makeSvg("text", { x: place.x(v), y: foot + 18, "text-anchor": "middle" }, valueWord(x, v))]);
     const titles = [makeSvg("text", { class: "title", x: width - RIGHT, y: HEIGHT - 6, "text-anchor": "end" }, x.path),

@@ -26,7 +26,8 @@ function fitReadings(desk) {
     if (!cell) return;
     const usual = isWide(cell) ? USUAL : cell.bounds;
     [["curve-from", usual[0]], ["curve-to", usual[1]]].forEach(([id, value]) => {
-        Object.assign(el(id), { min: cell.bounds[0], max: cell.bounds[1], value, disabled: cell.names.length > 0 });
+        Object.assign(el(id), { min: cell.bounds[0], max: cell.bounds[1], value });
+        el(id).parentElement.hidden = cell.names.length > 0; // of names all are asked
     });
 }
 
@@ -89,7 +90,7 @@ function gapsTold({ x, points }) {
         else groups.push({ told: point.told, from: point.reading, to: point.reading });
     }
     const word = ({ from, to }) => (from === to ? valueWord(x, from) : `${valueWord(x, from)} to ${valueWord(x, to)}`);
-    return groups.filter((group) => group.told).map((group) => `At ${x.path} ${word(group)}: ${group.told}.`);
+    return groups.filter((group) => group.told).map((group) => `No value at ${x.path} ${word(group)}: ${group.told}.`);
 }
 
 function curveTold(curve) {
@@ -107,7 +108,7 @@ function drawCurve(desk) {
         el("curve-told").textContent = "No curve: the script does not run, or has no number or name to show.";
         return;
     }
-    el("curve").replaceChildren(drawChart(curve, el("curve").clientWidth));
+    el("curve").replaceChildren(...(curve.points.some((p) => p.value !== null) ? [drawChart(curve, el("curve").clientWidth)] : []));
     el("curve-told").replaceChildren(...curveTold(curve).map((line) => make("span", {}, line + " ")));
     el("curve-table").replaceChildren(
         make("tr", {}, make("th", { scope: "col" }, curve.x.path), make("th", { scope: "col" }, curve.y.path)),

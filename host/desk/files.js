@@ -11,6 +11,7 @@ function download(name, content) {
 /** Takes a script, and what is stored before its first period. */
 function takeScript(desk, name, bytes, store) {
     desk.name = name;
+    el("example").value = "";
     setStart(desk, pairsOf(store));
     el("step").value = el("step").max;
     el("tidied").textContent = "";
@@ -41,7 +42,9 @@ async function openFile(field, take) {
 
 function openExample(desk, name) {
     const example = DESK.examples.find((e) => e.name === name);
-    if (example && mayLeave(desk)) openScript(desk, name + ".txt", new TextEncoder().encode(example.text), example.store);
+    if (!example || !mayLeave(desk)) return;
+    openScript(desk, name + ".txt", new TextEncoder().encode(example.text), example.store);
+    el("example").value = name;
 }
 
 /** A store file: lines `NAME VALUE`. A name that the script does not have is told. */

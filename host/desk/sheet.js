@@ -43,7 +43,7 @@ function sheetStore(desk) {
 }
 
 function sheetCurve(desk) {
-    if (!desk.curve || desk.curve.points.length === 0) return [];
+    if (!desk.curve || !desk.curve.points.some((p) => p.value !== null)) return [];
     return [make("div", { class: "whole" }, make("h2", {}, "Curve"), drawChart(desk.curve, 640), make("p", {}, curveTold(desk.curve).join(" ")))];
 }
 

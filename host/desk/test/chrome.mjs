@@ -81,6 +81,9 @@ function doings(send) {
         throw new Error(`waited in vain until ${what ?? code}`);
     }
     return { look, press, until, type: (text) => send("Input.insertText", { text }),
-        picture: async () => Buffer.from((await send("Page.captureScreenshot", { captureBeyondViewport: true })).data, "base64"),
+        picture: async (selector = "body") => {
+            const at = await look(`(({ x, y, width, height }) => ({ x, y, width, height }))(document.querySelector("${selector}").getBoundingClientRect())`);
+            return Buffer.from((await send("Page.captureScreenshot", { captureBeyondViewport: true, clip: { ...at, scale: 1 } })).data, "base64");
+        },
         pdf: async () => Buffer.from((await send("Page.printToPDF", { preferCSSPageSize: true, printBackground: false })).data, "base64") };
 }

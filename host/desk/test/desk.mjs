@@ -1,11 +1,11 @@
-// Tests desk.html in a browser as a person uses it, and by every shared vector. usage: node desk.mjs PAGE DRIVE BUILT
+// Tests desk.html in a browser as a person uses it, and by every shared vector. usage: node desk.mjs PAGE DRIVE BUILT [PICTURES]
 import assert from "node:assert/strict";
 import { readFileSync, readdirSync, writeFileSync } from "node:fs";
 import { execFileSync } from "node:child_process";
 import { startChrome, openPage } from "./chrome.mjs";
 import { ASK, casesOf, faultsOf, readVectors, strangeWords } from "./vectors.mjs";
 
-const [pageFile, drive, builtFile] = process.argv.slice(2);
+const [pageFile, drive, builtFile, pictures] = process.argv.slice(2);
 const CONTROL = 2; // the modifier's bit
 const WRONG = "(type percent (range 0 100))\n(var stick percent)\n(var speed percent)\n(main (:= speed (div stik 2)))\n";
 const text = (page, id) => page.look(`Array.from(document.getElementById("${id}").children, (part) => part.textContent + "\\n").join("")`);
@@ -93,7 +93,7 @@ async function drawsTheCurve(page) {
     await chooseExample(page, "sip-and-puff");
     assert.match(await page.look('document.getElementById("curve-table").innerText || document.getElementById("curve-table").textContent'), /soft_puff\s*30/);
     await writeScript(page, "(type percent (range 0 100))\n(var stick percent)\n(var speed percent)\n(main (:= speed (* stick 2)))\n");
-    await page.until('/At stick 51 to 100: exception -103\\./.test(document.getElementById("curve-told").textContent)', "readings that end in an exception are told");
+    await page.until('/No value at stick 51 to 100: exception -103\\./.test(document.getElementById("curve-told").textContent)', "readings that end in an exception are told");
     assert.equal(await page.look('document.querySelectorAll("#curve line.gap").length'), 50);
 }
 
@@ -212,6 +212,19 @@ async function answersTheVectors(page) {
     console.log(`${all.length} vectors, ${asked} runs through the page, ${direct} of them with a store that its fields cannot hold; all as the vectors say, and in drive's words`);
 }
 
+// ---- the guide's pictures
+
+async function takePictures(page) {
+    await page.send("Emulation.setDeviceMetricsOverride", { width: 520, height: 800, deviceScaleFactor: 1, mobile: false });
+    await page.look(`{ window.desk.take(${JSON.stringify([...Buffer.from(WRONG)])}); window.desk.settle(); }`);
+    writeFileSync(pictures + "/desk-fault.png", await page.picture("#script-part"));
+    await page.send("Emulation.setDeviceMetricsOverride", { width: 1040, height: 800, deviceScaleFactor: 1, mobile: false });
+    await page.look('{ document.getElementById("machine").value = 0; document.getElementById("budget").value = 10000; }');
+    await chooseExample(page, "dead-zone");
+    await page.look('{ const s = document.getElementById("step"); s.value = 2; s.dispatchEvent(new Event("input")); document.activeElement.blur(); }');
+    writeFileSync(pictures + "/desk.png", await page.picture("main"));
+}
+
 const TESTS = [typesAndSeesTheMark, fillsTheStoreAndSlides, slidesThroughEveryStep, drawsTheCurve, holdsReadings, showsEachExampleAsDrive, mendsAndMarks, showsNoControlByte,
     isReachedByKeys, prints, saysWhetherProved, answersTheVectors, async (page) => { for (const width of [360, 700, 1400]) await fits(page, width); }, sendsNothing];
 
@@ -223,6 +236,7 @@ try {
         await test(page);
         console.log("passed: " + (test.name || "fits the widths of a phone, a tablet and a desk"));
     }
+    if (pictures) await takePictures(page);
 } finally {
     await chrome.close();
 }
