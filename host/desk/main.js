@@ -5,10 +5,12 @@ const PAUSE = 120;
 /** Brings all that depends on the text and the store up to date. */
 function settle(desk) {
     clearTimeout(desk.later);
-    runAll(desk);
-    if (desk.run) drawChoices(desk);
-    drawCurve(desk);
-    drawSheet(desk);
+    guarded(desk, () => {
+        runAll(desk);
+        if (desk.run) drawChoices(desk);
+        drawCurve(desk);
+        drawSheet(desk);
+    });
 }
 
 function settleLater(desk) {
@@ -17,8 +19,22 @@ function settleLater(desk) {
 }
 
 function typed(desk) {
-    judge(desk);
+    guarded(desk, () => judge(desk));
     settleLater(desk);
+}
+
+/** Where the browser gives too little stack or memory, nothing is known, and nothing old may stand there; both modules are opened anew, as a call that was cut off leaves them. */
+function guarded(desk, work) {
+    try {
+        work();
+    } catch (error) {
+        openBoth(desk);
+        desk.run = null;
+        const lines = ["This browser could not work it out, so nothing is known of this script. Try another browser, or `drive`.", String(error)];
+        ["verdict", "outcome"].forEach((id) => drawSaid(el(id), "bad", "", lines));
+        ["curve", "curve-table", "curve-told", "sheet"].forEach((id) => el(id).replaceChildren());
+        el("can-run").hidden = true;
+    }
 }
 
 function listenToFiles(desk) {
@@ -38,7 +54,7 @@ function listenToRun(desk) {
     });
     for (const id of ["machine", "budget", "curve-y", "curve-from", "curve-to", "curve-periods"]) el(id).addEventListener("input", () => settleLater(desk));
     el("curve-x").addEventListener("input", then(fitReadings));
-    el("step").addEventListener("input", () => drawStep(desk));
+    el("step").addEventListener("input", () => guarded(desk, () => drawStep(desk)));
     el("next-period").addEventListener("click", then(nextPeriod));
     el("clear-store").addEventListener("click", then(() => setStart(desk, [])));
     el("tidy").addEventListener("click", then(tidyText));
@@ -54,14 +70,16 @@ function drawFrame() {
         make("p", {}, "This page works without a network and sends nothing. Nothing is kept when you close it: save the script and the store."));
 }
 
-async function open(base64) {
-    const bytes = Uint8Array.from(atob(base64), (sign) => sign.charCodeAt(0));
-    return (await WebAssembly.instantiate(bytes)).instance.exports;
+const compiled = (base64) => WebAssembly.compile(Uint8Array.from(atob(base64), (sign) => sign.charCodeAt(0)));
+
+function openBoth(desk) {
+    desk.library = openLibrary(new WebAssembly.Instance(desk.modules[0]).exports);
+    desk.words = openWords(new WebAssembly.Instance(desk.modules[1]).exports);
 }
 
 /** What host/desk-test calls beside the keys that it presses: scripts of any bytes, and no waiting. */
 function forTests(desk) {
-    const run = () => { clearTimeout(desk.later); runAll(desk); };
+    const run = () => { clearTimeout(desk.later); guarded(desk, () => runAll(desk)); };
     const take = (bytes) => { takeScript(desk, "script.txt", Uint8Array.from(bytes), ""); run(); };
     return { desk, take, run, settle: () => settle(desk), startStore: () => startStore(desk), setStart: (pairs) => setStart(desk, pairs),
         storeWords: (store) => storeWords(desk, store), firstRow };
@@ -69,7 +87,9 @@ function forTests(desk) {
 
 async function start() {
     drawFrame();
-    const desk = { library: openLibrary(await open(DESK.library)), words: openWords(await open(DESK.words)), start: new Map(), cells: [], filled: 0, name: "script.txt", kept: "" };
+    const modules = await Promise.all([compiled(DESK.library), compiled(DESK.words)]);
+    const desk = { modules, start: new Map(), cells: [], filled: 0, name: "script.txt", kept: "" };
+    openBoth(desk);
     desk.editor = openEditor(el("area"), el("back"), () => typed(desk));
     listenToFiles(desk);
     listenToRun(desk);

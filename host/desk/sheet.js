@@ -53,11 +53,16 @@ function today() {
     return `${now.getFullYear()}-${two(now.getMonth() + 1)}-${two(now.getDate())}`;
 }
 
+/** Lines to fill in; a script that no chair loads has nothing to be signed. */
+function sheetLines(desk) {
+    if (desk.verdict.refusal) return make("p", { class: "fault-words" }, "Refused: no chair may load this script. There is nothing to sign.");
+    return make("dl", { class: "whole" }, ...LINES.map((word) => make("div", {}, make("dt", {}, word), make("dd", {}))));
+}
+
 function drawSheet(desk) {
-    const rules = make("dl", { class: "whole" }, ...LINES.map((word) => make("div", {}, make("dt", {}, word), make("dd", {}))));
     el("sheet").replaceChildren(
         make("h1", {}, "Fitting sheet"), make("p", {}, `${desk.name}, printed on ${today()}`),
         make("h2", {}, "Verdict"), sheetVerdict(desk), make("p", { class: DESK.proved ? "" : "fault-words" }, DESK.said),
         make("h2", {}, "Script"), make("p", {}, "Lines are numbered at the left, statements by the small numbers."), sheetScript(desk),
-        ...sheetStore(desk), ...sheetCurve(desk), rules);
+        ...sheetStore(desk), ...sheetCurve(desk), sheetLines(desk));
 }

@@ -1,11 +1,11 @@
-// Tests desk.html in a browser as a person uses it, and by every shared vector. usage: node desk.mjs PAGE DRIVE BUILT [PICTURES]
+// Tests desk.html in a browser as a person uses it, and by every shared vector. usage: node desk.mjs PAGE DRIVE BUILT TEXTS [PICTURES]
 import assert from "node:assert/strict";
 import { readFileSync, readdirSync, writeFileSync } from "node:fs";
 import { execFileSync } from "node:child_process";
 import { startChrome, openPage } from "./chrome.mjs";
 import { ASK, casesOf, faultsOf, readVectors, strangeWords } from "./vectors.mjs";
 
-const [pageFile, drive, builtFile, pictures] = process.argv.slice(2);
+const [pageFile, drive, builtFile, textsFolder, pictures] = process.argv.slice(2);
 const CONTROL = 2; // the modifier's bit
 const WRONG = "(type percent (range 0 100))\n(var stick percent)\n(var speed percent)\n(main (:= speed (div stik 2)))\n";
 const text = (page, id) => page.look(`Array.from(document.getElementById("${id}").children, (part) => part.textContent + "\\n").join("")`);
@@ -161,15 +161,25 @@ async function fits(page, width) {
     }
 }
 
-async function prints(page) {
-    await chooseExample(page, "dead-zone");
+/** The words of the page as it is printed. */
+async function printed(page) {
     const file = pageFile.replace(/[^/]*$/, "sheet.pdf");
     writeFileSync(file, await page.pdf());
-    const printed = execFileSync("pdftotext", ["-layout", file, "-"], { encoding: "utf8" });
-    for (const words of [/Fitting sheet/, /accepted/, /The script may be loaded; it has 2 cells\./, /\d?\(call centre\)/, /stick +5 +5/, /speed after one period/, /Date/, /Signature/]) assert.match(printed, words);
-    assert.doesNotMatch(printed, /Open a script/);
+    return execFileSync("pdftotext", ["-layout", file, "-"], { encoding: "utf8" });
+}
+
+async function prints(page) {
+    await chooseExample(page, "dead-zone");
+    const words = await printed(page);
+    for (const part of [/Fitting sheet/, /accepted/, /The script may be loaded; it has 2 cells\./, /\(call centre\)/, /stick +5 +5/, /speed after one period/, /Date/, /Signature/]) assert.match(words, part);
+    assert.doesNotMatch(words, /Open a script/);
     assert.deepEqual(await page.look('Array.from(document.querySelectorAll("#sheet sup"), (n) => n.textContent + n.nextSibling.textContent.slice(0, 7))'),
         ["1(if (an", "2(:= spe", "3(:= spe", "4(call c"]);
+    assert.equal(await page.look('document.querySelectorAll("#sheet svg polyline").length'), 1);
+    await page.look(`{ window.desk.take(${JSON.stringify([...Buffer.from(WRONG)])}); window.desk.settle(); }`);
+    const refused = await printed(page);
+    assert.match(refused, /refused 7 4[^]*no chair may load this script/);
+    assert.doesNotMatch(refused, /Signature/);
 }
 
 async function saysWhetherProved(page) {
@@ -212,6 +222,31 @@ async function answersTheVectors(page) {
     console.log(`${all.length} vectors, ${asked} runs through the page, ${direct} of them with a store that its fields cannot hold; all as the vectors say, and in drive's words`);
 }
 
+/** The texts that take most stack, by both machines: the browser's own stack must do. */
+async function bearsTheWorstTexts(page) {
+    const files = readdirSync(textsFolder), slow = [];
+    assert.ok(files.length > 5);
+    for (const file of files) {
+        const bytes = readFileSync(`${textsFolder}/${file}`), cases = [0, 1].map((marking) => ({ marking, budget: 1000 }));
+        const got = await page.look(`(() => { const from = performance.now(), got = (${ASK})(${JSON.stringify([...bytes])}, ${JSON.stringify(cases)}); return { ...got, ms: performance.now() - from }; })()`);
+        slow.push(got.ms);
+        assert.equal(got.check, drivePrints(["check", `${textsFolder}/${file}`]), file);
+        cases.forEach(({ marking, budget }, i) =>
+            assert.equal(got.answers[i].told, drivePrints([marking ? "mark" : "run", `${textsFolder}/${file}`, "--budget", String(budget)]), file));
+    }
+    console.log(`${files.length} texts, the slowest in ${Math.max(...slow).toFixed(0)} ms for verdict, run and marking`);
+}
+
+/** A call that the browser cuts off leaves nothing old on the page, and the next key works again. */
+async function recovers(page) {
+    await chooseExample(page, "dead-zone");
+    await page.look('{ window.desk.desk.library.verdict = () => { throw new RangeError("no stack"); }; document.getElementById("area").dispatchEvent(new Event("input")); }');
+    assert.match(await text(page, "verdict"), /nothing is known of this script[^]*no stack/);
+    assert.ok(await page.look('document.getElementById("can-run").hidden && document.getElementById("sheet").textContent === ""'));
+    await page.look('{ document.getElementById("area").dispatchEvent(new Event("input")); window.desk.settle(); }');
+    assert.match(await text(page, "outcome"), /^normal 3\n/);
+}
+
 // ---- the guide's pictures
 
 async function takePictures(page) {
@@ -226,7 +261,7 @@ async function takePictures(page) {
 }
 
 const TESTS = [typesAndSeesTheMark, fillsTheStoreAndSlides, slidesThroughEveryStep, drawsTheCurve, holdsReadings, showsEachExampleAsDrive, mendsAndMarks, showsNoControlByte,
-    isReachedByKeys, prints, saysWhetherProved, answersTheVectors, async (page) => { for (const width of [360, 700, 1400]) await fits(page, width); }, sendsNothing];
+    isReachedByKeys, prints, saysWhetherProved, recovers, answersTheVectors, bearsTheWorstTexts, async (page) => { for (const width of [360, 700, 1400]) await fits(page, width); }, sendsNothing];
 
 const chrome = startChrome("chromium");
 try {
