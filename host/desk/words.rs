@@ -94,7 +94,16 @@ pub extern "C" fn store_refusal(text: usize, cells: usize, number: u32, marking:
 
 /// How a run ended that began with this store and budget; the outcome by its number in `drive.h`.
 #[no_mangle]
-pub extern "C" fn ended(text: usize, cells: usize, budget: u32, outcome: u32, exception: i32, statement: u32, steps: u32, marking: u32) -> usize {
+pub extern "C" fn ended(
+    text: usize,
+    cells: usize,
+    budget: u32,
+    outcome: u32,
+    exception: i32,
+    statement: u32,
+    steps: u32,
+    marking: u32,
+) -> usize {
     let (text, rest) = asked(text);
     let (values, marks) = store(rest, cells);
     let outcome = match outcome {
