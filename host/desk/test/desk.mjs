@@ -9,6 +9,8 @@ const [pageFile, drive, builtFile, textsFolder, pictures] = process.argv.slice(2
 const CONTROL = 2; // the modifier's bit
 const WRONG = "(type percent (range 0 100))\n(var stick percent)\n(var speed percent)\n(main (:= speed (div stik 2)))\n";
 const text = (page, id) => page.look(`Array.from(document.getElementById("${id}").children, (part) => part.textContent + "\\n").join("")`);
+/** The table's rows in the page: name, and value after. */
+const ROWS = 'Array.from(document.getElementById("cells").rows, (row) => row.cells[0].textContent + " " + row.cells[2].textContent + "\\n").join("")';
 const focused = (page) => page.look("document.activeElement.id || document.activeElement.dataset.path || document.activeElement.tagName");
 
 /** By keys alone to an element. */
@@ -69,12 +71,31 @@ async function slidesThroughEveryStep(page) {
     await chooseExample(page, "ramps");
     const steps = await page.look('Number(document.getElementById("step").max)');
     assert.equal(steps, 9);
+    let before = "";
     for (let step = 0; step <= steps; step++) {
         await page.look(`{ const s = document.getElementById("step"); s.value = ${step}; s.dispatchEvent(new Event("input")); }`);
-        const seen = await page.look('Array.from(document.getElementById("cells").rows, (row) => row.cells[0].textContent + " " + row.cells[2].textContent + "\\n").join("")');
-        const told = drivePrints(["run", "examples/ramps.txt", "--store", "examples/ramps.store", "--budget", String(step)]);
+        const seen = await page.look(ROWS), told = drivePrints(["run", "examples/ramps.txt", "--store", "examples/ramps.store", "--budget", String(step)]);
         assert.ok(told.endsWith("\n" + seen), `after ${step} steps:\n${seen}`);
+        const changed = await page.look('Array.from(document.getElementById("cells").rows, (row) => row.cells[2].classList.contains("changed"))');
+        const others = seen.split("\n").map((row, i) => step > 0 && row !== before.split("\n")[i]).slice(0, -1);
+        assert.deepEqual(changed, others, `what step ${step} changed`);
+        before = seen;
     }
+}
+
+/** Where the explainer does not know the script's cells, they are shown by number, as `drive --plain` does. */
+async function showsCellsByNumber(page) {
+    await chooseExample(page, "dead-zone");
+    await page.look('{ const w = window.desk.desk.words; w.known = w.cells; w.cells = () => null; window.desk.setStart([["1 stick", "7"]]); window.desk.settle(); }');
+    assert.equal(await page.look(ROWS), "1 stick 7\n2 speed 0\n");
+    await page.look('{ window.desk.setStart([["1 stick", "101"]]); window.desk.settle(); }');
+    assert.match(await text(page, "outcome"), /^refused 11 0\n/);
+    await page.look('{ window.desk.setStart([["1 stick", "ten"]]); window.desk.settle(); }');
+    assert.equal(await text(page, "outcome"), "Not run: `ten` is no number.\n");
+    await page.look('{ window.desk.setStart([]); window.desk.settle(); }');
+    assert.equal(await page.look(ROWS), "1 stick -\n2 speed -\n");
+    await page.look('{ const w = window.desk.desk.words; w.cells = w.known; window.desk.settle(); }');
+    assert.equal(await page.look(ROWS), "stick -\nspeed -\n");
 }
 
 function drivePrints(words) {
@@ -111,8 +132,7 @@ async function showsEachExampleAsDrive(page) {
     assert.deepEqual([...await page.look('Array.from(document.getElementById("example").options, (o) => o.value).slice(1)')].sort(), names.sort());
     for (const name of names) {
         await chooseExample(page, name);
-        const rows = await page.look('Array.from(document.getElementById("cells").rows, (row) => row.cells[0].textContent + " " + row.cells[2].textContent + "\\n").join("")');
-        assert.equal(await text(page, "outcome") + rows, readFileSync(`examples/${name}.out`, "utf8"), name);
+        assert.equal(await text(page, "outcome") + await page.look(ROWS), readFileSync(`examples/${name}.out`, "utf8"), name);
     }
 }
 
@@ -150,14 +170,19 @@ async function isReachedByKeys(page) {
     assert.deepEqual(wanted.filter((id) => !met.has(id)), []);
 }
 
-/** A mark lies under its word only where the field wraps as the lines behind it do: then it has nothing to scroll. */
+// what the place of a letter depends on
+const METRICS = ["font", "letterSpacing", "wordSpacing", "lineHeight", "padding", "whiteSpace", "overflowWrap", "wordBreak", "tabSize", "textIndent", "textTransform", "direction"];
+
+/** A mark lies under its word only where the field sets its letters as the lines behind it do, and has nothing to scroll. */
 async function fits(page, width) {
     await page.send("Emulation.setDeviceMetricsOverride", { width, height: 800, deviceScaleFactor: 1, mobile: false });
     for (const name of ["ramps", "profiles"]) {
         await chooseExample(page, name);
-        const { wide, area, back } = await page.look(`({ wide: document.documentElement.scrollWidth, area: document.getElementById("area").scrollHeight, back: document.getElementById("back").offsetHeight })`);
-        assert.ok(wide <= width, `${name} is ${wide} wide at ${width}`);
-        assert.ok(area <= back, `${name}: the field is ${area} high, the lines behind it ${back}`);
+        const [area, back] = await page.look(`["area", "back"].map((id) => { const e = document.getElementById(id), style = getComputedStyle(e);
+            return { high: e.scrollHeight, wide: e.clientWidth, style: ${JSON.stringify(METRICS)}.map((metric) => style[metric]) }; })`);
+        assert.ok(await page.look("document.documentElement.scrollWidth") <= width, `${name} is wider than ${width}`);
+        assert.deepEqual([area.style, area.wide], [back.style, back.wide]);
+        assert.ok(area.high <= back.high, `${name}: the field is ${area.high} high, the lines behind it ${back.high}`);
     }
 }
 
@@ -261,7 +286,7 @@ async function takePictures(page) {
 }
 
 const TESTS = [typesAndSeesTheMark, fillsTheStoreAndSlides, slidesThroughEveryStep, drawsTheCurve, holdsReadings, showsEachExampleAsDrive, mendsAndMarks, showsNoControlByte,
-    isReachedByKeys, prints, saysWhetherProved, recovers, answersTheVectors, bearsTheWorstTexts, async (page) => { for (const width of [360, 700, 1400]) await fits(page, width); }, sendsNothing];
+    isReachedByKeys, prints, saysWhetherProved, showsCellsByNumber, recovers, answersTheVectors, bearsTheWorstTexts, async (page) => { for (const width of [360, 700, 1400]) await fits(page, width); }, sendsNothing];
 
 const chrome = startChrome("chromium");
 try {
