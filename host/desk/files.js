@@ -47,13 +47,17 @@ function openExample(desk, name) {
     el("example").value = name;
 }
 
-/** A store file: lines `NAME VALUE`. A name that the script does not have is told. */
+/** A store file, read as `drive` reads it; one that does not fit changes nothing. */
 function openStore(desk, bytes) {
-    const pairs = pairsOf(new TextDecoder().decode(bytes));
-    setStart(desk, pairs);
-    settle(desk);
-    const unknown = pairs.find(([path]) => !desk.cells.some((cell) => cell.path === path));
-    if (unknown) el("store-told").textContent = `The script has nothing called \`${safe(unknown[0])}\`.`;
+    const file = new TextDecoder().decode(bytes); // an editor's mark at its start goes here
+    const read = el("can-run").hidden || !desk.named ? null : desk.words.readStore(desk.bytes, file, desk.marking);
+    if (read && !read.fault) {
+        const words = storeWords(desk, read);
+        setStart(desk, desk.cells.map((cell, i) => [cell.path, words[i]]));
+        settle(desk);
+    }
+    if (!read) el("store-told").textContent = "The store is not opened: the script's names are not known.";
+    else if (read.fault) el("store-told").textContent = `The store is not opened. Line ${read.fault.line}: ${read.fault.found} ${read.fault.hint}`;
 }
 
 function saveStore(desk) {

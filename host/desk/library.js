@@ -3,13 +3,18 @@
 const WORK = 16384, TEXT = 32768, CELLS = 2048, REPLY = 40, PAGE = 65536;
 const OUTCOMES = ["normal", "exception", "spent", "stuck"];
 
-function openLibrary(lib) {
+/** Where the lists lie; one cell more than a script can have, so that a store which is too long can be lent and refused. */
+function listPlaces(lib) {
     let free = lib.__heap_base.value;
     const room = (bytes) => { const at = (free + 7) & ~7; free = at + bytes; return at; };
     const at = { reply: room(REPLY), text: room(TEXT + 1), work: room(4 * WORK), names: room(8 * CELLS), values: room(8 * (CELLS + 1)), marks: room(CELLS + 1) };
     const more = Math.ceil((free - lib.memory.buffer.byteLength) / PAGE);
     if (more > 0) lib.memory.grow(more);
-    const view = (List, from, length) => new List(lib.memory.buffer, from, length);
+    return at;
+}
+
+function openLibrary(lib) {
+    const at = listPlaces(lib), view = (List, from, length) => new List(lib.memory.buffer, from, length);
 
     /** Calls a function on a text; of one that is too long, one byte too many is enough for its refusal. */
     function call(name, bytes, ...rest) {

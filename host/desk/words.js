@@ -1,20 +1,24 @@
 // The explainer, words.wasm: what is said of an answer, in the words of `drive`.
 
-function openWords(lib) {
-    /** Asks about a text and what lies behind it; the answer is JSON. */
-    function ask(name, bytes, behind, ...numbers) {
+/** A function that asks about a text and what lies behind it; the answer is JSON. */
+function asker(lib) {
+    return (name, bytes, behind, ...numbers) => {
         const at = lib.room(bytes.length + behind.length);
         const room = new Uint8Array(lib.memory.buffer, at, bytes.length + behind.length);
         room.set(bytes);
         room.set(behind, bytes.length);
         const length = lib[name](bytes.length, ...numbers);
         return JSON.parse(new TextDecoder().decode(new Uint8Array(lib.memory.buffer, lib.said(), length)));
-    }
+    };
+}
 
-    function packed(store) {
-        const values = new Uint8Array(BigInt64Array.from(store.values).buffer);
-        return Uint8Array.from([...values, ...store.marks]);
-    }
+function packed(store) {
+    const values = new Uint8Array(BigInt64Array.from(store.values).buffer);
+    return Uint8Array.from([...values, ...store.marks]);
+}
+
+function openWords(lib) {
+    const ask = asker(lib);
 
     /** Of a refusal the number, of a run's end all that the library answers. */
     function ended(bytes, store, budget, reply, marking) {
@@ -28,13 +32,9 @@ function openWords(lib) {
         return read && read.values ? { values: read.values.map(BigInt), marks: read.marks } : { fault: read };
     }
 
-    function accepted(cells) {
-        const length = lib.accepted(cells);
-        return JSON.parse(new TextDecoder().decode(new Uint8Array(lib.memory.buffer, lib.said(), length)));
-    }
-
     return {
-        accepted, ended, readStore,
+        ended, readStore,
+        accepted: (cells) => ask("accepted", [], [], cells),
         refusal: (bytes, reply, marking) => ask("refusal", bytes, [], reply.refusal, reply.line, marking),
         cells: (bytes, marking) => ask("cells", bytes, [], marking),
         rows: (bytes, store, marking) => ask("rows", bytes, packed(store), store.values.length, marking),

@@ -74,7 +74,7 @@ fn message(told: &Message) -> String {
 // ---- what a page asks
 
 #[no_mangle]
-pub extern "C" fn accepted(cells: usize) -> usize {
+pub extern "C" fn accepted(_text: usize, cells: usize) -> usize {
     say(quoted(&explain::accepted(cells)))
 }
 

@@ -1,6 +1,6 @@
 // Tests desk.html in a browser as a person uses it, and by every shared vector. usage: node desk.mjs PAGE DRIVE BUILT TEXTS [PICTURES]
 import assert from "node:assert/strict";
-import { readFileSync, readdirSync, writeFileSync } from "node:fs";
+import { existsSync, mkdirSync, readFileSync, readdirSync, rmSync, writeFileSync } from "node:fs";
 import { execFileSync } from "node:child_process";
 import { startChrome, openPage } from "./chrome.mjs";
 import { ASK, casesOf, faultsOf, readVectors, strangeWords } from "./vectors.mjs";
@@ -134,6 +134,32 @@ async function showsEachExampleAsDrive(page) {
         await chooseExample(page, name);
         assert.equal(await text(page, "outcome") + await page.look(ROWS), readFileSync(`examples/${name}.out`, "utf8"), name);
     }
+}
+
+/** Chooses a file in a field, as by the browser's window. */
+async function chooseFile(page, id, file) {
+    const { root } = await page.send("DOM.getDocument");
+    const { nodeId } = await page.send("DOM.querySelector", { nodeId: root.nodeId, selector: "#" + id });
+    await page.send("DOM.setFileInputFiles", { nodeId, files: [file] });
+}
+
+async function opensAndSavesFiles(page) {
+    const folder = pageFile.replace(/[^/]*$/, "saved"), here = process.cwd();
+    rmSync(folder, { recursive: true, force: true });
+    mkdirSync(folder);
+    await chrome.send("Browser.setDownloadBehavior", { behavior: "allow", downloadPath: folder });
+    await chooseFile(page, "open-script", here + "/examples/ramp.txt");
+    await page.until(`document.querySelector("#outcome .row")?.textContent.startsWith("exception -104")`, "the script is open, with nothing stored");
+    await chooseFile(page, "open-store", here + "/examples/ramp.store");
+    await page.until(`document.querySelector("#outcome .row")?.textContent === "normal 5"`, "the store is open");
+    writeFileSync(folder + "/wrong.store", "wanted 5\nsped 6\n");
+    await chooseFile(page, "open-store", folder + "/wrong.store");
+    await page.until(`document.getElementById("store-told").textContent === "The store is not opened. Line 2: The script has no cell \`sped\`. Did you mean \`speed\`?"`);
+    assert.equal(await page.look(ROWS), "wanted 30\nspeed 13\n");
+    await page.look('{ document.getElementById("save-script").click(); document.getElementById("save-store").click(); }');
+    for (let tries = 0; tries < 100 && !(existsSync(folder + "/ramp.txt") && existsSync(folder + "/ramp.store")); tries++) await new Promise((resolve) => setTimeout(resolve, 50));
+    assert.deepEqual(readFileSync(folder + "/ramp.txt"), readFileSync("examples/ramp.txt"));
+    assert.equal(readFileSync(folder + "/ramp.store", "utf8"), "wanted 30\nspeed 13\n");
 }
 
 async function mendsAndMarks(page) {
@@ -285,7 +311,7 @@ async function takePictures(page) {
     writeFileSync(pictures + "/desk.png", await page.picture("main"));
 }
 
-const TESTS = [typesAndSeesTheMark, fillsTheStoreAndSlides, slidesThroughEveryStep, drawsTheCurve, holdsReadings, showsEachExampleAsDrive, mendsAndMarks, showsNoControlByte,
+const TESTS = [typesAndSeesTheMark, fillsTheStoreAndSlides, slidesThroughEveryStep, drawsTheCurve, holdsReadings, showsEachExampleAsDrive, opensAndSavesFiles, mendsAndMarks, showsNoControlByte,
     isReachedByKeys, prints, saysWhetherProved, showsCellsByNumber, recovers, answersTheVectors, bearsTheWorstTexts, async (page) => { for (const width of [360, 700, 1400]) await fits(page, width); }, sendsNothing];
 
 const chrome = startChrome("chromium");
