@@ -10,7 +10,8 @@ use lib.ListN.{length}
 use Rattle.law.specs.Base.{each}
 use Rattle.law.specs.Syntax as Syntax
 use Rattle.law.specs.Trees.{nodes}
-use Rattle.law.specs.Forms.{Item, expr, target, stmt}
+use Rattle.law.specs.Forms.{Item}
+use Rattle.law_theorems.specs.FormsByDepth.{expr, target, stmt}
 use Rattle.law.specs.Types.{Types, Vars, ordinal?, sizeOf}
 use Rattle.law.specs.Script.{Const, Expr, Exprs, Target, Stmt, Stmts, Arms, Body, const, read, var}
 use Rattle.law.specs.Environment.{Environment, NameSort, aProc, aType, aValue, aVar}

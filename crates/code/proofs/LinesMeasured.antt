@@ -14,7 +14,9 @@ use Rattle.law.specs.Ceilings.{cellsIn, lineBounded, typeBounded, variablesIn}
 use Rattle.law.specs.Code.{BodyCode, Frame, noFrame}
 use Rattle.law.specs.Elaborate.{elabBody}
 use Rattle.law.specs.Environment.{Declared, PlacedBody, aProc, declareLine, frameOf, nothingDeclared, withBody, within}
-use Rattle.law.specs.Forms.{Item, lineForm}
+use Rattle.law.specs.Forms.{Item}
+use Rattle.law_theorems.specs.FormsByDepth.{lineForm}
+use Rattle.law_theorems.proofs.FormsAgree.{line-same}
 use Rattle.law.specs.Lines.{Line, linesOf}
 use Rattle.law.specs.Machine.{storeCells}
 use Rattle.law.specs.Names.{bodyOf, entryOf}
@@ -86,7 +88,7 @@ unfolding judgeLine
 line-parts k l p h c =
     stage 4 h λ t h₄ h. stage 5 h λ v h₅ h. musted 6 (not (k .ended)) h λ h₆ _ h. stage 6 h λ f f₆ h. stage 7 h λ e h₇ h.
     musted 8 (keepsRules (k .env .types) e) h λ h₈ _ h. stage 8 h λ cs f₈ h. musted 9 _ h λ h₉ _ h.
-    c v f e (k .nodes + nodes t) (worded-shallow (form-depth l t h₄) v h₅) (open? (k .ended) h₆) f₆ h₇ h₈ (f₈ ∙ ap (λ (q : Declared × List BodyCode). some (q .1)) (good-inj h)) (and-true (lineBounded k e) _ h₉ .0) (rw (worded-nodes t v h₅)) (leb-true _ _ (and-true (lineBounded k e) _ h₉ .1))
+    c v f e (k .nodes + nodes t) (worded-shallow (form-depth l t h₄) v h₅) (open? (k .ended) h₆) (sym (line-same l t v h₄ h₅ (k .stmts)) ∙ f₆) h₇ h₈ (f₈ ∙ ap (λ (q : Declared × List BodyCode). some (q .1)) (good-inj h)) (and-true (lineBounded k e) _ h₉ .0) (rw (worded-nodes t v h₅)) (leb-true _ _ (and-true (lineBounded k e) _ h₉ .1))
     (ap (λ (q : Declared × List BodyCode). q .0) (good-inj h))
 
 -- ---- a line more

@@ -1,6 +1,6 @@
 -- An accepted text takes at most 4 numbers for each of its brackets and words, symbol entries included: 16,384 are enough. So does its code by
 -- any measure (Measure), where nothing but code is laid.
-use mathlib.Core.Path.{_≡_, refl, ap, _∙_}
+use mathlib.Core.Path.{_≡_, refl, sym, ap, _∙_}
 use mathlib.Core.Bool.{Bool, true, false, not}
 use mathlib.Core.List.{List, [], _∷_, _++_, map}
 use mathlib.Core.Option.{Option, some}
@@ -25,6 +25,7 @@ use Rattle.law.specs.Verdict.{must, Read, Verdict, accepted, good, has, judge, 
 use Rattle.law.specs.Whole.{verdictOf}
 use Rattle.law_theorems.proofs.Inversion.{some-inj, bind-some, given-some, and-true}
 use Rattle.law_theorems.proofs.TextsAgree.{bad-good, accepted-inj, good-inj, musted, onward-is, opening-is, refused-accepted, stage}
+use Rattle.law_theorems.proofs.FormsAgree.{line-same}
 use Rattle.law_theorems.proofs.Weights.{line-weighs, weightD, weightL, weightP, worded-nodes}
 use Rattle.law_theorems.proofs.LinesKeep.{within-parameters}
 use Rattle.code.proofs.Measure.{Measure, total}
@@ -155,7 +156,7 @@ line-weight k l p h c =
     stage 4 h λ t h₄ h. stage 5 h λ v h₅ h. musted 6 (not (k .ended)) h λ _ _ h. stage 6 h λ f h₆ h. stage 7 h λ e h₇ h.
     musted 8 (keepsRules (k .env .types) e) h λ _ _ h. stage 8 h λ cs h₈ h. musted 9 _ h λ h₉ _ h.
     c (f .0) e (f .1) (nodes t) h₇ (h₈ ∙ ap (λ (q : Declared × List BodyCode). some (q .1)) (good-inj h)) (ap (λ (q : Declared × List BodyCode). q .0) (good-inj h))
-    (let a = worded-nodes t v h₅ in let b = line-weighs (k .stmts) v f h₆ in omega arith)
+    (let a = worded-nodes t v h₅ in let b = line-weighs (k .stmts) v f (sym (line-same l t v h₄ h₅ (k .stmts)) ∙ h₆) in omega arith)
     (leb-true _ _ (and-true (lineBounded k e) (leb (k .nodes + nodes t) 4096) h₉ .1))
 
 pub line-room : {P : Type 0} (k : Declared) (l : Line) (p : Declared × List BodyCode) → judgeLine strictly k l ≡ good p

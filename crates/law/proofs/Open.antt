@@ -48,28 +48,29 @@ unfolding
     Trees.list Trees.nodes Trees.nodesIn Trees.deeper Trees.opened Trees.closed Trees.spelled Trees.past Trees.isAfter Trees.balanced
     Trees.isVisible Trees.wordOf Trees.wordAt Trees.withToken Trees.tokensOf Trees.levels Trees.treesOf Trees.single Trees.formOf
     Words.wordBy Words.worded Words.wordedAll Forms.free Forms.keyOf Forms.isNumber Forms.first? Forms.headed Forms.one Forms.two
-    Forms.ending Forms.some? Forms.among Forms.typeName Forms.truths Forms.minusNumber Forms.constant Forms.heads Forms.exprsOf Forms.atom
-    Forms.atForm Forms.dotForm Forms.twoSided Forms.oneSided Forms.exprForm Forms.targetForm Forms.expr Forms.target Forms.verbs
-    Forms.stmts Forms.armHeads Forms.oneArm Forms.arms Forms.armsFirst Forms.elseOf Forms.ifForm Forms.forForm Forms.caseForm
-    Forms.stmtForm Forms.stmt Forms.handlerOf Forms.body Forms.field Forms.makers Forms.madeType Forms.typeForm Forms.pairsOf
-    Forms.parameters Forms.lineHeads Forms.lineBy Forms.lineForm Types.fieldOf Operators.operatorRule Operators.functionRule
-    Environment.copies Environment.layFields Environment.fieldCells Environment.typeSortOf Environment.extendTypes Environment.enumNames
-    Environment.declNames Environment.within Environment.frameOf Environment.declareLine Names.typeOf Names.varOf Names.constantOf
-    Names.atomOf Names.elementOf Names.fieldIn Names.exprOf Names.targetOf Names.exprsOf Names.stmtOf Names.stmtsOf Names.armsOf
-    Names.bodyOf Names.isKnown Names.listedIn Names.distinct Names.noneKnown Names.newNames Names.fieldNames Names.declOf Names.entryOf
-    Elaborate.elabExpr Elaborate.elabTarget Elaborate.elabMembers Elaborate.expects Elaborate.elabLabels Elaborate.elabArguments
-    Elaborate.elabStmt Elaborate.elabStmts Elaborate.elabArms Elaborate.elabBody Rules.plain Rules.allPlain Rules.labelled Rules.differ
-    Rules.labelsOf Rules.looping Rules.plainExpr Rules.plainTarget Rules.plainExprs Rules.howMany Rules.keptStmt Rules.keptStmts
-    Rules.keptArms Rules.keptBody Rules.keptDecl Rules.keptParameters Rules.keepsRules Ceilings.fieldSizes Ceilings.typeBounded
-    Ceilings.lineBounded Verdict._>>=_ Verdict.orBad Verdict.must Verdict.strictly Verdict.loosely Verdict.judgeLine Verdict.onward
-    Verdict.judgeLines Verdict.opening Verdict.judge Calculate.exceptionOf Calculate.integer Calculate.tested Calculate.truth
-    Calculate.setValue Calculate.joined Calculate.memberIn Calculate.compute Calculate.compute1 Machine.readCell Machine.readCells
-    Machine.whileRounds Machine.forRounds Machine.planned Machine.opened Machine.countUp Machine.storeOrdinal Machine.storeWhole
-    Machine.passOn Machine.raiseNumber Machine.procedureAt Machine.admitted Machine.entered Chair.evalCode Chair.placeCode
-    Chair.gatherCodes Chair.runArguments Chair.condition Chair.matches Chair.runAct Chair.runActs Chair.runCases Marking.markExpr
-    Marking.markTarget Marking.markMembers Marking.markArguments Marking.markCondition Marking.markLabels Marking.markBounds
-    Marking.markStmt Marking.markStmts Marking.markArms Store.cellsOk Store.faultOf Store.storeFault Whole.runBody Whole.markBody
-    Whole.runAll Whole.markAll Whole.report Whole.lent Whole.onStore Whole.unless Whole.verdictOf Whole.runOf Whole.markOf Whole.workAfter
-    Whole.refusalWords Whole.refusalWord Rest.procsOf Rest.resume Parameters.runProcs Parameters.markProcs Print.decimal Print.decimalOf
-    Print.signedOf Print.row Print.outcome Print.cellValue Print.cells Print.show Print.scripted Print.runscript Print.markscript
+    Forms.three Forms.some? Forms.among Forms.typeName Forms.truths Forms.minusNumber Forms.constant Forms.heads Forms.exprsOf Forms.atom
+    Forms.twoSided Forms.oneSided Forms.expr Forms.exprForm Forms.exprs Forms.membersForm Forms.target Forms.targetForm Forms.atForm
+    Forms.dotForm Forms.verbs Forms.armHeads Forms.labels Forms.armsFirst Forms.branches Forms.stmt Forms.stmtForm Forms.stmts Forms.lastly
+    Forms.ifForm Forms.caseForm Forms.arms Forms.labelled Forms.armForm Forms.handlerOf Forms.body Forms.field Forms.makers Forms.madeType
+    Forms.typeForm Forms.pairsOf Forms.parameters Forms.lineHeads Forms.lineBy Forms.lineForm Types.fieldOf Operators.operatorRule
+    Operators.functionRule Environment.copies Environment.layFields Environment.fieldCells Environment.typeSortOf Environment.extendTypes
+    Environment.enumNames Environment.declNames Environment.within Environment.frameOf Environment.declareLine Names.typeOf Names.varOf
+    Names.constantOf Names.atomOf Names.elementOf Names.fieldIn Names.exprOf Names.targetOf Names.exprsOf Names.stmtOf Names.stmtsOf
+    Names.armsOf Names.bodyOf Names.isKnown Names.listedIn Names.distinct Names.noneKnown Names.newNames Names.fieldNames Names.declOf
+    Names.entryOf Elaborate.elabExpr Elaborate.elabTarget Elaborate.elabMembers Elaborate.expects Elaborate.elabLabels
+    Elaborate.elabArguments Elaborate.elabStmt Elaborate.elabStmts Elaborate.elabArms Elaborate.elabBody Rules.plain Rules.allPlain
+    Rules.labelled Rules.differ Rules.labelsOf Rules.looping Rules.plainExpr Rules.plainTarget Rules.plainExprs Rules.howMany
+    Rules.keptStmt Rules.keptStmts Rules.keptArms Rules.keptBody Rules.keptDecl Rules.keptParameters Rules.keepsRules Ceilings.fieldSizes
+    Ceilings.typeBounded Ceilings.lineBounded Verdict._>>=_ Verdict.orBad Verdict.must Verdict.strictly Verdict.loosely Verdict.judgeLine
+    Verdict.onward Verdict.judgeLines Verdict.opening Verdict.judge Calculate.exceptionOf Calculate.integer Calculate.tested
+    Calculate.truth Calculate.setValue Calculate.joined Calculate.memberIn Calculate.compute Calculate.compute1 Machine.readCell
+    Machine.readCells Machine.whileRounds Machine.forRounds Machine.planned Machine.opened Machine.countUp Machine.storeOrdinal
+    Machine.storeWhole Machine.passOn Machine.raiseNumber Machine.procedureAt Machine.admitted Machine.entered Chair.evalCode
+    Chair.placeCode Chair.gatherCodes Chair.runArguments Chair.condition Chair.matches Chair.runAct Chair.runActs Chair.runCases
+    Marking.markExpr Marking.markTarget Marking.markMembers Marking.markArguments Marking.markCondition Marking.markLabels
+    Marking.markBounds Marking.markStmt Marking.markStmts Marking.markArms Store.cellsOk Store.faultOf Store.storeFault Whole.runBody
+    Whole.markBody Whole.runAll Whole.markAll Whole.report Whole.lent Whole.onStore Whole.unless Whole.verdictOf Whole.runOf Whole.markOf
+    Whole.workAfter Whole.refusalWords Whole.refusalWord Rest.procsOf Rest.resume Parameters.runProcs Parameters.markProcs Print.decimal
+    Print.decimalOf Print.signedOf Print.row Print.outcome Print.cellValue Print.cells Print.show Print.scripted Print.runscript
+    Print.markscript
 everything = tt

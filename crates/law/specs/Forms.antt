@@ -1,10 +1,9 @@
 -- "The forms" (row 6): a line's tree to what it says. The quoted forms are document 01's: T a type, I, E and B type names, C a constant, G a target,
--- E an expression, S a statement; `..` stands for none or more. A line is at most 32 brackets deep, and `expr d`, `target d`, `stmt d` read what is
--- less than d deep: so each form is read by a function of its parts, given the readers for what stands one bracket deeper.
+-- E an expression, S a statement; `..` stands for none or more. A form's first part, its head word, says what the parts after it are.
 use mathlib.Core.Bool.{Bool, true, false}
 use mathlib.Core.List.{List, [], _∷_}
 use mathlib.Core.Option.{Option, none, some}
-use Prim.Native.Nat.{ℕ, zero, suc}
+use Prim.Native.Nat.{ℕ, suc}
 use Prim.Native.String.{String}
 use lib.IntN.{ℤ}
 use Rattle.leaf_bytes.specs.Bytes.{bytes, same}
@@ -12,7 +11,7 @@ use Rattle.law.specs.Syntax as Syntax
 use Rattle.law.specs.Base.{Name, _>>=_, given, either, each}
 use Rattle.law.specs.Operators.{Fun, Op, abs, andBoth, atLeast, atMost, card, divide, equal, greater, less, member, minus, modulo, negate, notOf, odd, orBoth, ord, plus, power, pred, setmax, setmin, sqr, succ, times, unequal}
 use Rattle.law.specs.Syntax.{Arms, Body, Constant, Expr, Exprs, LineForm, Stmt, Stmts, Target, TypeForm, TypeName, _and_, _next_, alias, arm, arrayOf, assign, at, begin, binary, boolean, call, case, const, declared, done, dot, elseArm, endOf, enum, errorNumber, for, ifElse, integer, mainLine, members, named, nil, noElse, procLine, raise, range, read, recordOf, setOf, shortCircuit, skip, truth, typeLine, unary, var, varLine, while}
-use Rattle.law.specs.Trees.{Tree, word, form, end, _then_, list}
+use Rattle.law.specs.Trees.{Tree, word, form, Trees, end, _then_, list}
 use Rattle.law.specs.Words.{Word, number, name, key}
 
 abbrev pub Item : Type 0
@@ -49,20 +48,19 @@ unfoldable pub headed : Item → Option (Name × List Item)
 headed (word w) = none
 headed (form ts) = first? (list ts)
 
-unfoldable pub one : List Item → Option Item
+-- so many
+unfoldable pub one : {A : Type 0} → List A → Option A
 one [] = none
 one (a ∷ []) = some a
-one (a ∷ (b ∷ ts)) = none
+one (a ∷ (b ∷ cs)) = none
 
-unfoldable pub two : List Item → Option (Item × Item)
+unfoldable pub two : {A : Type 0} → List A → Option (A × A)
 two [] = none
-two (a ∷ ts) = one ts >>= λ b. some (a, b)
+two (a ∷ bs) = one bs >>= λ b. some (a, b)
 
--- all but the last, and the last
-unfoldable pub ending : List Item → Option (List Item × Item)
-ending [] = none
-ending (a ∷ []) = some ([], a)
-ending (a ∷ (b ∷ ts)) = ending (b ∷ ts) >>= λ p. some (a ∷ p .0, p .1)
+unfoldable pub three : {A : Type 0} → List A → Option (A × (A × A))
+three [] = none
+three (a ∷ bs) = two bs >>= λ p. some (a, p)
 
 -- one or more: the first and the others
 unfoldable pub some? : {A : Type 0} → List A → Option (A × List A)
@@ -120,66 +118,63 @@ exprsOf (e ∷ es) = e and exprsOf es
 unfoldable pub atom : Item → Option Expr
 atom t = either (constant t >>= λ c. some (const c)) (keyOf t >>= among (("error_number", errorNumber) ∷ []))
 
--- forms whose expressions and targets are read by these
-module _ (expr : Item → Option Expr) (target : Item → Option Target) where
-  -- `(at G E)`, `(dot G N)`
-  unfoldable pub atForm : List Item → Option Target
-  atForm ts = two ts >>= λ p. target (p .0) >>= λ g. expr (p .1) >>= λ e. some (at g e)
+-- `(OP E E)`; `(not E)` and the like
+unfoldable pub twoSided : (Expr → Expr → Expr) → List Expr → Option Expr
+twoSided f es = two es >>= λ p. some (f (p .0) (p .1))
 
-  unfoldable pub dotForm : List Item → Option Target
-  dotForm ts = two ts >>= λ p. target (p .0) >>= λ g. free (p .1) >>= λ n. some (dot g n)
+unfoldable pub oneSided : (Expr → Expr) → List Expr → Option Expr
+oneSided f es = one es >>= λ a. some (f a)
 
-  -- `(OP E E)`; `(not E)` and the like
-  unfoldable pub twoSided : (Expr → Expr → Expr) → List Item → Option Expr
-  twoSided f ts = two ts >>= λ p. expr (p .0) >>= λ a. expr (p .1) >>= λ b. some (f a b)
+unfoldable mutual
+  -- E: "a constant, a target, `error_number`", or a form
+  pub expr : Item → Option Expr
+  expr (word w) = atom (word w)
+  expr (form ts) = exprForm ts
 
-  unfoldable pub oneSided : Fun → List Item → Option Expr
-  oneSided f ts = one ts >>= expr >>= λ a. some (unary f a)
-
-  -- a form that is an expression: one of those, `(members T E..)`, `(- E)`, `(first T)`, `(last T)`
-  unfoldable pub exprForm : Head → List Item → Option Expr
-  exprForm hAt ts = atForm ts >>= λ g. some (read g)
-  exprForm hDot ts = dotForm ts >>= λ g. some (read g)
-  exprForm hMembers [] = none
-  exprForm hMembers (t ∷ ts) = typeName t >>= λ n. each expr ts >>= λ es. some (members n (exprsOf es))
-  exprForm hMinus ts =
-      either (one ts >>= isNumber >>= λ z. some (const (Syntax.minus z))) (either (oneSided negate ts) (twoSided (binary minus) ts))
-  exprForm (hBound b) ts = one ts >>= typeName >>= λ n. some (endOf b n)
-  exprForm (hLazy q) ts = twoSided (shortCircuit q) ts
-  exprForm (hOp op) ts = twoSided (binary op) ts
-  exprForm (hFun f) ts = oneSided f ts
-
-  -- a form that is a target
-  unfoldable pub targetForm : Name × List Item → Option Target
-  targetForm p = elim (same (bytes "at") (p .0)) [
-    | true ↦ atForm (p .1)
-    | false ↦
-        elim (same (bytes "dot") (p .0)) [ true ↦ dotForm (p .1) | false ↦ none ]
+  -- one of the others, `(- number)`, `(- E)`, `(- E E)`, `(first T)`, `(last T)`
+  pub exprForm : Trees Word → Option Expr
+  exprForm end = none
+  exprForm (t then ts) = keyOf t >>= among heads >>= λ h. elim h [
+    | hAt ↦ atForm ts >>= λ g. some (read g)
+    | hDot ↦ dotForm ts >>= λ g. some (read g)
+    | hMembers ↦ membersForm ts
+    | hMinus ↦
+        either (one (list ts) >>= isNumber >>= λ z. some (const (Syntax.minus z)))
+        (exprs ts >>= λ es. either (oneSided (unary negate) es) (twoSided (binary minus) es))
+    | hBound b ↦ one (list ts) >>= typeName >>= λ n. some (endOf b n)
+    | hLazy q ↦ exprs ts >>= twoSided (shortCircuit q)
+    | hOp op ↦ exprs ts >>= twoSided (binary op)
+    | hFun f ↦ exprs ts >>= oneSided (unary f)
   ]
 
--- E: "a constant, a target, `error_number`", or a form. G: "a variable, `(at G E)`, `(dot G N)`"
-unfoldable mutual
-  pub expr : ℕ → Item → Option Expr
-  expr zero t = none
-  expr (suc d) (word w) = atom (word w)
-  expr (suc d) (form ts) = first? (list ts) >>= λ p. among heads (p .0) >>= λ h. exprForm (λ t. expr d t) (λ t. target d t) h (p .1)
+  -- `E..`
+  pub exprs : Trees Word → Option (List Expr)
+  exprs end = some []
+  exprs (t then ts) = expr t >>= λ e. exprs ts >>= λ es. some (e ∷ es)
 
-  pub target : ℕ → Item → Option Target
-  target zero t = none
-  target (suc d) (word w) = free (word w) >>= λ n. some (var n)
-  target (suc d) (form ts) = first? (list ts) >>= targetForm (λ t. expr d t) (λ t. target d t)
+  -- `(members T E..)`: its parts after the head word, as in what follows
+  pub membersForm : Trees Word → Option Expr
+  membersForm end = none
+  membersForm (t then ts) = typeName t >>= λ n. exprs ts >>= λ es. some (members n (exprsOf es))
 
--- at any depth that a line has
-abbrev pub exprAt : Item → Option Expr
-exprAt = expr 33
+  -- G: "a variable, `(at G E)`, `(dot G N)`"
+  pub target : Item → Option Target
+  target (word w) = free (word w) >>= λ n. some (var n)
+  target (form ts) = targetForm ts
 
-abbrev pub targetAt : Item → Option Target
-targetAt = target 33
+  pub targetForm : Trees Word → Option Target
+  targetForm end = none
+  targetForm (t then ts) = keyOf t >>= among (("at", atForm ts) ∷ ("dot", dotForm ts) ∷ []) >>= λ g. g
+
+  pub atForm : Trees Word → Option Target
+  atForm end = none
+  atForm (t then ts) = target t >>= λ g. exprs ts >>= one >>= λ e. some (at g e)
+
+  pub dotForm : Trees Word → Option Target
+  dotForm end = none
+  dotForm (t then ts) = target t >>= λ g. one (list ts) >>= free >>= λ n. some (dot g n)
 
 -- ---- statements. A reader takes the number of the last statement before, and gives the number of the last one read
-
-abbrev pub Reader : Type 0
-Reader = ℕ → Item → Option (Stmt × ℕ)
 
 pub data Verb : Type 0 where
   vAssign vBegin vIf vWhile vFor vCase vCall vRaise : Verb
@@ -187,38 +182,18 @@ pub data Verb : Type 0 where
 unfoldable pub verbs : List (String × Verb)
 verbs = (":=", vAssign) ∷ ("begin", vBegin) ∷ ("if", vIf) ∷ ("while", vWhile) ∷ ("for", vFor) ∷ ("case", vCase) ∷ ("call", vCall) ∷ ("raise", vRaise) ∷ []
 
--- `S..`
-unfoldable pub stmts : Reader → ℕ → List Item → Option (Stmts × ℕ)
-stmts r n [] = some (done, n)
-stmts r n (t ∷ ts) = do
-  (s, m) ← r n t
-  (ss, m′) ← stmts r m ts
-  some (s next ss, m′)
-
 pub data ArmHead : Type 0 where
   isArm isElse : ArmHead
 
 unfoldable pub armHeads : List (String × ArmHead)
 armHeads = ("arm", isArm) ∷ ("else", isElse) ∷ []
 
--- `(arm C.. S)`: the last part is the statement
-unfoldable pub oneArm : Reader → ℕ → List Item → Option (List Constant × (Stmt × ℕ))
-oneArm r n ts = do
-  (ls, s) ← ending ts
-  cs ← each constant ls >>= some?
-  a ← r n s
-  some (cs .0 ∷ cs .1, a)
-
--- arms, and at most one last `(else S)`
-unfoldable pub arms : Reader → ℕ → List Item → Option (Arms × ℕ)
-arms r n [] = some (noElse, n)
-arms r n (t ∷ ts) = do
-  (w, ps) ← headed t
-  h ← among armHeads w
-  elim h [
-    | isArm ↦ oneArm r n ps >>= λ a. arms r (a .1 .1) ts >>= λ bs. some (arm (a .0) (a .1 .0) (bs .0), bs .1)
-    | isElse ↦ elim ts [ [] ↦ one ps >>= r n >>= λ a. some (elseArm (a .0), a .1) | u ∷ us ↦ none ]
-  ]
+-- an arm has one or more labels, an `else` none
+unfoldable pub labels : ArmHead → List Constant → Option (List Constant)
+labels isArm [] = none
+labels isArm (c ∷ cs) = some (c ∷ cs)
+labels isElse [] = some []
+labels isElse (c ∷ cs) = none
 
 -- one or more arms
 unfoldable pub armsFirst : Arms → Option Arms
@@ -226,72 +201,96 @@ armsFirst (elseArm s) = none
 armsFirst noElse = none
 armsFirst (arm cs s bs) = some (arm cs s bs)
 
--- `(if E S)` and `(if E S S)`
-unfoldable pub elseOf : Reader → ℕ → List Item → Option (Stmt × ℕ)
-elseOf r n [] = some (skip, n)
-elseOf r n (t ∷ ts) = one (t ∷ ts) >>= r n
+-- one statement, or two
+unfoldable pub branches : Stmts → Option (Stmt × Stmt)
+branches done = none
+branches (a next done) = some (a, skip)
+branches (a next (b next done)) = some (a, b)
+branches (a next (b next (c next ss))) = none
 
-unfoldable pub ifForm : Reader → ℕ → List Item → Option (Stmt × ℕ)
-ifForm r n [] = none
-ifForm r n (t ∷ []) = none
-ifForm r n (t ∷ (u ∷ ts)) = do
-  e ← exprAt t
-  (a, m) ← r n u
-  (b, m′) ← elseOf r m ts
-  some (ifElse n e a b, m′)
+unfoldable mutual
+  pub stmt : ℕ → Item → Option (Stmt × ℕ)
+  stmt n (word w) = none
+  stmt n (form ts) = stmtForm (suc n) ts
 
--- `(for N E E S)`
-unfoldable pub forForm : Reader → ℕ → List Item → Option (Stmt × ℕ)
-forForm r n [] = none
-forForm r n (v ∷ []) = none
-forForm r n (v ∷ (t ∷ ts)) = do
-  i ← free v
-  a ← exprAt t
-  (u, s) ← two ts
-  b ← exprAt u
-  (c, m) ← r n s
-  some (for n i a b c, m)
+  -- statement n, by its head word
+  pub stmtForm : ℕ → Trees Word → Option (Stmt × ℕ)
+  stmtForm n end = none
+  stmtForm n (t then ts) = keyOf t >>= among verbs >>= λ v. elim v [
+    -- `(:= G E)`
+    | vAssign ↦ two (list ts) >>= λ p. target (p .0) >>= λ g. expr (p .1) >>= λ e. some (assign n g e, n)
+    -- `(begin S..)`
+    | vBegin ↦ stmts n ts >>= λ p. some (begin n (p .0), p .1)
+    | vIf ↦ ifForm n ts
+    -- `(while E S)`
+    | vWhile ↦ lastly n ts >>= λ p. one (p .0) >>= expr >>= λ e. some (while n e (p .1 .0), p .1 .1)
+    -- `(for N E E S)`
+    | vFor ↦ lastly n ts >>= λ p. three (p .0) >>= λ q. free (q .0) >>= λ i. expr (q .1 .0) >>= λ a. expr (q .1 .1) >>= λ b.
+        some (for n i a b (p .1 .0), p .1 .1)
+    | vCase ↦ caseForm n ts
+    -- `(call N E..)`
+    | vCall ↦ some? (list ts) >>= λ p. free (p .0) >>= λ w. each expr (p .1) >>= λ es. some (call n w (exprsOf es), n)
+    -- `(raise E)`
+    | vRaise ↦ one (list ts) >>= expr >>= λ e. some (raise n e, n)
+  ]
 
--- `(case E (arm C.. S).. )` "with one or more arms, each of one or more labels, and at most one last `(else S)`"
-unfoldable pub caseForm : Reader → ℕ → List Item → Option (Stmt × ℕ)
-caseForm r n [] = none
-caseForm r n (t ∷ ts) = do
-  e ← exprAt t
-  (bs, m) ← arms r n ts
-  bs′ ← armsFirst bs
-  some (case n e bs′, m)
+  -- `S..`
+  pub stmts : ℕ → Trees Word → Option (Stmts × ℕ)
+  stmts n end = some (done, n)
+  stmts n (t then ts) = do
+    (s, m) ← stmt n t
+    (ss, m′) ← stmts m ts
+    some (s next ss, m′)
 
--- statement n, by its head: the others are `(:= G E)`, `(begin S..)`, `(while E S)`, `(call N)`, `(raise E)`
-unfoldable pub stmtForm : Reader → Verb → ℕ → List Item → Option (Stmt × ℕ)
-stmtForm r vAssign n ts = do
-  (t, u) ← two ts
-  g ← targetAt t
-  e ← exprAt u
-  some (assign n g e, n)
-stmtForm r vBegin n ts = stmts r n ts >>= λ p. some (begin n (p .0), p .1)
-stmtForm r vIf n ts = ifForm r n ts
-stmtForm r vWhile n ts = do
-  (t, u) ← two ts
-  e ← exprAt t
-  (a, m) ← r n u
-  some (while n e a, m)
-stmtForm r vFor n ts = forForm r n ts
-stmtForm r vCase n ts = caseForm r n ts
-stmtForm r vCall n [] = none
-stmtForm r vCall n (t ∷ ts) = free t >>= λ p. each exprAt ts >>= λ es. some (call n p (exprsOf es), n)
-stmtForm r vRaise n ts = one ts >>= exprAt >>= λ e. some (raise n e, n)
+  -- the parts before the last, and the last, a statement
+  pub lastly : ℕ → Trees Word → Option (List Item × (Stmt × ℕ))
+  lastly n end = none
+  lastly n (t then ts) = elim ts [ end ↦ stmt n t >>= λ s. some ([], s) | u then us ↦ lastly n ts >>= λ p. some (t ∷ p .0, p .1) ]
 
-unfoldable pub stmt : ℕ → Reader
-stmt zero n t = none
-stmt (suc d) n t = do
-  (w, ts) ← headed t
-  v ← among verbs w
-  stmtForm (stmt d) v (suc n) ts
+  -- `(if E S)` and `(if E S S)`
+  pub ifForm : ℕ → Trees Word → Option (Stmt × ℕ)
+  ifForm n end = none
+  ifForm n (t then ts) = do
+    e ← expr t
+    (ss, m) ← stmts n ts
+    (a, b) ← branches ss
+    some (ifElse n e a b, m)
+
+  -- `(case E (arm C.. S).. )` "with one or more arms, each of one or more labels, and at most one last `(else S)`"
+  pub caseForm : ℕ → Trees Word → Option (Stmt × ℕ)
+  caseForm n end = none
+  caseForm n (t then ts) = do
+    e ← expr t
+    (bs, m) ← arms n ts
+    bs′ ← armsFirst bs
+    some (case n e bs′, m)
+
+  pub arms : ℕ → Trees Word → Option (Arms × ℕ)
+  arms n end = some (noElse, n)
+  arms n (t then ts) = labelled n t >>= λ p. elim (p .0) [
+    | [] ↦ elim ts [ end ↦ some (elseArm (p .1 .0), p .1 .1) | u then us ↦ none ]
+    | c ∷ cs ↦ arms (p .1 .1) ts >>= λ q. some (arm (c ∷ cs) (p .1 .0) (q .0), q .1)
+  ]
+
+  -- `(arm C.. S)` or `(else S)`: labels and statement
+  pub labelled : ℕ → Item → Option (List Constant × (Stmt × ℕ))
+  labelled n (word w) = none
+  labelled n (form ts) = armForm n ts
+
+  pub armForm : ℕ → Trees Word → Option (List Constant × (Stmt × ℕ))
+  armForm n end = none
+  armForm n (t then ts) = do
+    h ← keyOf t >>= among armHeads
+    (ps, s) ← lastly n ts
+    cs ← each constant ps >>= labels h
+    some (cs, s)
 
 -- ---- BODY: "any number of statements, then at most one `(exception S..)`"
 
-unfoldable pub handlerOf : Item → Option (List Item)
-handlerOf t = headed t >>= λ p. given (same (bytes "exception") (p .0)) (p .1)
+unfoldable pub handlerOf : Item → Option (Trees Word)
+handlerOf (word w) = none
+handlerOf (form end) = none
+handlerOf (form (t then ts)) = keyOf t >>= λ w. given (same (bytes "exception") w) ts
 
 abbrev pub plainBody : Stmts → Body
 plainBody ss = record { stmts = ss; handles = false; handler = done }
@@ -299,8 +298,8 @@ plainBody ss = record { stmts = ss; handles = false; handler = done }
 unfoldable pub body : ℕ → List Item → Option (Body × ℕ)
 body n [] = some (plainBody done, n)
 body n (t ∷ ts) = elim (handlerOf t) [
-  | some hs ↦ elim ts [ u ∷ us ↦ none | [] ↦ stmts (stmt 33) n hs >>= λ p. some (record { stmts = done; handles = true; handler = p .0 }, p .1) ]
-  | none ↦ stmt 33 n t >>= λ p. body (p .1) ts >>= λ q.
+  | some hs ↦ elim ts [ u ∷ us ↦ none | [] ↦ stmts n hs >>= λ p. some (record { stmts = done; handles = true; handler = p .0 }, p .1) ]
+  | none ↦ stmt n t >>= λ p. body (p .1) ts >>= λ q.
       some (record { stmts = p .0 next q .0 .stmts; handles = q .0 .handles; handler = q .0 .handler }, q .1)
 ]
 

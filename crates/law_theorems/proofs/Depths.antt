@@ -11,7 +11,8 @@ use Rattle.law.specs.Base.{Name, each}
 use Rattle.law.specs.Operators.{Fun, Op, minus, negate}
 use Rattle.law.specs.Syntax as S
 use Rattle.law.specs.Trees.{word, form}
-use Rattle.law.specs.Forms.{Item, Head, hAt, hDot, hMembers, hMinus, hBound, hLazy, hOp, hFun, exprsOf, atom, atForm, dotForm, twoSided, oneSided, exprForm, targetForm, expr, target}
+use Rattle.law.specs.Forms.{Item, Head, hAt, hDot, hMembers, hMinus, hBound, hLazy, hOp, hFun, exprsOf, atom}
+use Rattle.law_theorems.specs.FormsByDepth.{atForm, dotForm, twoSided, oneSided, exprForm, targetForm, expr, target}
 use Rattle.law_theorems.proofs.Inversion.{none-some, some-inj, bind-some, either-some}
 use Rattle.law_theorems.proofs.TreeDepth as Depth
 use Rattle.law_theorems.proofs.TreeDepth.{Shallow, Shallows, none, more, deeper, first-shallow, listed-shallow, one-shallow, two-shallow}

@@ -3,6 +3,7 @@ pub mod Spans
 pub mod Reading
 pub mod TreeDepth
 pub mod Balance
+pub mod FormsAgree
 pub mod BodiesAgree
 pub mod TextsAgree
 pub mod Weights

@@ -6,7 +6,8 @@ use mathlib.Core.Option.{Option, none, some}
 use Prim.Native.Nat.{ℕ, zero, suc, _+_, _≤_}
 use native.Mathlib.Omega.{arith}
 use Rattle.law.specs.Base.{Name, _>>=_}
-use Rattle.law.specs.Forms.{ArmHead, Item, LineHead, Reader, Verb, arms, armsFirst, body, caseForm, elseOf, ending, expr, first?, forForm, handlerOf, headed, ifForm, isArm, isElse, isMain, isProc, isType, isVar, lineBy, lineForm, one, oneArm, pairsOf, parameters, stmt, stmtForm, stmts, two, vAssign, vBegin, vCall, vCase, vFor, vIf, vRaise, vWhile}
+use Rattle.law.specs.Forms.{ArmHead, Item, LineHead, Verb, armsFirst, first?, headed, isArm, isElse, isMain, isProc, isType, isVar, one, pairsOf, parameters, two, vAssign, vBegin, vCall, vCase, vFor, vIf, vRaise, vWhile}
+use Rattle.law_theorems.specs.FormsByDepth.{Reader, arms, body, caseForm, elseOf, ending, expr, forForm, handlerOf, ifForm, lineBy, lineForm, oneArm, stmt, stmtForm, stmts}
 use Rattle.law.specs.Syntax as S
 use Rattle.law.specs.Trees.{Trees, end, form, list, nodes, nodesIn, word, _then_}
 use Rattle.law.specs.Words.{Word}

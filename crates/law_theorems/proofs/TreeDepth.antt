@@ -4,7 +4,8 @@ use mathlib.Core.List.{List, [], _∷_}
 use mathlib.Core.Option.{some}
 use Prim.Native.Nat.{ℕ, suc}
 use Rattle.law.specs.Base.{Name}
-use Rattle.law.specs.Forms.{Item, ending, first?, handlerOf, headed, one, two}
+use Rattle.law.specs.Forms.{Item, first?, headed, one, two}
+use Rattle.law_theorems.specs.FormsByDepth.{ending, handlerOf}
 use Rattle.law.specs.Trees as T
 use Rattle.law.specs.Trees.{Run, Tree, Trees, list}
 use Rattle.law.specs.Words.{Word, worded, wordedAll}

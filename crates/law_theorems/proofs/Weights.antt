@@ -14,7 +14,8 @@ use Rattle.law.specs.Operators.{Fun, minus, negate}
 use Rattle.law.specs.Syntax.{Arms, Body, Constant, Expr, Exprs, LineForm, Stmt, Stmts, Target, TypeForm, TypeName, _and_, _next_, alias, arm, arrayOf, assign, at, begin, binary, call, case, const, done, dot, elseArm, endOf, enum, errorNumber, for, ifElse, mainLine, members, nil, noElse, procLine, raise, range, read, recordOf, setOf, shortCircuit, skip, typeLine, unary, var, varLine, while}
 use Rattle.law.specs.Trees.{Run, Tree, Trees, word, form, end, _then_, list, nodes, nodesIn}
 use Rattle.law.specs.Words.{Word, worded, wordedAll}
-use Rattle.law.specs.Forms.{Item, Head, hAt, hDot, hMembers, hMinus, hBound, hLazy, hOp, hFun, first?, headed, one, two, ending, some?, among, exprsOf, atom, atForm, dotForm, twoSided, oneSided, exprForm, targetForm, expr, target, constant, Reader, Verb, vAssign, vBegin, vIf, vWhile, vFor, vCase, vCall, vRaise, stmts, ArmHead, isArm, isElse, oneArm, arms, armsFirst, elseOf, ifForm, forForm, caseForm, stmtForm, stmt, handlerOf, body, field, Maker, mEnum, mRange, mArray, mRecord, mSet, madeType, typeForm, pairsOf, parameters, LineHead, isType, isVar, isProc, isMain, lineBy, lineForm, free}
+use Rattle.law.specs.Forms.{Item, Head, hAt, hDot, hMembers, hMinus, hBound, hLazy, hOp, hFun, first?, headed, one, two, some?, among, exprsOf, atom, constant, Verb, vAssign, vBegin, vIf, vWhile, vFor, vCase, vCall, vRaise, ArmHead, isArm, isElse, armsFirst, field, Maker, mEnum, mRange, mArray, mRecord, mSet, madeType, typeForm, pairsOf, parameters, LineHead, isType, isVar, isProc, isMain, free}
+use Rattle.law_theorems.specs.FormsByDepth.{ending, atForm, dotForm, twoSided, oneSided, exprForm, targetForm, expr, target, Reader, stmts, oneArm, arms, elseOf, ifForm, forForm, caseForm, stmtForm, stmt, handlerOf, body, lineBy, lineForm}
 use Rattle.law_theorems.proofs.Inversion.{none-some, some-inj, bind-some, given-some}
 
 -- ---- weights: at most the brackets and words that spell a thing. A constant weighs 1, `(- number)` too

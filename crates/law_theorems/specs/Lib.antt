@@ -10,3 +10,4 @@ pub mod Readings
 pub mod CodeCalls
 pub mod StatementsNoted
 pub mod LinesCover
+pub mod FormsByDepth

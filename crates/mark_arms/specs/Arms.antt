@@ -8,7 +8,8 @@ use lib.IntN.{ℤ}
 use Rattle.law.specs.Base.{_>>=_, each}
 use Rattle.law.specs.Calculate.{Result, is, stuck, caseError}
 use Rattle.law.specs.Environment.{Environment}
-use Rattle.law.specs.Forms.{ArmHead, isArm, isElse, constant, stmt}
+use Rattle.law.specs.Forms.{ArmHead, isArm, isElse, constant}
+use Rattle.law_theorems.specs.FormsByDepth.{stmt}
 use Rattle.law.specs.Machine.{Answer, State, Procs, answer, sticks, raising}
 use Rattle.law.specs.Marking.{markLabels, markArms, markStmt}
 use Rattle.law.specs.Names.{constantOf, stmtOf, armsOf}

@@ -10,7 +10,8 @@ use lib.IntN.{ℤ}
 use Rattle.leaf_bytes.proofs.Same.{same-equal}
 use Rattle.leaf_bytes.specs.Bytes.{bytes, same}
 use Rattle.law.specs.Base.{Name, _>>=_, each, either}
-use Rattle.law.specs.Forms.{ArmHead, Head, Item, Reader, Verb, among, armHeads, arms, atForm, caseForm, constant, dotForm, elseOf, ending, expr, exprForm, first?, forForm, free, hAt, hBound, hDot, hFun, hLazy, hMembers, hMinus, hOp, headed, heads, ifForm, isArm, isElse, isNumber, keyOf, minusNumber, one, oneArm, oneSided, stmt, stmtForm, stmts, target, targetForm, two, twoSided, typeName, vAssign, vBegin, vCall, vCase, vFor, vIf, vRaise, vWhile}
+use Rattle.law.specs.Forms.{ArmHead, Head, Item, Verb, among, armHeads, constant, first?, free, hAt, hBound, hDot, hFun, hLazy, hMembers, hMinus, hOp, headed, heads, isArm, isElse, isNumber, keyOf, minusNumber, one, two, typeName, vAssign, vBegin, vCall, vCase, vFor, vIf, vRaise, vWhile}
+use Rattle.law_theorems.specs.FormsByDepth.{Reader, arms, atForm, caseForm, dotForm, elseOf, ending, expr, exprForm, forForm, ifForm, oneArm, oneSided, stmt, stmtForm, stmts, target, targetForm, twoSided}
 use Rattle.law.specs.Forms as Forms
 use Rattle.law.specs.Operators.{Fun}
 use Rattle.law.specs.Syntax as S

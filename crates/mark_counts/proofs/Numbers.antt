@@ -7,7 +7,8 @@ use native.Mathlib.Omega.{arith}
 use lib.IntN.{ℤ}
 use Rattle.leaf_words.specs.Words.{wordOf}
 use Rattle.law.specs.Base.{Name, _>>=_}
-use Rattle.law.specs.Forms.{ArmHead, Item, Verb, among, constant, expr, free, isArm, isElse, isNumber, keyOf, stmt, target, typeName}
+use Rattle.law.specs.Forms.{ArmHead, Item, Verb, among, constant, free, isArm, isElse, isNumber, keyOf, typeName}
+use Rattle.law_theorems.specs.FormsByDepth.{expr, stmt, target}
 use Rattle.law.specs.Forms as Forms
 use Rattle.law.specs.Syntax.{Arms, Body, Constant, Expr, Exprs, Stmt, Stmts, Target, TypeName, _next_, arm}
 use Rattle.law.specs.Trees.{Tree, word, form, Trees, end, _then_, Run}

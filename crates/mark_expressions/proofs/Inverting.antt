@@ -9,7 +9,8 @@ use lib.Dec.{ltb}
 use lib.IntN.{ℤ}
 use lib.ListN.{List·getD-eq-default}
 use Rattle.law.specs.Base.{Name, _>>=_}
-use Rattle.law.specs.Forms.{Item, hOp, hFun, expr, target}
+use Rattle.law.specs.Forms.{Item, hOp, hFun}
+use Rattle.law_theorems.specs.FormsByDepth.{expr, target}
 use Rattle.law.specs.Operators.{Op, Fun, negate, minus}
 use Rattle.law.specs.Syntax as Syntax
 use Rattle.law.specs.Trees.{Tree, Trees, end, _then_, Run, first}

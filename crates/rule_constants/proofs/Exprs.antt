@@ -21,7 +21,8 @@ use Rattle.leaf_words.proofs.Ranges.{Ranged, word-ranged}
 use Rattle.law.specs.Base.{Name, _>>=_, find}
 use Rattle.law.specs.Calculate as Calculate
 use Rattle.law.specs.Environment.{Environment, NameSort, aType, aVar, aProc, aValue}
-use Rattle.law.specs.Forms.{Head, hMembers, hMinus, hBound, hOp, hFun, expr, target, exprForm}
+use Rattle.law.specs.Forms.{Head, hMembers, hMinus, hBound, hOp, hFun}
+use Rattle.law_theorems.specs.FormsByDepth.{expr, target, exprForm}
 use Rattle.law.specs.Names.{Reached, constOf, asValue, asExpr, atomOf, constantOf, exprOf, exprsOf, targetOf}
 use Rattle.law.specs.Operators.{Op, Fun, negate, minus}
 use Rattle.law.specs.Rules.{plain, plainExpr, plainTarget, plainExprs}

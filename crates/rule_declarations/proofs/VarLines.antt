@@ -13,7 +13,8 @@ use Rattle.leaf_bytes.specs.Bytes.{small, same}
 use Rattle.law.specs.Base.{Name, _>>=_, find, given}
 use Rattle.law.specs.Ceilings.{cellsIn, lineBounded, variablesIn}
 use Rattle.law.specs.Environment.{Declared, Environment, NameSort, aProc, aVar, aValue, declareLine}
-use Rattle.law.specs.Forms.{free, typeName, lineBy, isVar}
+use Rattle.law.specs.Forms.{free, typeName, isVar}
+use Rattle.law_theorems.specs.FormsByDepth.{lineBy}
 use Rattle.code.specs.Layout.{lay}
 use Rattle.code.specs.LayoutSize.{symbolSize}
 use Rattle.law.specs.Names.{typeOf, isKnown, listedIn, distinct, noneKnown, newNames, entryOf}

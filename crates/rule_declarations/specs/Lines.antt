@@ -7,7 +7,8 @@ use Prim.Native.Nat.{ℕ, _+_, _≤_}
 use Rattle.law.specs.Base.{_>>=_}
 use Rattle.law.specs.Ceilings.{lineBounded}
 use Rattle.law.specs.Environment.{Declared, declareLine}
-use Rattle.law.specs.Forms.{LineHead, lineBy}
+use Rattle.law.specs.Forms.{LineHead}
+use Rattle.law_theorems.specs.FormsByDepth.{lineBy}
 use Rattle.code.specs.LayoutSize.{symbolSize}
 use Rattle.law.specs.Names.{entryOf}
 use Rattle.law.specs.Rules.{keepsRules}

@@ -11,7 +11,7 @@ use mir.Syntax.{w64}
 use mir.Val.{SFits, toZ, ofZ}
 use mir.Facts.{toZ-ofZ}
 use Rattle.law.specs.Base.{_>>=_}
-use Rattle.law.specs.Forms.{exprForm}
+use Rattle.law_theorems.specs.FormsByDepth.{exprForm}
 use Rattle.law.specs.Operators as Operators
 use Rattle.law.specs.Syntax as Syntax
 use Rattle.law.specs.Trees.{Tree, Trees, end, _then_, Run, first}

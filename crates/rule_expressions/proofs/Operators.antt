@@ -11,7 +11,8 @@ use Rattle.law.specs.Base.{_>>=_, given, pick}
 use Rattle.law.specs.Code.{Code, calculate, shortCut, calculate1}
 use Rattle.law.specs.Elaborate.{Elaborated, elaborated}
 use Rattle.law.specs.Environment.{Environment}
-use Rattle.law.specs.Forms.{hOp, hFun, hLazy, expr, target, exprForm}
+use Rattle.law.specs.Forms.{hOp, hFun, hLazy}
+use Rattle.law_theorems.specs.FormsByDepth.{expr, target, exprForm}
 use Rattle.code.specs.Layout.{Out, out, lay, layCode, bits, both, node1, operationNumber}
 use Rattle.law.specs.Names.{exprOf}
 use Rattle.law.specs.Operators.{Op, plus, minus, times, power, divide, modulo, equal, unequal, less, atMost, greater, atLeast, member, andBoth, orBoth, Fun, negate, notOf, abs, sqr, odd, ord, pred, succ, card, setmin, setmax, Operation1, intNegate, boolNot, intAbs, intSqr, intOdd, ordinalOf, predIn, succIn, setCard, setLeast, setGreatest, Rule, Rule1, rule1, bothBooleans, operatorRule, functionRule}

@@ -10,7 +10,8 @@ use Rattle.leaf_bytes.specs.Bytes.{small}
 use Rattle.leaf_words.specs.Words.{wordOf}
 use Rattle.law.specs.Base.{_>>=_}
 use Rattle.law.specs.Syntax as Syntax
-use Rattle.law.specs.Forms.{Head, expr, target, exprForm}
+use Rattle.law.specs.Forms.{Head}
+use Rattle.law_theorems.specs.FormsByDepth.{expr, target, exprForm}
 use Rattle.law.specs.Trees.{Tree, form, Trees, end, _then_, Run, first, later, list, wordAt}
 use Rattle.law_theorems.specs.Readings.{stackAt}
 use Rattle.law.specs.Words.{wordedAll}

@@ -11,7 +11,9 @@ use Rattle.law.specs.Code.{BodyCode, Frame, noFrame}
 use Rattle.law.specs.Elaborate.{elabBody}
 use Rattle.law.specs.Environment.{Declared, Environment, frameOf, within}
 use Rattle.law.specs.Forms as Forms
-use Rattle.law.specs.Forms.{Item, isProc, isMain, lineBy, free}
+use Rattle.law_theorems.specs.FormsByDepth as ByDepth
+use Rattle.law.specs.Forms.{Item, isProc, isMain, free}
+use Rattle.law_theorems.specs.FormsByDepth.{lineBy}
 use Rattle.law.specs.Names.{entryOf, bodyOf, distinct, fieldNames, isKnown, listedIn, newNames, noneKnown, pairOf}
 use Rattle.law.specs.Rules.{keepsRules, keptBody, keptParameters}
 use Rattle.law.specs.Script.{Body, Entry, newProc, newMain}
@@ -44,15 +46,15 @@ procOf w ps p = (procLine w ps (p .0), p .1)
 
 pub main-shape : (n : ℕ) (us : Trees Run) → headIn isMain n us ≡ (bodyIn n us >>= λ p. some (mainOf p))
 unfolding headIn lineBy
-main-shape n us = sym (bind-assoc (wordedAll us) (λ vs. Forms.body n (list vs)) (λ p. some (mainOf p))) ∙ ap (λ (o : Option (Syntax.Body × ℕ)). o >>= λ p. some (mainOf p)) (body-parts n us)
+main-shape n us = sym (bind-assoc (wordedAll us) (λ vs. ByDepth.body n (list vs)) (λ p. some (mainOf p))) ∙ ap (λ (o : Option (Syntax.Body × ℕ)). o >>= λ p. some (mainOf p)) (body-parts n us)
 
 pub proc-shape : (n : ℕ) (us : Trees Run) → headIn isProc n us ≡ (nameIn us >>= λ w. parametersIn (rest us) >>= λ ps. bodyIn n (bodyPart (rest us)) >>= λ p. some (procOf w ps p))
 unfolding headIn lineBy nameIn
 proc-shape n us =
-    next-part (λ ts. lineBy isProc n ts) free (λ w ts. Forms.parameters ts >>= λ q. Forms.body n (q .1) >>= λ p. some (procOf w (q .0) p)) refl (λ v vs. refl) us
-    ∙ bind-cong (partOf us >>= free) (λ w. list-parts (λ ps ts. Forms.body n ts >>= λ p. some (procOf w ps p)) (rest us)
+    next-part (λ ts. lineBy isProc n ts) free (λ w ts. Forms.parameters ts >>= λ q. ByDepth.body n (q .1) >>= λ p. some (procOf w (q .0) p)) refl (λ v vs. refl) us
+    ∙ bind-cong (partOf us >>= free) (λ w. list-parts (λ ps ts. ByDepth.body n ts >>= λ p. some (procOf w ps p)) (rest us)
     ∙ bind-cong (parametersIn (rest us)) (λ ps.
-    sym (bind-assoc (wordedAll (bodyPart (rest us))) (λ vs. Forms.body n (list vs)) (λ p. some (procOf w ps p))) ∙ ap (λ (o : Option (Syntax.Body × ℕ)). o >>= λ p. some (procOf w ps p)) (body-parts n (bodyPart (rest us)))))
+    sym (bind-assoc (wordedAll (bodyPart (rest us))) (λ vs. ByDepth.body n (list vs)) (λ p. some (procOf w ps p))) ∙ ap (λ (o : Option (Syntax.Body × ℕ)). o >>= λ p. some (procOf w ps p)) (body-parts n (bodyPart (rest us)))))
 
 -- ---- stages
 

@@ -9,7 +9,8 @@ use Rattle.law.specs.Base.{_>>=_, given}
 use Rattle.law.specs.Ceilings.{lineBounded}
 use Rattle.law.specs.Code.{BodyCode}
 use Rattle.law.specs.Environment.{Declared, Environment, declareLine}
-use Rattle.law.specs.Forms.{Item, isType, isVar, lineBy, two, free, typeName, typeForm}
+use Rattle.law.specs.Forms.{Item, isType, isVar, two, free, typeName, typeForm}
+use Rattle.law_theorems.specs.FormsByDepth.{lineBy}
 use Rattle.law.specs.Forms as Forms
 use Rattle.code.specs.LayoutSize.{symbolSize, sizeBodies}
 use Rattle.law.specs.Names.{entryOf, declOf, typeOf}

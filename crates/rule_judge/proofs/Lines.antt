@@ -12,7 +12,9 @@ use Rattle.law.specs.Ceilings.{lineBounded}
 use Rattle.law.specs.Code.{BodyCode}
 use Rattle.law.specs.Environment.{Declared, declareLine}
 use Rattle.law.specs.Forms as Forms
-use Rattle.law.specs.Forms.{Item, lineForm, lineBy, lineHeads, among, headed}
+use Rattle.law.specs.Forms.{Item, lineHeads, among, headed}
+use Rattle.law_theorems.specs.FormsByDepth.{lineForm, lineBy}
+use Rattle.law_theorems.proofs.FormsAgree.{line-same}
 use Rattle.code.specs.LayoutSize.{symbolSize, sizeBodies}
 use Rattle.law.specs.Lines.{Line}
 use Rattle.law.specs.Names.{entryOf}
@@ -75,7 +77,7 @@ module _ (k : Declared) (t : Tree Run) where
   pub line-judged : (l : Line) → formOf l ≡ some t → (v : Tree Word) → worded t ≡ some v → k .ended ≡ false
       → judgeLine strictly k l ≡ judgedBy (wholeStaged k (lineIn (k .stmts) t)) (λ p. ninth k t (lastOf (lineIn (k .stmts) t)) (p .0) (p .1))
   unfolding judgeLine
-  line-judged l h4 v h5 h6 = rw (h4, stage-on, h5, stage-on) (must-open (k .ended) h6 (orBad 6 (lineForm (k .stmts) v) >>= after) ∙ worded-form v h5 (lineForm (k .stmts) v) refl)
+  line-judged l h4 v h5 h6 = rw (h4, stage-on, h5, stage-on, line-same l t v h4 h5 (k .stmts)) (must-open (k .ended) h6 (orBad 6 (lineForm (k .stmts) v) >>= after) ∙ worded-form v h5 (lineForm (k .stmts) v) refl)
     where
       worded-form : (v : Tree Word) → worded t ≡ some v → (o : Option (LineForm × ℕ)) → lineForm (k .stmts) v ≡ o → (orBad 6 (lineForm (k .stmts) v) >>= after) ≡ judgedBy (wholeStaged k (lineIn (k .stmts) t)) (λ p. ninth k t (lastOf (lineIn (k .stmts) t)) (p .0) (p .1))
       worded-form v h o e = let z : lineIn (k .stmts) t ≡ o = in-is v h ∙ e in rw (e, z) (by-form o)

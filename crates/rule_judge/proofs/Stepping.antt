@@ -12,7 +12,7 @@ use Rattle.law.specs.Base as Base
 use Rattle.law.specs.Ceilings.{lineBounded}
 use Rattle.law.specs.Code.{BodyCode}
 use Rattle.law.specs.Environment.{Declared, declareLine}
-use Rattle.law.specs.Forms.{lineForm}
+use Rattle.law_theorems.specs.FormsByDepth.{lineForm}
 use Rattle.code.specs.LayoutSize.{symbolSize, sizeSymbols, sizeBodies}
 use Rattle.law.specs.Lines.{Line}
 use Rattle.law.specs.Names.{entryOf}

@@ -5,7 +5,8 @@ use Prim.Native.Nat.{ℕ}
 use Rattle.law.specs.Base.{_>>=_}
 use Rattle.law.specs.Code.{BodyCode}
 use Rattle.law.specs.Environment.{Declared}
-use Rattle.law.specs.Forms.{LineHead, lineForm, lineBy}
+use Rattle.law.specs.Forms.{LineHead}
+use Rattle.law_theorems.specs.FormsByDepth.{lineForm, lineBy}
 use Rattle.law.specs.Names.{entryOf}
 use Rattle.law.specs.Rules.{keepsRules}
 use Rattle.law.specs.Script.{Entry}

@@ -12,7 +12,8 @@ use Rattle.law.specs.Base as Base
 use Rattle.law.specs.Ceilings.{lineBounded}
 use Rattle.law.specs.Code.{BodyCode, noFrame}
 use Rattle.law.specs.Environment.{Declared, declareLine, frameOf, withBody, within}
-use Rattle.law.specs.Forms.{lineForm}
+use Rattle.law_theorems.specs.FormsByDepth.{lineForm}
+use Rattle.law_theorems.proofs.FormsAgree.{line-same}
 use Rattle.code.specs.LayoutSize.{symbolSize, sizeBodies}
 use Rattle.law.specs.Lines.{Line}
 use Rattle.law.specs.Names.{entryOf}
@@ -79,7 +80,7 @@ module _ (k : Declared) (t : Tree Run) where
   pub line-judged : (l : Line) → formOf l ≡ some t → (v : Tree Word) → worded t ≡ some v → k .ended ≡ false
       → judgeLine loosely k l ≡ judgedBy (entryStaged k (bare (lineIn (k .stmts) t))) (λ e. ninth k t (lastOf (lineIn (k .stmts) t)) e)
   unfolding judgeLine
-  line-judged l h4 v h5 h6 = rw (h4, stage-on, h5, stage-on) (must-open (k .ended) h6 (orBad 6 (lineForm (k .stmts) v) >>= after) ∙ rw (← line-in (k .stmts) t v h5) (by-form (lineIn (k .stmts) t)))
+  line-judged l h4 v h5 h6 = rw (h4, stage-on, h5, stage-on, line-same l t v h4 h5 (k .stmts)) (must-open (k .ended) h6 (orBad 6 (lineForm (k .stmts) v) >>= after) ∙ rw (← line-in (k .stmts) t v h5) (by-form (lineIn (k .stmts) t)))
 
 -- ---- what a line that fits takes
 

@@ -6,7 +6,8 @@ use mathlib.Core.Option.{Option, none, some}
 use Prim.Native.Nat.{ℕ, _<_}
 use native.Mathlib.Omega.{arith}
 use Rattle.law.specs.Base.{_>>=_, each}
-use Rattle.law.specs.Forms.{constant, stmt}
+use Rattle.law.specs.Forms.{constant}
+use Rattle.law_theorems.specs.FormsByDepth.{stmt}
 use Rattle.law.specs.Rules.{allPlain}
 use Rattle.law.specs.Syntax.{Constant, Stmt}
 use Rattle.law.specs.Trees.{Tree, Trees, end, _then_, Run, first}

@@ -11,7 +11,8 @@ use Rattle.law.specs.Lines.{Line}
 use Rattle.law.specs.Trees.{Tree, Run, nodes, formOf}
 use Rattle.law.specs.Words.{Word, worded}
 use Rattle.law.specs.Syntax as Syntax
-use Rattle.law.specs.Forms.{lineForm}
+use Rattle.law_theorems.specs.FormsByDepth.{lineForm}
+use Rattle.law_theorems.proofs.FormsAgree.{line-same}
 use Rattle.law.specs.Script.{Body, Entry, newProc, newMain}
 use Rattle.law.specs.Environment.{Declared, declareLine, frameOf, within}
 use Rattle.law.specs.Names.{bodyOf, fieldNames, newNames, pairOf, entryOf}
@@ -47,7 +48,7 @@ module _ (k : Declared) (l : Line) (t : Tree Run) (v : Tree Word) (s : ℕ) (h4 
   module _ (f : Syntax.LineForm) (hf : lineForm (k .stmts) v ≡ some (f, s)) where
     opened : judgeLine strictly k l ≡ (orBad 7 (entryOf (k .env) f) >>= λ e. must 8 (keepsRules (k .env .types) e) >>= λ _. orBad 8 (strictly (k .env) e) >>= λ cs. rest e cs)
     unfolding judgeLine
-    opened = rw (h4, stage-on, h5, stage-on, h6, must-on, hf, stage-on)
+    opened = rw (h4, stage-on, h5, stage-on, h6, must-on, line-same l t v h4 h5 (k .stmts), hf, stage-on)
 
   -- `(main BODY)`
   module _ (b : Syntax.Body) (hf : lineForm (k .stmts) v ≡ some (Syntax.mainLine b, s)) where

@@ -17,6 +17,7 @@ use Rattle.law.specs.Code.{Act, Cases, elseCase, noCase, oneCase}
 use Rattle.law.specs.Elaborate.{elabArms}
 use Rattle.law.specs.Environment.{Environment}
 use Rattle.law.specs.Forms as Forms
+use Rattle.law_theorems.specs.FormsByDepth as ByDepth
 use Rattle.law.specs.Forms.{ArmHead, isArm, isElse, armsFirst, among, armHeads}
 use Rattle.code.specs.Layout.{Out, out, lay, link, layLabels, layAct, layCases}
 use Rattle.law.specs.Names.{armsOf}
@@ -100,7 +101,7 @@ arms-fixed d m ts (some cs) (some p) o e h = rw (e, h p refl) refl
 
 else-split : (d n : ℕ) (us ts : Trees Run) → elseArmIn d n us ts ≡ (((stmtIn d n us >>= λ p. closed (rest us) p) >>= λ p. closed ts p) >>= λ p. elseRead p)
 unfolding elseArmIn stmtIn closed _>>=_
-else-split d n us end = go (partOf us >>= Forms.stmt d n) (rest us)
+else-split d n us end = go (partOf us >>= ByDepth.stmt d n) (rest us)
   where
     go : (o : Option (Syntax.Stmt × ℕ)) (vs : Trees Run) → (o >>= λ p. closed vs (Syntax.elseArm (p .0), p .1)) ≡ (((o >>= λ p. closed vs p) >>= λ p. closed end p) >>= λ p. elseRead p)
     go none vs = refl

@@ -17,6 +17,7 @@ use Rattle.law.specs.Code.{Act, Cases, elseCase, noCase, oneCase}
 use Rattle.law.specs.Elaborate.{elabArms}
 use Rattle.law.specs.Environment.{Environment}
 use Rattle.law.specs.Forms as Forms
+use Rattle.law_theorems.specs.FormsByDepth as ByDepth
 use Rattle.law.specs.Forms.{ArmHead, isArm, isElse, armsFirst, among, armHeads}
 use Rattle.code.specs.Layout.{Out, out, lay, link, layLabels, layAct, layCases}
 use Rattle.law.specs.Names.{armsOf}
@@ -182,7 +183,7 @@ arm-kept d (some a) ts = one (armsIn d (a .1 .1) ts)
 else-none : (d n : ℕ) (us ts : Trees Run) → cased (elseArmIn d n us ts) ≡ none
 unfolding _>>=_ armsFirst elseArmIn closed
 else-none d n us (t then ts) = refl
-else-none d n us end = go (partOf us >>= Forms.stmt d n) (rest us)
+else-none d n us end = go (partOf us >>= ByDepth.stmt d n) (rest us)
   where
     go : (o : Option (Syntax.Stmt × ℕ)) (vs : Trees Run) → cased (o >>= λ p. closed vs (Syntax.elseArm (p .0), p .1)) ≡ none
     go none vs = refl

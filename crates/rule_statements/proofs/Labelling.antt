@@ -17,7 +17,8 @@ use Rattle.leaf_integers.specs.Integers.{inside, least, most}
 use Rattle.law.specs.Base.{_>>=_, given, both, each}
 use Rattle.law.specs.Elaborate.{elabLabels}
 use Rattle.law.specs.Environment.{Environment}
-use Rattle.law.specs.Forms.{constant, stmt}
+use Rattle.law.specs.Forms.{constant}
+use Rattle.law_theorems.specs.FormsByDepth.{stmt}
 use Rattle.code.specs.Layout.{Out, out, lay, link, bits, layLabels}
 use Rattle.law.specs.Names.{constantOf}
 use Rattle.law.specs.Rules.{plain, allPlain}

@@ -8,7 +8,8 @@ use native.Mathlib.Omega.{arith}
 use Rattle.leaf_words.specs.Words.{wordOf}
 use Rattle.law.specs.Base.{Name, _>>=_}
 use Rattle.law.specs.Forms as Forms
-use Rattle.law.specs.Forms.{stmt, stmtForm, armsFirst, isArm, isElse, vAssign, vBegin, vIf, vWhile, vFor, vCase, vCall, vRaise}
+use Rattle.law.specs.Forms.{armsFirst, isArm, isElse, vAssign, vBegin, vIf, vWhile, vFor, vCase, vCall, vRaise}
+use Rattle.law_theorems.specs.FormsByDepth.{stmt, stmtForm}
 use Rattle.law.specs.Syntax.{Constant, Stmt, Stmts, Arms, Body, Expr, Target, assign, begin, ifElse, while, for, case, call, raise, elseArm, arm}
 use Rattle.law.specs.Trees.{Tree, word, form, Trees, end, _then_, Run, list, nodes, nodesIn}
 use Rattle.law.specs.Words.{Word, wordedAll}

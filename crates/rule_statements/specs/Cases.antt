@@ -9,7 +9,8 @@ use lib.IntN.{ℤ}
 use Rattle.law.specs.Base.{_>>=_}
 use Rattle.law.specs.Code.{Cases}
 use Rattle.law.specs.Environment.{Environment}
-use Rattle.law.specs.Forms.{ArmHead, isArm, isElse, armsFirst, constant, stmt}
+use Rattle.law.specs.Forms.{ArmHead, isArm, isElse, armsFirst, constant}
+use Rattle.law_theorems.specs.FormsByDepth.{stmt}
 use Rattle.code.specs.Layout.{Out, lay, link, layLabels, layCases}
 use Rattle.rule_stages.specs.Stages.{fits, labelsStaged, armsStaged}
 use Rattle.law.specs.Syntax.{Constant, Stmt, Arms}

@@ -10,7 +10,7 @@ use Rattle.law.specs.Base.{Name, _>>=_}
 use Rattle.law.specs.Code.{Code, Act, Acts, Frame, BodyCode}
 use Rattle.law.specs.Elaborate.{Located}
 use Rattle.law.specs.Environment.{Environment}
-use Rattle.law.specs.Forms.{stmt, stmtForm}
+use Rattle.law_theorems.specs.FormsByDepth.{stmt, stmtForm}
 use Rattle.code.specs.Layout.{Out, out, lay, layCode, layPlace, layAct, layActs, flag}
 use Rattle.law.specs.Names.{varOf}
 use Rattle.law.specs.Types.{Var, variable, hostOf}

@@ -9,7 +9,8 @@ use Rattle.leaf_bytes.specs.Bytes.{small}
 use Rattle.leaf_words.specs.Words.{wordOf}
 use Rattle.leaf_words.specs.declared.words.Word as Kind
 use Rattle.law.specs.Base.{Name, _>>=_}
-use Rattle.law.specs.Forms.{Item, free, typeName, constant, typeForm, madeType, among, makers, lineBy, isType}
+use Rattle.law.specs.Forms.{Item, free, typeName, constant, typeForm, madeType, among, makers, isType}
+use Rattle.law_theorems.specs.FormsByDepth.{lineBy}
 use Rattle.law.specs.Forms as Forms
 use Rattle.law.specs.Syntax.{LineForm, TypeForm, TypeName, Constant, typeLine, alias, setOf, arrayOf, range}
 use Rattle.law.specs.Trees.{word, form, Trees, end, _then_, Run, first, later, list, wordAt}

@@ -6,7 +6,8 @@ use mathlib.Core.Option.{Option, none, some}
 use Prim.Native.Nat.{ℕ, zero, suc}
 use lib.IntN.{ℤ}
 use Rattle.law.specs.Base.{Name, _>>=_, either, each, pick}
-use Rattle.law.specs.Forms.{Item, keyOf, headed, constant, minusNumber, targetForm, isNumber, typeName, free, expr, target, among, Head, hAt, hDot, hMembers, hMinus, hBound, heads, one, two, exprsOf, atForm, dotForm, twoSided, oneSided, exprForm}
+use Rattle.law.specs.Forms.{Item, keyOf, headed, constant, minusNumber, isNumber, typeName, free, among, Head, hAt, hDot, hMembers, hMinus, hBound, heads, one, two, exprsOf}
+use Rattle.law_theorems.specs.FormsByDepth.{targetForm, expr, target, atForm, dotForm, twoSided, oneSided, exprForm}
 use Rattle.law.specs.Operators.{Fun, negate, minus}
 use Rattle.law.specs.Syntax as Syntax
 use Rattle.law.specs.Syntax.{Expr, Exprs, Target, TypeName, at, binary, const, dot, endOf, members, read, unary, _and_}

@@ -21,7 +21,8 @@ use Rattle.leaf_words.specs.declared.numbers.Numeral.the-variants.{Of, Neither}
 use Rattle.leaf_words.specs.declared.words.Word as Kind
 use Rattle.leaf_words.specs.declared.words.Word.the-variants as W
 use Rattle.law.specs.Base.{Name, _>>=_, either, given, pick}
-use Rattle.law.specs.Forms.{Item, keyOf, free, isNumber, typeName, constant, atom, expr, target, headed, among, truths, heads, verbs, armHeads, makers, lineHeads}
+use Rattle.law.specs.Forms.{Item, keyOf, free, isNumber, typeName, constant, atom, headed, among, truths, heads, verbs, armHeads, makers, lineHeads}
+use Rattle.law_theorems.specs.FormsByDepth.{expr, target}
 use Rattle.law.specs.Trees.{word, Trees, _then_, Run}
 use Rattle.law.specs.Words.{Word, number, name, key, worded, wordBy}
 use Rattle.text_heads.specs.Heads.{reservedExpr, operatorExpr, reservedVerb, operatorVerb, reservedArm, reservedMaker, reservedLine, reservedAtom, exprHeadOf, verbOf, armHeadOf, makerOf, lineHeadOf, atomOf, isException, targetPick, minusPick, exprHeadMeant, verbMeant, armHeadMeant, makerMeant, lineHeadMeant, atomExpr, atomConstant, atomType, atomTarget, atomName, atomNumber}

@@ -7,7 +7,8 @@ use Prim.Native.Nat.{ℕ, zero, suc}
 use Rattle.leaf_bytes.specs.Bytes.{bytes, same}
 use Rattle.leaf_words.specs.Words.{wordOf}
 use Rattle.law.specs.Base.{Name, _>>=_, each, given}
-use Rattle.law.specs.Forms.{Item, ArmHead, isArm, isElse, Verb, vAssign, vBegin, vIf, vWhile, vFor, vCase, vCall, vRaise, verbs, among, armHeads, arms, armsFirst, body, caseForm, constant, elseOf, ending, expr, exprsOf, first?, forForm, free, handlerOf, headed, ifForm, keyOf, one, oneArm, some?, stmt, stmtForm, stmts, target, two}
+use Rattle.law.specs.Forms.{Item, ArmHead, isArm, isElse, Verb, vAssign, vBegin, vIf, vWhile, vFor, vCase, vCall, vRaise, verbs, among, armHeads, armsFirst, constant, exprsOf, first?, free, headed, keyOf, one, some?, two}
+use Rattle.law_theorems.specs.FormsByDepth.{arms, body, caseForm, elseOf, ending, expr, forForm, handlerOf, ifForm, oneArm, stmt, stmtForm, stmts, target}
 use Rattle.law.specs.Syntax.{Arms, Body, Constant, Expr, Exprs, Stmt, Stmts, Target, _next_, arm, assign, begin, call, case, elseArm, for, ifElse, raise, while}
 use Rattle.law.specs.Trees.{Tree, word, form, Trees, end, _then_, Run, list}
 use Rattle.law.specs.Words.{Word, worded, wordedAll, wordBy}

@@ -6,7 +6,8 @@ use Prim.Native.Nat.{ℕ}
 use lib.IntN.{ℤ}
 use Rattle.leaf_words.specs.Words.{wordOf}
 use Rattle.law.specs.Base.{Name, _>>=_, given}
-use Rattle.law.specs.Forms.{Item, plainBody, free, keyOf, isNumber, typeName, constant, expr, target, stmt, among, ArmHead, armHeads, isArm, isElse}
+use Rattle.law.specs.Forms.{Item, plainBody, free, keyOf, isNumber, typeName, constant, among, ArmHead, armHeads, isArm, isElse}
+use Rattle.law_theorems.specs.FormsByDepth.{expr, target, stmt}
 use Rattle.law.specs.Syntax.{Expr, Exprs, at, dot, minus, Target, TypeName, Constant, Stmt, Stmts, Arms, Body, nil, _and_, skip, done, _next_, arm, elseArm, noElse}
 use Rattle.law.specs.Trees.{Tree, word, form, Trees, end, _then_, Run}
 use Rattle.law.specs.Words.{worded, wordBy}
