@@ -13,7 +13,7 @@ use Rattle.law.specs.Types.{variable}
 use Rattle.code.proofs.LayoutRegions.{lay-g}
 use Rattle.code.specs.LayoutRegions.{Same, Room}
 use Rattle.table_names.specs.Keys.{keyed}
-use Rattle.table_names.specs.Chain.{entries}
+use Rattle.table_names.specs.Chain.{entries, valuesBy}
 use Rattle.table_names.proofs.Chained.{Added, added, entries-kept, names-kept, below-kept, below-higher}
 use Rattle.table_names.specs.Chained.{Names, no-names, one-name, Below}
 use Rattle.table_scope.specs.declared.Scope.{Scope}
@@ -27,7 +27,7 @@ use Rattle.table_scope.specs.Scene.{meaningBy, meaningAt, Means, Meant}
 -- the entries of a chain that stand for names ns
 pub record Chained (s l : List ℕ) (scope : Scope) (top : ℕ) (σ : Environment) (bs : List ℕ) (ns : List (Name × NameSort)) : Type 0 where
   pub names : Names s l (Meant σ bs l) (entries (scope .count) l (scope .newest)) ns
-  pub below : Below l top (scope .count) (scope .newest)
+  pub below : Below s l top (scope .count) (scope .newest)
 
 pub holds-chained : {s l ts : List ℕ} {st : State} {k : Declared} {bs : List ℕ} → Holds s l ts st k bs → Chained s l (st .scope) (st .top) (k .env) bs (k .env .names)
 holds-chained H = record { names = H .names; below = H .scene .below }
@@ -63,12 +63,12 @@ chained-kept {σ = σ} {bs = bs} E h C = record {
 
 -- a new entry at the free place, of the name at p
 pub chained-more : {s l : List ℕ} {scope : Scope} {top : ℕ} {σ : Environment} {bs : List ℕ} {ns : List (Name × NameSort)} (p sort more : ℕ) (m : NameSort)
-    → p < 32768 → Room 4 top l → Means σ bs (meaningBy sort more) m → Chained s l scope top σ bs ns
+    → valuesBy sort more ≡ 0 → p < 32768 → Room 4 top l → Means σ bs (meaningBy sort more) m → Chained s l scope top σ bs ns
     → Chained s (lay (keyed s p ∷ sort ∷ more ∷ scope .newest ∷ []) top l .list) (scoped (suc (scope .count)) top) (top + 4) σ bs ((map small (wordAt s p), m) ∷ ns)
 unfolding meaningAt
-chained-more {s} {l} {scope} {top} {σ} {bs} {ns} p sort more m h R M C =
+chained-more {s} {l} {scope} {top} {σ} {bs} {ns} p sort more m v h R M C =
     let l′ = lay (keyed s p ∷ sort ∷ more ∷ scope .newest ∷ []) top l .list in
-    let A : Added s l l′ top (scope .count) p sort more (scope .newest) = added s l top (scope .count) p sort more (scope .newest) h R (C .below) in
+    let A : Added s l l′ top (scope .count) p sort more (scope .newest) = added s l top (scope .count) p sort more (scope .newest) v h R (C .below) in
     let K : Chained s l′ scope top σ bs ns = chained-kept (A .kept) (omega arith) C in
     let z : top ≡ 0 → ⊥ = λ e. omega (arith, R .start) in
     let g : meaningAt l′ top ≡ meaningBy sort more = rw (ne-eqb top 0 z, A .sort-is, A .more-is) refl in

@@ -53,7 +53,7 @@ pub holds-start : (s l ts : List ℕ) → length s ≤ 32768 → 16384 ≤ lengt
 unfolding entries find startState
 holds-start s l ts a b c h = record {
   scene = record {
-    names = chain-told (scoped 0 0) refl no-names;
+    names = chain-told (scoped 0 0) {top = 1} refl no-entry no-names;
     below = no-entry;
     types = tells-start s l ts h;
     described = ends-start l ts h;

@@ -38,6 +38,7 @@ use Rattle.table_scope.proofs.Cells.{keeps-cells}
 use Rattle.rule_faults.specs.declared.Fault.{Fault}
 use Rattle.rule_faults.specs.declared.Fault.the-variants.{Clear, Kind, Form}
 use Rattle.rule_faults.specs.declared.Fault.the-variants as fault
+use Rattle.table_names.specs.Chain.{valuesBy}
 use Rattle.table_scope.specs.declared.Info.{Info}
 use Rattle.table_scope.specs.declared.Meaning.{Meaning}
 use Rattle.table_scope.specs.Descriptions.{infoOf}
@@ -231,6 +232,10 @@ var-means σ bs i kind base l h =
     let d : (kind + 128 * base) / 128 ≡ base = omega arith in
     rw (a, b, c, d) (a-var (record { type = kind; base = base }) h)
 
+none-behind : (i more : ℕ) → valuesBy (1 + 4 * i) more ≡ 0
+unfolding valuesBy
+none-behind i more = let a : (1 + 4 * i) % 4 ≡ 1 = omega arith in rw a refl
+
 -- a name that is no value leaves values their names
 pub value-find : (w v : Name) (m : NameSort) (ns : List (Name × NameSort)) (c : Const) → ((c : Const) → m ≡ aValue c → ⊥) → find ((w, m) ∷ ns) v ≡ some (aValue c) → find ns v ≡ some (aValue c)
 value-find w v m ns c n h = find-other w v m (aValue c) ns (n c) h
@@ -310,7 +315,7 @@ module _ {s l ts : List ℕ} {st : State} {k : Declared} {bs : List ℕ} (H : Ho
 
     var-chained : Chained s lp (scoped (suc (st .scope .count)) (st .top)) (st .top + 4) (k′ .env) bs ((wp, aVar (length (k .env .vars))) ∷ k .env .names)
     unfolding declareLine
-    var-chained = subst (λ (ns : List ℕ). Chained s (lay ns (st .top) l .list) (scoped (suc (st .scope .count)) (st .top)) (st .top + 4) (k′ .env) bs ((wp, aVar (length (k .env .vars))) ∷ k .env .names)) (sym entry-is) (chained-more p (1 + 4 * length (k .env .vars)) (kind + 128 * length (k .cells)) (aVar (length (k .env .vars))) (omega (arith, H .short-text)) var-room
+    var-chained = subst (λ (ns : List ℕ). Chained s (lay ns (st .top) l .list) (scoped (suc (st .scope .count)) (st .top)) (st .top + 4) (k′ .env) bs ((wp, aVar (length (k .env .vars))) ∷ k .env .names)) (sym entry-is) (chained-more p (1 + 4 * length (k .env .vars)) (kind + 128 * length (k .cells)) (aVar (length (k .env .vars))) (none-behind (length (k .env .vars)) (kind + 128 * length (k .cells))) (omega (arith, H .short-text)) var-room
         (var-means (k′ .env) bs (length (k .env .vars)) kind (length (k .cells)) kind-low (var-last (k .env .vars) (record { type = kind; base = length (k .cells) })))
         (chained-env {σ′ = k′ .env} (means-old (record { type = kind; base = length (k .cells) }) refl) (holds-chained H)))
 
@@ -322,7 +327,7 @@ module _ {s l ts : List ℕ} {st : State} {k : Declared} {bs : List ℕ} (H : Ho
     var-scene =
         let K = scene-kept {top′ = st .top + 4} (H .scene) var-same (omega arith) in
         record {
-          names = chain-told (scoped (suc (st .scope .count)) (st .top)) refl (var-chained .names);
+          names = chain-told (scoped (suc (st .scope .count)) (st .top)) refl (var-chained .below) (var-chained .names);
           below = var-chained .below;
           types = K .types;
           described = K .described;

@@ -29,6 +29,9 @@ use Rattle.law_theorems.proofs.Inversion.{and-true}
 use Rattle.code.proofs.LayoutRegions.{Has, lay-g, lay-l}
 use Rattle.code.specs.LayoutRegions.{Same, Room}
 use Rattle.table_names.specs.Keys.{keyed}
+use Rattle.table_names.specs.Chain.{valuesBy, valuesBehind}
+use Rattle.table_names.specs.Chained.{Below, Block, one-block, one-entry}
+use Rattle.table_order.specs.Ordered.{Marks, unmarked, marked}
 use Rattle.table_names.proofs.Chained.{called-keyed}
 use Rattle.table_scope.proofs.Cells.{keeps-cells}
 use Rattle.table_scope.proofs.Kept.{tells-frame-kept}
@@ -57,7 +60,7 @@ use Rattle.rule_type_lines.proofs.Aliases.{lines-bounded}
 use Rattle.rule_type_lines.proofs.SimpleLines.{read-numbers, describes-tells}
 use Rattle.rule_enum_lines.proofs.EnumNames.{enum-parts, counted-more}
 use Rattle.rule_enum_lines.proofs.EnumStages.{enum-named}
-use Rattle.rule_enum_lines.proofs.EnumValues.{chained-one, chained-values, values-once, values-above, value-kind, procs-old}
+use Rattle.rule_enum_lines.proofs.EnumValues.{values-ordered, values-linked, values-last, chained-one, chained-values, values-once, values-above, value-kind, procs-old}
 
 -- ---- what is held
 
@@ -117,32 +120,53 @@ module _ {s l ts : List ℕ} {st : State} {k : Declared} {bs : List ℕ} (H : Ho
   long₂ : length l₂ ≡ length l
   long₂ = lay-g (infoNumbers (enumInfo (st .types) n)) t₁ l₁ .long ∙ lay-g (enumEntry st (keyed s p)) (st .top) l .long
 
-  values : Values s l′ (st .types) (st .scope .newest) t₂ 0 (v ∷ vs) × (A .free ≡ t₂ + 4 * n)
-  values = A .values .values (v ∷ vs) hn refl (omega (arith, number-low)) (H .short-text)
+  laid-values : Values s (A .laid) (st .types) (st .scope .newest) t₂ 0 (v ∷ vs) × (A .free ≡ t₂ + 4 * n)
+  laid-values = A .values .values (v ∷ vs) hn refl (omega (arith, number-low)) (H .short-text)
       (record { start = rw top₂ (omega arith); fits = rw top₂ (omega arith); long = rw long₂ (H .long-list) })
 
   free-is : A .free ≡ st .top + (12 + 4 * n)
-  free-is = values .1 ∙ rw top₂ (omega arith)
+  free-is = laid-values .1 ∙ rw top₂ (omega arith)
 
-  same₁ : Same 0 t₁ l′ l₁
+  values : Values s l′ (st .types) (st .scope .newest) (st .top + 12) 0 (v ∷ vs)
+  values =
+      let z : st .top + 12 ≡ st .top + 12 + 4 * 0 = omega arith in
+      subst (λ (q : ℕ). Values s l′ (st .types) (st .scope .newest) q 0 (v ∷ vs)) (sym z)
+      (values-ordered (A .in-order) 0 0 (v ∷ vs) (subst (λ (q : ℕ). Values s (A .laid) (st .types) (st .scope .newest) q 0 (v ∷ vs)) (top₂ ∙ z) (laid-values .0)))
+
+  same₁ : Same 0 t₁ (A .laid) l₁
   same₁ = record {
     at = λ i a c. A .values .below .at i a (rw top₂ (omega (arith, top₁))) ∙ lay-g (infoNumbers (enumInfo (st .types) n)) t₁ l₁ .below i c;
   }
 
   same₀ : Same 0 (st .top) l′ l
-  same₀ = record { at = λ i a c. same₁ .at i a (rw top₁ (omega arith)) ∙ lay-g (enumEntry st (keyed s p)) (st .top) l .below i c }
+  same₀ = record { at = λ i a c. A .in-order .below .at i a c ∙ same₁ .at i a (rw top₁ (omega arith)) ∙ lay-g (enumEntry st (keyed s p)) (st .top) l .below i c }
 
   -- the entry of the type's name
-  entry-held : Has (keyed s p ∷ (4 * st .types) ∷ 0 ∷ (st .top + 12) ∷ []) (st .top) l′
+  entry-laid : Has (keyed s p ∷ (4 * st .types) ∷ 0 ∷ (st .top + 12) ∷ []) (st .top) (A .laid)
   unfolding enumEntry
-  entry-held = rw (← entry-is) (lay-l (enumEntry st (keyed s p)) (st .top) l .held (record { start = H .start; fits = omega arith; long = H .long-list }) l′ (record { at = λ i a c. same₁ .at i (omega arith) c }))
+  entry-laid = rw (← entry-is) (lay-l (enumEntry st (keyed s p)) (st .top) l .held (record { start = H .start; fits = omega arith; long = H .long-list }) (A .laid) (record { at = λ i a c. same₁ .at i (omega arith) c }))
+
+  name-held : getD l′ (st .top) 0 ≡ keyed s p
+  name-held =
+      let z : st .top + 0 ≡ st .top = omega arith in
+      A .in-order .other (st .top) (λ e. omega arith) (λ i e. omega arith) ∙ ap (λ (j : ℕ). getD (A .laid) j 0) (sym z) ∙ entry-laid .at 0 (omega arith)
+
+  sort-held : getD l′ (st .top + 1) 0 ≡ 4 * st .types
+  sort-held = A .in-order .other (st .top + 1) (λ e. omega arith) (λ i e. omega arith) ∙ entry-laid .at 1 (omega arith)
+
+  next-held : getD l′ (st .top + 3) 0 ≡ st .top + 12
+  next-held = A .in-order .other (st .top + 3) (λ e. omega arith) (λ i e. omega arith) ∙ entry-laid .at 3 (omega arith)
 
   info-room : Room 8 t₁ l₁
   info-room = record { start = rw top₁ (omega arith); fits = rw top₁ (omega arith); long = rw (lay-g (enumEntry st (keyed s p)) (st .top) l .long) (H .long-list) }
 
+  info-laid : Has (infoNumbers (enumInfo (st .types) n)) t₁ (A .laid)
+  unfolding infoNumbers
+  info-laid = lay-l (infoNumbers (enumInfo (st .types) n)) t₁ l₁ .held info-room (A .laid) (record { at = λ i a c. A .values .below .at i (omega arith) c })
+
   info-held : Has (infoNumbers (enumInfo (st .types) n)) t₁ l′
   unfolding infoNumbers
-  info-held = lay-l (infoNumbers (enumInfo (st .types) n)) t₁ l₁ .held info-room l′ (record { at = λ i a c. A .values .below .at i (omega arith) c })
+  info-held = record { later = info-laid .later; at = λ i h. A .in-order .other (t₁ + i) (λ e. omega (arith, top₁)) (λ j e. omega (arith, top₁, h)) ∙ info-laid .at i h }
 
   described : Describes (enumInfo (st .types) n) (facts (typeSortOf Γ (enum v vs)))
   unfolding enumInfo typeSortOf shapeNumber bits
@@ -158,16 +182,35 @@ module _ {s l ts : List ℕ} {st : State} {k : Declared} {bs : List ℕ} (H : Ho
     no-fields = refl;
   }
 
+  old-chained : Chained s l′ (st .scope) (A .free) (ks .env) bs (k .env .names)
+  unfolding declareLine
+  old-chained = chained-kept same₀ (rw free-is (omega arith)) (chained-env {σ′ = ks .env} (means-same refl) (holds-chained H))
+
+  values-chained : Chained s l′ (scoped (n + st .scope .count) (st .top + 12)) (A .free) (ks .env) bs (enumNames (st .types) 0 (v ∷ vs) ++ k .env .names)
+  unfolding startOf
+  values-chained = chained-values (st .types) (st .top + 12) 0 (v ∷ vs) (omega (arith, number-low)) values (omega arith) (rw free-is (omega arith)) old-chained
+
+  behind-is : (m : ℕ) → getD l′ (st .top + 2) 0 ≡ m → valuesBehind l′ (st .top) ≡ m
+  unfolding valuesBehind valuesBy
+  behind-is m e = let z : (4 * st .types) % 4 ≡ 0 = omega arith in rw (sort-held, z, e) refl
+
+  -- the values are found by halving, or along the chain
+  head-below : Below s l′ (A .free) (suc (n + st .scope .count)) (st .top)
+  head-below = go (A .in-order .head (omega (arith, H .low)) (omega (arith, room, A .values .long, long₂, H .long-list)))
+    where
+      go : Marks s l′ (st .top) n → Below s l′ (A .free) (suc (n + st .scope .count)) (st .top)
+      go (unmarked e) = one-entry {n = n + st .scope .count} {p = st .top} (rw free-is (omega arith)) (behind-is 0 e) (rw next-held (values-chained .below))
+      go (marked e f) =
+          let c : suc (length vs + st .scope .count) ≡ n + st .scope .count = omega arith in
+          subst (λ (j : ℕ). Below s l′ (A .free) (suc j) (st .top)) c (one-block {n = st .scope .count} {p = st .top} {m = length vs} (rw free-is (omega arith))
+          (record { low = omega (arith, H .low); many = behind-is n e; next = next-held; linked = values-linked (st .top + 12) 0 (v ∷ vs) values; found = f })
+          (rw (values-last (st .top + 12) 0 v vs values) (old-chained .below)))
+
   enum-chained : Chained s l′ (scoped (suc (n + st .scope .count)) (st .top)) (A .free) (ks .env) bs ((w, aType (length Γ)) ∷ (enumNames (length Γ) 0 (v ∷ vs) ++ k .env .names))
   unfolding declareLine startOf
   enum-chained =
-      let z : st .top + 0 ≡ st .top = omega arith in
-      let old : Chained s l′ (st .scope) (A .free) (ks .env) bs (k .env .names) = chained-kept same₀ (rw free-is (omega arith)) (chained-env {σ′ = ks .env} (means-same refl) (holds-chained H)) in
-      let c : Chained s l′ (scoped (n + st .scope .count) t₂) (A .free) (ks .env) bs (enumNames (st .types) 0 (v ∷ vs) ++ k .env .names) =
-      chained-values (st .types) t₂ 0 (v ∷ vs) (values .0) (rw top₂ (omega arith)) (rw (free-is, top₂) (omega arith)) old in
-      let m : getD l′ (st .top) 0 ≡ keyed s p = ap (λ (j : ℕ). getD l′ j 0) (sym z) ∙ entry-held .at 0 (omega arith) in
-      rw (← H .types-are) (chained-one (st .top) w (aType (st .types)) (H .start) (rw free-is (omega arith)) (called-keyed s l′ (st .top) p (omega (arith, H .short-text)) m)
-      (rw (entry-held .at 1 (omega arith), entry-held .at 2 (omega arith)) (type-means (ks .env) bs (st .types) 0)) (entry-held .at 3 (omega arith) ∙ sym top₂) c)
+      rw (← H .types-are) (chained-one {scope = scoped (n + st .scope .count) (st .top + 12)} (st .top) w (aType (st .types)) (H .start) head-below (called-keyed s l′ (st .top) p (omega (arith, H .short-text)) name-held)
+      (rw sort-held (type-means (ks .env) bs (st .types) (getD l′ (st .top + 2) 0))) next-held values-chained)
 
   told-types : (t : ℕ) → Tells s l′ (infoOf l′ (set ts (length Γ) t₁) t) (infoAt (Γ ++ (typeSortOf Γ (enum v vs) ∷ [])) t) × EndsBelow (A .free) (infoOf l′ (set ts (length Γ) t₁) t)
   unfolding enumInfo
@@ -180,8 +223,8 @@ module _ {s l ts : List ℕ} {st : State} {k : Declared} {bs : List ℕ} (H : Ho
   enum-scene =
       let K = type-keeps H w (enum v vs) f e g b sn nn in
       record {
-        names = chain-told (scoped (suc (n + st .scope .count)) (st .top)) refl (enum-chained .names);
-        below = enum-chained .below;
+        names = chain-told (scoped (suc (n + st .scope .count)) (st .top)) refl head-below (enum-chained .names);
+        below = head-below;
         types = λ t. told-types t .0;
         described = λ t. told-types t .1;
         table = K .table;
@@ -205,7 +248,7 @@ module _ {s l ts : List ℕ} {st : State} {k : Declared} {bs : List ℕ} (H : Ho
       let d : n + 1 ≡ counted n = counted-more n (omega (arith, few)) in
       rw (A .places, ← d) (subst (λ (m : ℕ). Holds s l′ (set ts m t₁) (typeState st (n + 1) (st .top) 1 (A .free)) ks bs) (sym (H .types-are)) (type-holds H w (enum v vs) f e g b sn nn (n + 1) (st .top) 1 (A .free) l′ (set ts (length Γ) t₁) (omega arith) m (rw c at enum-scene) (rw c at (enum-chained .names))
       (by-number Γ (typeSortOf Γ (enum v vs)) (λ t j. length (cellsBy (j .shape) t (j .cells)) ≤ 2048) (λ t _. H .small-types t) (omega arith) (λ t _. omega arith))
-      (rw free-is (omega (arith, H .few-names))) (rw free-is (omega arith)) (rw free-is room) (rw (A .values .long, long₂) (H .long-list)) (rw (length-set ts (length Γ) t₁) (H .long-notes))))
+      (rw free-is (omega (arith, H .few-names))) (rw free-is (omega arith)) (rw free-is room) (rw (A .in-order .long, A .values .long, long₂) (H .long-list)) (rw (length-set ts (length Γ) t₁) (H .long-notes))))
 
   pub enum-top : A .free ≡ st .top + (12 + 4 * n)
   enum-top = free-is
@@ -372,7 +415,8 @@ module _ (s l ts : List ℕ) (st : State) (p at : ℕ) (c : Counted) (N : NamesT
         let l₁ = enumNamed st (keyed s p) l .list in
         record {
           at = λ z a d.
-              A .values .below .at z a (omega (arith, lay-g (enumEntry st (keyed s p)) (st .top) l .up, lay-g (infoNumbers (enumInfo (st .types) n)) t₁ l₁ .up))
+              A .in-order .below .at z a d
+              ∙ A .values .below .at z a (omega (arith, lay-g (enumEntry st (keyed s p)) (st .top) l .up, lay-g (infoNumbers (enumInfo (st .types) n)) t₁ l₁ .up))
               ∙ lay-g (infoNumbers (enumInfo (st .types) n)) t₁ l₁ .below z (omega (arith, lay-g (enumEntry st (keyed s p)) (st .top) l .up))
               ∙ lay-g (enumEntry st (keyed s p)) (st .top) l .below z d;
         }

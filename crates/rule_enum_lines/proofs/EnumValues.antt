@@ -1,9 +1,9 @@
 -- The entries of an enumeration's values: how they are laid, and what they add to the names.
-use mathlib.Core.Path.{_≡_, refl, sym, ap, _∙_}
+use mathlib.Core.Path.{_≡_, refl, sym, ap, subst, _∙_}
 use mathlib.Core.Bool.{Bool, true, false}
 use mathlib.Core.List.{List, [], _∷_, _++_, map}
 use mathlib.Core.Option.{some}
-use Prim.Native.Nat.{ℕ, suc, _+_, _*_, _-_, _/_, _%_, _<_, _≤_}
+use Prim.Native.Nat.{ℕ, zero, suc, _+_, _*_, _-_, _/_, _%_, _<_, _≤_}
 use native.Mathlib.Nat.{mod-eq-of-lt}
 use native.Mathlib.Omega.{arith}
 use borrow.Author.Tests.{lt-ltb, le-ltb, eq-eqb, ne-eqb}
@@ -27,9 +27,10 @@ use Rattle.law_theorems.proofs.LinesKeep.{find-fair}
 use Rattle.law_theorems.specs.LinesKeep.{AllFair, Fair, value}
 use Rattle.table_list.specs.Laid.{Laid}
 use Rattle.table_names.specs.Keys.{keyed}
-use Rattle.table_names.specs.Chain.{entries, Called}
+use Rattle.table_names.specs.Chain.{entries, Called, nameAt, keyAt, valuesBy, valuesBehind}
 use Rattle.table_names.proofs.Chained.{called-keyed}
-use Rattle.table_names.specs.Chained.{one-name, one-entry}
+use Rattle.table_names.specs.Chained.{Below, one-name, one-entry}
+use Rattle.table_order.specs.Ordered.{Ordered}
 use Rattle.table_scope.specs.declared.Scope.{Scope}
 use Rattle.rule_faults.specs.declared.Fault.{Fault}
 use Rattle.rule_faults.specs.declared.Fault.the-variants as fault
@@ -190,7 +191,7 @@ module _ (s l₀ : List ℕ) (kind newest n top at : ℕ) where
             let b : kind % 128 ≡ kind = mod-eq-of-lt k in
             let v : getD m place 0 ≡ keyed s y = E .at place (omega arith) (omega arith) ∙ ap (λ (j : ℕ). getD l′ j 0) (sym z) ∙ H .at 0 (omega arith) ∙ keyed-is in
             one-value (called-keyed s m place y (omega (arith, g .1)) v)
-            (E .at (place + 1) (omega arith) (omega arith) ∙ H .at 1 (omega arith) ∙ ap (λ (j : ℕ). 3 + 4 * j) b)
+            (let x : getD m (place + 1) 0 ≡ 3 + 4 * kind = E .at (place + 1) (omega arith) (omega arith) ∙ H .at 1 (omega arith) ∙ ap (λ (j : ℕ). 3 + 4 * j) b in ap (λ (j : ℕ). j % 512) x ∙ mod-eq-of-lt (omega arith))
             (E .at (place + 2) (omega arith) (omega arith) ∙ H .at 2 (omega arith))
             (E .at (place + 3) (omega arith) (omega arith) ∙ H .at 3 (omega arith) ∙ link-is ms c (omega (arith, R .fits))) W
 
@@ -237,48 +238,100 @@ lays-described l st name n q m L x hx t m′ M = record {
   list-is = M .left ∙ rw (hx, L .free, L .left) refl;
 }
 
-pub lays-enum : (s l : List ℕ) (st : State) (p at n name : ℕ) → name ≡ keyed s p → (q : Placed) (m : List ℕ) → LaysDescribed l st name n q m → (free : ℕ) (l′ : List ℕ)
-    → LaysValues s m (st .types) (st .scope .newest) n (q .top) at free l′ → LaysEnum s l st p at n (record { place = q .place; top = free }) l′
-lays-enum s l st p at n name e q m L free l′ W = record { values = rw (← e, ← L .top-is, ← L .list-is) W; place-is = rw (← e) (L .place-is) }
+pub lays-enum : (s l : List ℕ) (st : State) (p at n name : ℕ) → name ≡ keyed s p → (q : Placed) (m : List ℕ) → LaysDescribed l st name n q m → (free : ℕ) (k : List ℕ)
+    → LaysValues s m (st .types) (st .scope .newest) n (q .top) at free k → (l′ : List ℕ) → Ordered s k (st .top) n l′
+    → LaysEnum s l st p at n (record { place = q .place; top = free }) l′
+lays-enum s l st p at n name e q m L free k W l′ O = record { laid = k; values = rw (← e, ← L .top-is, ← L .list-is) W; in-order = O; place-is = rw (← e) (L .place-is) }
 
 pub adds-enum : (s l ts : List ℕ) (st : State) (p at n : ℕ) (q : Placed) (l′ : List ℕ) → LaysEnum s l st p at n q l′ → (ts′ : List ℕ) → ts′ ≡ set ts (st .types) (q .place)
     → (c : ℕ) → c ≡ counted n → (st′ : State) → st′ ≡ typeState st c (st .top) 1 (q .top) → (r : Lined) → r ≡ linedBy fault.Clear true st′ → AddsEnum s l ts st p at n r l′ ts′
 adds-enum s l ts st p at n q l′ L ts′ e c hc st′ hs r hr = record {
   free = q .top;
+  laid = L .laid;
   values = L .values;
+  in-order = L .in-order;
   places = e ∙ ap (λ (z : ℕ). set ts (st .types) z) (L .place-is);
   answer = hr ∙ ap (λ (z : State). linedBy fault.Clear true z) (hs ∙ ap (λ (z : ℕ). typeState st z (st .top) 1 (q .top)) hc);
 }
 
+-- ---- put in order they are the same values
+
+called-by : {s l l′ : List ℕ} {q : ℕ} {w : Name} → getD l′ q 0 ≡ getD l q 0 → Called s l q w → Called s l′ q w
+unfolding nameAt keyAt
+called-by e C = record { name-is = rw e (C .name-is); key-is = rw e (C .key-is) }
+
+pub values-ordered : {s l l′ : List ℕ} {p k kind newest : ℕ} → Ordered s l p k l′ → (i n : ℕ) (ws : List Name) → Values s l kind newest (p + 12 + 4 * i) n ws
+    → Values s l′ kind newest (p + 12 + 4 * i) n ws
+values-ordered O i n [] W = no-value
+values-ordered {s} {l} {l′} {p} {k} {kind} {newest} O i n (w ∷ ws) (one-value C a b d W) =
+    let z : p + 12 + 4 * i + 4 ≡ p + 12 + 4 * suc i = omega arith in
+    let first : getD l′ (p + 12 + 4 * i) 0 ≡ getD l (p + 12 + 4 * i) 0 = O .other (p + 12 + 4 * i) (λ e. omega arith) (λ j e. omega arith) in
+    let rest : Values s l′ kind newest (p + 12 + 4 * suc i) (n + 1) ws = values-ordered O (suc i) (n + 1) ws (subst (λ (q : ℕ). Values s l kind newest q (n + 1) ws) z W) in
+    one-value (called-by first C)
+    (O .sorts (p + 12 + 4 * i + 1) (λ e. omega arith) ∙ a)
+    (O .other (p + 12 + 4 * i + 2) (λ e. omega arith) (λ j e. omega arith) ∙ b)
+    (O .other (p + 12 + 4 * i + 3) (λ e. omega arith) (λ j e. omega arith) ∙ d)
+    (subst (λ (q : ℕ). Values s l′ kind newest q (n + 1) ws) (sym z) rest)
+
+-- each is linked to the next, the last to the newest entry before
+pub values-linked : {s l : List ℕ} {kind newest : ℕ} (place n : ℕ) (ws : List Name) → Values s l kind newest place n ws
+    → (i : ℕ) → suc i < length ws → getD l (place + 4 * i + 3) 0 ≡ place + 4 * suc i
+unfolding startOf
+values-linked place n [] W i h = absurd (omega arith)
+values-linked place n (w ∷ []) W i h = absurd (omega arith)
+values-linked {l = l} place n (w ∷ (v ∷ ws)) (one-value C a b d W) zero h =
+    let x : place + 4 * 0 + 3 ≡ place + 3 = omega arith in
+    let y : place + 4 ≡ place + 4 * 1 = omega arith in
+    ap (λ (j : ℕ). getD l j 0) x ∙ d ∙ y
+values-linked {l = l} place n (w ∷ (v ∷ ws)) (one-value C a b d W) (suc i) h =
+    let x : place + 4 + 4 * i + 3 ≡ place + 4 * suc i + 3 = omega arith in
+    let y : place + 4 + 4 * suc i ≡ place + 4 * suc (suc i) = omega arith in
+    ap (λ (j : ℕ). getD l j 0) (sym x) ∙ values-linked (place + 4) (n + 1) (v ∷ ws) W i (omega arith) ∙ y
+
+pub values-last : {s l : List ℕ} {kind newest : ℕ} (place n : ℕ) (w : Name) (ws : List Name) → Values s l kind newest place n (w ∷ ws)
+    → getD l (place + 4 * length ws + 3) 0 ≡ newest
+unfolding startOf
+values-last {l = l} place n w [] (one-value C a b d W) = let x : place + 4 * 0 + 3 ≡ place + 3 = omega arith in ap (λ (j : ℕ). getD l j 0) x ∙ d
+values-last {l = l} place n w (v ∷ ws) (one-value C a b d W) =
+    let x : place + 4 + 4 * length ws + 3 ≡ place + 4 * suc (length ws) + 3 = omega arith in
+    ap (λ (j : ℕ). getD l j 0) (sym x) ∙ values-last (place + 4) (n + 1) v ws W
+
 -- ---- what the entries add to the names
 
--- an entry that stands below the free place, before those that it links to
+-- an entry that a lookup passes as the chain does, before those that it links to
 pub chained-one : {s l : List ℕ} {scope : Scope} {top : ℕ} {σ : Environment} {bs : List ℕ} {ns : List (Name × NameSort)} (place : ℕ) (w : Name) (m : NameSort)
-    → 1 ≤ place → place + 4 ≤ top → Called s l place w → Means σ bs (meaningBy (getD l (place + 1) 0) (getD l (place + 2) 0)) m → getD l (place + 3) 0 ≡ scope .newest
+    → 1 ≤ place → Below s l top (suc (scope .count)) place → Called s l place w → Means σ bs (meaningBy (getD l (place + 1) 0) (getD l (place + 2) 0)) m → getD l (place + 3) 0 ≡ scope .newest
     → Chained s l scope top σ bs ns → Chained s l (scoped (suc (scope .count)) place) top σ bs ((w, m) ∷ ns)
 unfolding entries meaningAt
-chained-one {l = l} {scope = scope} place w m h g e M k C = record {
+chained-one {l = l} {scope = scope} place w m h B e M k C = record {
   names = rw k (one-name {w = w} {a = m} h e (record { means = rw (ne-eqb place 0 (λ z. omega arith)) M }) (C .names));
-  below = one-entry {n = scope .count} {p = place} g (rw k (C .below));
+  below = B;
 }
 
-pub value-means : (σ : Environment) (bs : List ℕ) (t n : ℕ) → Means σ bs (meaningBy (3 + 4 * t) n) (aValue (record { kind = t; value = pos n }))
+pub value-means : (σ : Environment) (bs : List ℕ) (t sort n : ℕ) → t < 128 → sort % 512 ≡ 3 + 4 * t → Means σ bs (meaningBy sort n) (aValue (record { kind = t; value = pos n }))
 unfolding meaningBy
-value-means σ bs t n =
-    let a : (3 + 4 * t) % 4 ≡ 3 = omega arith in
-    let b : (3 + 4 * t) / 4 ≡ t = omega arith in
+value-means σ bs t sort n h e =
+    let a : sort % 4 ≡ 3 = omega arith in
+    let c : sort / 4 ≡ t + 128 * (sort / 512) = omega arith in
+    let d : (t + 128 * (sort / 512)) % 128 ≡ t = omega arith in
+    let b : sort / 4 % 128 ≡ t = ap (λ (x : ℕ). x % 128) c ∙ d in
     rw (a, b) a-value
 
-pub chained-values : {s l : List ℕ} {scope : Scope} {top : ℕ} {σ : Environment} {bs : List ℕ} {ns : List (Name × NameSort)} (kind place n : ℕ) (ws : List Name)
+value-alone : (l : List ℕ) (t place : ℕ) → getD l (place + 1) 0 % 512 ≡ 3 + 4 * t → valuesBehind l place ≡ 0
+unfolding valuesBehind valuesBy
+value-alone l t place e = let a : getD l (place + 1) 0 % 4 ≡ 3 = omega arith in rw a refl
+
+pub chained-values : {s l : List ℕ} {scope : Scope} {top : ℕ} {σ : Environment} {bs : List ℕ} {ns : List (Name × NameSort)} (kind place n : ℕ) (ws : List Name) → kind < 128
     → Values s l kind (scope .newest) place n ws → 1 ≤ place → place + 4 * length ws ≤ top → Chained s l scope top σ bs ns
     → Chained s l (scoped (length ws + scope .count) (startOf ws place (scope .newest))) top σ bs (enumNames kind n ws ++ ns)
 unfolding startOf enumNames
-chained-values {s} {l} {scope} {top} {σ} {bs} {ns} kind place n [] W h g C = let c : scope .count ≡ 0 + scope .count = omega arith in record { names = rw (← c) (C .names); below = rw (← c) (C .below) }
-chained-values {s} {l} {scope} {top} {σ} {bs} {ns} kind place n (w ∷ ws) (one-value e a b k W) h g C =
+chained-values {s} {l} {scope} {top} {σ} {bs} {ns} kind place n [] q W h g C = let c : scope .count ≡ 0 + scope .count = omega arith in record { names = rw (← c) (C .names); below = rw (← c) (C .below) }
+chained-values {s} {l} {scope} {top} {σ} {bs} {ns} kind place n (w ∷ ws) q (one-value e a b k W) h g C =
     let c : suc (length ws + scope .count) ≡ suc (length ws) + scope .count = omega arith in
     let d : n + 1 ≡ suc n = omega arith in
-    let K : Chained s l (scoped (length ws + scope .count) (startOf ws (place + 4) (scope .newest))) top σ bs (enumNames kind (suc n) ws ++ ns) = rw d at (chained-values kind (place + 4) (n + 1) ws W (omega arith) (omega arith) C) in
-    let one = chained-one place w (aValue (record { kind = kind; value = pos n })) h (omega arith) e (rw (a, b) (value-means σ bs kind n)) k K in
+    let K : Chained s l (scoped (length ws + scope .count) (startOf ws (place + 4) (scope .newest))) top σ bs (enumNames kind (suc n) ws ++ ns) = rw d at (chained-values kind (place + 4) (n + 1) ws q W (omega arith) (omega arith) C) in
+    let B : Below s l top (suc (length ws + scope .count)) place = one-entry {n = length ws + scope .count} {p = place} (omega arith) (value-alone l kind place a) (rw k (K .below)) in
+    let one = chained-one {scope = scoped (length ws + scope .count) (startOf ws (place + 4) (scope .newest))} place w (aValue (record { kind = kind; value = pos n })) h B e (rw b (value-means σ bs kind (getD l (place + 1) 0) n q a)) k K in
     record { names = rw (← c) (one .names); below = rw (← c) (one .below) }
 
 -- ---- an enum value has one name

@@ -14,6 +14,7 @@ use Rattle.law_theorems.specs.Readings.{stackAt}
 use Rattle.code.specs.LayoutRegions.{Same, Room}
 use Rattle.table_names.specs.Keys.{keyed}
 use Rattle.table_names.specs.Chain.{Called}
+use Rattle.table_order.specs.Ordered.{Ordered}
 use Rattle.rule_faults.specs.declared.Fault.{Fault}
 use Rattle.rule_faults.specs.declared.Fault.the-variants as fault
 use Rattle.table_scope.specs.declared.Info.{Info}
@@ -31,10 +32,10 @@ unfoldable pub startOf : List Name → ℕ → ℕ → ℕ
 startOf [] place newest = newest
 startOf (w ∷ ws) place newest = place
 
--- the entries of the values of type `kind`, from a place and an ordinal on
+-- the entries of the values of type `kind`, from a place and an ordinal on; their second numbers may also put them in order
 pub data Values (s l : List ℕ) (kind newest : ℕ) : ℕ → ℕ → List Name → Type 0 where
   no-value : {place n : ℕ} → Values s l kind newest place n []
-  one-value : {place n : ℕ} {w : Name} {ws : List Name} → Called s l place w → getD l (place + 1) 0 ≡ 3 + 4 * kind → getD l (place + 2) 0 ≡ n
+  one-value : {place n : ℕ} {w : Name} {ws : List Name} → Called s l place w → getD l (place + 1) 0 % 512 ≡ 3 + 4 * kind → getD l (place + 2) 0 ≡ n
       → getD l (place + 3) 0 ≡ startOf ws (place + 4) newest → Values s l kind newest (place + 4) (n + 1) ws → Values s l kind newest place n (w ∷ ws)
 
 -- the link of value i of n, whose entry is at `place`
@@ -71,13 +72,18 @@ pub record LaysDescribed (l : List ℕ) (st : State) (name n : ℕ) (r : Placed)
   pub top-is : r .top ≡ enumDescribed st name n l .top
   pub list-is : l′ ≡ enumDescribed st name n l .list
 
+-- then put in order
 pub record LaysEnum (s l : List ℕ) (st : State) (p at n : ℕ) (r : Placed) (l′ : List ℕ) : Type 0 where
-  pub values : LaysValues s (enumDescribed st (keyed s p) n l .list) (st .types) (st .scope .newest) n (enumDescribed st (keyed s p) n l .top) at (r .top) l′
+  pub laid : List ℕ
+  pub values : LaysValues s (enumDescribed st (keyed s p) n l .list) (st .types) (st .scope .newest) n (enumDescribed st (keyed s p) n l .top) at (r .top) laid
+  pub in-order : Ordered s laid (st .top) n l′
   pub place-is : r .place ≡ enumNamed st (keyed s p) l .top
 
 pub record AddsEnum (s l ts : List ℕ) (st : State) (p at n : ℕ) (r : Lined) (l′ ts′ : List ℕ) : Type 0 where
   pub free : ℕ
-  pub values : LaysValues s (enumDescribed st (keyed s p) n l .list) (st .types) (st .scope .newest) n (enumDescribed st (keyed s p) n l .top) at free l′
+  pub laid : List ℕ
+  pub values : LaysValues s (enumDescribed st (keyed s p) n l .list) (st .types) (st .scope .newest) n (enumDescribed st (keyed s p) n l .top) at free laid
+  pub in-order : Ordered s laid (st .top) n l′
   pub places : ts′ ≡ set ts (st .types) (enumNamed st (keyed s p) l .top)
   pub answer : r ≡ linedBy fault.Clear true (typeState st (counted n) (st .top) 1 free)
 

@@ -19,6 +19,7 @@ use rule_type_lines::type_state;
 use table_list::put;
 use table_names::declare;
 use table_names::keys::name_number;
+use table_order::put_in_order;
 use table_scope::Info;
 use table_scope::TYPE_NUMBERS;
 use table_scope::ordinal_info;
@@ -132,6 +133,7 @@ fn lay_enum(text: &[u8], work: &mut [u32], st: State, p: usize, at: usize, n: u3
     let name = name_number(text, p);
     let first = lay_described(work, st, name, n);
     let free = lay_values(text, work, st.types, st.scope.newest, n, first.top, at);
+    put_in_order(text, work, st.top, n);
     Placed {
         place: first.place,
         top: free,

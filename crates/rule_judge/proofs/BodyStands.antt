@@ -22,7 +22,7 @@ use Rattle.law_theorems.proofs.Inversion.{some-inj}
 use Rattle.law_theorems.proofs.LinesKeep.{find-named, within-parameters}
 use Rattle.law_theorems.specs.LinesKeep.{Keeps, Fair, AllFair, type, var, proc, value, no-names as none-fair, name as one-fair}
 use Rattle.table_names.specs.Keys.{keyed}
-use Rattle.table_names.specs.Chain.{entries}
+use Rattle.table_names.specs.Chain.{entries, valuesBy}
 use Rattle.table_names.specs.Chained.{Names, no-names, one-name}
 use Rattle.table_scope.specs.declared.Scope.{Scope}
 use Rattle.table_scope.specs.declared.Meaning.{Meaning}
@@ -117,6 +117,10 @@ module _ {s l ts : List ℕ} {st : State} {k : Declared} {bs : List ℕ} (H : Ho
 
 -- ---- `proc`: after the body its name's entry
 
+proc-alone : (q more : ℕ) → valuesBy (2 + 4 * q) more ≡ 0
+unfolding valuesBy
+proc-alone q more = let a : (2 + 4 * q) % 4 ≡ 2 = omega arith in rw a refl
+
 proc-means : (σ : Environment) (bs : List ℕ) (p : ℕ) (us : List ℕ) → Means σ (bs ++ p ∷ []) (meaningBy (2 + 4 * length bs) p) (aProc (length bs) us)
 unfolding meaningBy
 proc-means σ bs p us =
@@ -185,7 +189,7 @@ module _ {s l ts : List ℕ} {st : State} {k : Declared} {bs : List ℕ} (H : Ho
 
   proc-chained : Chained s l″ (scoped (suc (st .scope .count)) t) (t + 4) (k′ .env) (bs ++ p ∷ []) ((w, aProc (length bs) us) ∷ k .env .names)
   unfolding declareLine
-  proc-chained = chained-more name (2 + 4 * length bs) p (aProc (length bs) us) inside (record { start = omega (arith, H .start); fits = low; long = omega (arith, long, H .long-list) }) (proc-means (k′ .env) bs p us)
+  proc-chained = chained-more name (2 + 4 * length bs) p (aProc (length bs) us) (proc-alone (length bs) p) inside (record { start = omega (arith, H .start); fits = low; long = omega (arith, long, H .long-list) }) (proc-means (k′ .env) bs p us)
       (chained-env {σ′ = k′ .env} (means-env (k .env) (k′ .env) (bs ++ p ∷ []) refl) (body-chain H E t up p))
 
   -- by the number that the definitions give it
@@ -204,7 +208,7 @@ module _ {s l ts : List ℕ} {st : State} {k : Declared} {bs : List ℕ} (H : Ho
   proc-scene =
       let S = scene-kept {top′ = t + 4} before (laid-same entry t l′ l″ refl) (omega arith) in
       record {
-        names = chain-told (scoped (suc (st .scope .count)) t) refl proc-names;
+        names = chain-told (scoped (suc (st .scope .count)) t) refl (proc-chained .below) proc-names;
         below = proc-chained .below;
         types = S .types;
         described = S .described;

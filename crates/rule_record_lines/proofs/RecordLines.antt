@@ -58,7 +58,7 @@ use Rattle.rule_pairs.specs.declared.Pairs.{Pairs}
 use Rattle.rule_declarations.proofs.Growing.{Chained, holds-chained, chained-env, chained-more, chained-kept}
 use Rattle.rule_declarations.proofs.FreeNames.{more-closed, bound-none, bound-nones}
 use Rattle.rule_declarations.proofs.VarLines.{clear-is, entry-fits, failed-told, value-find, new-one}
-use Rattle.rule_type_lines.proofs.TypeScenes.{by-number, types-more, means-same, type-means, type-proc, type-value, type-keeps, type-within, type-holds, lines-low}
+use Rattle.rule_type_lines.proofs.TypeScenes.{by-number, types-more, means-same, type-alone, type-means, type-proc, type-value, type-keeps, type-within, type-holds, lines-low}
 use Rattle.rule_type_lines.proofs.Aliases.{entry-is, lines-bounded}
 use Rattle.rule_type_lines.proofs.SimpleLines.{read-numbers, decl-fault, decl-clear, form-new, form-clear}
 use Rattle.rule_enum_lines.proofs.EnumLines.{form-end}
@@ -223,7 +223,7 @@ module _ {s l ts : List ℕ} {st : State} {k : Declared} {bs : List ℕ} (H : Ho
   record-chained = chained-kept same₁ (rw free-is (omega arith))
       (rw (← H .types-are) (subst (λ (ns : List ℕ). Chained s (lay ns (st .top) l .list) (scoped (suc (st .scope .count)) (st .top)) (st .top + 4) (ks .env) bs ((w, aType (st .types)) ∷ k .env .names))
       (sym (entry-is st (keyed s p) (st .types) (omega (arith, number-low))))
-      (chained-more p (4 * st .types) 0 (aType (st .types)) (omega (arith, H .short-text)) (record { start = H .start; fits = omega arith; long = H .long-list }) (type-means (ks .env) bs (st .types) 0)
+      (chained-more p (4 * st .types) 0 (aType (st .types)) (type-alone (st .types)) (omega (arith, H .short-text)) (record { start = H .start; fits = omega arith; long = H .long-list }) (type-means (ks .env) bs (st .types) 0)
       (chained-env {σ′ = ks .env} (means-same refl) (holds-chained H)))))
 
   told-types : (t : ℕ) → Tells s l′ (infoOf l′ (set ts (length Γ) t₁) t) (infoAt (Γ ++ (typeSortOf Γ (recordOf gs) ∷ [])) t) × EndsBelow (A .free) (infoOf l′ (set ts (length Γ) t₁) t)
@@ -236,7 +236,7 @@ module _ {s l ts : List ℕ} {st : State} {k : Declared} {bs : List ℕ} (H : Ho
   record-scene =
       let K = type-keeps H w (recordOf gs) f e g b sn nn in
       record {
-        names = chain-told (scoped (suc (st .scope .count)) (st .top)) refl (record-chained .names);
+        names = chain-told (scoped (suc (st .scope .count)) (st .top)) refl (record-chained .below) (record-chained .names);
         below = record-chained .below;
         types = λ t. told-types t .0;
         described = λ t. told-types t .1;

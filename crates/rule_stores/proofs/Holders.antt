@@ -50,7 +50,7 @@ unfolding meaningBy
 var-by sort more = go (eqb (sort % 4) 0) refl (eqb (sort % 4) 2)
   where
     go : (x : Bool) → eqb (sort % 4) 0 ≡ x → (z : Bool)
-        → eqb (sort % 4) 1 ≡ isVar (cond x (meaning.Type (sort / 4)) (cond (eqb (sort % 4) 1) (meaning.Var (sort / 4) (more % 128) (more / 128)) (cond z (meaning.Proc more) (meaning.Value (sort / 4) more))))
+        → eqb (sort % 4) 1 ≡ isVar (cond x (meaning.Type (sort / 4)) (cond (eqb (sort % 4) 1) (meaning.Var (sort / 4) (more % 128) (more / 128)) (cond z (meaning.Proc more) (meaning.Value (sort / 4 % 128) more))))
     go true e z = let q : sort % 4 ≡ 0 = eqb-true (sort % 4) 0 e in rw q refl
     go false e true = last (eqb (sort % 4) 1)
       where
@@ -59,7 +59,7 @@ var-by sort more = go (eqb (sort % 4) 0) refl (eqb (sort % 4) 2)
         last false = refl
     go false e false = last (eqb (sort % 4) 1)
       where
-        last : (b : Bool) → b ≡ isVar (cond b (meaning.Var (sort / 4) (more % 128) (more / 128)) (meaning.Value (sort / 4) more))
+        last : (b : Bool) → b ≡ isVar (cond b (meaning.Var (sort / 4) (more % 128) (more / 128)) (meaning.Value (sort / 4 % 128) more))
         last true = refl
         last false = refl
 

@@ -49,7 +49,7 @@ use Rattle.rule_declarations.specs.declared.State.{State}
 use Rattle.rule_declarations.specs.declared.Lined.{Lined}
 use Rattle.rule_declarations.proofs.Growing.{Chained, holds-chained, chained-env, chained-more, laid-same}
 use Rattle.rule_declarations.proofs.VarLines.{closed-map, one-staged, clear-is, entry-fits, failed-told, plain-fault, plain-clear, value-find}
-use Rattle.rule_type_lines.proofs.TypeScenes.{means-same, type-means, type-proc, type-value, type-keeps, type-holds}
+use Rattle.rule_type_lines.proofs.TypeScenes.{means-same, type-alone, type-means, type-proc, type-value, type-keeps, type-holds}
 
 -- ---- small functions
 
@@ -119,7 +119,7 @@ module _ {s l ts : List ℕ} {st : State} {k : Declared} {bs : List ℕ} (H : Ho
   alias-chained : Chained s la (scoped (suc (st .scope .count)) (st .top)) (st .top + 4) (ka .env) bs ((wa, aType kind) ∷ k .env .names)
   unfolding declareLine
   alias-chained = subst (λ (ns : List ℕ). Chained s (lay ns (st .top) l .list) (scoped (suc (st .scope .count)) (st .top)) (st .top + 4) (ka .env) bs ((wa, aType kind) ∷ k .env .names)) (sym (entry-is st (keyed s p) kind kind-low))
-      (chained-more p (4 * kind) 0 (aType kind) (omega (arith, H .short-text)) (record { start = H .start; fits = room; long = H .long-list }) (type-means (ka .env) bs kind 0)
+      (chained-more p (4 * kind) 0 (aType kind) (type-alone kind) (omega (arith, H .short-text)) (record { start = H .start; fits = room; long = H .long-list }) (type-means (ka .env) bs kind 0)
       (chained-env {σ′ = ka .env} (means-same refl) (holds-chained H)))
 
   alias-scene : Scene s la ts (scoped (suc (st .scope .count)) (st .top)) (st .top + 4) (ka .env) bs
@@ -127,7 +127,7 @@ module _ {s l ts : List ℕ} {st : State} {k : Declared} {bs : List ℕ} (H : Ho
   alias-scene =
       let K = scene-kept {top′ = st .top + 4} (H .scene) (laid-same (typeEntry st (keyed s p) kind) (st .top) l la refl) (omega arith) in
       record {
-        names = chain-told (scoped (suc (st .scope .count)) (st .top)) refl (alias-chained .names);
+        names = chain-told (scoped (suc (st .scope .count)) (st .top)) refl (alias-chained .below) (alias-chained .names);
         below = alias-chained .below;
         types = K .types;
         described = K .described;

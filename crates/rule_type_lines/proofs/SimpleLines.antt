@@ -59,7 +59,7 @@ use Rattle.rule_type_lines.specs.declared.Shaped.{Shaped}
 use Rattle.rule_declarations.proofs.Growing.{Chained, holds-chained, chained-env, chained-more, chained-kept, laid-same}
 use Rattle.rule_declarations.proofs.FreeNames.{none-wrong, form-is, more-closed, bound-none, bound-nones}
 use Rattle.rule_declarations.proofs.VarLines.{clear-is, entry-fits, failed-told, value-find, fault-new, fits-clear, lowest-name, fault-unknown}
-use Rattle.rule_type_lines.proofs.TypeScenes.{by-number, types-more, means-same, type-means, type-proc, type-value, type-keeps, type-within, type-holds}
+use Rattle.rule_type_lines.proofs.TypeScenes.{by-number, types-more, means-same, type-alone, type-means, type-proc, type-value, type-keeps, type-within, type-holds}
 use Rattle.rule_type_lines.proofs.Aliases.{entry-is, lines-bounded}
 
 -- ---- simple declarations
@@ -188,7 +188,7 @@ module _ {s l ts : List ℕ} {st : State} {k : Declared} {bs : List ℕ} (H : Ho
   simple-chained = chained-kept same₂ (omega arith)
       (rw (← H .types-are) (subst (λ (ns : List ℕ). Chained s (lay ns (st .top) l .list) (scoped (suc (st .scope .count)) (st .top)) (st .top + 4) (ks .env) bs ((ws, aType (st .types)) ∷ k .env .names))
       (sym (entry-is st (keyed s p) (st .types) (omega (arith, number-low))))
-      (chained-more p (4 * st .types) 0 (aType (st .types)) (omega (arith, H .short-text)) (record { start = H .start; fits = omega arith; long = H .long-list }) (type-means (ks .env) bs (st .types) 0)
+      (chained-more p (4 * st .types) 0 (aType (st .types)) (type-alone (st .types)) (omega (arith, H .short-text)) (record { start = H .start; fits = omega arith; long = H .long-list }) (type-means (ks .env) bs (st .types) 0)
       (chained-env {σ′ = ks .env} (means-same refl) (holds-chained H)))))
 
   told-types : (t : ℕ) → Tells s l₂ (infoOf l₂ (set ts (length Γ) t₁) t) (infoAt (Γ ++ (typeSortOf Γ d ∷ [])) t) × EndsBelow (st .top + 12) (infoOf l₂ (set ts (length Γ) t₁) t)
@@ -206,7 +206,7 @@ module _ {s l ts : List ℕ} {st : State} {k : Declared} {bs : List ℕ} (H : Ho
   simple-scene =
       let K = type-keeps H ws d f e r b sn nn in
       record {
-        names = chain-told (scoped (suc (st .scope .count)) (st .top)) refl simple-named;
+        names = chain-told (scoped (suc (st .scope .count)) (st .top)) refl (simple-chained .below) simple-named;
         below = simple-chained .below;
         types = rw (simple-extends Γ D) (λ t. told-types t .0);
         described = λ t. told-types t .1;

@@ -28,7 +28,7 @@ use Rattle.law_theorems.proofs.TypeTables.{old, new}
 use Rattle.table_scope.specs.declared.Scope.{Scope}
 use Rattle.table_scope.specs.declared.Meaning.{Meaning}
 use Rattle.table_scope.specs.Descriptions.{infoOf, readInfo, Tells, EndsBelow}
-use Rattle.table_names.specs.Chain.{entries}
+use Rattle.table_names.specs.Chain.{entries, valuesBy}
 use Rattle.table_names.specs.Chained.{Names}
 use Rattle.table_scope.specs.Scene.{Scene, Meant, Means, a-type, a-var, a-proc, a-value, meaningBy}
 use Rattle.table_scope.proofs.Kept.{scene-kept}
@@ -84,6 +84,11 @@ means-same e _ _ a-type = a-type
 means-same e _ _ (a-var {i} v h) = a-var {i = i} v (rw e h)
 means-same e _ _ a-proc = a-proc
 means-same e _ _ a-value = a-value
+
+-- no values stand behind its entry
+pub type-alone : (t : ℕ) → valuesBy (4 * t) 0 ≡ 0
+unfolding valuesBy
+type-alone t = let a : (4 * t) % 4 ≡ 0 = omega arith in rw a refl
 
 pub type-means : (σ : Environment) (bs : List ℕ) (t more : ℕ) → Means σ bs (meaningBy (4 * t) more) (aType t)
 unfolding meaningBy

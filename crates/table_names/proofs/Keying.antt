@@ -10,13 +10,48 @@ use Rattle.leaf_bytes.specs.Bytes.{small}
 use Rattle.law.specs.Base.{Name}
 use Rattle.law.specs.Trees.{wordAt}
 use Rattle.table_names.specs.Letters.{letterOf, byteAt}
-use Rattle.table_names.specs.Keys.{keyFrom, keyOf, keyed}
+use Rattle.table_names.specs.Keys.{keyWith, keyFrom, keyOf, keyed}
 use Rattle.table_names.proofs.Spelled.{Letters, ended, going, letters}
+
+-- ---- `key_with`
+
+module _ (k b : ℕ) where
+  count-low : (k / 4096 + 1) % 32 < 32
+  count-low = mod-lt (k / 4096 + 1) (omega arith)
+
+  letters-low : (k % 4096 * 39 + b) % 4096 < 4096
+  letters-low = mod-lt (k % 4096 * 39 + b) (omega arith)
+
+  before-low : k % 4096 < 4096
+  before-low = mod-lt k (omega arith)
+
+  pub with-product : Fits w32 (k % 4096 * 39)
+  with-product = let h = before-low in record { fits = omega arith }
+
+  pub with-letter : b < 256 → Fits w32 (k % 4096 * 39 + b)
+  with-letter g = let h = before-low in record { fits = omega arith }
+
+  pub with-count : Fits w32 k → Fits w32 (k / 4096 + 1)
+  with-count f = record { fits = omega (arith, f .fits) }
+
+  pub with-length : Fits w32 (4096 * ((k / 4096 + 1) % 32))
+  with-length = let h = count-low in record { fits = omega arith }
+
+  pub with-fits : Fits w32 ((k % 4096 * 39 + b) % 4096 + 4096 * ((k / 4096 + 1) % 32))
+  with-fits = let h = count-low in let g = letters-low in record { fits = omega arith }
+
+  pub with-is : (k % 4096 * 39 + b) % 4096 + 4096 * ((k / 4096 + 1) % 32) ≡ keyWith k b
+  unfolding keyWith
+  with-is = refl
+
+  with-below : keyWith k b < 131072
+  unfolding keyWith
+  with-below = let h = count-low in let g = letters-low in omega arith
 
 pub key-below : (k : ℕ) (w : Name) → k < 131072 → keyFrom k w < 131072
 unfolding keyFrom
 key-below k [] h = h
-key-below k (b ∷ w) h = key-below ((k * 39 + b) % 131072) w (mod-lt (k * 39 + b) (omega arith))
+key-below k (b ∷ w) h = key-below (keyWith k b) w (with-below k b)
 
 pub key-small : (w : Name) → keyOf w < 131072
 unfolding keyOf
@@ -25,11 +60,10 @@ key-small w = key-below 0 w (omega arith)
 -- `key_of`: from `at` to p the letters have made k
 pub record Keying (s : List ℕ) (at p k : ℕ) : Type 0 where
   pub same-key : keyOf (map small (wordAt s at)) ≡ keyFrom k (map small (wordAt s p))
-  pub small-key : k < 131072
 
 pub keying-start : (s : List ℕ) (at : ℕ) → Keying s at at 0
 unfolding keyOf
-keying-start s at = record { same-key = refl; small-key = omega arith }
+keying-start s at = record { same-key = refl }
 
 module _ (s : List ℕ) (at p k b x : ℕ) (K : Keying s at p k) (d : b ≡ byteAt s p) (e : x ≡ letterOf b) where
   letter-is : x ≡ letterOf (byteAt s p)
@@ -43,16 +77,13 @@ module _ (s : List ℕ) (at p k b x : ℕ) (K : Keying s at p k) (d : b ≡ byte
       go (ended _ f) = sym (K .same-key ∙ rw f refl)
       go (going _ n _) = absurd (n (sym letter-is ∙ z))
 
-  pub keying-on : ((x ≡ 0) → ⊥) → Keying s at (p + 1) ((k * 39 + x) % 131072)
+  pub keying-on : ((x ≡ 0) → ⊥) → (y : ℕ) → y ≡ keyWith k x → Keying s at (p + 1) y
   unfolding keyFrom
-  keying-on n = record { same-key = K .same-key ∙ go (letters s p); small-key = mod-lt (k * 39 + x) (omega arith) }
+  keying-on n y i = record { same-key = K .same-key ∙ go (letters s p) ∙ ap (λ (z : ℕ). keyFrom z (map small (wordAt s (p + 1)))) (sym i) }
     where
-      go : Letters s p → keyFrom k (map small (wordAt s p)) ≡ keyFrom ((k * 39 + x) % 131072) (map small (wordAt s (p + 1)))
+      go : Letters s p → keyFrom k (map small (wordAt s p)) ≡ keyFrom (keyWith k x) (map small (wordAt s (p + 1)))
       go (ended z _) = absurd (n (letter-is ∙ z))
       go (going _ _ f) = rw (f, letter-is) refl
-
-pub keying-small : (s : List ℕ) (at p k : ℕ) → Keying s at p k → k < 131072
-keying-small s at p k K = K .small-key
 
 pub ruleset keying-laws = (keying-end, keying-on)
 

@@ -1,4 +1,5 @@
 pub mod Spelled
 pub mod Keying
 pub mod Names
+pub mod Ordering
 pub mod Chained

@@ -2,7 +2,7 @@
 use mathlib.Core.Path.{_≡_, refl, sym, ap, _∙_}
 use mathlib.Core.Bool.{Bool, true, false, cond, _&&_}
 use mathlib.Core.List.{List, [], _∷_, map}
-use Prim.Native.Nat.{ℕ, zero, suc, _+_, _-_, _/_, _%_, _<_, _≤_}
+use Prim.Native.Nat.{ℕ, zero, suc, _+_, _*_, _-_, _/_, _%_, _<_, _≤_}
 use native.Mathlib.Omega.{arith}
 use borrow.Author.Tests.{eq-eqb, ne-eqb, eqb-true, eqb-false}
 use mir.Syntax.{w64}
@@ -14,7 +14,7 @@ use Rattle.law.specs.Base.{Name}
 use Rattle.law.specs.Trees.{wordAt}
 use Rattle.table_names.specs.Letters.{letterOf, byteAt, meets}
 use Rattle.table_names.specs.Keys.{keyOf}
-use Rattle.table_names.specs.Chain.{entries, nameAt, keyAt, placeIn, linkAt, fromKey, Seeks}
+use Rattle.table_names.specs.Chain.{nameAt, keyAt, isCalled, valuesBy, valuesBehind, firstValue, valueIn, orElse, soughtIn, placeBy, linkAt, pastValues, Seeks}
 use Rattle.table_names.specs.declared.letters.Meeting.{Meeting}
 use Rattle.table_names.specs.declared.letters.Meeting.the-variants as meeting
 use Rattle.table_names.specs.declared.Link.{Link}
@@ -29,12 +29,12 @@ pub compare-start : (s : List ℕ) (a b : ℕ) → Comparing s a b a b
 compare-start s a b = record { same-left = refl }
 
 -- what two letters' meeting tells of them
-data Met (a b : ℕ) : Meeting → Type 0 where
+pub data Met (a b : ℕ) : Meeting → Type 0 where
   same-met : a ≡ b → ((a ≡ 0) → ⊥) → Met a b meeting.Same
   end-met : a ≡ 0 → b ≡ 0 → Met a b meeting.End
   differ-met : eqb a b ≡ false → Met a b meeting.Differ
 
-met : (a b : ℕ) → Met a b (meets a b)
+pub met : (a b : ℕ) → Met a b (meets a b)
 unfolding meets
 met a b = go (eqb a b) refl (eqb a 0) refl
   where
@@ -91,102 +91,163 @@ module _ (s : List ℕ) (a b p q : ℕ) (C : Comparing s a b p q) (m : Meeting) 
 
 pub ruleset compare-laws = (compare-differ, compare-ended, compare-on)
 
--- ---- `link_at`
-pub link-there : (l : List ℕ) (p a b : ℕ) → a ≡ getD l p 0 → b ≡ getD l (p + 3) 0 → record { first = a; next = b } ≡ linkAt l p
-link-there l p a b e f = rw (e, f) refl
+-- ---- small functions
+
+pub values-type : (sort more : ℕ) → sort % 4 ≡ 0 → more ≡ valuesBy sort more
+unfolding valuesBy
+values-type sort more h = rw (eq-eqb (sort % 4) 0 h) refl
+
+pub values-other : (sort more : ℕ) → ((sort % 4 ≡ 0) → ⊥) → 0 ≡ valuesBy sort more
+unfolding valuesBy
+values-other sort more h = rw (ne-eqb (sort % 4) 0 h) refl
+
+pub ruleset values-by-laws = (values-type, values-other)
+
+pub link-there : (l : List ℕ) (p a b c d v : ℕ) → a ≡ getD l p 0 → b ≡ getD l (p + 1) 0 → c ≡ getD l (p + 2) 0 → v ≡ valuesBy b c → d ≡ getD l (p + 3) 0
+    → record { first = a; values = v; next = d } ≡ linkAt l p
+unfolding valuesBehind
+link-there l p a b c d v e f g h i = rw (h, e, f, g, i) refl
+
+pub past-there : (l : List ℕ) (n p v b c d x t : ℕ) → b ≡ firstValue p → c ≡ v - 1 → d ≡ n - 1 → x ≡ d - v → t ≡ getD l (b + 4 * c + 3) 0
+    → record { left = x; place = t } ≡ pastValues l n p v
+past-there l n p v b c d x t e f g h i = rw (h, g, i, e, f) refl
+
+module _ (s : List ℕ) (first key : ℕ) (w : Name) where
+  pub called-by-word : first / 32768 ≡ key → (b : Bool) → b ≡ same (map small (wordAt s (first % 32768))) w → b ≡ (eqb (first / 32768) key && same (map small (wordAt s (first % 32768))) w)
+  called-by-word h b e = rw (eq-eqb (first / 32768) key h) e
+
+  pub called-not : ((first / 32768 ≡ key) → ⊥) → false ≡ (eqb (first / 32768) key && same (map small (wordAt s (first % 32768))) w)
+  called-not h = rw (ne-eqb (first / 32768) key h) refl
+
+pub ruleset called-laws = (called-by-word, called-not)
+
+pub less-more : (n m : ℕ) → n ≤ m → 0 ≡ n - m
+less-more n m h = omega arith
+
+-- ---- the place by its own parts
+
+-- more steps than entries change nothing
+steps-enough : (s l : List ℕ) (w : Name) (f g n p : ℕ) → n ≤ f → n ≤ g → soughtIn s l w f n p ≡ soughtIn s l w g n p
+unfolding soughtIn
+steps-enough s l w zero zero n p h i = refl
+steps-enough s l w zero (suc g) n p h i = rw (eq-eqb n 0 (omega arith)) refl
+steps-enough s l w (suc f) zero n p h i = rw (eq-eqb n 0 (omega arith)) refl
+steps-enough s l w (suc f) (suc g) n p h i = rw (
+  steps-enough s l w f g (n - 1) (getD l (p + 3) 0) (omega arith) (omega arith),
+  steps-enough s l w f g (n - 1 - valuesBehind l p) (getD l (firstValue p + 4 * (valuesBehind l p - 1) + 3) 0) (omega arith) (omega arith),
+) refl
+
+pub place-none : (s l : List ℕ) (w : Name) (n p : ℕ) → n ≡ 0 → placeBy s l n p w ≡ 0
+unfolding placeBy soughtIn
+place-none s l w n p h = rw h refl
+
+pub place-on : (s l : List ℕ) (w : Name) (n p : ℕ) → 0 < n
+    → placeBy s l n p w
+    ≡ cond (isCalled s l p w) p
+    (cond (eqb (valuesBehind l p) 0) (placeBy s l (n - 1) (getD l (p + 3) 0) w)
+    (orElse (valueIn s l p (valuesBehind l p) w) (placeBy s l (n - 1 - valuesBehind l p) (getD l (firstValue p + 4 * (valuesBehind l p - 1) + 3) 0) w)))
+unfolding placeBy soughtIn
+place-on s l w zero p h = absurd (omega arith)
+place-on s l w (suc n) p h =
+    let a : suc n - 1 ≡ n = omega arith in
+    rw (
+      ne-eqb (suc n) 0 (λ e. omega arith),
+      a,
+      steps-enough s l w n (n - valuesBehind l p) (n - valuesBehind l p) (getD l (firstValue p + 4 * (valuesBehind l p - 1) + 3) 0) (omega arith) (omega arith),
+    ) refl
 
 -- ---- `seek`
-
--- the entry at p, then those before it
-entries-on : (l : List ℕ) (n p : ℕ) → 0 < n → entries n l p ≡ p ∷ entries (n - 1) l (getD l (p + 3) 0)
-unfolding entries
-entries-on l zero p h = absurd (omega arith)
-entries-on l (suc n) p h = let z : suc n - 1 ≡ n = omega arith in rw z refl
 
 -- p and the n entries from it on are still to be asked
 pub record Seeking (l : List ℕ) (k count newest n p : ℕ) : Type 0 where
   pub few : n ≤ count
-  pub rest : fromKey l k (entries count l newest) ≡ fromKey l k (entries n l p)
+  pub rest : (s : List ℕ) (w : Name) → keyOf w ≡ k → placeBy s l count newest w ≡ placeBy s l n p w
 
 module _ (l : List ℕ) (k count newest : ℕ) where
   pub seek-start : Seeking l k count newest count newest
-  seek-start = record { few = omega arith; rest = refl }
+  seek-start = record { few = omega arith; rest = λ _ _ _. refl }
 
   module _ (n p : ℕ) (S : Seeking l k count newest n p) where
     pub seek-none : n ≤ 0 → Seeks l k count newest (record { left = 0; place = 0 })
-    unfolding entries fromKey
-    seek-none h = let z : n ≡ 0 = omega arith in record { few = omega arith; from = sym (S .rest ∙ rw z refl) }
+    seek-none h = record { few = omega arith; from = λ s w e. S .rest s w e ∙ place-none s l w n p (omega arith) ∙ sym (place-none s l w 0 0 refl) }
+
+    pub seek-found : Seeks l k count newest (record { left = n; place = p })
+    seek-found = record { few = S .few; from = S .rest }
 
     module _ (h : 0 < n) (e : Link) (i : e ≡ linkAt l p) where
-      pub seek-found : e .first / 32768 ≡ k → Seeks l k count newest (record { left = n; place = p })
-      unfolding fromKey keyAt
-      seek-found f =
-          let g : eqb (keyAt l p) k ≡ true = eq-eqb _ _ (sym (ap (λ (x : Link). x .first / 32768) i) ∙ f) in
-          record { few = S .few; from = sym (S .rest ∙ rw (entries-on l n p h, g) refl) }
+      pub seek-on : ((e .first / 32768 ≡ k) → ⊥) → e .values ≤ 0 → Seeking l k count newest (n - 1) (e .next)
+      unfolding isCalled keyAt
+      seek-on f v = record { few = omega (arith, S .few); rest = λ s w g. S .rest s w g ∙ on s w g }
+        where
+          none-behind : valuesBehind l p ≡ 0
+          none-behind = let z : valuesBehind l p ≡ e .values = sym (ap (λ (x : Link). x .values) i) in omega arith
 
-      pub seek-on : ((e .first / 32768 ≡ k) → ⊥) → Seeking l k count newest (n - 1) (e .next)
-      unfolding fromKey keyAt
-      seek-on f =
-          let g : eqb (keyAt l p) k ≡ false = ne-eqb _ _ (λ z. f (ap (λ (x : Link). x .first / 32768) i ∙ z)) in
-          record { few = omega (arith, S .few); rest = S .rest ∙ rw (entries-on l n p h, g, i) refl }
+          on : (s : List ℕ) (w : Name) → keyOf w ≡ k → placeBy s l n p w ≡ placeBy s l (n - 1) (e .next) w
+          on s w g =
+              let c : eqb (getD l p 0 / 32768) (keyOf w) ≡ false = ne-eqb _ _ (λ z. f (ap (λ (x : Link). x .first / 32768) i ∙ z ∙ g)) in
+              place-on s l w n p h ∙ rw (c, eq-eqb (valuesBehind l p) 0 none-behind, i) refl
 
 pub ruleset seek-laws = (seek-none, seek-found, seek-on)
 
 -- ---- `lookup`
 
--- entries before the first with a name's key do not have the name
-place-from : (s l : List ℕ) (w : Name) (ps : List ℕ) → placeIn s l ps w ≡ placeIn s l (fromKey l (keyOf w) ps) w
-unfolding placeIn fromKey
-place-from s l w [] = refl
-place-from s l w (p ∷ ps) = go (eqb (keyAt l p) (keyOf w)) refl (place-from s l w ps)
-  where
-    go : (b : Bool) → eqb (keyAt l p) (keyOf w) ≡ b → placeIn s l ps w ≡ placeIn s l (fromKey l (keyOf w) ps) w → cond (b && same (nameAt s l p) w) p (placeIn s l ps w) ≡ placeIn s l (cond b (p ∷ ps) (fromKey l (keyOf w) ps)) w
-    go true e r = rw e refl
-    go false e r = r
-
--- the first of them has the key
-key-first : (l : List ℕ) (k : ℕ) (ps : List ℕ) {p : ℕ} {qs : List ℕ} → p ∷ qs ≡ fromKey l k ps → eqb (keyAt l p) k ≡ true
-unfolding fromKey
-key-first l k [] e = absurd (omega (arith, ap length e))
-key-first l k (x ∷ ps) {p} {qs} e = go (eqb (keyAt l x) k) refl (λ g. key-first l k ps g) e
-  where
-    go : (b : Bool) → eqb (keyAt l x) k ≡ b → (p ∷ qs ≡ fromKey l k ps → eqb (keyAt l p) k ≡ true) → p ∷ qs ≡ cond b (x ∷ ps) (fromKey l k ps) → eqb (keyAt l p) k ≡ true
-    go true f r g = ap (λ (z : List ℕ). eqb (keyAt l (getD z 0 0)) k) g ∙ f
-    go false f r g = r g
-
 -- the chain is walked from p on, where n entries are left
 pub record Walking (s l : List ℕ) (w : Name) (count newest n p : ℕ) : Type 0 where
-  pub same-place : placeIn s l (entries count l newest) w ≡ placeIn s l (entries n l p) w
+  pub same-place : placeBy s l count newest w ≡ placeBy s l n p w
 
 module _ (s l : List ℕ) (w : Name) (count newest : ℕ) where
   pub walk-start : Walking s l w count newest count newest
   walk-start = record { same-place = refl }
 
   module _ (n p : ℕ) (S : Walking s l w count newest n p) (key : ℕ) (k : key ≡ keyOf w) (r : Spot) (R : Seeks l key n p r) where
-    place-there : placeIn s l (entries count l newest) w ≡ placeIn s l (entries (r .left) l (r .place)) w
-    place-there = S .same-place ∙ place-from s l w (entries n l p) ∙ rw (← k, ← R .from) refl
+    place-there : placeBy s l count newest w ≡ placeBy s l (r .left) (r .place) w
+    place-there = S .same-place ∙ R .from s w (sym k)
 
-    pub walk-none : r .left ≡ 0 → 0 ≡ placeIn s l (entries count l newest) w
-    unfolding entries placeIn
-    walk-none h = sym (place-there ∙ rw h refl)
+    pub walk-none : r .left ≡ 0 → 0 ≡ placeBy s l count newest w
+    walk-none h = sym (place-there ∙ place-none s l w (r .left) (r .place) h)
 
-    module _ (h : (r .left ≡ 0) → ⊥) (e : Link) (i : e ≡ linkAt l (r .place)) (b : Bool) (t : b ≡ same (map small (wordAt s (e .first % 32768))) w) where
+    module _ (h : (r .left ≡ 0) → ⊥) (e : Link) (i : e ≡ linkAt l (r .place)) (b : Bool) (t : b ≡ (eqb (e .first / 32768) key && same (map small (wordAt s (e .first % 32768))) w)) where
       some-left : 0 < r .left
       some-left = omega (arith, h)
 
-      pub walk-less : r .left - 1 < n
-      walk-less = omega (arith, some-left, R .few)
+      values-are : e .values ≡ valuesBehind l (r .place)
+      values-are = ap (λ (x : Link). x .values) i
 
-      asked : placeIn s l (entries count l newest) w ≡ cond b (r .place) (placeIn s l (entries (r .left - 1) l (e .next)) w)
-      unfolding placeIn nameAt
-      asked =
-          let g : eqb (keyAt l (r .place)) (keyOf w) ≡ true = rw (← k) (key-first l key (entries n l p) (sym (entries-on l (r .left) (r .place) some-left) ∙ R .from)) in
-          place-there ∙ rw (entries-on l (r .left) (r .place) some-left, g, t, i) refl
+      asked : isCalled s l (r .place) w ≡ b
+      unfolding isCalled nameAt keyAt
+      asked = sym (t ∙ rw (i, k) refl)
 
-      pub walk-found : b ≡ true → r .place ≡ placeIn s l (entries count l newest) w
-      walk-found f = sym (asked ∙ rw f refl)
+      pub walk-found : b ≡ true → r .place ≡ placeBy s l count newest w
+      walk-found f = sym (place-there ∙ place-on s l w (r .left) (r .place) some-left ∙ rw (asked, f) refl)
 
-      pub walk-on : b ≡ false → Walking s l w count newest (r .left - 1) (e .next)
-      walk-on f = record { same-place = asked ∙ rw f refl }
+      module _ (f : b ≡ false) where
+        pub walk-less : r .left - 1 < n
+        walk-less = omega (arith, some-left, R .few)
 
-pub ruleset walk-laws = (walk-none, walk-found, walk-on)
+        pub walk-on : e .values ≡ 0 → Walking s l w count newest (r .left - 1) (e .next)
+        walk-on v =
+            let z : eqb (valuesBehind l (r .place)) 0 ≡ true = eq-eqb _ 0 (sym values-are ∙ v) in
+            record { same-place = place-there ∙ place-on s l w (r .left) (r .place) some-left ∙ rw (asked, f, z, i) refl }
+
+        module _ (v : (e .values ≡ 0) → ⊥) (q : ℕ) (Q : key ≡ keyOf w → q ≡ valueIn s l (r .place) (e .values) w) where
+          behind : placeBy s l count newest w
+              ≡ orElse q (placeBy s l (r .left - 1 - e .values) (getD l (firstValue (r .place) + 4 * (e .values - 1) + 3) 0) w)
+          behind =
+              let z : eqb (valuesBehind l (r .place)) 0 ≡ false = ne-eqb _ 0 (λ g. v (values-are ∙ g)) in
+              place-there ∙ place-on s l w (r .left) (r .place) some-left ∙ rw (asked, f, z, ← values-are, ← Q k) refl
+
+          pub walk-value : 0 < q → q ≡ placeBy s l count newest w
+          unfolding orElse
+          walk-value g = sym (behind ∙ rw (ne-eqb q 0 (λ z. omega arith)) refl)
+
+          module _ (g : q ≤ 0) (x : Spot) (X : x ≡ pastValues l (r .left) (r .place) (e .values)) where
+            pub walk-past-less : x .left < n
+            walk-past-less = let z : x .left ≡ r .left - 1 - e .values = ap (λ (y : Spot). y .left) X in omega (arith, some-left, R .few)
+
+            pub walk-past : Walking s l w count newest (x .left) (x .place)
+            unfolding orElse
+            walk-past = let z : q ≡ 0 = omega arith in record { same-place = behind ∙ rw (eq-eqb q 0 z, X) refl }
+
+pub ruleset walk-less-laws = (walk-less, walk-past-less)
+
+pub ruleset walk-laws = (walk-none, walk-found, walk-on, walk-value, walk-past)

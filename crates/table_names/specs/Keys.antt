@@ -1,14 +1,18 @@
 -- The key of a name, a number of 17 bits: names whose keys differ are not the same.
 use mathlib.Core.List.{List, [], _∷_, map}
-use Prim.Native.Nat.{ℕ, _+_, _*_, _%_}
+use Prim.Native.Nat.{ℕ, _+_, _*_, _/_, _%_}
 use Rattle.leaf_bytes.specs.Bytes.{small}
 use Rattle.law.specs.Base.{Name}
 use Rattle.law.specs.Trees.{wordAt}
 
--- by the factor 39 no two names of up to three letters and digits have the same key, and each remainder by 256 is that of 130 to 141 of these names
+-- one letter more: 12 bits come from the letters, and no two names of up to two letters and digits have the same; 5 bits above them are how
+-- many letters there are
+unfoldable pub keyWith : ℕ → ℕ → ℕ
+keyWith k b = (k % 4096 * 39 + b) % 4096 + 4096 * ((k / 4096 + 1) % 32)
+
 unfoldable pub keyFrom : ℕ → Name → ℕ
 keyFrom k [] = k
-keyFrom k (b ∷ w) = keyFrom ((k * 39 + b) % 131072) w
+keyFrom k (b ∷ w) = keyFrom (keyWith k b) w
 
 unfoldable pub keyOf : Name → ℕ
 keyOf w = keyFrom 0 w

@@ -1,4 +1,5 @@
 pub mod Letters
 pub mod Keys
+pub mod Order
 pub mod Chain
 pub mod Chained

@@ -6,13 +6,25 @@ ghost use mathlib.Core.Path.{_≡_};
 ghost use mathlib.Core.List.{map};
 ghost use Rattle.leaf_bytes.specs.Bytes.{small};
 ghost use Rattle.law.specs.Trees.{wordAt};
-ghost use Rattle.table_names.specs.Keys.{keyOf, keyed};
+ghost use Rattle.table_names.specs.Keys.{keyWith, keyOf, keyed};
 
 // How many offsets a name may have: those of the longest text.
 pub const OFFSETS: u32 = TEXT_LENGTH as u32;
 
-// How many keys there are: an offset and a key fill the 32 bits of an entry's first number.
-const KEYS: u32 = 131072;
+// A key's last 12 bits come from the letters, the 5 before them are how many there are: an offset and a key fill the 32 bits of an entry's
+// first number, and no name has the key of one of another length.
+const LETTERS: u32 = 4096;
+
+// More than a name's letters.
+const LENGTHS: u32 = 32;
+
+// A key with one more letter.
+fn key_with(k: u32, x: u8) -> u32
+    ensures { λ r. ⌜ r ≡ keyWith k x ⌝ }
+{
+    let letters = (k % LETTERS * 39 + x as u32) % LETTERS;
+    letters + LETTERS * ((k / LETTERS + 1) % LENGTHS)
+}
 
 // The key of the word at an offset, case ignored.
 pub fn key_of(text: &[u8], offset: usize) -> u32
@@ -25,7 +37,7 @@ pub fn key_of(text: &[u8], offset: usize) -> u32
         if x == 0 {
             return k;
         }
-        k = (k * 39 + x as u32) % KEYS;
+        k = key_with(k, x);
         p += 1;
     }
 }

@@ -15,10 +15,9 @@ use Rattle.law.specs.Trees.{Trees, word, form, end, _then_, Run, first, wordAt}
 use Rattle.law_theorems.specs.Readings.{stackAt}
 use Rattle.law.specs.Types.{TypeInfo, infoAt}
 use Rattle.code.specs.LayoutRegions.{Same}
-use Rattle.table_names.specs.Keys.{keyOf}
-use Rattle.table_names.specs.Chain.{entries, nameAt, keyAt, placeIn}
-use Rattle.table_names.specs.Chained.{Below, no-entry, one-entry}
-use Rattle.table_names.proofs.Chained.{entries-kept, below-kept, below-higher}
+use Rattle.table_names.specs.Chain.{isCalled, placeIn}
+use Rattle.table_names.specs.Chained.{Below}
+use Rattle.table_names.proofs.Chained.{Within, none-within, one-within, below-place, below-within, is-called-kept, entries-kept, below-kept, below-higher}
 use Rattle.table_scope.specs.Descriptions.{integerInfo, booleanInfo, noInfo, readInfo, infoOf, fieldsAt, Tells, EndsBelow}
 use Rattle.table_scope.specs.declared.Scope.{Scope}
 use Rattle.table_scope.specs.Pairs.{afterLead, pairIn}
@@ -98,23 +97,20 @@ module _ {l l′ : List ℕ} {top : ℕ} (E : Same 0 top l′ l) where
 
   -- ---- names
 
-  place-kept : (s : List ℕ) (w : Name) {n p : ℕ} → Below l top n p
-      → meaningAt l′ (placeIn s l′ (entries n l p) w) ≡ meaningAt l (placeIn s l (entries n l p) w)
-  unfolding entries placeIn nameAt keyAt meaningAt
-  place-kept s w no-entry = refl
-  place-kept s w (one-entry {n} {p} h B) =
-      rw (E .at p (omega arith) (omega arith)) (go (eqb (getD l p 0 / 32768) (keyOf w) && same (map small (wordAt s (getD l p 0 % 32768))) w) (place-kept s w B))
+  place-kept : (s : List ℕ) (w : Name) {ps : List ℕ} → Within top ps → meaningAt l′ (placeIn s l′ ps w) ≡ meaningAt l (placeIn s l ps w)
+  unfolding placeIn meaningAt
+  place-kept s w none-within = refl
+  place-kept s w (one-within {p} {ps} h W) = rw (is-called-kept E s w p h) (go (isCalled s l p w) (place-kept s w W))
     where
-      go : (b : Bool)
-          → meaningAt l′ (placeIn s l′ (entries n l (getD l (p + 3) 0)) w) ≡ meaningAt l (placeIn s l (entries n l (getD l (p + 3) 0)) w)
-          → meaningAt l′ (cond b p (placeIn s l′ (entries n l (getD l (p + 3) 0)) w)) ≡ meaningAt l (cond b p (placeIn s l (entries n l (getD l (p + 3) 0)) w))
+      go : (b : Bool) → meaningAt l′ (placeIn s l′ ps w) ≡ meaningAt l (placeIn s l ps w)
+          → meaningAt l′ (cond b p (placeIn s l′ ps w)) ≡ meaningAt l (cond b p (placeIn s l ps w))
       go true r = meaning-at-kept p h
       go false r = r
 
-  module _ (s : List ℕ) (scope : Scope) (B : Below l top (scope .count) (scope .newest)) where
+  module _ (s : List ℕ) (scope : Scope) (B : Below s l top (scope .count) (scope .newest)) where
     declared-kept : (w : Name) → declaredIn s l′ scope w ≡ declaredIn s l scope w
     unfolding declaredIn
-    declared-kept w = rw (entries-kept E B) (place-kept s w B)
+    declared-kept w = rw (below-place (below-kept E B) w, below-place B w, entries-kept E B) (place-kept s w (below-within B))
 
     kind-kept : (ts : Trees Run) → kindOf s l′ scope ts ≡ kindOf s l scope ts
     unfolding kindOf

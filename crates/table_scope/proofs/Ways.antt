@@ -9,7 +9,7 @@ use lib.ListN.{getD}
 use Rattle.table_kinds.specs.declared.Class.{Class}
 use Rattle.table_kinds.specs.declared.Class.the-variants.{Integer, Boolean, Enum, Set, Whole}
 use Rattle.law.specs.Base.{Name}
-use Rattle.table_names.specs.Chain.{entries, placeIn}
+use Rattle.table_names.specs.Chain.{placeBy}
 use Rattle.table_scope.specs.Descriptions.{ordinalInfo, integerInfo, booleanInfo, noInfo, readInfo, infoOf}
 use Rattle.leaf_words.specs.declared.words.Word.{Word}
 use Rattle.law.specs.Trees.{Trees, Run, first}
@@ -93,7 +93,7 @@ module _ (sort more : ℕ) where
       unfolding meaningBy
       by-proc e = rw (ne-eqb (sort % 4) 0 a, ne-eqb (sort % 4) 1 b, eq-eqb (sort % 4) 2 e) refl
 
-      pub by-value : ((sort % 4 ≡ 2) → ⊥) → meaning.Value (sort / 4) more ≡ meaningBy sort more
+      pub by-value : ((sort % 4 ≡ 2) → ⊥) → meaning.Value (sort / 4 % 128) more ≡ meaningBy sort more
       unfolding meaningBy
       by-value c = rw (ne-eqb (sort % 4) 0 a, ne-eqb (sort % 4) 1 b, ne-eqb (sort % 4) 2 c) refl
 
@@ -101,7 +101,7 @@ pub ruleset by-laws = (by-type, by-var, by-proc, by-value)
 
 -- ---- `declared`
 
-module _ (s l : List ℕ) (scope : Scope) (w : Name) (p : ℕ) (e : p ≡ placeIn s l (entries (scope .count) l (scope .newest)) w) where
+module _ (s l : List ℕ) (scope : Scope) (w : Name) (p : ℕ) (e : p ≡ placeBy s l (scope .count) (scope .newest) w) where
   pub declared-none : p ≡ 0 → meaning.Unknown ≡ declaredIn s l scope w
   unfolding declaredIn meaningAt
   declared-none f = rw (sym e ∙ f) refl

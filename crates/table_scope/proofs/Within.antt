@@ -22,8 +22,8 @@ use Rattle.law_theorems.proofs.Inversion.{none-some, some-inj}
 use Rattle.law_theorems.proofs.LinesKeep.{within-types}
 use Rattle.law_theorems.specs.LinesKeep.{AllFair, name, var}
 use Rattle.table_names.specs.Chain.{entries, placeIn}
-use Rattle.table_names.specs.Chained.{Names}
-use Rattle.table_names.proofs.Chained.{Found, nothing, entry, found}
+use Rattle.table_names.specs.Chained.{Below, Names}
+use Rattle.table_names.proofs.Chained.{Found, nothing, entry, found, below-place}
 use Rattle.table_scope.specs.Pairs.{leadIn, afterLead, nextPair, pairIn}
 use Rattle.table_scope.specs.Scene.{meaningAt, declaredIn, kindOf, parameterOf, pairedOr, meaningIn, withPairs, Means, a-type, a-var, a-proc, a-value, Meant, Told, unknown, known, Scene}
 use Rattle.table_scope.specs.declared.Meaning.{Meaning}
@@ -45,10 +45,10 @@ paired-meaning : (s l : List ℕ) (scope : Scope) → ((scope .pairs ≡ 0) → 
 unfolding meaningIn
 paired-meaning s l scope n w = rw (ne-eqb (scope .pairs) 0 n) refl
 
-pub chain-told : {s l : List ℕ} (scope : Scope) {σ : Environment} {bs : List ℕ} → scope .pairs ≡ 0
+pub chain-told : {s l : List ℕ} (scope : Scope) {σ : Environment} {bs : List ℕ} {top : ℕ} → scope .pairs ≡ 0 → Below s l top (scope .count) (scope .newest)
     → Names s l (Meant σ bs l) (entries (scope .count) l (scope .newest)) (σ .names) → (w : Name) → Told σ bs (meaningIn s l scope w) (find (σ .names) w)
 unfolding declaredIn
-chain-told {s} {l} scope e N w = rw (plain-meaning s l scope e w) (told-by (placeIn s l (entries (scope .count) l (scope .newest)) w) (found N w))
+chain-told {s} {l} scope e B N w = rw (plain-meaning s l scope e w, below-place B w) (told-by (placeIn s l (entries (scope .count) l (scope .newest)) w) (found N w))
 
 -- ---- pairs in the text, and the parameters that they say
 

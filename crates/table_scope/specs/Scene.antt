@@ -16,7 +16,7 @@ use Rattle.law_theorems.specs.Readings.{stackAt}
 use Rattle.law.specs.Types.{infoAt, record?, sizeOf, Var, variable}
 use Rattle.law_theorems.specs.TypeTables.{Table}
 use Rattle.law_theorems.specs.LinesKeep.{AllFair}
-use Rattle.table_names.specs.Chain.{entries, placeIn}
+use Rattle.table_names.specs.Chain.{placeBy}
 use Rattle.table_names.specs.Chained.{Below}
 use Rattle.leaf_words.specs.Words.{wordOf}
 use Rattle.text_heads.specs.Heads.{atomOf}
@@ -30,7 +30,8 @@ use Rattle.table_scope.specs.declared.Meaning.the-variants as meaning
 use Rattle.table_scope.specs.declared.Scope.{Scope}
 
 -- ---- an entry's second and third numbers: the second is the sort, 0 to 3, and 4 times a type's, variable's or procedure's number; the
--- third a variable's type and 128 times its first cell, the place of a procedure's body, or an enum name's ordinal
+-- third a variable's type and 128 times its first cell, the place of a procedure's body, or an enum name's ordinal; an enum name's second
+-- number may also say which of its type's comes there in order (table_names, Chain)
 
 -- what these numbers mean
 unfoldable pub meaningBy : ℕ → ℕ → Meaning
@@ -38,7 +39,7 @@ meaningBy sort more =
     cond (eqb (sort % 4) 0) (meaning.Type (sort / 4))
     (cond (eqb (sort % 4) 1) (meaning.Var (sort / 4) (more % 128) (more / 128))
     (cond (eqb (sort % 4) 2) (meaning.Proc more)
-    (meaning.Value (sort / 4) more)))
+    (meaning.Value (sort / 4 % 128) more)))
 
 -- the meaning of the entry at p, which is 0 for none
 unfoldable pub meaningAt : List ℕ → ℕ → Meaning
@@ -46,7 +47,7 @@ meaningAt l p = cond (eqb p 0) meaning.Unknown (meaningBy (getD l (p + 1) 0) (ge
 
 -- the meaning of a name w among those that lines declare, and of the word at an offset
 unfoldable pub declaredIn : List ℕ → List ℕ → Scope → Name → Meaning
-declaredIn s l scope w = meaningAt l (placeIn s l (entries (scope .count) l (scope .newest)) w)
+declaredIn s l scope w = meaningAt l (placeBy s l (scope .count) (scope .newest) w)
 
 abbrev pub declaredHere : List ℕ → List ℕ → Scope → ℕ → Meaning
 declaredHere s l scope p = declaredIn s l scope (map small (wordAt s p))
@@ -117,7 +118,7 @@ pub record Meant (σ : Environment) (bs l : List ℕ) (p : ℕ) (m : NameSort) :
 
 pub record Scene (s l ts : List ℕ) (scope : Scope) (top : ℕ) (σ : Environment) (bs : List ℕ) : Type 0 where
   pub names : (w : Name) → Told σ bs (meaningIn s l scope w) (find (σ .names) w)
-  pub below : Below l top (scope .count) (scope .newest)
+  pub below : Below s l top (scope .count) (scope .newest)
   pub types : (k : ℕ) → Tells s l (infoOf l ts k) (infoAt (σ .types) k)
   pub described : (k : ℕ) → EndsBelow top (infoOf l ts k)
   pub table : Table (σ .types)

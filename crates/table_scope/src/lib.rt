@@ -164,7 +164,7 @@ fn meaning_by(sort: u32, more: u32) -> Meaning
     if sort % 4 == 2 {
         return Meaning::Proc(more);
     }
-    Meaning::Value(sort / 4, more)
+    Meaning::Value(sort / 4 % TYPE_NUMBERS, more)
 }
 
 // The meaning of the word at an offset among the names that lines declare.

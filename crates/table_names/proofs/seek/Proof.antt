@@ -14,11 +14,11 @@ Inv-loop work count newest key n₀ p₀ n p = Seeking work key count newest n p
 abbrev μ-loop : tie.MeasureT-loop
 μ-loop work count newest key n₀ p₀ n p = n
 
--- src/lib.rt:76:5
+-- src/lib.rt:97:5
 loop-holds : tie.Need-loop-holds Inv-loop μ-loop
 loop-holds c = seek-start _ _ _ _
 
--- src/lib.rt:76:5
+-- src/lib.rt:97:5
 loop-less : tie.Need-loop-less Inv-loop μ-loop
 loop-less c = omega arith
 
@@ -29,9 +29,10 @@ seek-spec =
     Inv-loop
     μ-loop
     loop-holds
-    (λ c κs. search needs)  -- link-at-requires src/lib.rt:77:13
-    (λ c. search seek-laws)  -- returns src/lib.rt:79:13
-    (λ c. search needs)  -- sub-n src/lib.rt:85:9
+    (λ c κs. search needs)  -- link-at-requires src/lib.rt:98:13
+    (λ c. search seek-laws)  -- returns src/lib.rt:100:13
+    (λ c. search seek-laws)  -- returns-2 src/lib.rt:103:13
+    (λ c. search needs)  -- sub-n src/lib.rt:106:9
     loop-less
-    (λ c. search seek-laws)  -- loop-again src/lib.rt:76:5
-    (λ c. search seek-laws))  -- returns-2 src/lib.rt:71:1
+    (λ c. search seek-laws)  -- loop-again src/lib.rt:97:5
+    (λ c. search seek-laws))  -- returns-3 src/lib.rt:92:1

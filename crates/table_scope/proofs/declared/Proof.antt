@@ -12,12 +12,12 @@ pub declared-spec : {M : Type 1} → statement M
 declared-spec =
     tie.close
     (tie.spec
-    (λ c κs. search needs)  -- lookup-requires src/lib.rt:173:9
-    (λ c. search declared-laws)  -- returns src/lib.rt:175:9
-    (λ c. search needs)  -- cast-p src/lib.rt:177:13
-    (λ c. search needs)  -- add-at src/lib.rt:178:25
-    (λ c κs. search needs)  -- at-requires src/lib.rt:178:16
-    (λ c. search needs)  -- add-at-2 src/lib.rt:178:42
-    (λ c κs. search needs)  -- at-requires-2 src/lib.rt:178:33
-    (λ c κs. search needs)  -- meaning-by-requires src/lib.rt:178:5
-    (λ c. search declared-laws))  -- returns-2 src/lib.rt:170:1
+    (λ c κs. search needs)  -- lookup-requires src/lib.rt:174:9
+    (λ c. search declared-laws)  -- returns src/lib.rt:176:9
+    (λ c. search needs)  -- cast-p src/lib.rt:178:13
+    (λ c. search needs)  -- add-at src/lib.rt:179:25
+    (λ c κs. search needs)  -- at-requires src/lib.rt:179:16
+    (λ c. search needs)  -- add-at-2 src/lib.rt:179:42
+    (λ c κs. search needs)  -- at-requires-2 src/lib.rt:179:33
+    (λ c κs. search needs)  -- meaning-by-requires src/lib.rt:179:5
+    (λ c. search declared-laws))  -- returns-2 src/lib.rt:171:1

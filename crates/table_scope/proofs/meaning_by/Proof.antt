@@ -8,7 +8,7 @@ pub meaning-by-spec : {M : Type 1} → statement M
 meaning-by-spec =
     tie.close
     (tie.spec
-    (λ c. search by-laws)  -- returns src/lib.rt:135:9
-    (λ c. search by-laws)  -- returns-2 src/lib.rt:138:9
-    (λ c. search by-laws)  -- returns-3 src/lib.rt:141:9
-    (λ c. search by-laws))  -- returns-4 src/lib.rt:131:1
+    (λ c. search by-laws)  -- returns src/lib.rt:159:9
+    (λ c. search by-laws)  -- returns-2 src/lib.rt:162:9
+    (λ c. search by-laws)  -- returns-3 src/lib.rt:165:9
+    (λ c. search by-laws))  -- returns-4 src/lib.rt:155:1
