@@ -12,12 +12,13 @@ use Rattle.law.specs.Syntax as Syntax
 use Rattle.law.specs.Trees.{nodes}
 use Rattle.law.specs.Forms.{Item}
 use Rattle.law_theorems.specs.FormsByDepth.{expr, target, stmt}
-use Rattle.law.specs.Types.{Types, Vars, ordinal?, sizeOf}
+use Rattle.law.specs.Types.{Types, Vars, ordinal?, set?, sizeOf}
 use Rattle.law.specs.Script.{Const, Expr, Exprs, Target, Stmt, Stmts, Arms, Body, const, read, var}
 use Rattle.law.specs.Environment.{Environment, NameSort, aProc, aType, aValue, aVar}
 use Rattle.law.specs.Names.{Reached, asExpr, atomOf, constantOf, exprOf, targetOf, exprsOf, stmtOf, stmtsOf, armsOf, bodyOf}
-use Rattle.law.specs.Code.{Code, load, assignOrdinal, assignWhole, Place, Codes, Act, Acts, Cases, Frame, BodyCode}
-use Rattle.law.specs.Elaborate.{Elaborated, Located, assigning, elabExpr, elabTarget, elabMembers, expects, elabLabels, elabArguments, elabStmt, elabStmts, elabArms, elabBody}
+use Rattle.law.specs.Code.{Code, load, assignOrdinal, assignCell, copyCells, Place, Codes, Act, Acts, Cases, Frame, BodyCode}
+use Rattle.law_theorems.proofs.Copying.{wholly-by}
+use Rattle.law.specs.Elaborate.{Elaborated, Located, assigning, copying, elabExpr, elabTarget, elabMembers, expects, elabLabels, elabArguments, elabStmt, elabStmts, elabArms, elabBody}
 use Rattle.code.specs.LayoutSize.{sizeLoad, sizeCode, sizePlace, sizeAct, sizeParameters, sizeBody}
 use Rattle.law_theorems.proofs.Inversion.{none-some, some-inj, both-some, bind-some, given-some}
 use Rattle.law_theorems.proofs.TextsAgree.{body-frame}
@@ -107,9 +108,9 @@ module _ (M : Measure) (σ : Environment) (Γ : Types) (Δ : Vars) where
   assigning-size : (n : ℕ) (w : Located) (c : Code) → M .act (assigning Γ Δ n w c) ≤ M .place (w .place) + M .code c + 10
   assigning-size n w c = go (ordinal? Γ (w .type)) _ _
     where
-      go : (b : Bool) (lo hi : ℤ) → M .act (cond b (assignOrdinal n (w .place) lo hi c) (assignWhole n (w .place) c)) ≤ M .place (w .place) + M .code c + 10
+      go : (b : Bool) (lo hi : ℤ) → M .act (cond b (assignOrdinal n (w .place) lo hi c) (cond (set? Γ (w .type)) (assignCell n (w .place) c) (copying n (w .place) c))) ≤ M .place (w .place) + M .code c + 10
       go true lo hi = M .of-ordinal n (w .place) lo hi c
-      go false lo hi = M .of-whole n (w .place) c
+      go false lo hi = wholly-by (λ a. M .act a ≤ M .place (w .place) + M .code c + 10) (set? Γ (w .type)) n (w .place) c (M .of-set-cell n (w .place) c) (λ q k e. rw e (M .of-copy n (w .place) q k))
 
   labels-room : (cs : List Syntax.Constant) (xs : List Const) (n : ℕ) (zs : List ℤ) → each (constantOf σ) cs ≡ some xs → elabLabels Γ Δ n xs ≡ some zs
       → M .labels zs ≤ 4 * length cs

@@ -11,9 +11,11 @@ use Rattle.leaf_integers.proofs.Order.{leZ-refl}
 use Rattle.leaf_integers.proofs.Ranges.{inside-both}
 use Rattle.law.specs.Base.{Name, find}
 use Rattle.law.specs.Code as C
-use Rattle.law.specs.Elaborate.{Elaborated, Located, elabArguments, elabArms, elabBody, elabExpr, elabMembers, elabStmt, elabStmts, elabTarget, expects}
+use Rattle.law.specs.Elaborate.{Elaborated, Located, copying, elabArguments, elabArms, elabBody, elabExpr, elabMembers, elabStmt, elabStmts, elabTarget, expects}
 use Rattle.law.specs.Environment.{Environment, NameSort, aProc, aType, aValue, aVar}
-use Rattle.law.specs.Machine.{storeCells}
+use Rattle.law.specs.Calculate.{is}
+use Rattle.law.specs.Chair.{placeCode}
+use Rattle.law.specs.Machine.{Store, storeCells}
 use Rattle.law.specs.Names.{Reached, armsOf, asExpr, atomOf, bodyOf, exprOf, exprsOf, stmtOf, stmtsOf, targetOf}
 use Rattle.law.specs.Rules.{allPlain, differ, keptArms, keptBody, keptStmt, keptStmts, labelsOf, looping, plainExpr}
 use Rattle.law.specs.Script as X
@@ -23,14 +25,15 @@ use Rattle.law_theorems.proofs.Inversion.{none-some, and-true, some-inj, both-s
 use Rattle.law_theorems.proofs.ValuesInRange.{ord-layout, own-host}
 use Rattle.law_theorems.specs.ValuesInRange.{Formed, Test}
 use Rattle.law_theorems.proofs.CodeSized.{Limits, for-cell, int-between, labels-sized, operation-sized, pick-int}
-use Rattle.law_theorems.proofs.ElaboratedSafe.{One, argument, one-boolean, one-integer, one-ordinal, one-set, operands, single-cells}
+use Rattle.law_theorems.proofs.ElaboratedSafe.{One, argument, one-boolean, one-integer, one-ordinal, one-set, operands, no-single, single-cells}
+use Rattle.law_theorems.proofs.Components.{Lying, target-lies, targets-aside, variable-lies}
 use Rattle.law_theorems.specs.LinesKeep.{Simple}
 use Rattle.law_theorems.proofs.ScriptCalls.{proc-is}
 use Rattle.law_theorems.proofs.Depths as Deep
 use Rattle.law_theorems.proofs.Depths.{DeepE, DeepEs, DeepT}
 use Rattle.law_theorems.proofs.StatementNumbers as Counted
 use Rattle.law_theorems.proofs.StatementNumbers.{Counted, CountedAll, CountedArms, CountedBody}
-use Rattle.code.specs.CodeReady.{Element, ReadyCode, literal, variable, at, lastNumber, makeSet, calculate, shortCut, calculate1, ReadyPlace, cell, index, shift, ReadyCodes, noCodes, _with_, ReadyAct, assignOrdinal, assignSet, copyCells, sequence, branchOn, whileLoop, forLoop, caseOf, callTo, raiseWith, noAct, ReadyActs, stop, _also_, ReadyCases, elseCase, noCase, oneCase, ReadyBody}
+use Rattle.code.specs.CodeReady.{Clear, Element, ReadyCode, literal, variable, at, lastNumber, makeSet, calculate, shortCut, calculate1, ReadyPlace, cell, index, shift, ReadyCodes, noCodes, _with_, ReadyAct, assignOrdinal, assignSet, copyCells, sequence, branchOn, whileLoop, forLoop, caseOf, callTo, raiseWith, noAct, ReadyActs, stop, _also_, ReadyCases, elseCase, noCase, oneCase, ReadyBody}
 
 -- with tables that are formed, and procedures whose parameters are of one cell
 module _ (σ : Environment) (xs : List Test) (𝓕 : Formed (σ .types) (σ .vars) xs) (𝓛 : Limits (σ .types) (σ .vars))
@@ -44,12 +47,16 @@ module _ (σ : Environment) (xs : List Test) (𝓕 : Formed (σ .types) (σ .var
   abbrev Sole : ℕ → Type 0
   Sole k = One Γ Δ xs 𝓕 k
 
+  -- where a place of type k lies
+  abbrev Spot : ℕ → C.Place → Type 0
+  Spot k p = (m : Store) (a : ℕ) → placeCode p m ≡ is a → Lying Γ Δ xs 𝓕 k a
+
   -- ---- an expression of kind k: of one cell, or the cells of a variable or another target
 
   data Valued : ℕ → C.Code → ℕ → Type 0 where
     single : {d : ℕ} {c : C.Code} {k : ℕ} → Sole k → ReadyCode d c → Valued d c k
-    cells : {d a k : ℕ} → a + sizeOf Γ k ≤ storeCells → Valued d (C.load (C.cell a) (sizeOf Γ k)) k
-    copied : {d : ℕ} {q : C.Place} {k : ℕ} → ReadyPlace d q (sizeOf Γ k) → Valued (suc d) (C.load q (sizeOf Γ k)) k
+    cells : {d a k : ℕ} → a + sizeOf Γ k ≤ storeCells → Spot k (C.cell a) → Valued d (C.load (C.cell a) (sizeOf Γ k)) k
+    copied : {d : ℕ} {q : C.Place} {k : ℕ} → ReadyPlace d q (sizeOf Γ k) → Spot k q → Valued (suc d) (C.load q (sizeOf Γ k)) k
 
   one-cell : (a n : ℕ) {d : ℕ} → n ≡ 1 → a + n ≤ storeCells → ReadyCode d (C.load (C.cell a) n)
   one-cell a n e l = rw e (variable {a = a} (omega arith))
@@ -62,8 +69,8 @@ module _ (σ : Environment) (xs : List Test) (𝓕 : Formed (σ .types) (σ .var
 
   one-of : {d k : ℕ} {c : C.Code} → Valued d c k → Sole k → ReadyCode d c
   one-of (single o c) s = c
-  one-of (cells {a = a} {k = k} l) s = one-cell a (sizeOf Γ k) (one-size k s) l
-  one-of (copied {k = k} q) s = one-place (sizeOf Γ k) (one-size k s) q
+  one-of (cells {a = a} {k = k} l z) s = one-cell a (sizeOf Γ k) (one-size k s) l
+  one-of (copied {k = k} q z) s = one-place (sizeOf Γ k) (one-size k s) q
 
   -- of a kind that was asked for
   boolean-of : {d : ℕ} {c : C.Code} (k : ℕ) → eqb 1 k ≡ true → Valued d c k → ReadyCode d c
@@ -73,13 +80,13 @@ module _ (σ : Environment) (xs : List Test) (𝓕 : Formed (σ .types) (σ .var
   ordinal-of n k e o v = one-of v (rw (← eqb-true n k e) (one-ordinal Γ Δ xs 𝓕 n o))
 
   -- what is read of a variable, of a place
-  read-cells : {d : ℕ} (b : Bool) (a t : ℕ) → ordinal? Γ t ≡ b → a + sizeOf Γ t ≤ storeCells → Valued d (C.load (C.cell a) (sizeOf Γ t)) (hostOf Γ t)
-  read-cells true a t o l = single (one-ordinal Γ Δ xs 𝓕 (hostOf Γ t) (𝓕 .hosts t o)) (one-cell a (sizeOf Γ t) (one-size t (one-ordinal Γ Δ xs 𝓕 t o)) l)
-  read-cells false a t o l = rw (own-host _ t _ o) (cells l)
+  read-cells : {d : ℕ} (b : Bool) (a t : ℕ) → ordinal? Γ t ≡ b → a + sizeOf Γ t ≤ storeCells → Spot t (C.cell a) → Valued d (C.load (C.cell a) (sizeOf Γ t)) (hostOf Γ t)
+  read-cells true a t o l z = single (one-ordinal Γ Δ xs 𝓕 (hostOf Γ t) (𝓕 .hosts t o)) (one-cell a (sizeOf Γ t) (one-size t (one-ordinal Γ Δ xs 𝓕 t o)) l)
+  read-cells false a t o l z = rw (own-host _ t _ o) (cells l z)
 
-  read-place : {d : ℕ} {p : C.Place} (b : Bool) (t : ℕ) → ordinal? Γ t ≡ b → ReadyPlace d p (sizeOf Γ t) → Valued (suc d) (C.load p (sizeOf Γ t)) (hostOf Γ t)
-  read-place true t o p = single (one-ordinal Γ Δ xs 𝓕 (hostOf Γ t) (𝓕 .hosts t o)) (one-place (sizeOf Γ t) (one-size t (one-ordinal Γ Δ xs 𝓕 t o)) p)
-  read-place false t o p = rw (own-host _ t _ o) (copied p)
+  read-place : {d : ℕ} {p : C.Place} (b : Bool) (t : ℕ) → ordinal? Γ t ≡ b → ReadyPlace d p (sizeOf Γ t) → Spot t p → Valued (suc d) (C.load p (sizeOf Γ t)) (hostOf Γ t)
+  read-place true t o p z = single (one-ordinal Γ Δ xs 𝓕 (hostOf Γ t) (𝓕 .hosts t o)) (one-place (sizeOf Γ t) (one-size t (one-ordinal Γ Δ xs 𝓕 t o)) p)
+  read-place false t o p z = rw (own-host _ t _ o) (copied p z)
 
   -- an array has elements, so that one fits
   element : (t : ℕ) → array? Γ t ≡ true → Element (infoAt Γ t .low) (infoAt Γ t .high) (sizeOf Γ (infoAt Γ t .element)) (sizeOf Γ t)
@@ -98,7 +105,7 @@ module _ (σ : Environment) (xs : List Test) (𝓕 : Formed (σ .types) (σ .var
 
     variable-ready : (i : ℕ) {r : Elaborated} → elabExpr Γ Δ (X.read (X.var i)) ≡ some r → Valued d (r .code) (r .kind)
     unfolding elabExpr
-    variable-ready i h = bind-some h λ w hw h. bind-some hw λ v hv hw. rw (← some-inj h, ← some-inj hw) (read-cells _ (v .base) (v .type) refl (𝓛 .vars i v hv))
+    variable-ready i h = bind-some h λ w hw h. bind-some hw λ v hv hw. rw (← some-inj h, ← some-inj hw) (read-cells _ (v .base) (v .type) refl (𝓛 .vars i v hv) (variable-lies Γ Δ xs 𝓕 i v hv))
 
     name-ready : (s : NameSort) {x : X.Expr} {r : Elaborated} → asExpr s ≡ some x → elabExpr Γ Δ x ≡ some r → Valued d (r .code) (r .kind)
     name-ready (aType t) h k = none-some h
@@ -119,7 +126,7 @@ module _ (σ : Environment) (xs : List Test) (𝓕 : Formed (σ .types) (σ .var
     ready-e : {d : ℕ} {e : S.Expr} → DeepE d e → (x : X.Expr) (r : Elaborated) → exprOf σ e ≡ some x → elabExpr Γ Δ x ≡ some r → Valued d (r .code) (r .kind)
     ready-e (Deep.const {c = c}) x r h k = atom-ready c h k
     ready-e (Deep.read g) x r h k = bind-some h λ u hu h. bind-some (rw (← some-inj h) at k) λ w hw k.
-        rw (← some-inj k) (read-place _ (w .type) refl (ready-t g u w hu hw))
+        rw (← some-inj k) (read-place _ (w .type) refl (ready-t g u w hu hw) (target-lies Γ Δ xs 𝓕 (u .target) w hw))
     ready-e Deep.errorNumber x r h k = rw (← some-inj (rw (← some-inj h) at k)) (single (one-integer Γ Δ xs 𝓕) lastNumber)
     ready-e (Deep.members es) x r h k = bind-some h λ n _ h. bind-some h λ ys hys h. bind-some (rw (← some-inj h) at k) λ cs hcs k. given-some k λ p k.
         rw (← k) (single (one-set Γ Δ xs 𝓕 n p) (makeSet (𝓛 .bases n p .0) (𝓛 .bases n p .1) (ready-m es ys _ cs hys hcs (𝓕 .hosts (infoAt Γ n .element) (𝓕 .bases n p)))))
@@ -176,24 +183,30 @@ module _ (σ : Environment) (xs : List Test) (𝓕 : Formed (σ .types) (σ .var
   ready-arguments (Deep._and_ e es) ys (t ∷ ts) s cs h k = bind-some h λ y hy h. bind-some h λ zs hzs h. both-some (rw (← some-inj h) at k) λ c ds hc hds k.
       rw (← some-inj k) (wanted-argument e _ t refl (s 0 (omega arith)) y c hy hc with ready-arguments es zs ts (λ j l. s (suc j) (omega arith)) ds hzs hds)
 
-  -- to a target that is no ordinal
-  putting-whole : {d : ℕ} {c : C.Code} (n k : ℕ) {p : C.Place} → n ≤ 4096 → ReadyPlace d p (sizeOf Γ k) → Valued (suc d) c k → ReadyAct d (C.assignWhole n p c)
-  putting-whole n k l p (single o c) = assignSet l (rw (single-cells _ o k _) at p) c
-  putting-whole n k l p (cells q) = copyCells l p (cell q)
-  putting-whole n k l p (copied q) = copyCells l p q
+  clear : (k : ℕ) {p q : C.Place} → Spot k p → Spot k q → Clear p q (sizeOf Γ k)
+  clear k y z = record { at = λ m a b e f. targets-aside Γ Δ xs 𝓕 (y m a e) (z m b f) }
 
-  putting : {d : ℕ} (b : Bool) (n : ℕ) (w : Located) (c : C.Code) → ordinal? Γ (w .type) ≡ b → n ≤ 4096 → ReadyPlace d (w .place) (sizeOf Γ (w .type)) → Valued (suc d) c (hostOf Γ (w .type))
-      → ReadyAct d (cond b (C.assignOrdinal n (w .place) (infoAt Γ (w .type) .low) (infoAt Γ (w .type) .high) c) (C.assignWhole n (w .place) c))
-  putting true n w c o l p v =
+  -- to a target that is no ordinal
+  putting-whole : {d : ℕ} {c : C.Code} (b : Bool) (n k : ℕ) {p : C.Place} → ordinal? Γ k ≡ false → set? Γ k ≡ b → n ≤ 4096 → ReadyPlace d p (sizeOf Γ k) → Spot k p → Valued (suc d) c k
+      → ReadyAct d (cond b (C.assignCell n p c) (copying n p c))
+  unfolding copying
+  putting-whole true n k o s l p z v = let u = one-set Γ Δ xs 𝓕 k s in assignSet l (rw (single-cells _ u k _) at p) (one-of v u)
+  putting-whole false n k o s l p z (single u c) = no-single _ o s u
+  putting-whole false n k o s l p z (cells q y) = copyCells l p (cell q) (clear k z y)
+  putting-whole false n k o s l p z (copied q y) = copyCells l p q (clear k z y)
+
+  putting : {d : ℕ} (b : Bool) (n : ℕ) (w : Located) (c : C.Code) → ordinal? Γ (w .type) ≡ b → n ≤ 4096 → ReadyPlace d (w .place) (sizeOf Γ (w .type)) → Spot (w .type) (w .place) → Valued (suc d) c (hostOf Γ (w .type))
+      → ReadyAct d (cond b (C.assignOrdinal n (w .place) (infoAt Γ (w .type) .low) (infoAt Γ (w .type) .high) c) (cond (set? Γ (w .type)) (C.assignCell n (w .place) c) (copying n (w .place) c)))
+  putting true n w c o l p z v =
       assignOrdinal l (rw (ord-layout _ (w .type) _ o) at p) (𝓛 .low (w .type)) (𝓛 .high (w .type)) (one-of v (one-ordinal Γ Δ xs 𝓕 (hostOf Γ (w .type)) (𝓕 .hosts (w .type) o)))
-  putting false n w c o l p v = putting-whole n (w .type) l p (rw (own-host _ (w .type) _ o) at v)
+  putting false n w c o l p z v = putting-whole _ n (w .type) o refl l p z (rw (own-host _ (w .type) _ o) at v)
 
   mutual
     unfolding stmtOf elabStmt keptStmt
 
     ready-s : {s : S.Stmt} → Counted 4096 s → (x : X.Stmt) (js : List ℕ) (a : C.Act) → stmtOf σ s ≡ some x → keptStmt x js ≡ true → elabStmt Γ Δ x ≡ some a → ReadyAct 31 a
     ready-s (Counted.assign n g e) x js a h p k = bind-some h λ u hu h. bind-some h λ y hy h. bind-some (rw (← some-inj h) at k) λ w hw k. bind-some k λ c hc k.
-        rw (← some-inj k) (putting _ _ w c refl (n .to) (ready-t g u w hu hw) (wanted e _ y c hy hc))
+        rw (← some-inj k) (putting _ _ w c refl (n .to) (ready-t g u w hu hw) (target-lies Γ Δ xs 𝓕 (u .target) w hw) (wanted e _ y c hy hc))
     ready-s (Counted.begin n ss) x js a h p k = bind-some h λ y hy h. bind-some (rw (← some-inj h) at k) λ b hb k.
         rw (← some-inj k) (sequence (n .to) (ready-b ss y js b hy (rw (← some-inj h) at p) hb))
     ready-s (Counted.ifElse n e s t) x js a h p k = bind-some h λ y hy h. bind-some h λ u hu h. bind-some h λ v hv h. both-some (rw (← some-inj h) at k) λ c b hc hb k. bind-some k λ f hf k.

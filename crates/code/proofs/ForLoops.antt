@@ -4,7 +4,7 @@ use mathlib.Core.List.{List, [], _∷_}
 use Prim.Native.Nat.{ℕ, suc, _+_, _*_, _≤_}
 use native.Mathlib.Omega.{arith}
 use lib.ListN.{length}
-use Rattle.law.specs.Code.{Act, assignOrdinal, assignWhole, sequence, branchOn, whileLoop, forLoop, caseOf, callTo, raiseWith, noAct, Acts, stop, _also_, Cases, elseCase, noCase, oneCase, BodyCode}
+use Rattle.law.specs.Code.{Act, assignOrdinal, assignCell, copyCells, sequence, branchOn, whileLoop, forLoop, caseOf, callTo, raiseWith, noAct, Acts, stop, _also_, Cases, elseCase, noCase, oneCase, BodyCode}
 use Rattle.code.proofs.Measure.{Measure, total}
 use Rattle.code.specs.ForLoops.{forsAct, forsActs, forsCases}
 
@@ -43,7 +43,8 @@ ofFors = record {
   no-labels = omega arith;
   one-label = λ z zs. omega arith;
   of-ordinal = λ n p lo hi c. omega arith;
-  of-whole = λ n p c. omega arith;
+  of-set-cell = λ n p c. omega arith;
+  of-copy = λ n p q k. omega arith;
   of-sequence = λ n bs. omega arith;
   of-branch = λ n c a b. omega arith;
   of-while = λ n c a. omega arith;

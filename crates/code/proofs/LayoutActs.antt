@@ -9,10 +9,11 @@ use borrow.Author.Tests.{ltb-true, ltb-false, ne-eqb}
 use lib.Dec.{eqb, ltb}
 use lib.IntN.{ℤ}
 use lib.ListN.{length, getD, List·getD-eq-default}
-use Rattle.law.specs.Code.{Code, Codes, Place, Act, assignOrdinal, assignWhole, sequence, branchOn, whileLoop, forLoop, caseOf, callTo, raiseWith, noAct, Acts, stop, _also_, Cases, elseCase, noCase, oneCase, BodyCode}
+use Rattle.law.specs.Elaborate.{copying}
+use Rattle.law.specs.Code.{Code, Codes, Place, Act, assignOrdinal, load, assignCell, copyCells, sequence, branchOn, whileLoop, forLoop, caseOf, callTo, raiseWith, noAct, Acts, stop, _also_, Cases, elseCase, noCase, oneCase, BodyCode}
 use Rattle.code.specs.Layout.{lay, link, bits, layLabels, layAct, layActs, layCases, flag, layFrame, layBody}
 use Rattle.code.specs.Readback.{actOp, actOpUnless, actOpAt, integerAt, labelsFrom, readLabels, actFrom, actsFrom, armFrom, casesFrom, readAct, readActs, readCases, frameOfBody, readBody, atPlaces, allAtPlaces, casesAtPlaces, bodyAtPlaces}
-use Rattle.code.specs.LayoutSize.{sizeLabels, sizeAct, sizeActs, sizeCases, sizeBody, LabelsFit, label-fits, ActFits, ordinal-fits, whole-fits, sequence-fits, branch-fits, while-fits, for-fits, case-fits, call-fits, raise-fits, ActsFit, also-fit, CasesFit, else-fits, one-case-fits, BodyFits}
+use Rattle.code.specs.LayoutSize.{sizeLabels, sizeAct, sizeActs, sizeCases, sizeBody, LabelsFit, label-fits, ActFits, ordinal-fits, cell-fits, copy-fits, sequence-fits, branch-fits, while-fits, for-fits, case-fits, call-fits, raise-fits, ActsFit, also-fit, CasesFit, else-fits, one-case-fits, BodyFits}
 use Rattle.code.proofs.LayoutRegions.{Lays, Chains, Has, Linked, lay-pos, lay-l, none-l, end-c, map-l, map-c, _next_, slot-l, link-c}
 use Rattle.code.proofs.LayoutCode.{signed-bits, first, CodeAt, CodesAt, PlaceAt, laid-code, laid-codes, laid-place}
 use Rattle.code.proofs.LayoutFrame.{FrameAt, laid-frame}
@@ -80,11 +81,18 @@ module _ (bodies : List ℕ) where
     read-ordinal {lo} {hi} h A C (ordinal-fits f i j g) (suc d) e =
         rw (act-op _ _ _ _ h, h .at 1 (omega arith), h .at 2 (omega arith), h .at 3 (omega arith), h .at 4 (omega arith), h .at 5 (omega arith), signed-bits lo i, signed-bits hi j, A .read f d (omega arith), C .read g d (omega arith))
 
-    read-whole : {n x y : ℕ} {a : Place} {c : Code} → Has (44 ∷ n ∷ x ∷ y ∷ []) p l → PlaceAt l x a → CodeAt l y c
-        → ActFits (length bodies) (assignWhole n a c) → (d : ℕ) → sizeAct (assignWhole n a c) ≤ d → readAct d l p ≡ assignWhole n a c
+    read-set : {n x y : ℕ} {a : Place} {c : Code} → Has (44 ∷ n ∷ x ∷ y ∷ []) p l → PlaceAt l x a → CodeAt l y c
+        → ActFits (length bodies) (assignCell n a c) → (d : ℕ) → sizeAct (assignCell n a c) ≤ d → readAct d l p ≡ assignCell n a c
     unfolding reading
-    read-whole h A C f zero e = absurd (omega arith)
-    read-whole h A C (whole-fits f g) (suc d) e =
+    read-set h A C f zero e = absurd (omega arith)
+    read-set h A C (cell-fits f g) (suc d) e =
+        rw (act-op _ _ _ _ h, h .at 1 (omega arith), h .at 2 (omega arith), h .at 3 (omega arith), A .read f d (omega arith), C .read g d (omega arith))
+
+    read-copy : {n x y k : ℕ} {a q : Place} → Has (52 ∷ n ∷ x ∷ y ∷ []) p l → PlaceAt l x a → CodeAt l y (load q k)
+        → ActFits (length bodies) (copyCells n a q k) → (d : ℕ) → sizeAct (copyCells n a q k) ≤ d → readAct d l p ≡ copyCells n a q k
+    unfolding reading copying
+    read-copy h A C f zero e = absurd (omega arith)
+    read-copy h A C (copy-fits f g) (suc d) e =
         rw (act-op _ _ _ _ h, h .at 1 (omega arith), h .at 2 (omega arith), h .at 3 (omega arith), A .read f d (omega arith), C .read g d (omega arith))
 
     read-raise : {n x : ℕ} {c : Code} → Has (51 ∷ n ∷ x ∷ []) p l → CodeAt l x c
@@ -180,8 +188,10 @@ module _ (bodies : List ℕ) where
     pub laid-act : (a : Act) (t : ℕ) (l : List ℕ) → Lays (sizeAct a) t l (layAct bodies a t l) (λ l′. ActAt l′ (layAct bodies a t l .pos) a)
     laid-act (assignOrdinal n p lo hi c) t l =
         map-l (laid-place p t l next laid-code c _ _ next lay-l _ _ _) (λ l′ h. record { read = λ f P N. read-ordinal (h .1) (h .0 .0) (h .0 .1) f })
-    laid-act (assignWhole n p c) t l =
-        map-l (laid-place p t l next laid-code c _ _ next lay-l _ _ _) (λ l′ h. record { read = λ f P N. read-whole (h .1) (h .0 .0) (h .0 .1) f })
+    laid-act (assignCell n p c) t l =
+        map-l (laid-place p t l next laid-code c _ _ next lay-l _ _ _) (λ l′ h. record { read = λ f P N. read-set (h .1) (h .0 .0) (h .0 .1) f })
+    laid-act (copyCells n p q k) t l =
+        map-l (laid-place p t l next laid-code (load q k) _ _ next lay-l _ _ _) (λ l′ h. record { read = λ f P N. read-copy (h .1) (h .0 .0) (h .0 .1) f })
     laid-act (sequence n bs) t l =
         map-l (slot-l (laid-acts bs t _ _) next lay-l _ _ _) (λ l′ h. record { read = λ f P N. read-sequence P N (h .1) (h .0 .1) f })
     laid-act (branchOn n c a b) t l =
@@ -255,7 +265,8 @@ module _ (bodies : List ℕ) where
   pub act-pos : (a : Act) (t : ℕ) (l : List ℕ) → layAct bodies a t l .pos ≤ layAct bodies a t l .top
   unfolding layAct
   act-pos (assignOrdinal n p lo hi c) t l = lay-pos _ _ _
-  act-pos (assignWhole n p c) t l = lay-pos _ _ _
+  act-pos (assignCell n p c) t l = lay-pos _ _ _
+  act-pos (copyCells n p q k) t l = lay-pos _ _ _
   act-pos (sequence n bs) t l = lay-pos _ _ _
   act-pos (branchOn n c a b) t l = lay-pos _ _ _
   act-pos (whileLoop n c a) t l = lay-pos _ _ _

@@ -12,7 +12,7 @@ use Rattle.law.specs.Code as C
 use Rattle.law.specs.Code.{BodyCode}
 use Rattle.law.specs.Operators.{Operation1}
 use Rattle.code.specs.Layout.{layBody, layBodies}
-use Rattle.code.specs.LayoutSize.{IsInteger, Fits1, negate-fits, not-fits, abs-fits, sqr-fits, odd-fits, ord-fits, card-fits, least-fits, greatest-fits, pred-fits, succ-fits, CodeFits, literal-fits, load-fits, last-fits, set-fits, calculate-fits, short-fits, calculate1-fits, PlaceFits, cell-fits, index-fits, shift-fits, CodesFit, none-fit, with-fit, LabelsFit, no-labels-fit, label-fits, ActFits, ordinal-fits, whole-fits, sequence-fits, branch-fits, while-fits, for-fits, case-fits, call-fits, raise-fits, no-act-fits, ActsFit, stop-fits, also-fit, CasesFit, else-fits, no-case-fits, one-case-fits, WantsFit, no-wants-fit, ranged-fits, set-want-fits, BodyFits, sizeBody, sizeBodies}
+use Rattle.code.specs.LayoutSize.{IsInteger, Fits1, negate-fits, not-fits, abs-fits, sqr-fits, odd-fits, ord-fits, card-fits, least-fits, greatest-fits, pred-fits, succ-fits, CodeFits, literal-fits, load-fits, last-fits, set-fits, calculate-fits, short-fits, calculate1-fits, PlaceFits, cell-fits, index-fits, shift-fits, CodesFit, none-fit, with-fit, LabelsFit, no-labels-fit, label-fits, ActFits, ordinal-fits, cell-fits, copy-fits, sequence-fits, branch-fits, while-fits, for-fits, case-fits, call-fits, raise-fits, no-act-fits, ActsFit, stop-fits, also-fit, CasesFit, else-fits, no-case-fits, one-case-fits, WantsFit, no-wants-fit, ranged-fits, set-want-fits, BodyFits, sizeBody, sizeBodies}
 use Rattle.law_theorems.specs.Bodies as Numbered
 use Rattle.law_theorems.specs.CodeCalls as Calls
 use Rattle.law_theorems.specs.CodeCalls.{CallsBody}
@@ -74,7 +74,8 @@ module _ {qs : ℕ → C.Frame} {k : ℕ} where
   mutual
     act-fits : {a : C.Act} → Sized.SizedAct a → Calls.Calls qs k a → ActFits k a
     act-fits (Sized.assignOrdinal n p a b c) h = ordinal-fits (place-fits p) (a .ok) (b .ok) (code-fits c)
-    act-fits (Sized.assignWhole n p c) h = whole-fits (place-fits p) (code-fits c)
+    act-fits (Sized.assignCell n p c) h = cell-fits (place-fits p) (code-fits c)
+    act-fits (Sized.copyCells n p q) h = copy-fits (place-fits p) (code-fits (Sized.load q))
     act-fits (Sized.sequence n bs) (Calls.sequence h) = sequence-fits (all-fit bs h)
     act-fits (Sized.branchOn n c a b) (Calls.branchOn h g) = branch-fits (code-fits c) (act-fits a h) (act-fits b g)
     act-fits (Sized.whileLoop n c a) (Calls.whileLoop h) = while-fits (code-fits c) (act-fits a h)

@@ -11,7 +11,7 @@ use Rattle.law.specs.Operators.{Operation, Operation1, intNegate, boolNot, intA
 use Rattle.law.specs.Types.{Types, facts}
 use Rattle.law.specs.Script.{Decl, Entry, alias, arrayOf, enum, newMain, newProc, newType, newVar, range, recordOf, setOf}
 use Rattle.law.specs.Environment.{Environment}
-use Rattle.law.specs.Code.{Code, literal, load, lastNumber, makeSet, calculate, shortCut, calculate1, Place, cell, index, shift, Codes, noCodes, _with_, Act, assignOrdinal, assignWhole, sequence, branchOn, whileLoop, forLoop, caseOf, callTo, raiseWith, noAct, Acts, stop, _also_, Cases, elseCase, noCase, oneCase, Want, ranged, anySet, Frame, BodyCode}
+use Rattle.law.specs.Code.{Code, literal, load, lastNumber, makeSet, calculate, shortCut, calculate1, Place, cell, index, shift, Codes, noCodes, _with_, Act, assignOrdinal, assignCell, copyCells, sequence, branchOn, whileLoop, forLoop, caseOf, callTo, raiseWith, noAct, Acts, stop, _also_, Cases, elseCase, noCase, oneCase, Want, ranged, anySet, Frame, BodyCode}
 
 -- ---- sizes
 
@@ -62,7 +62,8 @@ sizeLabels (z ∷ zs) = 2 + sizeLabels zs
 unfoldable mutual
   pub sizeAct : Act → ℕ
   sizeAct (assignOrdinal n p lo hi c) = sizePlace p + sizeCode c + 6
-  sizeAct (assignWhole n p c) = sizePlace p + sizeCode c + 4
+  sizeAct (assignCell n p c) = sizePlace p + sizeCode c + 4
+  sizeAct (copyCells n p q k) = sizePlace p + sizeCode (load q k) + 4
   sizeAct (sequence n bs) = 1 + sizeActs bs + 3
   sizeAct (branchOn n c a b) = sizeCode c + sizeAct a + sizeAct b + 5
   sizeAct (whileLoop n c a) = sizeCode c + sizeAct a + 4
@@ -143,7 +144,8 @@ mutual
   pub data ActFits (bodies : ℕ) : Act → Type 0 where
     ordinal-fits : {n : ℕ} {p : Place} {lo hi : ℤ} {c : Code} → PlaceFits p → IsInteger lo → IsInteger hi → CodeFits c
         → ActFits bodies (assignOrdinal n p lo hi c)
-    whole-fits : {n : ℕ} {p : Place} {c : Code} → PlaceFits p → CodeFits c → ActFits bodies (assignWhole n p c)
+    cell-fits : {n : ℕ} {p : Place} {c : Code} → PlaceFits p → CodeFits c → ActFits bodies (assignCell n p c)
+    copy-fits : {n k : ℕ} {p q : Place} → PlaceFits p → CodeFits (load q k) → ActFits bodies (copyCells n p q k)
     sequence-fits : {n : ℕ} {bs : Acts} → ActsFit bodies bs → ActFits bodies (sequence n bs)
     branch-fits : {n : ℕ} {c : Code} {a b : Act} → CodeFits c → ActFits bodies a → ActFits bodies b → ActFits bodies (branchOn n c a b)
     while-fits : {n : ℕ} {c : Code} {a : Act} → CodeFits c → ActFits bodies a → ActFits bodies (whileLoop n c a)

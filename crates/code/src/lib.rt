@@ -29,7 +29,7 @@ pub enum PlaceOp {
 // What a node of a statement is.
 pub enum ActOp {
     AssignOrdinal,
-    AssignWhole,
+    AssignCell, // of a set
     Sequence,
     Branch,
     While,
@@ -37,5 +37,6 @@ pub enum ActOp {
     Case,
     Call,
     Raise,
+    CopyCells, // of an array or a record
     Nothing, // place 0 too: the missing third part of an `if`
 }

@@ -1,10 +1,10 @@
-// Statements, 43 to 51. A part is the place of its node (0 of a missing statement), a bound its 32 bits.
+// Statements, 43 to 52. A part is the place of its node (0 of a missing statement), a bound its 32 bits.
 
 // An ordinal assigned: the statement's number, the place, the value, the bounds of the place's type.
 pub const ASSIGN: u32 = 43;
 
-// Any other value assigned: the statement's number, the place, the value.
-pub const ASSIGN_WHOLE: u32 = 44;
+// A set assigned: the statement's number, the place, the value.
+pub const ASSIGN_CELL: u32 = 44;
 
 // `begin`: the statement's number, the slot of the chain of its statements.
 pub const SEQUENCE: u32 = 45;
@@ -26,3 +26,6 @@ pub const CALL: u32 = 50;
 
 // `raise`: the statement's number, the exception's number.
 pub const RAISE: u32 = 51;
+
+// An array or a record copied: the statement's number, the place, the load of its source.
+pub const COPY_CELLS: u32 = 52;

@@ -29,6 +29,7 @@ use Rattle.law.specs.Store as Store
 use Rattle.law.specs.Whole as Whole
 use Rattle.law.specs.Rest as Rest
 use Rattle.law.specs.Parameters as Parameters
+use Rattle.law.specs.Copies as Copies
 use Rattle.law.specs.Print as Print
 
 unfoldable pub everything : Unit {0}
@@ -57,7 +58,7 @@ unfolding
     Environment.enumNames Environment.declNames Environment.within Environment.frameOf Environment.declareLine Names.typeOf Names.varOf
     Names.constantOf Names.atomOf Names.elementOf Names.fieldIn Names.exprOf Names.targetOf Names.exprsOf Names.stmtOf Names.stmtsOf
     Names.armsOf Names.bodyOf Names.isKnown Names.listedIn Names.distinct Names.noneKnown Names.newNames Names.fieldNames Names.declOf
-    Names.entryOf Elaborate.elabExpr Elaborate.elabTarget Elaborate.elabMembers Elaborate.expects Elaborate.elabLabels
+    Names.entryOf Elaborate.copying Elaborate.elabExpr Elaborate.elabTarget Elaborate.elabMembers Elaborate.expects Elaborate.elabLabels
     Elaborate.elabArguments Elaborate.elabStmt Elaborate.elabStmts Elaborate.elabArms Elaborate.elabBody Rules.plain Rules.allPlain
     Rules.labelled Rules.differ Rules.labelsOf Rules.looping Rules.plainExpr Rules.plainTarget Rules.plainExprs Rules.howMany
     Rules.keptStmt Rules.keptStmts Rules.keptArms Rules.keptBody Rules.keptDecl Rules.keptParameters Rules.keepsRules Ceilings.fieldSizes
@@ -70,7 +71,7 @@ unfolding
     Marking.markExpr Marking.markTarget Marking.markMembers Marking.markArguments Marking.markCondition Marking.markLabels
     Marking.markBounds Marking.markStmt Marking.markStmts Marking.markArms Store.cellsOk Store.faultOf Store.storeFault Whole.runBody
     Whole.markBody Whole.runAll Whole.markAll Whole.report Whole.lent Whole.onStore Whole.unless Whole.verdictOf Whole.runOf Whole.markOf
-    Whole.workAfter Whole.refusalWords Whole.refusalWord Rest.procsOf Rest.resume Parameters.runProcs Parameters.markProcs Print.decimal
-    Print.decimalOf Print.signedOf Print.row Print.outcome Print.cellValue Print.cells Print.show Print.scripted Print.runscript
-    Print.markscript
+    Whole.workAfter Whole.refusalWords Whole.refusalWord Rest.procsOf Rest.resume Parameters.runProcs Parameters.markProcs Copies.writes
+    Copies.allWritten Copies.timesWritten Print.decimal Print.decimalOf Print.signedOf Print.row Print.outcome Print.cellValue Print.cells
+    Print.show Print.scripted Print.runscript Print.markscript
 everything = tt

@@ -10,7 +10,7 @@ use Rattle.law.specs.Base.{_>>=_, both, given, pick}
 use Rattle.law.specs.Types.{Types, infoAt, Vars, variable, hostOf, sizeOf, ordinal?, set?, array?, baseOf, fieldOf}
 use Rattle.law.specs.Operators.{bothBooleans, operatorRule, functionRule}
 use Rattle.law.specs.Script.{Const, Expr, const, read, errorNumber, members, endOf, binary, shortCircuit, unary, Target, var, at, dot, Exprs, nil, _and_, Stmt, assign, begin, ifElse, while, for, case, call, raise, skip, Stmts, done, _next_, Arms, elseArm, noElse, arm, Body}
-use Rattle.law.specs.Code.{Code, literal, load, lastNumber, makeSet, calculate, shortCut, calculate1, Place, cell, index, shift, Codes, noCodes, _with_, Act, assignOrdinal, assignWhole, sequence, branchOn, whileLoop, forLoop, caseOf, callTo, raiseWith, noAct, Acts, stop, _also_, Cases, elseCase, noCase, oneCase, Frame, BodyCode}
+use Rattle.law.specs.Code.{Code, literal, load, lastNumber, makeSet, calculate, shortCut, calculate1, Place, cell, index, shift, Codes, noCodes, _with_, Act, assignOrdinal, assignCell, copyCells, sequence, branchOn, whileLoop, forLoop, caseOf, callTo, raiseWith, noAct, Acts, stop, _also_, Cases, elseCase, noCase, oneCase, Frame, BodyCode}
 
 -- an expression's kind and code; a target's type and place
 pub record Elaborated : Type 0 where
@@ -26,6 +26,17 @@ elaborated k c = record { kind = k; code = c }
 
 abbrev pub located : ℕ → Place → Located
 located t p = record { type = t; place = p }
+
+-- Document 02, Point 3: "a whole value goes from cell to cell". What an array or a record is given can only be read from another's cells: any
+-- other expression is of one cell
+unfoldable pub copying : ℕ → Place → Code → Act
+copying n p (load q k) = copyCells n p q k
+copying n p (literal z) = assignCell n p (literal z)
+copying n p lastNumber = assignCell n p lastNumber
+copying n p (makeSet lo hi cs) = assignCell n p (makeSet lo hi cs)
+copying n p (calculate o a b) = assignCell n p (calculate o a b)
+copying n p (shortCut q a b) = assignCell n p (shortCut q a b)
+copying n p (calculate1 o a) = assignCell n p (calculate1 o a)
 
 module _ (Γ : Types) where
   -- a constant is an ordinal of its kind
@@ -59,8 +70,11 @@ module _ (Γ : Types) where
     unfoldable pub expects : ℕ → Expr → Option Code
     expects k e = elabExpr e >>= λ x. given (eqb k (x .kind)) (x .code)
 
+    -- a set is one cell; an array or a record is copied from where it is read
     abbrev pub assigning : ℕ → Located → Code → Act
-    assigning n w c = cond (ordinal? Γ (w .type)) (assignOrdinal n (w .place) (infoAt Γ (w .type) .low) (infoAt Γ (w .type) .high) c) (assignWhole n (w .place) c)
+    assigning n w c =
+        cond (ordinal? Γ (w .type)) (assignOrdinal n (w .place) (infoAt Γ (w .type) .low) (infoAt Γ (w .type) .high) c)
+        (cond (set? Γ (w .type)) (assignCell n (w .place) c) (copying n (w .place) c))
 
     -- labels: all of the kind, and as numbers
     unfoldable pub elabLabels : ℕ → List Const → Option (List ℤ)

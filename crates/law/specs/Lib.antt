@@ -24,4 +24,5 @@ pub mod Rest
 pub mod Demands
 pub mod Parameters
 pub mod Counters
+pub mod Copies
 pub mod Print

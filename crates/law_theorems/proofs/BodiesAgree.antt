@@ -9,14 +9,15 @@ use lib.Dec.{eqb}
 use Rattle.law.specs.Base.{Name, pick}
 use Rattle.law.specs.Calculate.{Result, _>>=_, compute, compute1, equalZ, fails, is, isTrue, natOf, rangeError, stuck, tested}
 use Rattle.law.specs.Chair.{condition, evalCode, gatherCodes, matches, placeCode, runAct, runActs, runArguments, runCases}
-use Rattle.law.specs.Code.{Act, Acts, Cases, Code, Codes, Want, assignOrdinal, assignWhole}
-use Rattle.law.specs.Elaborate.{Elaborated, Located, assigning, elabArguments, elabArms, elabExpr, elabLabels, elabMembers, elabStmt, elabStmts, elabTarget, expects}
+use Rattle.law.specs.Code.{Act, Acts, Cases, Code, Codes, Want, assignOrdinal, assignCell}
+use Rattle.law.specs.Elaborate.{Elaborated, Located, assigning, copying, elabArguments, elabArms, elabExpr, elabLabels, elabMembers, elabStmt, elabStmts, elabTarget, expects}
 use Rattle.law.specs.Machine.{Answer, Procs, State, Store, branch, countUp, oneCell, procedureAt, readCells, shortCircuited, sole, step, storeOrdinal, storeWhole, withResult}
 use Rattle.law.specs.Marking.{TypedValue, markArguments, markArms, markBounds, markCondition, markExpr, markLabels, markMembers, markStmt, markStmts, markStore, markTarget, orStuck, placedAs, require, typedAs, typedPlace, typedValue, wanted}
 use Rattle.law.specs.Operators.{Fun, Op, Rule, Rule1, functionRule, operatorRule}
 use Rattle.law.specs.Script.{Arms, Const, Expr, Exprs, Stmt, Stmts, Target, _and_, _next_, arm, assign, at, begin, binary, call, case, const, done, dot, elseArm, endOf, errorNumber, for, ifElse, members, nil, noElse, raise, read, shortCircuit, skip, unary, var, while}
-use Rattle.law.specs.Types.{Field, Types, Var, Vars, array?, baseOf, fieldOf, hostOf, infoAt, ordinal?, sizeOf}
+use Rattle.law.specs.Types.{Field, Types, Var, Vars, array?, baseOf, fieldOf, hostOf, infoAt, ordinal?, set?, sizeOf}
 use Rattle.law_theorems.proofs.Inversion.{none-some, some-inj, both-some, bind-some, given-some, and-true}
+use Rattle.law_theorems.proofs.Copying.{wholly-run}
 
 -- ---- values with their kinds
 
@@ -103,10 +104,10 @@ putting-run : (Γ : Types) (Δ : Vars) (ps : Procs) (n : ℕ) (w : Located) (c :
 unfolding runAct
 putting-run Γ Δ ps n w c = go (ordinal? Γ (w .type))
   where
-    go : (b : Bool) → runAct ps (cond b (assignOrdinal n (w .place) (infoAt Γ (w .type) .low) (infoAt Γ (w .type) .high) c) (assignWhole n (w .place) c))
+    go : (b : Bool) → runAct ps (cond b (assignOrdinal n (w .place) (infoAt Γ (w .type) .low) (infoAt Γ (w .type) .high) c) (cond (set? Γ (w .type)) (assignCell n (w .place) c) (copying n (w .place) c)))
         ≡ (λ s. step s λ s′. withResult n s′ (evalCode c (s′ .store)) λ zs. withResult n s′ (placeCode (w .place) (s′ .store)) λ a. branch b (storeOrdinal n a (infoAt Γ (w .type) .low) (infoAt Γ (w .type) .high) (sole zs)) (storeWhole n a zs) s′)
     go true = refl
-    go false = refl
+    go false = wholly-run ps (set? Γ (w .type)) n (w .place) c
 
 cond-is : {A : Type 0} (b : Bool) (x y : A) → pick b (is x) (is y) ≡ is (pick b x y)
 unfolding pick

@@ -9,11 +9,12 @@ use lib.ListN.{length}
 use Rattle.law.specs.Code as C
 use Rattle.law.specs.Elaborate.{elabArguments, elabArms, elabBody, elabStmt, elabStmts}
 use Rattle.law.specs.Script as X
-use Rattle.law.specs.Types.{Types, Vars, ordinal?}
+use Rattle.law.specs.Types.{Types, Vars, ordinal?, set?}
 use Rattle.law_theorems.proofs.Inversion.{none-some, some-inj, both-some, bind-some, given-some}
+use Rattle.law_theorems.proofs.Copying.{wholly-by}
 use Rattle.law_theorems.specs.ScriptCalls as Calling
 use Rattle.law_theorems.specs.ScriptCalls.{Calling, CallingAll, CallingArms, CallingBody}
-use Rattle.law_theorems.specs.CodeCalls.{countCodes, Calls, CallsAll, CallsBody, CallsCases, _also_, assignOrdinal, assignWhole, branchOn, callTo, caseOf, elseCase, forLoop, noAct, noCase, oneCase, raiseWith, sequence, stop, whileLoop}
+use Rattle.law_theorems.specs.CodeCalls.{countCodes, Calls, CallsAll, CallsBody, CallsCases, _also_, assignOrdinal, assignCell, copyCells, branchOn, callTo, caseOf, elseCase, forLoop, noAct, noCase, oneCase, raiseWith, sequence, stop, whileLoop}
 
 -- ---- elaborated code
 
@@ -38,7 +39,7 @@ module _ (Γ : Types) (Δ : Vars) (qs : ℕ → C.Frame) (k : ℕ) where
     unfolding elabStmt
 
     act-calls : {s : X.Stmt} → Calling (Below qs k) s → (c : C.Act) → elabStmt Γ Δ s ≡ some c → Calls qs k c
-    act-calls Calling.assign c h = bind-some h λ w hw h. bind-some h λ d hd e. rw (← some-inj e) (cond-calls qs k (ordinal? Γ (w .type)) assignOrdinal assignWhole)
+    act-calls Calling.assign c h = bind-some h λ w hw h. bind-some h λ d hd e. rw (← some-inj e) (cond-calls qs k (ordinal? Γ (w .type)) assignOrdinal (wholly-by (Calls qs k) (set? Γ (w .type)) _ _ d assignCell (λ q m e. copyCells)))
     act-calls (Calling.begin ss) c h = bind-some h λ x hx e. rw (← some-inj e) (sequence (acts-call ss x hx))
     act-calls (Calling.ifElse a b) c h = both-some h λ d x hd hx h. bind-some h λ y hy e. rw (← some-inj e) (branchOn (act-calls a x hx) (act-calls b y hy))
     act-calls (Calling.while a) c h = both-some h λ d x hd hx e. rw (← some-inj e) (whileLoop (act-calls a x hx))
@@ -67,7 +68,8 @@ module _ {qs qs′ : ℕ → C.Frame} {k : ℕ} (same : (p : ℕ) → p < k → 
   mutual
     calls-also : {a : C.Act} → Calls qs k a → Calls qs′ k a
     calls-also assignOrdinal = assignOrdinal
-    calls-also assignWhole = assignWhole
+    calls-also assignCell = assignCell
+    calls-also copyCells = copyCells
     calls-also (sequence bs) = sequence (all-also bs)
     calls-also (branchOn a b) = branchOn (calls-also a) (calls-also b)
     calls-also (whileLoop a) = whileLoop (calls-also a)

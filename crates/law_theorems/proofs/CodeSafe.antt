@@ -137,8 +137,8 @@ module _ (xs : List Test) (qs : ℕ → C.Frame) where
     pub data SafeAct : C.Act → Type 0 where
       assignOrdinal : {n : ℕ} {p : C.Place} {lo hi i j : ℤ} {c : C.Code} → SafePlace xs p 1 → SafeCode xs c (ordinals i j) → Leaves xs qs (C.assignOrdinal n p lo hi c) → SafeAct (C.assignOrdinal n p lo hi c)
       -- of a set; of an array or a record, whose value can only be another's
-      assignSet : {n : ℕ} {p : C.Place} {lo hi : ℤ} {c : C.Code} → SafePlace xs p 1 → SafeCode xs c (sets lo hi) → Leaves xs qs (C.assignWhole n p c) → SafeAct (C.assignWhole n p c)
-      copyCells : {n s : ℕ} {p q : C.Place} → SafePlace xs p s → SafePlace xs q s → Leaves xs qs (C.assignWhole n p (C.load q s)) → SafeAct (C.assignWhole n p (C.load q s))
+      assignSet : {n : ℕ} {p : C.Place} {lo hi : ℤ} {c : C.Code} → SafePlace xs p 1 → SafeCode xs c (sets lo hi) → Leaves xs qs (C.assignCell n p c) → SafeAct (C.assignCell n p c)
+      copyCells : {n s : ℕ} {p q : C.Place} → SafePlace xs p s → SafePlace xs q s → Leaves xs qs (C.copyCells n p q s) → SafeAct (C.copyCells n p q s)
       sequence : {n : ℕ} {bs : C.Acts} → SafeActs bs → Leaves xs qs (C.sequence n bs) → SafeAct (C.sequence n bs)
       branchOn : {n : ℕ} {c : C.Code} {a b : C.Act} → SafeCode xs c booleans → SafeAct a → SafeAct b → Leaves xs qs (C.branchOn n c a b) → SafeAct (C.branchOn n c a b)
       whileLoop : {n : ℕ} {c : C.Code} {a : C.Act} → SafeCode xs c booleans → SafeAct a → Leaves xs qs (C.whileLoop n c a) → SafeAct (C.whileLoop n c a)

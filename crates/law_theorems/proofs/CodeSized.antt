@@ -15,7 +15,7 @@ use Rattle.leaf_integers.proofs.Ranges.{inside-both, inside-is}
 use Rattle.law.specs.Base.{Name, pick}
 use Rattle.law.specs.Code as C
 use Rattle.law.specs.Machine.{lentCells, storeCells}
-use Rattle.law.specs.Elaborate.{Elaborated, Located, elabArguments, elabArms, elabBody, elabExpr, elabLabels, elabMembers, elabStmt, elabStmts, elabTarget, expects}
+use Rattle.law.specs.Elaborate.{Elaborated, Located, copying, elabArguments, elabArms, elabBody, elabExpr, elabLabels, elabMembers, elabStmt, elabStmts, elabTarget, expects}
 use Rattle.law.specs.Environment.{Environment, frameOf, parameterTypes, wantOf}
 use Rattle.law.specs.Operators as O
 use Rattle.law.specs.Operators.{Fun, Operation, Operation1, Rule1, abs, card, functionRule, negate, notOf, odd, ord, pred, setmax, setmin, sqr, succ}
@@ -24,13 +24,14 @@ use Rattle.law.specs.Script as X
 use Rattle.law.specs.Types.{Field, Types, Var, Vars, fieldOf, infoAt, ordinal?, set?, sizeOf, variable}
 use Rattle.law_theorems.proofs.Inversion.{none-some, and-true, some-inj, both-some, bind-some, given-some}
 use Rattle.law_theorems.proofs.ValuesInRange.{ends-in, ord-layout}
+use Rattle.law_theorems.proofs.Copying.{wholly-by}
 use Rattle.law_theorems.specs.ValuesInRange.{InInt, Test, Formed}
 use Rattle.law_theorems.proofs.TypeSizes.{small-size}
 use Rattle.law_theorems.specs.TypeSizes.{SmallTypes}
 use Rattle.law_theorems.specs.StatementNumbers.{Number}
 use Rattle.law_theorems.proofs.ScriptNumbers as Within
 use Rattle.law_theorems.proofs.ScriptNumbers.{Within, WithinAll, WithinArms, WithinBody}
-use Rattle.law_theorems.specs.CodeSized.{anySet, InSet, SizedAct, SizedActs, SizedBody, SizedCases, SizedCode, SizedCodes, SizedFrame, SizedLabels, SizedOperation, SizedPlace, SizedWants, _also_, _with_, assignOrdinal, assignWhole, boolNot, branchOn, calculate, calculate1, callTo, caseOf, cell, elseCase, forLoop, index, intAbs, intNegate, intOdd, intSqr, label, lastNumber, literal, load, makeSet, noAct, noCase, noCodes, noLabels, noWants, oneCase, ordinalOf, predIn, raiseWith, ranged, sequence, setCard, setGreatest, setLeast, shift, shortCut, stop, succIn, whileLoop}
+use Rattle.law_theorems.specs.CodeSized.{anySet, InSet, SizedAct, SizedActs, SizedBody, SizedCases, SizedCode, SizedCodes, SizedFrame, SizedLabels, SizedOperation, SizedPlace, SizedWants, _also_, _with_, assignOrdinal, assignCell, copyCells, boolNot, branchOn, calculate, calculate1, callTo, caseOf, cell, elseCase, forLoop, index, intAbs, intNegate, intOdd, intSqr, label, lastNumber, literal, load, makeSet, noAct, noCase, noCodes, noLabels, noWants, oneCase, ordinalOf, predIn, raiseWith, ranged, sequence, setCard, setGreatest, setLeast, shift, shortCut, stop, succIn, whileLoop}
 
 -- a place's cells are at most those of a store
 pub place-cells : {p : C.Place} {n : ℕ} → SizedPlace p n → n ≤ storeCells
@@ -131,11 +132,14 @@ module _ (Γ : Types) (Δ : Vars) (𝓛 : Limits Γ Δ) where
       let q = and-true (plain l) (allPlain ls) p in
       both-some h λ x xs hx hxs e. given-some hx λ _ v. rw (← some-inj e, ← v) (label (record { ok = q .0 }) (labels-sized k ls (q .1) xs hxs))
 
+  of-load : {p : C.Place} {n : ℕ} → SizedCode (C.load p n) → SizedPlace p n
+  of-load (load p) = p
+
   -- of an ordinal's cell
   assign-sized : (b : Bool) (n : ℕ) (w : Located) (c : C.Code) → ordinal? Γ (w .type) ≡ b → Number 4096 n → SizedPlace (w .place) (sizeOf Γ (w .type)) → SizedCode c
-      → SizedAct (cond b (C.assignOrdinal n (w .place) (infoAt Γ (w .type) .low) (infoAt Γ (w .type) .high) c) (C.assignWhole n (w .place) c))
+      → SizedAct (cond b (C.assignOrdinal n (w .place) (infoAt Γ (w .type) .low) (infoAt Γ (w .type) .high) c) (cond (set? Γ (w .type)) (C.assignCell n (w .place) c) (copying n (w .place) c)))
   assign-sized true n w c o k p s = assignOrdinal k (rw (ord-layout _ (w .type) _ o) at p) (𝓛 .low (w .type)) (𝓛 .high (w .type)) s
-  assign-sized false n w c o k p s = assignWhole k p s
+  assign-sized false n w c o k p s = wholly-by SizedAct (set? Γ (w .type)) n (w .place) c (assignCell k p s) (λ q m e. copyCells k p (of-load (rw e at s)))
 
   pub for-cell : (i : ℕ) (v : Var) → variable Δ i ≡ some v → ordinal? Γ (v .type) ≡ true → v .base < storeCells
   for-cell i v h o = let l : v .base + 1 ≤ storeCells = rw (ord-layout _ (v .type) _ o) at (𝓛 .vars i v h) in omega arith

@@ -15,7 +15,7 @@ use Rattle.law.specs.Environment.{wantOf}
 use Rattle.law.specs.Machine.{sole}
 use Rattle.law.specs.Operators as O
 use Rattle.law.specs.Operators.{Fun, Op, Operation, Operation1, Rule, Rule1, abs, andBoth, atLeast, atMost, bothBooleans, bothIntegers, card, divide, equal, functionRule, greater, less, member, minus, modulo, negate, notOf, odd, operatorRule, orBoth, ord, plus, power, pred, rule, rule1, sameOrdinals, sameSets, setmax, setmin, sqr, succ, times, unequal}
-use Rattle.law.specs.Elaborate.{Elaborated, Located, elabArguments, elabArms, elabBody, elabExpr, elabMembers, elabStmt, elabStmts, elabTarget, elaborated, expects}
+use Rattle.law.specs.Elaborate.{Elaborated, Located, copying, elabArguments, elabArms, elabBody, elabExpr, elabMembers, elabStmt, elabStmts, elabTarget, elaborated, expects}
 use Rattle.law.specs.Script.{Arms, Body, Expr, Exprs, Stmt, Stmts, Target, _and_, _next_, arm, assign, at, begin, binary, call, case, const, done, dot, elseArm, endOf, errorNumber, for, ifElse, members, nil, noElse, raise, read, shortCircuit, skip, unary, var, while}
 use Rattle.law.specs.Types.{Shape, Types, Var, Vars, variable, array?, arrayShape, baseOf, cellsBy, cellsOf, hostBy, hostOf, sizeOf, infoAt, isOrdinal, isSet, ordinal?, ordinalShape, recordShape, setShape, set?}
 use Rattle.law_theorems.proofs.ValuesInRange.{wrong, Value-of, inside-wide, set-value, own-host, ord-layout, weaken, good-e, good-t, stored-all, no-ordinal}
@@ -48,6 +48,10 @@ single-set recordShape h = wrong h
 pub single-cells : (s : Shape) → Single s → (t : ℕ) (cs : List ℕ) → cellsBy s t cs ≡ t ∷ []
 single-cells ordinalShape an-ordinal t cs = refl
 single-cells setShape a-set t cs = refl
+
+pub no-single : {P : Type 0} (s : Shape) → isOrdinal s ≡ false → isSet s ≡ false → Single s → P
+no-single ordinalShape o t an-ordinal = wrong (sym o)
+no-single setShape o t a-set = wrong (sym t)
 
 abbrev kindBy : Shape → ℤ → ℤ → Kind
 kindBy ordinalShape lo hi = ordinals lo hi
@@ -370,15 +374,19 @@ module _ (Γ : Types) (Δ : Vars) (xs : List Test) (𝓕 : Formed Γ Δ xs) wher
     Suits p ts = Framed Γ xs ts (qs p)
 
     -- to a target that is no ordinal
-    putting-whole : {c : C.Code} (n k : ℕ) (p : C.Place) → ordinal? Γ k ≡ false → Either c k → SafePlace xs p (sizeOf Γ k) → Leaves xs qs (C.assignWhole n p c) → SafeAct xs qs (C.assignWhole n p c)
-    putting-whole n k p e (single o s) g l = assignSet (rw (single-cells _ o k _) at g) (rw (kind-set _ _ _ e) at s) l
-    putting-whole n k p e (copied q) g l = copyCells g q l
+    putting-whole : (b : Bool) {c : C.Code} (n k : ℕ) (p : C.Place) → ordinal? Γ k ≡ false → set? Γ k ≡ b → (b ≡ true → SafeCode xs c (sets (infoAt Γ k .low) (infoAt Γ k .high))) → Either c k
+        → SafePlace xs p (sizeOf Γ k) → Leaves xs qs (cond b (C.assignCell n p c) (copying n p c)) → SafeAct xs qs (cond b (C.assignCell n p c) (copying n p c))
+    unfolding copying
+    putting-whole true n k p o t s e g l = assignSet (rw (single-cells _ (one-set k t) k _) at g) (s refl) l
+    putting-whole false n k p o t s (single u v) g l = no-single _ o t u
+    putting-whole false n k p o t s (copied q) g l = copyCells g q l
 
     putting : (b : Bool) (n : ℕ) (g : Target) (w : Located) → elabTarget Γ Δ g ≡ some w → ordinal? Γ (w .type) ≡ b → (e : Expr) (c : C.Code) → expects Γ Δ (hostOf Γ (w .type)) e ≡ some c
-        → Leaves xs qs (cond b (C.assignOrdinal n (w .place) (infoAt Γ (w .type) .low) (infoAt Γ (w .type) .high) c) (C.assignWhole n (w .place) c))
-        → SafeAct xs qs (cond b (C.assignOrdinal n (w .place) (infoAt Γ (w .type) .low) (infoAt Γ (w .type) .high) c) (C.assignWhole n (w .place) c))
+        → Leaves xs qs (cond b (C.assignOrdinal n (w .place) (infoAt Γ (w .type) .low) (infoAt Γ (w .type) .high) c) (cond (set? Γ (w .type)) (C.assignCell n (w .place) c) (copying n (w .place) c)))
+        → SafeAct xs qs (cond b (C.assignOrdinal n (w .place) (infoAt Γ (w .type) .low) (infoAt Γ (w .type) .high) c) (cond (set? Γ (w .type)) (C.assignCell n (w .place) c) (copying n (w .place) c)))
     putting true n g w hw o e c hc l = assignOrdinal (rw (ord-layout _ (w .type) _ o) at (safe-t g w hw)) (ordinal-e e _ c hc (𝓕 .hosts (w .type) o)) l
-    putting false n g w hw o e c hc l = putting-whole n (w .type) (w .place) o (rw (own-host _ (w .type) _ o) at (expected-e e _ c hc)) (safe-t g w hw) l
+    putting false n g w hw o e c hc l = let h = rw (own-host _ (w .type) _ o) at hc in
+        putting-whole _ n (w .type) (w .place) o refl (λ t. set-e e (w .type) c h t) (expected-e e (w .type) c h) (safe-t g w hw) l
 
     leaves-s : (s : Stmt) (c : C.Act) → elabStmt Γ Δ s ≡ some c → Calling Suits s → Leaves xs qs c
     leaves-s s c h k = record { at = λ ps hp. run-s Γ Δ xs 𝓕 ps (hp .runs) s c h (calling-also (λ p ts f. rw (hp .frames p) f) k) }

@@ -4,6 +4,7 @@ pub mod Reading
 pub mod TreeDepth
 pub mod Balance
 pub mod FormsAgree
+pub mod Copying
 pub mod BodiesAgree
 pub mod TextsAgree
 pub mod Weights
@@ -30,8 +31,12 @@ pub mod CodeSafe
 pub mod Bodies
 pub mod StatementsNoted
 pub mod ElaboratedSafe
+pub mod WholeValues
+pub mod Components
+pub mod BeforeCopies
 pub mod Demand3
 pub mod DemandsHold
 pub mod ParametersHold
 pub mod CountersHold
+pub mod CopiesHold
 pub mod Instance

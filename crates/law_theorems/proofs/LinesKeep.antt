@@ -39,8 +39,8 @@ use Rattle.law_theorems.proofs.Inversion.{and-both}
 use Rattle.law_theorems.proofs.ScriptCalls.{body-calling}
 use Rattle.law_theorems.specs.ScriptCalls.{CallingBody}
 use Rattle.law_theorems.proofs.ValuesInRange.{here-trans, none-some, ord-layout, set-layout}
-use Rattle.law_theorems.specs.ValuesInRange.{Test, any, Here, Formed}
-use Rattle.law_theorems.proofs.TypeTables.{all-append, all-more, all-get, at-left, at-right, Valid, declared as table-declared, started, formed, old, new}
+use Rattle.law_theorems.specs.ValuesInRange.{Test, any, Here, Formed, Parted, before, behind, one}
+use Rattle.law_theorems.proofs.TypeTables.{all-append, all-more, all-get, at-left, at-right, Valid, declared as table-declared, parted-as, started, formed, old, new}
 use Rattle.law_theorems.specs.TypeTables.{All, AllIn, empty, more, Table, Laid}
 use Rattle.law_theorems.specs.LinesKeep as Keeping
 use Rattle.law_theorems.specs.LinesKeep.{AllFair, AllFormed, AllNames, Apart, Callee, Extends, Fair, Framed, Keeps, Known, Simple, Stand, a-frame, body, framesOf, name, no-bodies, no-frames, no-names, proc, storeTests, tests, type, value, var}
@@ -341,6 +341,35 @@ vars-last [] u P p k (suc i) v h = absurd (none-some h)
 vars-last (x ∷ Δ) u P p k zero v h = k zero v h
 vars-last (x ∷ Δ) u P p k (suc i) v h = vars-last Δ u P p (λ j. k (suc j)) i v h
 
+-- one more variable, behind the others
+last-apart : (Γ : Types) (Δ : Vars) (u : Var) → ((i : ℕ) (v : Var) → variable Δ i ≡ some v → v .base + sizeOf Γ (v .type) ≤ u .base)
+    → ((i j : ℕ) (v w : Var) → variable Δ i ≡ some v → variable Δ j ≡ some w → Parted Γ (v .base) (v .type) (w .base) (w .type))
+    → (i j : ℕ) (v w : Var) → variable (Δ ++ (u ∷ [])) i ≡ some v → variable (Δ ++ (u ∷ [])) j ≡ some w → Parted Γ (v .base) (v .type) (w .base) (w .type)
+last-apart Γ Δ u e s i j v w h k =
+    vars-last Δ u (λ v. (j : ℕ) (w : Var) → variable (Δ ++ (u ∷ [])) j ≡ some w → Parted Γ (v .base) (v .type) (w .base) (w .type))
+    (vars-last Δ u (λ w. Parted Γ (u .base) (u .type) (w .base) (w .type)) (one refl refl) (λ j w f. behind (e j w f)))
+    (λ i v f. vars-last Δ u (λ w. Parted Γ (v .base) (v .type) (w .base) (w .type)) (before (e i v f)) (λ j w g. s i j v w f g)) i v h j w k
+
+-- with more types
+more-apart : {Γ Γ′ : Types} (x : Extends Γ Γ′) (Δ : Vars) → ((i : ℕ) (v : Var) → variable Δ i ≡ some v → v .type < length Γ)
+    → ((i j : ℕ) (v w : Var) → variable Δ i ≡ some v → variable Δ j ≡ some w → Parted Γ (v .base) (v .type) (w .base) (w .type))
+    → (i j : ℕ) (v w : Var) → variable Δ i ≡ some v → variable Δ j ≡ some w → Parted Γ′ (v .base) (v .type) (w .base) (w .type)
+more-apart x Δ l s i j v w h k = parted-as (same-cells x (v .type) (l i v h)) (same-cells x (w .type) (l j w k)) (s i j v w h k)
+
+-- parameters lie one after another, behind all that may be lent
+within-apart : (Γ : Types) (σ : Environment) (ps : List (Name × ℕ)) → keptParameters Γ ps ≡ true
+    → ((i : ℕ) (v : Var) → variable (σ .vars) i ≡ some v → v .base + sizeOf Γ (v .type) ≤ lentCells + length (σ .parameters))
+    → ((i j : ℕ) (v w : Var) → variable (σ .vars) i ≡ some v → variable (σ .vars) j ≡ some w → Parted Γ (v .base) (v .type) (w .base) (w .type))
+    → (i j : ℕ) (v w : Var) → variable (within σ ps .vars) i ≡ some v → variable (within σ ps .vars) j ≡ some w → Parted Γ (v .base) (v .type) (w .base) (w .type)
+unfolding within keptParameters
+within-apart Γ σ [] k e s = s
+within-apart Γ σ (p ∷ ps) k e s =
+    let q = and-true (ordinal? Γ (p .1) || set? Γ (p .1)) (keptParameters Γ ps) k in
+    let more : length (σ .parameters ++ (p .1 ∷ [])) ≡ length (σ .parameters) + 1 = rw length-append refl in
+    within-apart Γ (withParameter σ p) ps (q .1)
+    (vars-last (σ .vars) _ (λ v. v .base + sizeOf Γ (v .type) ≤ lentCells + length (σ .parameters ++ (p .1 ∷ []))) (rw (sole-cell Γ (p .1) (q .0)) (omega (arith, more))) (λ i v h. let l = e i v h in omega (arith, more)))
+    (last-apart Γ (σ .vars) (record { type = p .1; base = lentCells + length (σ .parameters) }) e s)
+
 module _ (Γ : Types) (xs : List Test) where
   abbrev Stands : Var → Type 0
   Stands v = Here Γ xs (v .base) (cellsOf Γ (v .type))
@@ -417,7 +446,9 @@ text-tests k h = rw (store-tests-length (k .env .types) (k .cells) (k .env .para
 pub keeps-start : Keeps nothingDeclared
 keeps-start = record {
   table = started;
-  laid = λ xs S. record { found = λ i v h. absurd (none-some h) };
+  laid = λ xs S. record { found = λ i v h. absurd (none-some h); apart = λ i j v w h k. absurd (none-some h) };
+  ends = λ i v h. absurd (none-some h);
+  separate = λ i j v w h k. absurd (none-some h);
   cells = empty;
   parameters = empty;
   typed = λ i v h. absurd (none-some h);
@@ -437,7 +468,9 @@ type-keeps k h w t d e v s n =
     let less : (xs : List Test) → Stand (declareLine k (newType w d) s n) xs → Stand k xs = λ xs S. record { lent = here-less x (h .cells) (S .lent); own = here-less x (h .parameters) (S .own) } in
     record {
       table = table-declared (k .env .types) d v (h .table);
-      laid = λ xs S. record { found = λ i u hu. rw (same-cells x (u .type) (h .typed i u hu)) (here-same x (h .table .each (u .type) .inner (h .typed i u hu)) (h .laid xs (less xs S) .found i u hu)) };
+      laid = λ xs S. record { found = λ i u hu. rw (same-cells x (u .type) (h .typed i u hu)) (here-same x (h .table .each (u .type) .inner (h .typed i u hu)) (h .laid xs (less xs S) .found i u hu)); apart = more-apart x (k .env .vars) (h .typed) (h .separate) };
+      ends = λ i u hu. rw (same-cells x (u .type) (h .typed i u hu)) (h .ends i u hu);
+      separate = more-apart x (k .env .vars) (h .typed) (h .separate);
       cells = all-more (x .longer) (h .cells);
       parameters = all-more (x .longer) (h .parameters);
       typed = λ i u hu. let l = h .typed i u hu in omega (arith, x .longer);
@@ -449,6 +482,10 @@ type-keeps k h w t d e v s n =
       stored = h .stored;
     }
 
+var-separate : (k : Declared) → Keeps k → (t i j : ℕ) (v w : Var) → variable (k .env .vars ++ (record { type = t; base = length (k .cells) } ∷ [])) i ≡ some v
+    → variable (k .env .vars ++ (record { type = t; base = length (k .cells) } ∷ [])) j ≡ some w → Parted (k .env .types) (v .base) (v .type) (w .base) (w .type)
+var-separate k h t = last-apart (k .env .types) (k .env .vars) (record { type = t; base = length (k .cells) }) (h .ends) (h .separate)
+
 var-keeps : (k : Declared) → Keeps k → (w : Name) (t : ℕ) → t < length (k .env .types) → length (k .cells) + length (cellsOf (k .env .types) t) ≤ lentCells → (s n : ℕ) → Keeps (declareLine k (newVar w t) s n)
 unfolding declareLine
 var-keeps k h w t l r s n =
@@ -456,7 +493,9 @@ var-keeps k h w t l r s n =
     let less : (xs : List Test) → Stand (declareLine k (newVar w t) s n) xs → Stand k xs = λ xs S. record { lent = here-front (k .cells) (cellsOf Γ t) (S .lent); own = S .own } in
     record {
       table = h .table;
-      laid = λ xs S. record { found = vars-last (k .env .vars) _ (Stands Γ xs) (rw zero-add at (here-back (k .cells) (cellsOf Γ t) (S .lent))) (h .laid xs (less xs S) .found) };
+      laid = λ xs S. record { found = vars-last (k .env .vars) _ (Stands Γ xs) (rw zero-add at (here-back (k .cells) (cellsOf Γ t) (S .lent))) (h .laid xs (less xs S) .found); apart = var-separate k h t };
+      ends = vars-last (k .env .vars) _ (λ v. v .base + sizeOf Γ (v .type) ≤ length (k .cells ++ cellsOf Γ t)) (rw length-append (omega arith)) (λ i v e. rw length-append (let l = h .ends i v e in omega arith));
+      separate = var-separate k h t;
       cells = all-append (h .cells) (h .table .each t .inner l);
       parameters = h .parameters;
       typed = vars-last (k .env .vars) _ (λ v. v .type < length Γ) l (h .typed);
@@ -512,7 +551,10 @@ pub heading-formed : (k : Declared) → Keeps k → (ps : List (Name × ℕ)) �
     → Formed (within (k .env) ps .types) (within (k .env) ps .vars) xs
 heading-formed k h ps H w x s n xs S =
     formed (within (k .env) ps .types) (within (k .env) ps .vars) xs (rw (within-types (k .env) ps) (h .table))
-    (record { found = rw (within-types (k .env) ps) (within-laid (k .env .types) xs (k .env) ps (H .kept) (heading-here k ps w x s n xs S) (h .laid xs (heading-less k ps w x s n xs S) .found)) })
+    (record {
+      found = rw (within-types (k .env) ps) (within-laid (k .env .types) xs (k .env) ps (H .kept) (heading-here k ps w x s n xs S) (h .laid xs (heading-less k ps w x s n xs S) .found));
+      apart = rw (within-types (k .env) ps) (within-apart (k .env .types) (k .env) ps (H .kept) (λ i v e. let l = h .ends i v e in let m = h .lent in omega arith) (h .separate));
+    })
 
 -- what the names in it know
 pub heading-known : (k : Declared) → Keeps k → (ps : List (Name × ℕ)) (xs : List Test) → Stand k xs → (w : Name) (p : ℕ) (ts : List ℕ) → find (within (k .env) ps .names) w ≡ some (aProc p ts)
@@ -538,6 +580,8 @@ proc-keeps k h w ps H b x e s n =
       cells = h .cells;
       parameters = rw u (all-append (h .parameters) (types-in (length Γ) ps (H .known)));
       typed = h .typed;
+      ends = h .ends;
+      separate = h .separate;
       names = name (proc {p = length (k .bodies)} (rw length-append (omega arith)) (types-in (length Γ) ps (H .known))) (more-bodies k h p);
       known = λ xs S. name (Keeping.Known.proc {p = length (k .bodies)} {ts = parameterTypes ps} (record { below = rw (length-map, length-append) (omega arith); framed = rw (frames-new (k .bodies) p) (framed (k .env) xs ps (H .kept) (heading-here k ps w x s n xs S)) })) (known-bodies k h p xs (less xs S));
       bodies = λ xs S. bodies-last p
@@ -559,6 +603,8 @@ main-keeps k h b x e s n =
       cells = h .cells;
       parameters = h .parameters;
       typed = h .typed;
+      ends = h .ends;
+      separate = h .separate;
       names = more-bodies k h p;
       known = λ xs S. known-bodies k h p xs (less xs S);
       bodies = λ xs S. bodies-last p (keeps-formed k h xs (less xs S)) (calling k h [] xs (less xs S) b x e) (h .bodies xs (less xs S));

@@ -9,7 +9,7 @@ use lib.IntN.{ℤ, sucℤ}
 use Rattle.leaf_integers.specs.Integers.{inside, isZero}
 use Rattle.law.specs.Calculate.{Result, fails, is, isTrue, stuck}
 use Rattle.law.specs.Chair.{condition, evalCode, matches, placeCode, runAct, runActs, runArguments, runCases}
-use Rattle.law.specs.Code.{Act, Acts, Cases, Code, Frame, _also_, assignOrdinal, assignWhole, branchOn, callTo, caseOf, elseCase, forLoop, noCase, noAct, oneCase, raiseWith, sequence, stop, whileLoop}
+use Rattle.law.specs.Code.{Act, Acts, Cases, Code, Frame, _also_, assignOrdinal, assignCell, copyCells, load, branchOn, callTo, caseOf, elseCase, forLoop, noCase, noAct, oneCase, raiseWith, sequence, stop, whileLoop}
 use Rattle.law.specs.Machine.{Answer, Outcome, Proc, Procs, State, Store, andThen, answer, branch, continued, Plan, countUp, ended, entered, forRounds, noRound, opened, outside, planned, rounds, normal, passOn, procedureAt, raiseNumber, raised, raising, returning, setControl, sole, spent, state, step, stepIf, sticks, stored, storeOrdinal, storeWhole, whileRounds, withResult}
 
 abbrev pub more : ℕ → State → State
@@ -153,7 +153,8 @@ module _ (k : ℕ) where
 
       pub run-f : (a : Act) → Stable k (runAct ps a)
       run-f (assignOrdinal n p lo hi c) = step-f (after-f n (evalCode c) λ zs. after-f n (placeCode p) λ a. keep-f n a lo hi (sole zs))
-      run-f (assignWhole n p c) = step-f (after-f n (evalCode c) λ zs. after-f n (placeCode p) λ a. copy-f n a zs)
+      run-f (assignCell n p c) = step-f (after-f n (evalCode c) λ zs. after-f n (placeCode p) λ a. copy-f n a zs)
+      run-f (copyCells n p q k) = step-f (after-f n (evalCode (load q k)) λ zs. after-f n (placeCode p) λ a. copy-f n a zs)
       run-f (sequence n bs) = step-f (runs-f bs)
       run-f (branchOn n c a b) = step-f (check-f n c λ q. branch-f q (run-f a) (run-f b))
       run-f (whileLoop n c a) = step-f (record { at = λ s. (rounds-f n c (runAct ps a) (run-f a) (s .left) (s .left + k) (omega arith)) .at s })

@@ -9,7 +9,7 @@ use lib.IntN.{ℤ, sucℤ}
 use Rattle.leaf_integers.specs.Integers.{inside, isZero}
 use Rattle.law.specs.Calculate.{Result, fails, is, isTrue, stuck}
 use Rattle.law.specs.Chair.{condition, evalCode, matches, placeCode, runAct, runActs, runArguments, runCases}
-use Rattle.law.specs.Code.{Act, Acts, BodyCode, Cases, Code, Frame, _also_, assignOrdinal, assignWhole, branchOn, callTo, caseOf, elseCase, forLoop, noCase, noAct, oneCase, raiseWith, sequence, stop, whileLoop}
+use Rattle.law.specs.Code.{Act, Acts, BodyCode, Cases, Code, Frame, _also_, assignOrdinal, assignCell, copyCells, load, branchOn, callTo, caseOf, elseCase, forLoop, noCase, noAct, oneCase, raiseWith, sequence, stop, whileLoop}
 use Rattle.law.specs.Machine.{Answer, Outcome, Proc, Procs, State, Store, andThen, answer, branch, caught, continued, Plan, countUp, ended, entered, forRounds, noRound, opened, outside, planned, rounds, handled, normal, passOn, proc, procedureAt, raiseNumber, raised, raising, returned, returning, setControl, sole, spent, state, step, stepIf, sticks, stored, storeOrdinal, storeWhole, whileRounds, withResult}
 use Rattle.law.specs.Whole.{runAll, runBody}
 use Rattle.law.specs.Rest.{Rest, before, forFrom, handledBy, inBody, leaving, procsOf, resume, statement, statements, whileFrom}
@@ -251,7 +251,8 @@ module _ (bs : List BodyCode) where
 
       run-p : (a : Act) (s : State) → Pauses (runAct ps a) s
       run-p (assignOrdinal n p lo hi c) = step-p (statement (assignOrdinal n p lo hi c)) _ (λ t. refl) λ s. after-p n (evalCode c) _ s λ zs. after-p n (placeCode p) _ s λ a. keep-p n a lo hi (sole zs) s
-      run-p (assignWhole n p c) = step-p (statement (assignWhole n p c)) _ (λ t. refl) λ s. after-p n (evalCode c) _ s λ zs. after-p n (placeCode p) _ s λ a. copy-p n a zs s
+      run-p (assignCell n p c) = step-p (statement (assignCell n p c)) _ (λ t. refl) λ s. after-p n (evalCode c) _ s λ zs. after-p n (placeCode p) _ s λ a. copy-p n a zs s
+      run-p (copyCells n p q k) = step-p (statement (copyCells n p q k)) _ (λ t. refl) λ s. after-p n (evalCode (load q k)) _ s λ zs. after-p n (placeCode p) _ s λ a. copy-p n a zs s
       run-p (sequence n ss) = step-p (statement (sequence n ss)) _ (λ t. refl) λ s. runs-p ss s
       run-p (branchOn n c a b) = step-p (statement (branchOn n c a b)) _ (λ t. refl) λ s. check-p n c _ s λ q. branch-p q s (run-p a s) (run-p b s)
       run-p (whileLoop n c a) = step-p (statement (whileLoop n c a)) _ (λ t. refl) λ s. loop-p n c (runAct ps a) (sinks a) (whileFrom n c a) refl (stays a) (λ t. run-p a t) (s .left) s (omega arith)

@@ -8,7 +8,7 @@ use lib.IntN.{ℤ, sucℤ}
 use Rattle.leaf_integers.specs.Integers.{inside, isZero}
 use Rattle.law.specs.Calculate.{Result, fails, is, isTrue, stuck}
 use Rattle.law.specs.Chair.{condition, evalCode, matches, placeCode, runAct, runActs, runArguments, runCases}
-use Rattle.law.specs.Code.{Act, Acts, Cases, Code, Frame, _also_, assignOrdinal, assignWhole, branchOn, callTo, caseOf, elseCase, forLoop, noCase, noAct, oneCase, raiseWith, sequence, stop, whileLoop}
+use Rattle.law.specs.Code.{Act, Acts, Cases, Code, Frame, _also_, assignOrdinal, assignCell, copyCells, load, branchOn, callTo, caseOf, elseCase, forLoop, noCase, noAct, oneCase, raiseWith, sequence, stop, whileLoop}
 use Rattle.law.specs.Machine.{Answer, Outcome, Proc, Procs, State, Store, andThen, answer, branch, continued, Plan, countUp, ended, entered, forRounds, noRound, opened, outside, planned, rounds, normal, passOn, procedureAt, raiseNumber, raised, raising, returning, setControl, sole, spent, state, step, stepIf, sticks, stored, storeOrdinal, storeWhole, whileRounds, withResult}
 
 -- nothing is asked but of `spent`
@@ -138,7 +138,8 @@ module _ (ps : Procs) (hp : (p b : ℕ) → Falls b (procedureAt ps p .run)) whe
 
     pub run-d : (a : Act) (b : ℕ) → Falls b (runAct ps a)
     run-d (assignOrdinal n p lo hi c) b = step-any (λ b. after-d n (evalCode c) λ zs. after-d n (placeCode p) λ a. keep-d b n a lo hi (sole zs)) b
-    run-d (assignWhole n p c) b = step-any (λ b. after-d n (evalCode c) λ zs. after-d n (placeCode p) λ a. copy-d b n a zs) b
+    run-d (assignCell n p c) b = step-any (λ b. after-d n (evalCode c) λ zs. after-d n (placeCode p) λ a. copy-d b n a zs) b
+    run-d (copyCells n p q k) b = step-any (λ b. after-d n (evalCode (load q k)) λ zs. after-d n (placeCode p) λ a. copy-d b n a zs) b
     run-d (sequence n bs) b = step-any (λ b. runs-d bs b) b
     run-d (branchOn n c a e) b = step-any (λ b. check-d n c λ q. branch-d q (run-d a b) (run-d e b)) b
     run-d (whileLoop n c a) b = step-any (λ b. record { at = λ s l. (rounds-d (s .left) n c (λ k. run-d a k)) .at s (omega arith) }) b

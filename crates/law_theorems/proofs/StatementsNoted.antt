@@ -123,7 +123,8 @@ module _ (ps : Procs) (h : (i : ℕ) → Notes (procedureAt ps i .run)) where
     run-n : {a : C.Act} → SizedAct a → Notes (runAct ps a)
     run-n (Sized.assignOrdinal {p = p} {lo = lo} {hi = hi} {c = c} N P L H S) =
         step-n (after-n N (λ s. evalCode c (s .store)) λ zs. after-n N (λ s. placeCode p (s .store)) λ a. ordinal-n N a lo hi (sole zs))
-    run-n (Sized.assignWhole {n = n} {p = p} {c = c} N P S) = step-n (after-n N (λ s. evalCode c (s .store)) λ zs. after-n N (λ s. placeCode p (s .store)) λ a. whole-n n a zs)
+    run-n (Sized.assignCell {n = n} {p = p} {c = c} N P S) = step-n (after-n N (λ s. evalCode c (s .store)) λ zs. after-n N (λ s. placeCode p (s .store)) λ a. whole-n n a zs)
+    run-n (Sized.copyCells {n = n} {k = k} {p = p} {q = q} N P Q) = step-n (after-n N (λ s. evalCode (C.load q k) (s .store)) λ zs. after-n N (λ s. placeCode p (s .store)) λ a. whole-n n a zs)
     run-n (Sized.sequence N B) = step-n (runs-n B)
     run-n (Sized.branchOn {c = c} N S A B) = step-n (check-n N c λ b. branch-n b (run-n A) (run-n B))
     run-n (Sized.whileLoop {c = c} N S A) = step-n (record { at = λ s. while-n N c (run-n A) (s .left) .at s })

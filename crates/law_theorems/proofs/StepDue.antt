@@ -10,7 +10,7 @@ use lib.IntN.{ℤ, sucℤ}
 use Rattle.leaf_integers.specs.Integers.{inside, isZero}
 use Rattle.law.specs.Calculate.{Result, fails, is, isTrue, stuck, systemError}
 use Rattle.law.specs.Chair.{condition, evalCode, matches, placeCode, runAct, runActs, runArguments, runCases}
-use Rattle.law.specs.Code.{Act, Acts, BodyCode, Cases, Code, Frame, _also_, assignOrdinal, assignWhole, branchOn, callTo, caseOf, elseCase, forLoop, noCase, noAct, oneCase, raiseWith, sequence, stop, whileLoop}
+use Rattle.law.specs.Code.{Act, Acts, BodyCode, Cases, Code, Frame, _also_, assignOrdinal, assignCell, copyCells, load, branchOn, callTo, caseOf, elseCase, forLoop, noCase, noAct, oneCase, raiseWith, sequence, stop, whileLoop}
 use Rattle.law.specs.Machine.{Answer, Outcome, Proc, Procs, State, Store, andThen, answer, branch, caught, continued, Plan, countUp, ended, entered, forRounds, noRound, opened, outside, planned, rounds, handled, normal, passOn, procedureAt, raiseNumber, raised, raising, returning, setControl, sole, spent, state, step, stepIf, sticks, stored, storeOrdinal, storeWhole, whileRounds, withResult}
 use Rattle.law.specs.Whole.{runAll, runBody}
 use Rattle.law_theorems.proofs.MoreBudget.{more, moreA, returning-f}
@@ -190,7 +190,8 @@ module _ (ps : Procs) (hp : (p : ℕ) → L (procedureAt ps p .run)) where
 
     run-l : (a : Act) (b : ℕ) → Lower b (runAct ps a) (runAct ps a)
     run-l (assignOrdinal n p lo hi c) b = step-any (λ b. after-l n (evalCode c) λ zs. after-l n (placeCode p) λ a. keep-l b n a lo hi (sole zs)) b
-    run-l (assignWhole n p c) b = step-any (λ b. after-l n (evalCode c) λ zs. after-l n (placeCode p) λ a. copy-l b n a zs) b
+    run-l (assignCell n p c) b = step-any (λ b. after-l n (evalCode c) λ zs. after-l n (placeCode p) λ a. copy-l b n a zs) b
+    run-l (copyCells n p q k) b = step-any (λ b. after-l n (evalCode (load q k)) λ zs. after-l n (placeCode p) λ a. copy-l b n a zs) b
     run-l (sequence n bs) b = step-any (λ b. runs-l bs b) b
     run-l (branchOn n c a e) b = step-any (λ b. check-l n c λ q. branch-l q (run-l a b) (run-l e b)) b
     run-l (whileLoop n c a) b = step-any (λ b. record {

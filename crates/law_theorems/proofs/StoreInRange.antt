@@ -13,8 +13,8 @@ use Rattle.leaf_integers.specs.Integers.{inside, isZero}
 use Rattle.law.specs.Base.{pick}
 use Rattle.law.specs.Calculate.{Result, caseError, isTrue, natOf, systemError, tested}
 use Rattle.law.specs.Chair.{condition, evalCode, matches, placeCode, runAct, runActs, runArguments, runCases}
-use Rattle.law.specs.Code.{Act, Acts, Cases, Code, Codes, Frame, anySet, assignOrdinal, assignWhole, ranged}
-use Rattle.law.specs.Elaborate.{Located, elabArguments, elabArms, elabStmt, elabStmts, expects}
+use Rattle.law.specs.Code.{Act, Acts, Cases, Code, Codes, Frame, anySet, assignOrdinal, assignCell, ranged}
+use Rattle.law.specs.Elaborate.{Located, copying, elabArguments, elabArms, elabStmt, elabStmts, expects}
 use Rattle.law.specs.Environment.{wantOf}
 use Rattle.law.specs.Machine.{Answer, Outcome, Proc, Procs, State, Store, admitted, andThen, answer, branch, continued, countUp, ended, entered, forRounds, forgotten, noRound, normal, opened, outside, passOn, planned, procedureAt, raiseNumber, raised, raising, returning, rounds, setControl, sole, spent, state, step, stepIf, stored, storeOrdinal, storeWhole, undefined, whileRounds, withResult}
 use Rattle.law.specs.Script.{Arms, Expr, Exprs, Stmt, Stmts, _and_, _next_, arm, assign, begin, call, case, done, elseArm, for, ifElse, nil, noElse, raise, skip, while}
@@ -26,6 +26,7 @@ use Rattle.law_theorems.proofs.ValuesInRange.{bind-g, e-range, int-valu
 use Rattle.law_theorems.specs.LinesKeep.{Framed, Simple}
 use Rattle.law_theorems.specs.ScriptCalls as Calls
 use Rattle.law_theorems.specs.ScriptCalls.{Calling, CallingAll, CallingArms}
+use Rattle.law_theorems.proofs.Copying.{wholly-run}
 use Rattle.law_theorems.specs.ValuesInRange.{InInt, Test, Here, Formed}
 
 e-system : InInt systemError
@@ -203,10 +204,10 @@ module _ (Γ : Types) (Δ : Vars) (tests : List Test) (𝓕 : Formed Γ Δ tests
 
     putting-s : (b : Bool) (n : ℕ) (w : Located) → ordinal? Γ (w .type) ≡ b → (e : Expr) (c : Code) → expects Γ Δ (hostOf Γ (w .type)) e ≡ some c
         → ((m : Store) → Sound tests m → Good (λ a. Here Γ tests a (cellsOf Γ (w .type))) (placeCode (w .place) m))
-        → Safely tests (runAct ps (cond b (assignOrdinal n (w .place) (infoAt Γ (w .type) .low) (infoAt Γ (w .type) .high) c) (assignWhole n (w .place) c)))
+        → Safely tests (runAct ps (cond b (assignOrdinal n (w .place) (infoAt Γ (w .type) .low) (infoAt Γ (w .type) .high) c) (cond (set? Γ (w .type)) (assignCell n (w .place) c) (copying n (w .place) c))))
     unfolding runAct
     putting-s true n w o e c h g = step-s (after-s n (expected e _ c h) λ zs _. after-s n g λ a p. keep-s n (w .type) a o p (sole zs))
-    putting-s false n w o e c h g = step-s (after-s n (expected e _ c h) λ zs f. after-s n g λ a p. copy-s n a zs (cellsOf Γ (w .type)) p ((rw (own-host _ (w .type) _ o) at f) .fits o))
+    putting-s false n w o e c h g = rw (wholly-run ps (set? Γ (w .type)) n (w .place) c) (step-s (after-s n (expected e _ c h) λ zs f. after-s n g λ a p. copy-s n a zs (cellsOf Γ (w .type)) p ((rw (own-host _ (w .type) _ o) at f) .fits o)))
 
     mutual
       unfolding elabStmt runAct

@@ -22,7 +22,7 @@ use Rattle.law_theorems.proofs.Spans.{inside-span}
 use Rattle.leaf_integers.proofs.Order.{leZ-refl}
 use borrow.Author.Tests.{le-leb}
 use Rattle.law_theorems.proofs.ValuesInRange.{wrong, at-trans, none-some}
-use Rattle.law_theorems.specs.ValuesInRange.{At, Test, Here, Formed}
+use Rattle.law_theorems.specs.ValuesInRange.{At, Test, Here, Formed, Parted, before, behind, one}
 use Rattle.law_theorems.proofs.Inversion.{some-inj}
 use Rattle.law_theorems.specs.TypeTables.{All, AllIn, Laid, Sane, Table, empty, more}
 
@@ -93,6 +93,32 @@ placed-type P Γ (g ∷ fs) a n f h ps = go (same (g .0) n) refl (λ k. placed-t
         rw (← q) (ps .0)
     go false e k = k (rw (e, fieldOf) at h)
 
+-- two fields that are found are one, or lie apart
+placed-apart : (Γ : Types) (fs : List (Name × ℕ)) (a : ℕ) (n m : Name) (f g : Field) → fieldOf (layFields Γ a fs) n ≡ some f → fieldOf (layFields Γ a fs) m ≡ some g
+    → Parted Γ (f .offset) (f .type) (g .offset) (g .type)
+unfolding fieldOf layFields
+placed-apart Γ [] a n m f g h k = absurd (none-some h)
+placed-apart Γ (x ∷ fs) a n m f g h k = go (same (x .0) n) (same (x .0) m) refl refl (λ h k. placed-apart Γ fs (a + sizeOf Γ (x .1)) n m f g h k)
+  where
+    later : (n : Name) (f : Field) → fieldOf (layFields Γ (a + sizeOf Γ (x .1)) fs) n ≡ some f → a + sizeOf Γ (x .1) ≤ f .offset
+    later n f h = let r = placed-at Γ fs (a + sizeOf Γ (x .1)) n f h in let e = r .1 in omega arith
+
+    go : (b c : Bool) → same (x .0) n ≡ b → same (x .0) m ≡ c
+        → (fieldOf (layFields Γ (a + sizeOf Γ (x .1)) fs) n ≡ some f → fieldOf (layFields Γ (a + sizeOf Γ (x .1)) fs) m ≡ some g → Parted Γ (f .offset) (f .type) (g .offset) (g .type))
+        → Parted Γ (f .offset) (f .type) (g .offset) (g .type)
+    go true true d e r =
+        let p : record { name = x .0; type = x .1; offset = a } ≡ f = some-inj (rw (d, fieldOf) at h) in let q : record { name = x .0; type = x .1; offset = a } ≡ g = some-inj (rw (e, fieldOf) at k) in
+        rw (← p, ← q) (one refl refl)
+    go true false d e r = let p : record { name = x .0; type = x .1; offset = a } ≡ f = some-inj (rw (d, fieldOf) at h) in rw (← p) (before (later m g (rw (e, fieldOf) at k)))
+    go false true d e r = let q : record { name = x .0; type = x .1; offset = a } ≡ g = some-inj (rw (e, fieldOf) at k) in rw (← q) (behind (later n f (rw (d, fieldOf) at h)))
+    go false false d e r = r (rw (d, fieldOf) at h) (rw (e, fieldOf) at k)
+
+-- where the sizes are the same
+pub parted-as : {Γ Γ′ : Types} {a t b u : ℕ} → cellsOf Γ′ t ≡ cellsOf Γ t → cellsOf Γ′ u ≡ cellsOf Γ u → Parted Γ a t b u → Parted Γ′ a t b u
+parted-as e f (one p q) = one p q
+parted-as e f (before l) = before (rw e l)
+parted-as e f (behind l) = behind (rw f l)
+
 -- ---- what holds of each entry of a table; references lead to types of the table
 
 no-field : {X : Type 0} (n : Name) (f : Field) → fieldOf [] n ≡ some f → X
@@ -100,7 +126,7 @@ unfolding fieldOf
 no-field n f h = absurd (none-some h)
 
 none-entry : (Γ : Types) (t : ℕ) → Sane Γ t (facts undeclared)
-none-entry Γ t = record { inner = λ _. empty; element = λ h. wrong h; index = λ h. wrong h; base = λ h. wrong h; host = λ h. wrong h; bounds = λ h. wrong h; lowest = λ h. wrong h; wider = λ h. wrong h; small = λ h. wrong h; filled = λ h. wrong h; nonempty = λ h. wrong h; fieldTypes = λ m g k. no-field m g k; elements = λ h. wrong h; places = λ m g k. no-field m g k }
+none-entry Γ t = record { inner = λ _. empty; element = λ h. wrong h; index = λ h. wrong h; base = λ h. wrong h; host = λ h. wrong h; bounds = λ h. wrong h; lowest = λ h. wrong h; wider = λ h. wrong h; small = λ h. wrong h; filled = λ h. wrong h; nonempty = λ h. wrong h; fieldTypes = λ m g k. no-field m g k; elements = λ h. wrong h; apart = λ m n f g h k. no-field m f h; places = λ m g k. no-field m g k }
 
 module _ (Γ : Types) (i : TypeSort) where
   abbrev Γ′ : Types
@@ -140,6 +166,7 @@ module _ (Γ : Types) (i : TypeSort) where
     fieldTypes = λ n f h. longer (f .type) (k .fieldTypes n f h);
     elements = λ p z q. rw (cells-old (j .element) (k .element p)) (k .elements p z q);
     places = λ n f h. rw (cells-old (f .type) (k .fieldTypes n f h)) (k .places n f h);
+    apart = λ n m f g h e. parted-as (cells-old (f .type) (k .fieldTypes n f h)) (cells-old (g .type) (k .fieldTypes m g e)) (k .apart n m f g h e);
   }
 
   extended : Table Γ → Sane Γ′ (length Γ) (facts i) → Table Γ′
@@ -187,6 +214,7 @@ enum-declared Γ v vs p 𝓣 = extended Γ _ 𝓣 (record {
   inner = λ l. more l empty;
   fieldTypes = λ m g k. no-field m g k;
   elements = λ h. wrong h;
+  apart = λ m n f g h k. no-field m f h;
   places = λ m g k. no-field m g k;
 })
 
@@ -206,6 +234,7 @@ range-declared Γ a b v 𝓣 = extended Γ _ 𝓣 (record {
   inner = λ l. more l empty;
   fieldTypes = λ m g k. no-field m g k;
   elements = λ h. wrong h;
+  apart = λ m n f g h k. no-field m f h;
   places = λ m g k. no-field m g k;
 })
 
@@ -225,6 +254,7 @@ array-declared Γ i e v 𝓣 = extended Γ _ 𝓣 (record {
   inner = λ l. all-copies _ (all-more (rw length-append (omega arith)) (𝓣 .each e .inner (v .0)));
   fieldTypes = λ m g k. no-field m g k;
   elements = λ p z q. rw (cells-old Γ _ e (v .0)) (copies-at _ _ (cellsOf Γ e) (inside-span _ _ z q));
+  apart = λ m n f g h k. no-field m f h;
   places = λ m g k. no-field m g k;
 })
 
@@ -245,6 +275,8 @@ record-declared Γ fs v 𝓣 = extended Γ _ 𝓣 (record {
   fieldTypes = λ n f h. longer Γ _ (f .type) (placed-type (λ t. t < length Γ) Γ fs 0 n f h v);
   elements = λ h. wrong h;
   places = λ n f h. let r = placed-at Γ fs 0 n f h in rw (cells-old Γ _ (f .type) (placed-type (λ t. t < length Γ) Γ fs 0 n f h v), r .1, zero-add) (r .2);
+  apart = λ n m f g h e. parted-as (cells-old Γ _ (f .type) (placed-type (λ t. t < length Γ) Γ fs 0 n f h v)) (cells-old Γ _ (g .type) (placed-type (λ t. t < length Γ) Γ fs 0 m g e v))
+      (placed-apart Γ fs 0 n m f g h e);
 })
 
 pub set-declared : (Γ : Types) (b : ℕ) → Valid Γ (setOf b) → Table Γ → Table (extendTypes Γ (setOf b))
@@ -263,6 +295,7 @@ set-declared Γ b v 𝓣 = extended Γ _ 𝓣 (record {
   inner = λ l. more l empty;
   fieldTypes = λ m g k. no-field m g k;
   elements = λ h. wrong h;
+  apart = λ m n f g h k. no-field m f h;
   places = λ m g k. no-field m g k;
 })
 
@@ -293,6 +326,7 @@ started = record { each = go; integers = (refl, refl, refl); booleans = (refl, r
       small = λ h. (p, q);
       fieldTypes = λ m g k. no-field m g k;
       elements = λ h. wrong h;
+      apart = λ m n f g h k. no-field m f h;
       places = λ m g k. no-field m g k;
     }
 
@@ -314,6 +348,8 @@ host-is recordShape t h p = wrong p
 pub formed : (Γ : Types) (Δ : Vars) (tests : List Test) → Table Γ → Laid Γ Δ tests → Formed Γ Δ tests
 formed Γ Δ tests 𝓣 𝓛 = record {
   vars = 𝓛 .found;
+  apart = 𝓛 .apart;
+  fieldsApart = λ t n m f g h k. 𝓣 .each t .apart n m f g h k;
   elements = λ t p z q. 𝓣 .each t .elements p z q;
   indexes = λ t p. 𝓣 .each t .index p .1;
   fields = λ t n f h. 𝓣 .each t .places n f h;

@@ -18,7 +18,8 @@ module _ (qs : ℕ → C.Frame) (k : ℕ) where
   mutual
     pub data Calls : C.Act → Type 0 where
       assignOrdinal : {n : ℕ} {p : C.Place} {lo hi : ℤ} {c : C.Code} → Calls (C.assignOrdinal n p lo hi c)
-      assignWhole : {n : ℕ} {p : C.Place} {c : C.Code} → Calls (C.assignWhole n p c)
+      assignCell : {n : ℕ} {p : C.Place} {c : C.Code} → Calls (C.assignCell n p c)
+      copyCells : {n k : ℕ} {p q : C.Place} → Calls (C.copyCells n p q k)
       sequence : {n : ℕ} {bs : C.Acts} → CallsAll bs → Calls (C.sequence n bs)
       branchOn : {n : ℕ} {c : C.Code} {a b : C.Act} → Calls a → Calls b → Calls (C.branchOn n c a b)
       whileLoop : {n : ℕ} {c : C.Code} {a : C.Act} → Calls a → Calls (C.whileLoop n c a)

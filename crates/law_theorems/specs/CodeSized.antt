@@ -59,7 +59,8 @@ pub data SizedLabels : List ℤ → Type 0 where
 mutual
   pub data SizedAct : C.Act → Type 0 where
     assignOrdinal : {n : ℕ} {p : C.Place} {lo hi : ℤ} {c : C.Code} → Number 4096 n → SizedPlace p 1 → InInt lo → InInt hi → SizedCode c → SizedAct (C.assignOrdinal n p lo hi c)
-    assignWhole : {n s : ℕ} {p : C.Place} {c : C.Code} → Number 4096 n → SizedPlace p s → SizedCode c → SizedAct (C.assignWhole n p c)
+    assignCell : {n s : ℕ} {p : C.Place} {c : C.Code} → Number 4096 n → SizedPlace p s → SizedCode c → SizedAct (C.assignCell n p c)
+    copyCells : {n s k : ℕ} {p q : C.Place} → Number 4096 n → SizedPlace p s → SizedPlace q k → SizedAct (C.copyCells n p q k)
     sequence : {n : ℕ} {bs : C.Acts} → Number 4096 n → SizedActs bs → SizedAct (C.sequence n bs)
     branchOn : {n : ℕ} {c : C.Code} {a b : C.Act} → Number 4096 n → SizedCode c → SizedAct a → SizedAct b → SizedAct (C.branchOn n c a b)
     whileLoop : {n : ℕ} {c : C.Code} {a : C.Act} → Number 4096 n → SizedCode c → SizedAct a → SizedAct (C.whileLoop n c a)

@@ -10,4 +10,5 @@ pub mod Readings
 pub mod CodeCalls
 pub mod StatementsNoted
 pub mod LinesCover
+pub mod Components
 pub mod FormsByDepth

@@ -13,9 +13,9 @@ use Rattle.law.specs.Environment.{Declared, NameSort, PlacedBody, aProc, aType,
 use Rattle.law.specs.Machine.{lentCells, storeCells}
 use Rattle.law.specs.Script.{Const}
 use Rattle.law.specs.Store.{cellFits}
-use Rattle.law.specs.Types.{Types, Var, infoAt, ordinal?, set?, variable}
+use Rattle.law.specs.Types.{Types, Var, infoAt, ordinal?, set?, sizeOf, variable}
 use Rattle.law_theorems.specs.ScriptCalls.{CallingBody}
-use Rattle.law_theorems.specs.ValuesInRange.{Test, any, Here, Formed}
+use Rattle.law_theorems.specs.ValuesInRange.{Test, any, Here, Formed, Parted}
 use Rattle.law_theorems.specs.TypeTables.{AllIn, Table, Laid}
 
 unfoldable pub tests : Types → List ℕ → List Test
@@ -92,6 +92,9 @@ pub record Keeps (k : Declared) : Type 0 where
   pub cells : AllIn (length (k .env .types)) (k .cells)
   pub parameters : AllIn (length (k .env .types)) (k .env .parameters)
   pub typed : (i : ℕ) (v : Var) → variable (k .env .vars) i ≡ some v → v .type < length (k .env .types)
+  -- variables lie one after another
+  pub ends : (i : ℕ) (v : Var) → variable (k .env .vars) i ≡ some v → v .base + sizeOf (k .env .types) (v .type) ≤ length (k .cells)
+  pub separate : (i j : ℕ) (v w : Var) → variable (k .env .vars) i ≡ some v → variable (k .env .vars) j ≡ some w → Parted (k .env .types) (v .base) (v .type) (w .base) (w .type)
   pub names : AllFair (k .env .types) (length (k .bodies)) (k .env .names)
   pub known : (xs : List Test) → Stand k xs → AllNames (Known (k .env .types) xs (framesOf (k .bodies))) (k .env .names)
   pub bodies : (xs : List Test) → Stand k xs → AllFormed xs [] (k .bodies)

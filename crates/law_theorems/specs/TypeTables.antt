@@ -11,7 +11,7 @@ use Rattle.leaf_integers.specs.Integers.{inside, least, most}
 use Rattle.law.specs.Base.{Name}
 use Rattle.law.specs.Calculate.{natOf}
 use Rattle.law.specs.Types.{Field, TypeInfo, Types, Var, Vars, cellsBy, cellsOf, fieldOf, infoAt, isArray, isOrdinal, isSet, ordinal?, sizeOf, variable}
-use Rattle.law_theorems.specs.ValuesInRange.{At, Test, Here}
+use Rattle.law_theorems.specs.ValuesInRange.{At, Test, Here, Parted}
 
 abbrev pub All : (ℕ → Type 0) → List (Name × ℕ) → Type 0
 All P [] = Unit {0}
@@ -37,6 +37,7 @@ pub record Sane (Γ : Types) (t : ℕ) (j : TypeInfo) : Type 0 where
   pub fieldTypes : (n : Name) (f : Field) → fieldOf (j .fields) n ≡ some f → f .type < length Γ
   pub elements : isArray (j .shape) ≡ true → (z : ℤ) → inside (j .low) (j .high) z ≡ true
       → At (cellsBy (j .shape) t (j .cells)) (natOf (z -ℤ j .low) * sizeOf Γ (j .element)) (cellsOf Γ (j .element))
+  pub apart : (n m : Name) (f g : Field) → fieldOf (j .fields) n ≡ some f → fieldOf (j .fields) m ≡ some g → Parted Γ (f .offset) (f .type) (g .offset) (g .type)
   pub places : (n : Name) (f : Field) → fieldOf (j .fields) n ≡ some f → At (cellsBy (j .shape) t (j .cells)) (f .offset) (cellsOf Γ (f .type))
 
 pub record Table (Γ : Types) : Type 0 where
@@ -47,3 +48,4 @@ pub record Table (Γ : Types) : Type 0 where
 
 pub record Laid (Γ : Types) (Δ : Vars) (tests : List Test) : Type 0 where
   pub found : (i : ℕ) (v : Var) → variable Δ i ≡ some v → Here Γ tests (v .base) (cellsOf Γ (v .type))
+  pub apart : (i j : ℕ) (v w : Var) → variable Δ i ≡ some v → variable Δ j ≡ some w → Parted Γ (v .base) (v .type) (w .base) (w .type)

@@ -33,9 +33,17 @@ pub record Here (Γ : Types) (tests : List Test) (a : ℕ) (ts : List ℕ) : Typ
   pub short : a + length ts ≤ length tests
   pub each : (j : ℕ) → j < length ts → (z : ℤ) → getD tests (a + j) any z ≡ cellFits Γ (getD ts j 0) z
 
+-- the cells of type t from a on and those of type u from b on: the same, or apart
+pub data Parted (Γ : Types) (a t b u : ℕ) : Type 0 where
+  one : a ≡ b → t ≡ u → Parted Γ a t b u
+  before : a + sizeOf Γ t ≤ b → Parted Γ a t b u
+  behind : b + sizeOf Γ u ≤ a → Parted Γ a t b u
+
 -- what is asked of the tables; proved once, where they are built
 pub record Formed (Γ : Types) (Δ : Vars) (tests : List Test) : Type 0 where
   pub vars : (i : ℕ) (v : Var) → variable Δ i ≡ some v → Here Γ tests (v .base) (cellsOf Γ (v .type))
+  pub apart : (i j : ℕ) (v w : Var) → variable Δ i ≡ some v → variable Δ j ≡ some w → Parted Γ (v .base) (v .type) (w .base) (w .type)
+  pub fieldsApart : (t : ℕ) (n m : Name) (f g : Field) → fieldOf (infoAt Γ t .fields) n ≡ some f → fieldOf (infoAt Γ t .fields) m ≡ some g → Parted Γ (f .offset) (f .type) (g .offset) (g .type)
   pub elements : (t : ℕ) → array? Γ t ≡ true → (z : ℤ) → inside (infoAt Γ t .low) (infoAt Γ t .high) z ≡ true
       → At (cellsOf Γ t) (natOf (z -ℤ infoAt Γ t .low) * sizeOf Γ (infoAt Γ t .element)) (cellsOf Γ (infoAt Γ t .element))
   pub indexes : (t : ℕ) → array? Γ t ≡ true → ordinal? Γ (infoAt Γ t .index) ≡ true

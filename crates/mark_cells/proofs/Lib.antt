@@ -1,3 +1,4 @@
 pub mod Storing
 pub mod Ending
 pub mod Stored
+pub mod Moves

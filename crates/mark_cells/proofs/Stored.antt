@@ -27,6 +27,7 @@ use Rattle.code_calc.proofs.Ranging.{range-value}
 use Rattle.mark_steps.specs.Ends.{faultIn, Raises}
 use Rattle.mark_steps.specs.Stands.{Tidy, Stands, Ends}
 use Rattle.mark_cells.specs.Cells.{Addresses, Puts, Copies, Copying, CellsAre, Fills, Gives, Forgets, StoresOrdinal, StoresOne, StoresCells}
+use Rattle.mark_cells.proofs.Storing.{put-at, put-other, put-long, put-beside}
 use Rattle.mark_cells.proofs.Ending.{Value, Faulty, word-value, value-not-fault, left-most, normal-ends, raising-ends, raised-fewer, raised-low}
 
 -- ---- a list after a run of stores
@@ -233,27 +234,27 @@ module _ (ws : List ℤ) (a b : ℕ) (us ws′ : List ℤ) (e : b ≡ min a 4294
 
   unput : (z : ℤ) → Puts ws b z ws′ → storeCells ≤ b → (i : ℕ) → (storeCells ≤ i) ⊎ (i < storeCells) → storeWord ws′ i ≡ storeWord ws i
   unput z P h i (inl g) = past-word ws′ i g ∙ sym (past-word ws i g)
-  unput z P h i (inr g) = P .other i (λ k. absurd (omega (arith, k, g, h)))
+  unput z P h i (inr g) = put-other P i (λ k. absurd (omega (arith, k, g, h)))
 
   one-written : (z : ℤ) → length ws ≡ storeWords → Puts ws a z ws′ → us ≡ z ∷ [] → Written ws a us ws′
   one-written z l P f = record {
     here = λ j i k. here j (omega (arith, i, ap length f)) k;
-    below = λ i h. P .other i (λ k. absurd (omega (arith, k, h)));
-    above = λ i h. P .other i (λ k. absurd (omega (arith, k, h, ap length f)));
-    long = P .long;
-    beside = P .beside;
+    below = λ i h. put-other P i (λ k. absurd (omega (arith, k, h)));
+    above = λ i h. put-other P i (λ k. absurd (omega (arith, k, h, ap length f)));
+    long = put-long P;
+    beside = put-beside P;
   }
     where
       here : (j : ℕ) → j ≡ 0 → a + j < storeCells → storeWord ws′ (a + j) ≡ getD us j (pos 0)
       here j h k =
-          ap (storeWord ws′) (omega (arith, h)) ∙ P .at l (omega (arith, h, k)) ∙ sym (ap (λ (y : List ℤ). getD y j (pos 0)) f ∙ ap (λ (i : ℕ). getD (z ∷ []) i (pos 0)) h)
+          ap (storeWord ws′) (omega (arith, h)) ∙ put-at P l (omega (arith, h, k)) ∙ sym (ap (λ (y : List ℤ). getD y j (pos 0)) f ∙ ap (λ (i : ℕ). getD (z ∷ []) i (pos 0)) h)
 
   pub put-written : (z : ℤ) → length ws ≡ storeWords → Puts ws b z ws′ → us ≡ z ∷ [] → Written ws a us ws′
   put-written z l P f = go (le-or-lt a 4294967295)
     where
       go : (a ≤ 4294967295) ⊎ (4294967295 < a) → Written ws a us ws′
       go (inl h) = one-written z l (subst (λ (x : ℕ). Puts ws x z ws′) (omega (arith, e, h)) P) f
-      go (inr h) = none-written (λ i. unput z P (omega (arith, e, h)) i (le-or-lt storeCells i)) (P .long) (P .beside) (omega arith)
+      go (inr h) = none-written (λ i. unput z P (omega (arith, e, h)) i (le-or-lt storeCells i)) (put-long P) (put-beside P) (omega arith)
 
   uncopied : (s k : ℕ) → Copies ws s b 0 k ws′ → storeCells ≤ b → (i : ℕ) → (storeCells ≤ i) ⊎ (i < storeCells) → storeWord ws′ i ≡ storeWord ws i
   uncopied s k C h i (inl g) = past-word ws′ i g ∙ sym (past-word ws i g)
@@ -333,7 +334,7 @@ module _ (n : ℕ) (w : ℤ) (ws : List ℤ) (s : ℕ) (b : ℕ) (ws′ : List �
   cells-copied c k W z = subst (λ (t : ℕ). StoresCells n c k w ws s ws′ t) (sym z) (record {
     says = λ zs C a e. record {
       says = λ m S. normal-ends ws′ s (stored a zs m)
-          (stored-stands ws s m a zs ws′ S (C .ranged) (copy-written ws a b zs ws′ (spot a e) c (C .here) (subst (λ (i : ℕ). Copies ws c b 0 i ws′) (sym (C .count)) (W .says (S .long)))));
+          (stored-stands ws s m a zs ws′ S (C .ranged) (copy-written ws a b zs ws′ (spot a e) c (C .here) (subst (λ (i : ℕ). Copies ws c b 0 i ws′) (sym (C .count)) (W .leaves (S .long)))));
     };
     fewer = left-most s;
     plain = λ h. omega arith;

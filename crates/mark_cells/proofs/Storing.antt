@@ -1,8 +1,8 @@
 -- The ways through what stores into cells.
 use mathlib.Core.Path.{_≡_, refl, sym, ap, subst, _∙_}
-use mathlib.Core.Bool.{true, false}
-use mathlib.Core.List.{List}
-use Prim.Native.Nat.{ℕ, _+_, _-_, _<_, _≤_}
+use mathlib.Core.Bool.{Bool, true, false}
+use mathlib.Core.List.{List, [], _∷_}
+use Prim.Native.Nat.{ℕ, zero, suc, _+_, _-_, _<_, _≤_}
 use native.Mathlib.Omega.{arith}
 use lib.IntN.{ℤ, pos, negsuc, natAbs}
 use lib.Signed.{ltZ, nonNeg}
@@ -13,14 +13,14 @@ use mir.Syntax.{w32, w64}
 use mir.Val.{Fits, SFits}
 use mir.Facts.{toZ-ofZ}
 use borrow.Author.Needs.{sfits-of}
-use borrow.Author.Tests.{lt-ltb, ltb-true, ltb-false}
+use borrow.Author.Tests.{lt-ltb, le-ltb, ltb-true, ltb-false, le-leb, lt-leb}
 use mathlib.Core.Logic.{_⊎_, inl, inr}
 use Rattle.leaf_integers.proofs.Order.{le-or-lt}
 use Rattle.leaf_integers.proofs.Machine.{wire}
 use Rattle.law.specs.Base.{pick}
 use Rattle.law.specs.Machine.{storeCells}
 use Rattle.code_calc.specs.Words.{undefinedWord, storeWord, storeWords}
-use Rattle.mark_cells.specs.Cells.{Addresses, Puts, Copies, Copying, CopyingUp, CopyingFrom, CopyingDown, Fills, Filling, Gives, Forgets}
+use Rattle.mark_cells.specs.Cells.{Addresses, Puts, written, upwards, downwards, moves, made, Copies, Copying, Fills, Filling, Gives, Forgets}
 
 -- ---- the word of a cell after a store
 word-same : (ws : List ℤ) (a : ℕ) (z : ℤ) → length ws ≡ storeWords → a < storeCells → storeWord (set ws a z) a ≡ z
@@ -34,20 +34,47 @@ word-other ws a i z h = ap (λ (x : ℤ). pick (ltb i storeCells) x undefinedWor
 -- ---- `put`
 module _ (ws : List ℤ) (a : ℕ) (z : ℤ) where
   puts-set : (y : ℤ) → y ≡ z → a < storeCells → Puts ws a z (set ws a y)
-  puts-set y e g = record {
-    at = λ l i. word-same ws a y l g ∙ e;
-    other = λ i k. word-other ws a i y k;
-    long = length-set ws a y;
-    beside = λ i k. getD-set-other ws a i y (pos 0) (λ e. absurd (omega (arith, e, k, g)));
-  }
+  unfolding written pick
+  puts-set y e g = record { is = rw (lt-ltb a storeCells g, e) }
 
   pub put-set : SFits w64 z → a < storeCells → Puts ws a z (set ws a (wire z))
   put-set f g = puts-set (wire z) (toZ-ofZ f) g
 
   pub put-past : storeCells ≤ a → Puts ws a z ws
-  put-past h = record { at = λ l i. absurd (omega (arith, h, i)); other = λ i k. refl; long = refl; beside = λ i k. refl }
+  unfolding written pick
+  put-past h = record { is = rw (le-ltb a storeCells h) }
 
 pub ruleset put-laws = (put-set, put-past, sfits-of)
+
+-- what a write leaves
+module _ {ws : List ℤ} {a : ℕ} {z : ℤ} {ws′ : List ℤ} (P : Puts ws a z ws′) where
+  pub put-at : length ws ≡ storeWords → a < storeCells → storeWord ws′ a ≡ z
+  unfolding written pick
+  put-at l h = ap (λ (us : List ℤ). storeWord us a) (P .is) ∙ ap (λ (b : Bool). storeWord (pick b (set ws a z) ws) a) (lt-ltb a storeCells h) ∙ word-same ws a z l h
+
+  pub put-other : (i : ℕ) → ((i ≡ a) → ⊥) → storeWord ws′ i ≡ storeWord ws i
+  unfolding written pick
+  put-other i h = ap (λ (us : List ℤ). storeWord us i) (P .is) ∙ go (ltb a storeCells)
+    where
+      go : (b : Bool) → storeWord (pick b (set ws a z) ws) i ≡ storeWord ws i
+      go true = word-other ws a i z h
+      go false = refl
+
+  pub put-long : length ws′ ≡ length ws
+  unfolding written pick
+  put-long = ap (λ (us : List ℤ). length us) (P .is) ∙ go (ltb a storeCells)
+    where
+      go : (b : Bool) → length (pick b (set ws a z) ws) ≡ length ws
+      go true = length-set ws a z
+      go false = refl
+
+  pub put-beside : (i : ℕ) → storeCells ≤ i → getD ws′ i (pos 0) ≡ getD ws i (pos 0)
+  unfolding written pick
+  put-beside i h = ap (λ (us : List ℤ). getD us i (pos 0)) (P .is) ∙ go (ltb a storeCells) refl
+    where
+      go : (b : Bool) → ltb a storeCells ≡ b → getD (pick b (set ws a z) ws) i (pos 0) ≡ getD ws i (pos 0)
+      go true e = getD-set-other ws a i z (pos 0) (λ q. absurd (omega (arith, q, h, ltb-true a storeCells e)))
+      go false e = refl
 
 -- ---- `copy_one`: the word is the callee's
 pub one-put : (ws : List ℤ) (s a : ℕ) (z : ℤ) (ws′ : List ℤ) → z ≡ storeWord ws s → SFits w64 z → Puts ws a (wire z) ws′ → Puts ws a (storeWord ws s) ws′
@@ -55,7 +82,7 @@ one-put ws s a z ws′ e f P = subst (λ (y : ℤ). Puts ws a y ws′) (toZ-ofZ 
 
 pub ruleset one-laws = (one-put, sfits-of)
 
--- ---- `copy_up`, `copy_down`
+-- ---- the cells after the writes of a copy
 none-copied : (ws : List ℤ) (s a i : ℕ) → Copies ws s a i i ws
 none-copied ws s a i =
     record { here = λ j h g m. absurd (omega arith); below = λ i h. refl; above = λ i h. refl; long = refl; beside = λ i h. refl }
@@ -64,18 +91,18 @@ module _ (ws : List ℤ) (s a i : ℕ) (us vs : List ℤ) (P : Puts us (a + i) (
   -- the cell that was stored
   stored-here : length ws ≡ storeWords → length us ≡ length ws → (j : ℕ) → j ≡ i → a + j < storeCells → storeWord us (s + i) ≡ storeWord ws (s + i) → storeWord vs (a + j) ≡ storeWord ws (s + j)
   stored-here l k j e o g =
-      subst (λ (x : ℕ). storeWord vs (a + x) ≡ storeWord ws (s + x)) (sym e) (P .at (k ∙ l) (omega (arith, e, o)) ∙ g)
+      subst (λ (x : ℕ). storeWord vs (a + x) ≡ storeWord ws (s + x)) (sym e) (put-at P (k ∙ l) (omega (arith, e, o)) ∙ g)
 
   other-here : (j : ℕ) → ((j ≡ i) → ⊥) → storeWord vs (a + j) ≡ storeWord us (a + j)
-  other-here j h = P .other (a + j) (λ e. h (omega (arith, e)))
+  other-here j h = put-other P (a + j) (λ e. h (omega (arith, e)))
 
   up-more : length ws ≡ storeWords → a ≤ s → Copies ws s a 0 i us → Copies ws s a 0 (i + 1) vs
   up-more l h C = record {
     here = λ j g k o. here j (le-or-lt i j) k o;
-    below = λ j g. P .other j (λ e. absurd (omega (arith, e, g))) ∙ C .below j g;
-    above = λ j g. P .other j (λ e. absurd (omega (arith, e, g))) ∙ C .above j (omega (arith, g));
-    long = P .long ∙ C .long;
-    beside = λ j g. P .beside j g ∙ C .beside j g;
+    below = λ j g. put-other P j (λ e. absurd (omega (arith, e, g))) ∙ C .below j g;
+    above = λ j g. put-other P j (λ e. absurd (omega (arith, e, g))) ∙ C .above j (omega (arith, g));
+    long = put-long P ∙ C .long;
+    beside = λ j g. put-beside P j g ∙ C .beside j g;
   }
     where
       here : (j : ℕ) → (i ≤ j) ⊎ (j < i) → j < i + 1 → a + j < storeCells → storeWord vs (a + j) ≡ storeWord ws (s + j)
@@ -85,46 +112,105 @@ module _ (ws : List ℤ) (s a i : ℕ) (us vs : List ℤ) (P : Puts us (a + i) (
   down-more : (k : ℕ) → i < k → length ws ≡ storeWords → s < a → Copies ws s a (i + 1) k us → Copies ws s a i k vs
   down-more k b l h C = record {
     here = λ j g f o. here j (le-or-lt j i) g f o;
-    below = λ j g. P .other j (λ e. absurd (omega (arith, e, g))) ∙ C .below j (omega (arith, g));
-    above = λ j g. P .other j (λ e. absurd (omega (arith, e, g, b))) ∙ C .above j g;
-    long = P .long ∙ C .long;
-    beside = λ j g. P .beside j g ∙ C .beside j g;
+    below = λ j g. put-other P j (λ e. absurd (omega (arith, e, g))) ∙ C .below j (omega (arith, g));
+    above = λ j g. put-other P j (λ e. absurd (omega (arith, e, g, b))) ∙ C .above j g;
+    long = put-long P ∙ C .long;
+    beside = λ j g. put-beside P j g ∙ C .beside j g;
   }
     where
       here : (j : ℕ) → (j ≤ i) ⊎ (i < j) → i ≤ j → j < k → a + j < storeCells → storeWord vs (a + j) ≡ storeWord ws (s + j)
       here j (inr q) g f o = other-here j (λ f. absurd (omega (arith, f, q))) ∙ C .here j (omega (arith, q)) f o
       here j (inl q) g f o = stored-here l (C .long) j (omega (arith, q, g)) o (C .below (s + i) (omega (arith, h)))
 
-module _ (ws : List ℤ) (s a : ℕ) where
-  pub up-start : CopyingUp ws s a 0 ws
-  up-start = record { says = λ l h. none-copied ws s a 0 }
+-- the last write upwards
+moved-as : (us : List ℤ) (s a i j : ℕ) → s ≡ i → a ≡ j → written us a (storeWord us s) ≡ written us j (storeWord us i)
+moved-as us s a i j d e = rw (d, e)
 
-  pub up-end : (i k : ℕ) (us : List ℤ) → CopyingUp ws s a i us → i ≤ k → k ≤ i → CopyingUp ws s a k us
-  up-end i k us C h g = subst (λ (x : ℕ). CopyingUp ws s a x us) (omega arith) C
+up-last : (k s a : ℕ) (ws : List ℤ) → made (upwards s a (suc k)) ws ≡ written (made (upwards s a k) ws) (a + k) (storeWord (made (upwards s a k) ws) (s + k))
+unfolding upwards made
+up-last zero s a ws = moved-as ws s a (s + 0) (a + 0) (omega arith) (omega arith)
+up-last (suc k) s a ws =
+    up-last k (suc s) (suc a) (written ws a (storeWord ws s)) ∙ moved-as (made (upwards (suc s) (suc a) k) (written ws a (storeWord ws s))) (suc s + k) (suc a + k) (s + suc k) (a + suc k) (omega arith) (omega arith)
 
-  pub down-start : (k : ℕ) → CopyingFrom ws s a k k ws
-  down-start k = record { says = λ l h. none-copied ws s a k }
+module _ (ws : List ℤ) (s a k : ℕ) (l : length ws ≡ storeWords) where
+  up-copies : (i : ℕ) → a ≤ s → Copies ws s a 0 i (made (upwards s a i) ws)
+  unfolding upwards made
+  up-copies zero h = none-copied ws s a 0
+  up-copies (suc i) h =
+      let us = made (upwards s a i) ws in
+      let e : i + 1 ≡ suc i = omega arith in
+      subst (λ (vs : List ℤ). Copies ws s a 0 (suc i) vs) (sym (up-last i s a ws))
+      (subst (λ (j : ℕ). Copies ws s a 0 j (written us (a + i) (storeWord us (s + i)))) e
+      (up-more ws s a i us (written us (a + i) (storeWord us (s + i))) (record { is = refl }) l h (up-copies i h)))
 
-  pub down-end : (i k : ℕ) (us : List ℤ) → CopyingFrom ws s a i k us → i ≤ 0 → CopyingDown ws s a k us
-  down-end i k us C h = record { says = λ l o. subst (λ (x : ℕ). Copies ws s a x k us) (omega arith) (C .says l o) }
+  down-copies : (i : ℕ) (us : List ℤ) → i ≤ k → s < a → Copies ws s a i k us → Copies ws s a 0 k (made (downwards s a i) us)
+  unfolding downwards made
+  down-copies zero us g h C = C
+  down-copies (suc i) us g h C =
+      let e : suc i ≡ i + 1 = omega arith in
+      let vs = written us (a + i) (storeWord us (s + i)) in
+      down-copies i vs (omega arith) h (down-more ws s a i us vs (record { is = refl }) k (omega arith) l h (subst (λ (j : ℕ). Copies ws s a j k us) e C))
 
-  pub copy-up : (k : ℕ) (us : List ℤ) → CopyingUp ws s a k us → a ≤ s → Copying ws s a k us
-  copy-up k us C h = record { says = λ l. C .says l h }
+-- ---- `copy_up`, `copy_down`: after the writes before i, or from i on, the others are left
+pub record Onward (ws : List ℤ) (s a k i : ℕ) (us : List ℤ) : Type 0 where
+  pub rest : made (upwards (s + i) (a + i) (k - i)) us ≡ made (upwards s a k) ws
 
-  pub copy-down : (k : ℕ) (us : List ℤ) → CopyingDown ws s a k us → s < a → Copying ws s a k us
-  copy-down k us C h = record { says = λ l. C .says l h }
+pub record Back (ws : List ℤ) (s a k i : ℕ) (us : List ℤ) : Type 0 where
+  pub rest : made (downwards s a i) us ≡ made (downwards s a k) ws
+
+module _ (ws : List ℤ) (s a k : ℕ) where
+  pub onward-start : Onward ws s a k 0 ws
+  onward-start =
+      let d : s + 0 ≡ s = omega arith in
+      let e : a + 0 ≡ a = omega arith in
+      let g : k - 0 ≡ k = omega arith in
+      record { rest = rw (d, e, g) }
+
+  pub back-start : Back ws s a k k ws
+  back-start = record { rest = refl }
+
+  module _ (i : ℕ) (us : List ℤ) where
+    pub onward-next : (vs : List ℤ) → Onward ws s a k i us → i < k → Puts us (a + i) (storeWord us (s + i)) vs → Onward ws s a k (i + 1) vs
+    unfolding upwards made
+    onward-next vs O h P =
+        let g : k - i ≡ suc (k - (i + 1)) = omega arith in
+        let c : suc (s + i) ≡ s + (i + 1) = omega arith in
+        let d : suc (a + i) ≡ a + (i + 1) = omega arith in
+        record { rest = rw (P .is, ← c, ← d) (rw g at (O .rest)) }
+
+    pub onward-end : Onward ws s a k i us → k ≤ i → us ≡ made (upwards s a k) ws
+    unfolding upwards made
+    onward-end O h = let e : k - i ≡ 0 = omega arith in rw e at (O .rest)
+
+    pub back-next : (vs : List ℤ) → Back ws s a k i us → 0 < i → Puts us (a + (i - 1)) (storeWord us (s + (i - 1))) vs → Back ws s a k (i - 1) vs
+    unfolding downwards made
+    back-next vs B h P =
+        let g : i ≡ suc (i - 1) = omega arith in
+        let e : made (downwards s a (suc (i - 1))) us ≡ made (downwards s a k) ws = subst (λ (j : ℕ). made (downwards s a j) us ≡ made (downwards s a k) ws) g (B .rest) in
+        record { rest = ap (made (downwards s a (i - 1))) (P .is) ∙ e }
+
+    pub back-end : Back ws s a k i us → i ≤ 0 → us ≡ made (downwards s a k) ws
+    unfolding downwards made
+    back-end B h =
+        let g : i ≡ 0 = omega arith in
+        subst (λ (j : ℕ). made (downwards s a j) us ≡ made (downwards s a k) ws) g (B .rest)
+
+  -- ---- `copy`
+  pub copy-up : (us : List ℤ) → us ≡ made (upwards s a k) ws → a ≤ s → Copying ws s a k us
+  unfolding moves pick
+  copy-up us e h = record {
+    writes = e ∙ rw (le-leb a s h);
+    leaves = λ l. subst (λ (vs : List ℤ). Copies ws s a 0 k vs) (sym e) (up-copies ws s a k l k h);
+  }
+
+  pub copy-down : (us : List ℤ) → us ≡ made (downwards s a k) ws → s < a → Copying ws s a k us
+  unfolding moves pick
+  copy-down us e h = record {
+    writes = e ∙ rw (lt-leb a s h);
+    leaves = λ l. subst (λ (vs : List ℤ). Copies ws s a 0 k vs) (sym e) (down-copies ws s a k l k ws (omega arith) h (none-copied ws s a k));
+  }
 
 pub ruleset copy-laws = (copy-up, copy-down)
-
--- the next cell
-module _ (ws : List ℤ) (s a i : ℕ) (us vs : List ℤ) where
-  pub up-next : CopyingUp ws s a i us → Puts us (a + i) (storeWord us (s + i)) vs → CopyingUp ws s a (i + 1) vs
-  up-next C P = record { says = λ l h. up-more ws s a i us vs P l h (C .says l h) }
-
-  pub down-next : (k : ℕ) → CopyingFrom ws s a i k us → 0 < i → i ≤ k → Puts us (a + (i - 1)) (storeWord us (s + (i - 1))) vs → CopyingFrom ws s a (i - 1) k vs
-  down-next k C h g P = record {
-    says = λ l o. down-more ws s a (i - 1) us vs P k (omega arith) l o (subst (λ (x : ℕ). Copies ws s a x k us) (omega arith) (C .says l o));
-  }
 
 -- ---- `word_at`, `give`, `forget`
 pub word-past : (zs : List ℤ) (i : ℕ) → length zs ≤ i → pos 0 ≡ getD zs i (pos 0)
@@ -137,16 +223,16 @@ module _ (ws : List ℤ) (a : ℕ) (f : ℕ → ℤ) where
   fill-more : (i : ℕ) (us vs : List ℤ) (z : ℤ) → Puts us (a + i) z vs → z ≡ f i → length ws ≡ storeWords → Fills ws a f i us → Fills ws a f (i + 1) vs
   fill-more i us vs z P e l C = record {
     here = λ j g o. here j (le-or-lt i j) g o;
-    below = λ j g. P .other j (λ e. absurd (omega (arith, e, g))) ∙ C .below j g;
-    above = λ j g. P .other j (λ e. absurd (omega (arith, e, g))) ∙ C .above j (omega (arith, g));
-    long = P .long ∙ C .long;
-    beside = λ j g. P .beside j g ∙ C .beside j g;
+    below = λ j g. put-other P j (λ e. absurd (omega (arith, e, g))) ∙ C .below j g;
+    above = λ j g. put-other P j (λ e. absurd (omega (arith, e, g))) ∙ C .above j (omega (arith, g));
+    long = put-long P ∙ C .long;
+    beside = λ j g. put-beside P j g ∙ C .beside j g;
   }
     where
       here : (j : ℕ) → (i ≤ j) ⊎ (j < i) → j < i + 1 → a + j < storeCells → storeWord vs (a + j) ≡ f j
-      here j (inr q) g o = P .other (a + j) (λ e. absurd (omega (arith, e, q))) ∙ C .here j q o
+      here j (inr q) g o = put-other P (a + j) (λ e. absurd (omega (arith, e, q))) ∙ C .here j q o
       here j (inl q) g o =
-          subst (λ (x : ℕ). storeWord vs (a + x) ≡ f x) (omega (arith, q, g)) (P .at (C .long ∙ l) (omega (arith, q, g, o)) ∙ e)
+          subst (λ (x : ℕ). storeWord vs (a + x) ≡ f x) (omega (arith, q, g)) (put-at P (C .long ∙ l) (omega (arith, q, g, o)) ∙ e)
 
   fill-next : (i : ℕ) (us vs : List ℤ) (z : ℤ) → Filling ws a f i us → Puts us (a + i) z vs → z ≡ f i → Filling ws a f (i + 1) vs
   fill-next i us vs z C P e = record { says = λ l. fill-more i us vs z P e l (C .says l) }

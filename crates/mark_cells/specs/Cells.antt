@@ -1,9 +1,11 @@
 -- Cells' words after a store into them. The other words of the array stay.
 use mathlib.Core.Path.{_≡_}
 use mathlib.Core.List.{List, [], _∷_}
-use Prim.Native.Nat.{ℕ, _+_, _<_, _≤_, min}
+use Prim.Native.Nat.{ℕ, zero, suc, _+_, _<_, _≤_, min}
+use lib.Dec.{leb, ltb}
 use lib.IntN.{ℤ, pos}
-use lib.ListN.{getD, length}
+use lib.ListN.{getD, length, set}
+use Rattle.law.specs.Base.{pick}
 use Rattle.law.specs.Machine.{storeCells, storeOrdinal, storeWhole}
 use Rattle.code_calc.specs.Words.{InRange, storeWord, storeWords, undefinedWord}
 use Rattle.mark_steps.specs.Ends.{leftIn}
@@ -13,12 +15,31 @@ use Rattle.mark_steps.specs.Stands.{Runs}
 pub record Addresses (w : ℤ) (r : ℕ) : Type 0 where
   pub says : (a : ℕ) → a ≤ 4294967295 → w ≡ pos a → r ≡ a
 
--- z in cell a
+-- z in cell a; past the last nothing is written
+unfoldable pub written : List ℤ → ℕ → ℤ → List ℤ
+written ws a z = pick (ltb a storeCells) (set ws a z) ws
+
 pub record Puts (ws : List ℤ) (a : ℕ) (z : ℤ) (ws′ : List ℤ) : Type 0 where
-  pub at : length ws ≡ storeWords → a < storeCells → storeWord ws′ a ≡ z
-  pub other : (i : ℕ) → ((i ≡ a) → ⊥) → storeWord ws′ i ≡ storeWord ws i
-  pub long : length ws′ ≡ length ws
-  pub beside : (i : ℕ) → storeCells ≤ i → getD ws′ i (pos 0) ≡ getD ws i (pos 0)
+  pub is : ws′ ≡ written ws a z
+
+-- ---- a copy as its writes, in the order made: the cell that is read, the one that is written
+
+-- k cells from s on to a on, the first first; the last first
+unfoldable pub upwards : ℕ → ℕ → ℕ → List (ℕ × ℕ)
+upwards s a zero = []
+upwards s a (suc k) = (s, a) ∷ upwards (suc s) (suc a) k
+
+unfoldable pub downwards : ℕ → ℕ → ℕ → List (ℕ × ℕ)
+downwards s a zero = []
+downwards s a (suc k) = (s + k, a + k) ∷ downwards s a k
+
+-- the way on which no cell is read after it was written, wherever the two lie
+unfoldable pub moves : ℕ → ℕ → ℕ → List (ℕ × ℕ)
+moves s a k = pick (leb a s) (upwards s a k) (downwards s a k)
+
+unfoldable pub made : List (ℕ × ℕ) → List ℤ → List ℤ
+made [] ws = ws
+made (w ∷ us) ws = made us (written ws (w .1) (storeWord ws (w .0)))
 
 -- the cells from a + lo to a + hi, as far as there are any, hold what those from s + lo on held
 pub record Copies (ws : List ℤ) (s a lo hi : ℕ) (ws′ : List ℤ) : Type 0 where
@@ -28,20 +49,10 @@ pub record Copies (ws : List ℤ) (s a lo hi : ℕ) (ws′ : List ℤ) : Type 0 
   pub long : length ws′ ≡ length ws
   pub beside : (i : ℕ) → storeCells ≤ i → getD ws′ i (pos 0) ≡ getD ws i (pos 0)
 
--- k cells copied from s on to a on
+-- k cells copied from s on to a on: the writes, and the store after them
 pub record Copying (ws : List ℤ) (s a k : ℕ) (ws′ : List ℤ) : Type 0 where
-  pub says : length ws ≡ storeWords → Copies ws s a 0 k ws′
-
--- the first first, which serves where a is not above s
-pub record CopyingUp (ws : List ℤ) (s a k : ℕ) (ws′ : List ℤ) : Type 0 where
-  pub says : length ws ≡ storeWords → a ≤ s → Copies ws s a 0 k ws′
-
--- the last first; those below i are still to be copied
-pub record CopyingFrom (ws : List ℤ) (s a i k : ℕ) (ws′ : List ℤ) : Type 0 where
-  pub says : length ws ≡ storeWords → s < a → Copies ws s a i k ws′
-
-pub record CopyingDown (ws : List ℤ) (s a k : ℕ) (ws′ : List ℤ) : Type 0 where
-  pub says : length ws ≡ storeWords → s < a → Copies ws s a 0 k ws′
+  pub writes : ws′ ≡ made (moves s a k) ws
+  pub leaves : length ws ≡ storeWords → Copies ws s a 0 k ws′
 
 -- ---- the parameters of a call
 

@@ -10,7 +10,7 @@ ghost use mathlib.Core.Path.{_≡_};
 ghost use Prim.Native.Nat.{_+_};
 ghost use lib.IntN.{pos};
 ghost use lib.ListN.{getD};
-ghost use Rattle.mark_cells.specs.Cells.{Puts, Copying, CopyingUp, CopyingDown, Addresses, StoresOrdinal, StoresOne, StoresCells, Gives, Forgets};
+ghost use Rattle.mark_cells.specs.Cells.{Puts, upwards, downwards, made, Copying, Addresses, StoresOrdinal, StoresOne, StoresCells, Gives, Forgets};
 ghost use Rattle.code_calc.specs.Words.{storeWord};
 
 // A place's word as a number: what is no place is past every cell.
@@ -54,9 +54,9 @@ fn copy_one(store: &mut Store, s: u32, a: u32, i: u32)
     put_after(store, a, i, z);
 }
 
-// k cells from s on to a on, the first first.
+// k cells from s on to a on, one write for each, the first first.
 fn copy_up(store: &mut Store, s: u32, a: u32, k: u32)
-    ensures { λ r. ⌜ CopyingUp (now (store .entry)) s a k (now (store .exit)) ⌝ }
+    ensures { λ r. ⌜ now (store .exit) ≡ made (upwards s a k) (now (store .entry)) ⌝ }
 {
     let mut i = 0;
     while i < k {
@@ -67,7 +67,7 @@ fn copy_up(store: &mut Store, s: u32, a: u32, k: u32)
 
 // The same, the last first.
 fn copy_down(store: &mut Store, s: u32, a: u32, k: u32)
-    ensures { λ r. ⌜ CopyingDown (now (store .entry)) s a k (now (store .exit)) ⌝ }
+    ensures { λ r. ⌜ now (store .exit) ≡ made (downwards s a k) (now (store .entry)) ⌝ }
 {
     let mut i = k;
     while i > 0 {
@@ -76,7 +76,7 @@ fn copy_down(store: &mut Store, s: u32, a: u32, k: u32)
     }
 }
 
-// k cells from s on to a on; the two may overlap.
+// k cells from s on to a on, each written once, after it was read: no types are known here that would keep the two apart.
 pub fn copy(store: &mut Store, s: u32, a: u32, k: u32)
     ensures { λ r. ⌜ Copying (now (store .entry)) s a k (now (store .exit)) ⌝ }
 {

@@ -8,8 +8,8 @@ use lib.Dec.{eqb}
 use lib.IntN.{ℤ}
 use lib.ListN.{getD}
 use Rattle.law.specs.Base.{Name, _>>=_, both, given, find}
-use Rattle.law.specs.Code.{Code, Act, Place, assignOrdinal, assignWhole, forLoop}
-use Rattle.law.specs.Elaborate.{Elaborated, Located, elabExpr, elabStmt, expects, assigning}
+use Rattle.law.specs.Code.{Code, Act, Place, assignOrdinal, assignCell, copyCells, forLoop, load}
+use Rattle.law.specs.Elaborate.{Elaborated, Located, copying, elabExpr, elabStmt, expects, assigning}
 use Rattle.law.specs.Environment.{Environment}
 use Rattle.code.specs.Layout.{Out, out, lay, bits, layCode, layPlace, layAct}
 use Rattle.law.specs.Names.{varOf, exprOf, stmtOf}
@@ -17,8 +17,11 @@ use Rattle.law.specs.Rules.{plainExpr, keptStmt, looping}
 use Rattle.law.specs.Script as Script
 use Rattle.rule_stages.specs.Stages.{Staged, wrong, unnamed, unfit, fits, staged, named, ruled, join, onFits, orUnfit, keptIf, unknown, exprStaged, wantedStaged, assignedStaged, stmtStaged}
 use Rattle.law.specs.Syntax as Syntax
-use Rattle.law.specs.Types.{Var, variable, infoAt, hostOf, ordinal?}
+use Rattle.law.specs.Types.{Var, variable, infoAt, hostOf, ordinal?, set?}
 use Rattle.law_theorems.proofs.Inversion.{none-some, some-inj, bind-some}
+use Rattle.law_theorems.proofs.ValuesInRange.{own-host}
+use Rattle.law_theorems.proofs.WholeValues.{Loads, loads, from-cells}
+use borrow.Author.Tests.{eqb-true}
 use Rattle.rule_stages.proofs.Staging.{pair, staged-unknown, staged-three}
 use Rattle.rule_stages.proofs.OnePassStmts.{assign-staged, for-staged}
 use Rattle.table_scope.specs.declared.Scope.{Scope}
@@ -30,7 +33,7 @@ use Rattle.table_scope.specs.Descriptions.{infoOf}
 use Rattle.table_scope.specs.Scene as Scenes
 use Rattle.table_scope.specs.Scene.{Scene, a-type, a-var, a-proc, a-value}
 use Rattle.table_scope.specs.Sides.{hostIn}
-use Rattle.table_scope.proofs.Telling.{shape-ordinal, low-told, high-told, host-in}
+use Rattle.table_scope.proofs.Telling.{shape-ordinal, shape-set, low-told, high-told, host-in}
 use Rattle.rule_faults.specs.declared.Got.{Got}
 use Rattle.rule_faults.specs.Got.{lowest, isForm, faultOf, Told}
 use Rattle.rule_faults.proofs.Order.{lowest-assoc, lowest-clear}
@@ -51,6 +54,21 @@ bare-pair n none p = refl
 bare-pair n (some x) none = refl
 bare-pair n (some x) (some y) = refl
 
+-- what fits in all three stages has a kind
+staged-fits : {A B C P : Type 0} (o : Option A) (names : A → Option B) (rules : B → Bool) (kinds : B → Option C) (c : C) → staged o names rules kinds ≡ fits c → ((b : B) → kinds b ≡ some c → P) → P
+unfolding staged named ruled
+staged-fits none names rules kinds c h k = absurd (wrong-fits h)
+staged-fits {B = B} {C = C} {P = P} (some a) names rules kinds c h k = go (names a) h
+  where
+    by : (b : B) (t : Bool) (v : Option C) → kinds b ≡ v → ruled t v ≡ fits c → P
+    by b false v e h = absurd (unfit-fits h)
+    by b true none e h = absurd (unfit-fits h)
+    by b true (some d) e h = k b (e ∙ ap some (fits-inj h))
+
+    go : (o : Option B) → named o rules kinds ≡ fits c → P
+    go none h = absurd (unnamed-fits h)
+    go (some b) h = by b (rules b) (kinds b) refl h
+
 module _ (σ : Environment) (bs js : List ℕ) (n top : ℕ) (l : List ℕ) where
   -- the kind of a told statement is its number
   act-of : {o : Option (Syntax.Stmt × ℕ)} {r : Got} {l′ : List ℕ} → Told (stmtStaged σ js (bare o)) (λ _. n) (layAct bs) top l r l′ → r .kind ≡ n → ((p : Syntax.Stmt × ℕ) → o ≡ some p → p .1 ≡ n)
@@ -60,41 +78,53 @@ module _ (σ : Environment) (bs js : List ℕ) (n top : ℕ) (l : List ℕ) wher
   module _ (s ts : List ℕ) (scope : Scope) (top₂ : ℕ) (g : Got) (l₁ : List ℕ) (e : Got) (l₂ : List ℕ) (Sc : Scene s l₂ ts scope top₂ σ bs) where
     stored-told : (w : Located) (x : Elaborated) → g .kind ≡ w .type → out (g .place) (g .top) l₁ ≡ layPlace (w .place) top l
         → e .kind ≡ x .kind → out (e .place) (e .top) l₂ ≡ layCode (x .code) (g .top) l₁
+        → (ordinal? (σ .types) (x .kind) ≡ false → set? (σ .types) (x .kind) ≡ false → Loads (x .code))
         → Told (orUnfit (given (eqb (hostOf (σ .types) (w .type)) (x .kind)) (x .code) >>= λ c. some (assigning (σ .types) (σ .vars) n w c))) (λ _. n) (layAct bs) top l
         (stored l₂ (infoOf l₂ ts (g .kind)) (hostIn l₂ ts (g .kind)) n g e .got) (stored l₂ (infoOf l₂ ts (g .kind)) (hostIn l₂ ts (g .kind)) n g e .list)
-    unfolding stored given orUnfit layAct _>>=_
-    stored-told w x gk gp ek ep =
-        rw (gk, ek, host-in Sc (w .type), shape-ordinal Sc (w .type), low-told Sc (w .type), high-told Sc (w .type))
-        (go (eqb (hostOf (σ .types) (w .type)) (x .kind)) (ordinal? (σ .types) (w .type)) (infoAt (σ .types) (w .type) .low) (infoAt (σ .types) (w .type) .high))
+    unfolding stored given orUnfit layAct copying _>>=_
+    stored-told w x gk gp ek ep ld =
+        rw (gk, ek, host-in Sc (w .type), shape-ordinal Sc (w .type), shape-set Sc (w .type), low-told Sc (w .type), high-told Sc (w .type))
+        (go (eqb (hostOf (σ .types) (w .type)) (x .kind)) (ordinal? (σ .types) (w .type)) (set? (σ .types) (w .type)) (infoAt (σ .types) (w .type) .low) (infoAt (σ .types) (w .type) .high) refl refl refl)
       where
-        go : (b o : Bool) (lo hi : ℤ) → Told (orUnfit (given b (x .code) >>= λ c. some (cond o (assignOrdinal n (w .place) lo hi c) (assignWhole n (w .place) c)))) (λ _. n) (layAct bs) top l
-            (cond b (nodeMade n (e .next) (lay (cond o (43 ∷ n ∷ g .place ∷ e .place ∷ bits lo ∷ bits hi ∷ []) (44 ∷ n ∷ g .place ∷ e .place ∷ [])) (e .top) l₂)) (failedMade Kind n (e .next) (e .top) l₂) .got)
-            (cond b (nodeMade n (e .next) (lay (cond o (43 ∷ n ∷ g .place ∷ e .place ∷ bits lo ∷ bits hi ∷ []) (44 ∷ n ∷ g .place ∷ e .place ∷ [])) (e .top) l₂)) (failedMade Kind n (e .next) (e .top) l₂) .list)
-        go true true lo hi = told-fits (assignOrdinal n (w .place) lo hi (x .code)) refl refl (rw (← gp, ← ep) refl)
-        go true false lo hi = told-fits (assignWhole n (w .place) (x .code)) refl refl (rw (← gp, ← ep) refl)
-        go false o lo hi = told-unfit refl
+        copied : (c : Code) → Loads c → out (e .place) (e .top) l₂ ≡ layCode c (g .top) l₁
+            → Told (orUnfit (some (copying n (w .place) c))) (λ _. n) (layAct bs) top l (nodeMade n (e .next) (lay (52 ∷ n ∷ g .place ∷ e .place ∷ []) (e .top) l₂) .got) (nodeMade n (e .next) (lay (52 ∷ n ∷ g .place ∷ e .place ∷ []) (e .top) l₂) .list)
+        copied (load q k) loads ep = told-fits (copyCells n (w .place) q k) refl refl (rw (← gp, ← ep) refl)
+
+        go : (b o s : Bool) (lo hi : ℤ) → eqb (hostOf (σ .types) (w .type)) (x .kind) ≡ b → ordinal? (σ .types) (w .type) ≡ o → set? (σ .types) (w .type) ≡ s
+            → Told (orUnfit (given b (x .code) >>= λ c. some (cond o (assignOrdinal n (w .place) lo hi c) (cond s (assignCell n (w .place) c) (copying n (w .place) c))))) (λ _. n) (layAct bs) top l
+            (cond b (nodeMade n (e .next) (lay (cond o (43 ∷ n ∷ g .place ∷ e .place ∷ bits lo ∷ bits hi ∷ []) (cond s (44 ∷ n ∷ g .place ∷ e .place ∷ []) (52 ∷ n ∷ g .place ∷ e .place ∷ []))) (e .top) l₂)) (failedMade Kind n (e .next) (e .top) l₂) .got)
+            (cond b (nodeMade n (e .next) (lay (cond o (43 ∷ n ∷ g .place ∷ e .place ∷ bits lo ∷ bits hi ∷ []) (cond s (44 ∷ n ∷ g .place ∷ e .place ∷ []) (52 ∷ n ∷ g .place ∷ e .place ∷ []))) (e .top) l₂)) (failedMade Kind n (e .next) (e .top) l₂) .list)
+        go true true s lo hi _ _ _ = told-fits (assignOrdinal n (w .place) lo hi (x .code)) refl refl (rw (← gp, ← ep) refl)
+        go true false true lo hi _ _ _ = told-fits (assignCell n (w .place) (x .code)) refl refl (rw (← gp, ← ep) refl)
+        go true false false lo hi h o s =
+            let y : w .type ≡ x .kind = sym (own-host (infoAt (σ .types) (w .type) .shape) (w .type) (infoAt (σ .types) (w .type) .host) o) ∙ eqb-true (hostOf (σ .types) (w .type)) (x .kind) h in
+            copied (x .code) (ld (rw (← y) o) (rw (← y) s)) ep
+        go false o s lo hi _ _ _ = told-unfit refl
 
     kind-of : (f : Fault) (k : ℕ) (i : Info) → ifClear f n (e .next) (e .top) l₂ (stored l₂ i k n g e) .got .kind ≡ n
     unfolding ifClear stored
     kind-of Kind k i = refl
     kind-of Unnamed k i = refl
     kind-of Form k i = refl
-    kind-of Clear k i = of (eqb k (e .kind)) (eqb (i .shape) 0)
+    kind-of Clear k i = of (eqb k (e .kind)) (eqb (i .shape) 0) (eqb (i .shape) 1)
       where
-        of : (b o : Bool) → cond b (nodeMade n (e .next) (lay (cond o (43 ∷ n ∷ g .place ∷ e .place ∷ i .low ∷ i .high ∷ []) (44 ∷ n ∷ g .place ∷ e .place ∷ [])) (e .top) l₂)) (failedMade Kind n (e .next) (e .top) l₂) .got .kind ≡ n
-        of true o = refl
-        of false o = refl
+        of : (b o s : Bool) → cond b (nodeMade n (e .next) (lay (cond o (43 ∷ n ∷ g .place ∷ e .place ∷ i .low ∷ i .high ∷ []) (cond s (44 ∷ n ∷ g .place ∷ e .place ∷ []) (52 ∷ n ∷ g .place ∷ e .place ∷ []))) (e .top) l₂)) (failedMade Kind n (e .next) (e .top) l₂) .got .kind ≡ n
+        of true o s = refl
+        of false o s = refl
 
     pub assign-act : (o : Option Syntax.Target) (p : Option Syntax.Expr) (r : Got) (l′ : List ℕ) → StoreTold σ js o top l g l₁ → ExprTold σ p (g .top) l₁ e l₂ → Makes (assigned l₂ ts n g e) r l′
         → ActTold σ bs js (o >>= λ x. p >>= λ y. some (Syntax.assign n x y, n)) top l r l′
-    unfolding assigned
+    unfolding assigned exprStaged
     assign-act o p r l′ a b m =
         act-of
         (told-as (ap (stmtStaged σ js) (bare-pair n o p) ∙ assign-staged σ js n o p) (m .given) (m .left)
         (told-join (g .fault) (e .fault) n (e .next) (e .top) l₂ _ (assignedStaged σ js o) (exprStaged σ p) _ (a .told .fault-is) (b .told .fault-is)
-        (λ w x hw hx. stored-told w x (a .told .laid w hw .0) (a .told .laid w hw .1) (b .told .laid x hx .0) (b .told .laid x hx .1))))
+        (λ w x hw hx. stored-told w x (a .told .laid w hw .0) (a .told .laid w hw .1) (b .told .laid x hx .0) (b .told .laid x hx .1) (loaded x hx))))
         (ap (λ (x : Got). x .kind) (m .given) ∙ kind-of (lowest (g .fault) (e .fault)) (hostIn l₂ ts (g .kind)) (infoOf l₂ ts (g .kind)))
         (λ q h. bind-some h λ x hx h′. bind-some h′ λ y hy i. sym (ap (λ (z : Syntax.Stmt × ℕ). z .1) (some-inj i)))
+      where
+        loaded : (x : Elaborated) → exprStaged σ p ≡ fits x → ordinal? (σ .types) (x .kind) ≡ false → set? (σ .types) (x .kind) ≡ false → Loads (x .code)
+        loaded x h u v = staged-fits p (exprOf σ) plainExpr (elabExpr (σ .types) (σ .vars)) x h λ y k. from-cells (σ .types) (Sc .table) (σ .vars) y x k u v
 
 -- ---- the control variable
 

@@ -218,16 +218,16 @@ assigned-leaves l ts n g e r l′ m = go (lowest (g .fault) (e .fault)) m
     none-laid : (f f′ : Fault) → isForm f′ ≡ isForm f → r ≡ failedGot f′ n (e .next) (e .top) → l′ ≡ l → (isForm (r .fault) ≡ false → isForm f ≡ false) × ((r .next ≡ e .next) × ((e .top ≤ r .top) × Same 0 (e .top) l′ l))
     none-laid f f′ h x y = rw (x, y) ((λ z. sym h ∙ z), (refl, (omega arith, same-refl)))
 
-    stored-at : (b o : Bool) → Makes (cond b (nodeMade n (e .next) (lay (cond o (43 ∷ n ∷ g .place ∷ e .place ∷ infoOf l ts (g .kind) .low ∷ infoOf l ts (g .kind) .high ∷ []) (44 ∷ n ∷ g .place ∷ e .place ∷ [])) (e .top) l)) (failedMade Kind n (e .next) (e .top) l)) r l′
+    stored-at : (b o z : Bool) → Makes (cond b (nodeMade n (e .next) (lay (cond o (43 ∷ n ∷ g .place ∷ e .place ∷ infoOf l ts (g .kind) .low ∷ infoOf l ts (g .kind) .high ∷ []) (cond z (44 ∷ n ∷ g .place ∷ e .place ∷ []) (52 ∷ n ∷ g .place ∷ e .place ∷ []))) (e .top) l)) (failedMade Kind n (e .next) (e .top) l)) r l′
         → (isForm (r .fault) ≡ false → isForm Clear ≡ false) × ((r .next ≡ e .next) × ((e .top ≤ r .top) × Same 0 (e .top) l′ l))
-    stored-at true o m =
-        let ns = cond o (43 ∷ n ∷ g .place ∷ e .place ∷ infoOf l ts (g .kind) .low ∷ infoOf l ts (g .kind) .high ∷ []) (44 ∷ n ∷ g .place ∷ e .place ∷ []) in
+    stored-at true o z m =
+        let ns = cond o (43 ∷ n ∷ g .place ∷ e .place ∷ infoOf l ts (g .kind) .low ∷ infoOf l ts (g .kind) .high ∷ []) (cond z (44 ∷ n ∷ g .place ∷ e .place ∷ []) (52 ∷ n ∷ g .place ∷ e .place ∷ [])) in
         let G = lay-g ns (e .top) l in
-        rw (m .given, m .left) ((λ z. refl), (refl, (G .up, record { at = λ j a b. G .below j b })))
-    stored-at false o m = none-laid Clear Kind refl (m .given) (m .left)
+        rw (m .given, m .left) ((λ y. refl), (refl, (G .up, record { at = λ j a b. G .below j b })))
+    stored-at false o z m = none-laid Clear Kind refl (m .given) (m .left)
 
     go : (f : Fault) → Makes (ifClear f n (e .next) (e .top) l (stored l (infoOf l ts (g .kind)) (hostIn l ts (g .kind)) n g e)) r l′ → (isForm (r .fault) ≡ false → isForm f ≡ false) × ((r .next ≡ e .next) × ((e .top ≤ r .top) × Same 0 (e .top) l′ l))
-    go Clear m = stored-at (eqb (hostIn l ts (g .kind)) (e .kind)) (eqb (infoOf l ts (g .kind) .shape) 0) m
+    go Clear m = stored-at (eqb (hostIn l ts (g .kind)) (e .kind)) (eqb (infoOf l ts (g .kind) .shape) 0) (eqb (infoOf l ts (g .kind) .shape) 1) m
     go Kind m = none-laid Kind Kind refl (m .given) (m .left)
     go Unnamed m = none-laid Unnamed Unnamed refl (m .given) (m .left)
     go Form m = none-laid Form Form refl (m .given) (m .left)

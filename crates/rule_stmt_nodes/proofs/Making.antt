@@ -124,11 +124,15 @@ module _ (l : List ℕ) (i : Info) (k n : ℕ) (g e r : Got) where
   unfolding stored
   store-ordinal l′ h z m = rw (eq-eqb k (e .kind) h, eq-eqb (i .shape) 0 z) m
 
-  pub store-whole : (l′ : List ℕ) → k ≡ e .kind → ((i .shape ≡ 0) → ⊥) → Makes (nodeMade n (e .next) (lay (44 ∷ n ∷ g .place ∷ e .place ∷ []) (e .top) l)) r l′ → Makes (stored l i k n g e) r l′
+  pub store-set : (l′ : List ℕ) → k ≡ e .kind → ((i .shape ≡ 0) → ⊥) → i .shape ≡ 1 → Makes (nodeMade n (e .next) (lay (44 ∷ n ∷ g .place ∷ e .place ∷ []) (e .top) l)) r l′ → Makes (stored l i k n g e) r l′
   unfolding stored
-  store-whole l′ h z m = rw (eq-eqb k (e .kind) h, ne-eqb (i .shape) 0 z) m
+  store-set l′ h z y m = rw (eq-eqb k (e .kind) h, ne-eqb (i .shape) 0 z, eq-eqb (i .shape) 1 y) m
 
-pub ruleset store-laws = (store-kind, store-ordinal, store-whole)
+  pub store-copy : (l′ : List ℕ) → k ≡ e .kind → ((i .shape ≡ 0) → ⊥) → ((i .shape ≡ 1) → ⊥) → Makes (nodeMade n (e .next) (lay (52 ∷ n ∷ g .place ∷ e .place ∷ []) (e .top) l)) r l′ → Makes (stored l i k n g e) r l′
+  unfolding stored
+  store-copy l′ h z y m = rw (eq-eqb k (e .kind) h, ne-eqb (i .shape) 0 z, ne-eqb (i .shape) 1 y) m
+
+pub ruleset store-laws = (store-kind, store-ordinal, store-set, store-copy)
 
 module _ (l ts : List ℕ) (n : ℕ) (g e : Got) (f : Fault) (b : Bool) (h : f ≡ lowest (g .fault) (e .fault)) (z : b ≡ isClear f) (r : Got) where
   pub assign-clear : (k : ℕ) (i : Info) (l′ : List ℕ) → b ≡ true → k ≡ hostIn l ts (g .kind) → i ≡ infoOf l ts (g .kind) → Makes (stored l i k n g e) r l′ → Makes (assigned l ts n g e) r l′

@@ -49,7 +49,7 @@ skipGot n q t = record { fault = Clear; kind = n; place = 0; next = q; top = t }
 -- an assignment to a target of a type that i describes, whose kind is k
 unfoldable pub stored : List ℕ → Info → ℕ → ℕ → Got → Got → Made
 stored l i k n g e = cond (eqb k (e .kind))
-    (nodeMade n (e .next) (lay (cond (eqb (i .shape) 0) (43 ∷ n ∷ g .place ∷ e .place ∷ i .low ∷ i .high ∷ []) (44 ∷ n ∷ g .place ∷ e .place ∷ [])) (e .top) l))
+    (nodeMade n (e .next) (lay (cond (eqb (i .shape) 0) (43 ∷ n ∷ g .place ∷ e .place ∷ i .low ∷ i .high ∷ []) (cond (eqb (i .shape) 1) (44 ∷ n ∷ g .place ∷ e .place ∷ []) (52 ∷ n ∷ g .place ∷ e .place ∷ []))) (e .top) l))
     (failedMade Kind n (e .next) (e .top) l)
 
 unfoldable pub assigned : List ℕ → List ℕ → ℕ → Got → Got → Made

@@ -123,7 +123,11 @@ fn store_node(work: &mut [u32], i: Info, k: u32, n: u32, g: Got, e: Got) -> Got
         let ns = [code_ops::stmt::ASSIGN, n, g.place, e.place, i.low, i.high];
         return node(work, n, e.next, e.top, &ns);
     }
-    let ns = [code_ops::stmt::ASSIGN_WHOLE, n, g.place, e.place];
+    if i.shape == 1 {
+        let ns = [code_ops::stmt::ASSIGN_CELL, n, g.place, e.place];
+        return node(work, n, e.next, e.top, &ns);
+    }
+    let ns = [code_ops::stmt::COPY_CELLS, n, g.place, e.place];
     node(work, n, e.next, e.top, &ns)
 }
 

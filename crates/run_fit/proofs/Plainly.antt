@@ -19,7 +19,7 @@ use Rattle.code.specs.CodeReady.{ReadyCode, ReadyPlace, ReadyCodes, ReadyAct, R
 use Rattle.law_theorems.specs.CodeSized.{InSet, SizedFrame}
 use Rattle.law_theorems.proofs.ValuesInRange.{wrong}
 use Rattle.run_nodes.specs.Emitted.{Plain, PlainCodes, PlainPlace, Small, SmallFor, baseOf, membersIn}
-use Rattle.run_emit.specs.Plainly.{Callable, PlainAct, PlainActs, PlainBody, PlainCases, PlainWhole}
+use Rattle.run_emit.specs.Plainly.{Callable, PlainAct, PlainActs, PlainBody, PlainCases}
 
 -- ---- expressions and places
 
@@ -61,17 +61,6 @@ mutual
   plain-codes R.noCodes = tt
   plain-codes (R._with_ c cs) = (plain-code c, plain-codes cs)
 
-plain-whole : {d : ℕ} {c : C.Code} → ReadyCode d c → PlainWhole c
-unfolding PlainWhole
-plain-whole (R.literal i) = plain-code (R.literal {d = 0} i)
-plain-whole (R.variable l) = plain-place (R.cell {d = 0} {n = 1} (omega (arith, l)))
-plain-whole (R.at r) = plain-place r
-plain-whole R.lastNumber = plain-code (R.lastNumber {d = 0})
-plain-whole (R.makeSet i j cs) = plain-code (R.makeSet i j cs)
-plain-whole (R.calculate a b) = plain-code (R.calculate a b)
-plain-whole (R.shortCut a b) = plain-code (R.shortCut a b)
-plain-whole (R.calculate1 o a) = plain-code (R.calculate1 o a)
-
 -- ---- statements, as they are read back: their calls are to places
 
 count-members : (cs : C.Codes) → countCodes cs ≡ membersIn cs
@@ -86,12 +75,12 @@ pub record Known (l places : List ℕ) (qs : ℕ → C.Frame) (m : ℕ) : Type 0
 
 module _ (l places : List ℕ) (qs : ℕ → C.Frame) (m : ℕ) (K : Known l places qs m) {d : ℕ} where
   mutual
-    unfolding PlainAct PlainWhole atPlaces
+    unfolding PlainAct atPlaces
 
     plain-act : {a : C.Act} → ReadyAct d a → Calls qs m a → PlainAct l places m (atPlaces places a)
     plain-act (R.assignOrdinal n p i j c) k = (plain-place p, plain-code c)
-    plain-act (R.assignSet n p c) k = (plain-place p, plain-whole c)
-    plain-act (R.copyCells n p q) k = (plain-place p, plain-place q)
+    plain-act (R.assignSet n p c) k = (plain-place p, plain-code c)
+    plain-act (R.copyCells n p q c) k = (plain-place p, plain-place q)
     plain-act (R.sequence n bs) (Calls.sequence k) = plain-acts bs k
     plain-act (R.branchOn n c a b) (Calls.branchOn k h) = (plain-code c, plain-act a k, plain-act b h)
     plain-act (R.whileLoop n c a) (Calls.whileLoop k) = (plain-code c, plain-act a k)

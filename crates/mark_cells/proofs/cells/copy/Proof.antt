@@ -11,7 +11,7 @@ pub copy-spec : {M : Type 1} → statement M
 copy-spec =
     tie.close
     (tie.spec
-    (λ c κs. search needs)  -- copy-up-requires src/cells.rt:72:9
-    (λ c κs. search needs)  -- copy-down-requires src/cells.rt:74:9
-    (λ c. search copy-laws)  -- returns src/cells.rt:68:1
-    (λ c. search copy-laws))  -- returns-2 src/cells.rt:68:1
+    (λ c κs. search needs)  -- copy-up-requires src/cells.rt:84:9
+    (λ c κs. search needs)  -- copy-down-requires src/cells.rt:86:9
+    (λ c. search copy-laws)  -- returns src/cells.rt:80:1
+    (λ c. search copy-laws))  -- returns-2 src/cells.rt:80:1
