@@ -26,7 +26,7 @@ extern "C" {
 
 /* The header's version. A host that was written for another major number must be changed. */
 #define DRIVE_VERSION_MAJOR 1 /* raised where a layout, a signature or a promise changes so that a host's code no longer fits */
-#define DRIVE_VERSION_MINOR 2 /* the language: how many requests of document 02 have landed */
+#define DRIVE_VERSION_MINOR 3 /* the language: how many requests of document 02 have landed */
 
 #define DRIVE_WORK 16384u /* numbers in the working list; with fewer every text is refused by DRIVE_BENCH */
 #define DRIVE_TEXT 32768u /* most bytes of a text */

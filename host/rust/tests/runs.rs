@@ -34,7 +34,7 @@ const ENDS: [(&str, &[&str]); 17] = [
     ("(main (call p fast))", &["`succ` goes past fast.", "There `g` is fast.", "statement 1, line 12"]),
     ("(main (:= n (ord (setmin (members gears)))))", &["`setmin` has an empty set after it."]),
     ("(main (:= n (+ m 1)))", &["(Undefined_Error)", "`m` has no value yet.", "put it into the store"]),
-    ("(main (:= (at t 1) 5) (:= u t))", &["`t[2]` has no value yet."]),
+    ("(main (:= (at t 1) 5) (:= u t))", &["`t[2]` has no value yet.", "a value in every part, before anything is copied"]),
     ("(main (:= now slow) (case now (arm fast (begin))))", &["No arm has the label slow, and there is no `else`.", "There `now` is slow."]),
     ("(main (raise (- 103)))", &["Exception -103 (Range_Error) at statement 2", "Its `raise` is here.", "see why the script raises it"]),
     ("(main (:= n 9) (call q n))", &["The argument is 9.", "`slot`, which is 1 to 4"]),
@@ -50,6 +50,49 @@ fn each_exception_says_why() {
         let out = said("run", format!("{declared}{main}\n"));
         for part in parts {
             assert!(out.contains(part), "{part}: {out}");
+        }
+    }
+}
+
+/// The part of a profile that stops its copy is named, by both machines, and nothing is copied.
+#[test]
+fn an_undefined_part_of_a_profile() {
+    let script = concat!(env!("CARGO_MANIFEST_DIR"), "/../../examples/profiles.txt");
+    let store = "all[work].turn 20\nall[work].reverse 15\nwanted work\nstick 50\nchosen.turn 7\n";
+    let store = file("profile", store);
+    for machine in ["run", "mark"] {
+        let (status, out, _) = drive(&[machine, script, "--store", &store], "");
+        assert_eq!(status, 1);
+        assert!(
+            out.starts_with(
+                "exception -104 1 1\n\
+                 Exception -104 (Undefined_Error) at statement 1, line 10: `all[work].forward` has no value yet.\n\
+                 \x20   ..(:= chosen (at all wanted))..\n\
+                 \x20                ^^^^^^^^^^^^^^^\n\
+                 Expected: a value in every part, before anything is copied.\n\
+                 There `wanted` is work.\n\
+                 Give it a value before it is read: put it into the store,"
+            ),
+            "{out}"
+        );
+        assert!(out.ends_with("chosen.forward -\nchosen.turn 7\nchosen.reverse -\nspeed -\n"), "{out}");
+    }
+}
+
+/// What stops a copy on its source's side comes before the target's index.
+#[test]
+fn the_source_of_a_copy_comes_first() {
+    let declared = "(type slot (range 1 4))\n(type pair (record (a integer) (b integer)))\n(type row (array slot pair))\n(var p pair)\n(var r row)\n(var n integer)\n";
+    let cases = [
+        ("(:= (at r (div 1 0)) p)", "exception -104 2 2\n"),
+        ("(:= (at r n) p)", "exception -104 2 2\n"),
+        ("(:= (at r (div 1 0)) (at r n))", "exception -103 2 2\n"),
+        ("(:= (at r n) (at r (div 1 0)))", "exception -101 2 2\n"),
+    ];
+    for (copy, outcome) in cases {
+        for machine in ["run", "mark"] {
+            let out = said(machine, format!("{declared}(main (:= n 9) {copy})\n"));
+            assert!(out.starts_with(outcome), "{copy}: {out}");
         }
     }
 }

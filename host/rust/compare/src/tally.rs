@@ -25,6 +25,16 @@ impl Tally {
         if case.deepest().is_some_and(|deepest| deepest >= DEEP) {
             *self.counts.entry(format!("calls {DEEP} deep or deeper")).or_default() += 1;
         }
+        let copies = case.copies().unwrap_or_default();
+        let sorts = [
+            ("made", copies.made),
+            ("to itself", copies.itself),
+            ("stopped, undefined", copies.stopped),
+            ("of them behind a defined cell", copies.inside),
+        ];
+        for (what, _) in sorts.into_iter().filter(|(_, count)| *count > 0) {
+            *self.counts.entry(format!("copies {what}")).or_default() += 1;
+        }
         self.run_steps += steps(&run.ended);
         self.mark_steps += steps(&mark.ended);
         let verdict = match verdict {
@@ -58,6 +68,6 @@ impl fmt::Display for Tally {
     fn fmt(&self, f: &mut fmt::Formatter<'_>) -> fmt::Result {
         writeln!(f, "{} cases, {} bytes, {} steps run, {} steps marked", self.cases, self.bytes, self.run_steps, self.mark_steps)?;
         let share = |count: u64| count as f64 * 100.0 / self.cases as f64;
-        self.counts.iter().try_for_each(|(what, &count)| writeln!(f, "{what:28} {count:9} {:6.2} %", share(count)))
+        self.counts.iter().try_for_each(|(what, &count)| writeln!(f, "{what:36} {count:9} {:6.2} %", share(count)))
     }
 }

@@ -9,6 +9,9 @@ pub const LOOPS: [(&str, &[u8]); 4] = [
     ("calls: arguments", include_bytes!("../texts/calls.txt")),
 ];
 
+/// A loop that copies a record of 16 fields and an array of 256 elements: in its four steps a round 272 cells.
+pub const COPIES: &[u8] = include_bytes!("../texts/copies.txt");
+
 /// The examples of the repository.
 pub fn examples() -> Vec<Vec<u8>> {
     let folder = concat!(env!("CARGO_MANIFEST_DIR"), "/../../../examples");

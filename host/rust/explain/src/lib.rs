@@ -22,7 +22,7 @@ pub mod word;
 mod world;
 
 /// How many requests of document 02 the explainer knows. A text with forms of later ones gets the general words, until they are added here.
-pub const LEVEL: usize = 2;
+pub const LEVEL: usize = 3;
 
 pub use bytes::{tidy, Tidied, HUGE};
 pub use cells::{by_names, Layout, StoreFault};

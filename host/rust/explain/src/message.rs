@@ -129,7 +129,10 @@ impl Told<'_> {
             (Some(Detail::Raised(place, why)), _) => {
                 let (found, expected) = self.why(why);
                 let hint = if why == Why::Raised { told::cure(OWN).to_string() } else { hint };
-                let known = place.values.iter().filter(|(_, _, value)| value.is_some() || !matches!(why, Why::Undefined(_)));
+                let known = place
+                    .values
+                    .iter()
+                    .filter(|(_, _, value)| value.is_some() || !matches!(why, Why::Undefined(_) | Why::UndefinedPart(_)));
                 let place = Stopped { values: known.copied().collect(), ..place };
                 self.at_place(Message { number, found, expected, hint, ..Message::default() }, &what, &place)
             }
@@ -220,6 +223,9 @@ impl Told<'_> {
             Why::Edge(word, value, ty) => (format!("`{word}` goes past {}.", shown(ty, value)), format!("a value of {}", extent(ty))),
             Why::EmptySet(word) => (format!("`{word}` has an empty set after it."), "a set with a member".to_string()),
             Why::Undefined(cell) => (format!("`{}` has no value yet.", self.path(cell)), String::new()),
+            Why::UndefinedPart(cell) => {
+                (format!("`{}` has no value yet.", self.path(cell)), "a value in every part, before anything is copied".to_string())
+            }
             Why::NoLabel(value, ty) => (format!("No arm has the label {}, and there is no `else`.", shown(ty, value)), String::new()),
             Why::Raised => ("Its `raise` is here.".to_string(), String::new()),
             Why::NothingBefore => ("`(raise 0)` passes on the last exception, and there was none.".to_string(), String::new()),

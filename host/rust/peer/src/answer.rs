@@ -30,3 +30,14 @@ pub struct Answer {
     pub outcome: Outcome,
     pub steps: u32,
 }
+
+/// The whole copies of a run, for those who generate cases: no answer tells them.
+#[derive(Clone, Copy, Debug, Default, PartialEq, Eq)]
+pub struct Copies {
+    /// Those that were made, and of them those to the cells that were read.
+    pub made: u64,
+    pub itself: u64,
+    /// Those that an undefined component stopped, and of them those behind a defined one.
+    pub stopped: u64,
+    pub inside: u64,
+}

@@ -25,7 +25,7 @@ pub mod types;
 pub mod word;
 pub mod world;
 
-pub use answer::{Alive, Answer, Outcome, Refusal};
+pub use answer::{Alive, Answer, Copies, Outcome, Refusal};
 pub use judge::Script;
 pub use level::{Level, LANDED};
 
@@ -96,6 +96,19 @@ pub fn deepest(
     let script = verdict(level, text, work_len).ok()?;
     store::test(&script.world, values, marks).ok()?;
     Some(mark::deepest(&script, &mut values.to_vec(), &mut marks.to_vec(), budget))
+}
+
+/// The whole copies of an accepted script's run; nothing if it doesn't run. The store is not changed.
+pub fn copies(
+    level: Level,
+    text: &[u8],
+    work_len: usize,
+    (values, marks): (&[i64], &[u8]),
+    budget: u32,
+) -> Option<Copies> {
+    let script = verdict(level, text, work_len).ok()?;
+    store::test(&script.world, values, marks).ok()?;
+    Some(run::copies(&script, &mut values.to_vec(), &mut marks.to_vec(), budget))
 }
 
 /// The parameter cells of both machines when an accepted script's run stops: 02 promises that the

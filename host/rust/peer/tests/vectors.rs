@@ -140,15 +140,18 @@ fn document_01() {
     all(Level::BASE, "deep.jsonl", &vectors("deep.jsonl"));
 }
 
-/// A level's own rows; then those of document 01 that the level doesn't answer anew.
+/// A level's own rows; then those of document 01 that no level up to it answers anew.
 #[test]
-fn parameters() {
-    let own = vectors("level-01.jsonl");
-    all(Level::PARAMETERS, "level-01.jsonl", &own);
-    let anew: HashSet<i64> =
-        own.iter().filter_map(|vector| vector.get("base")).map(number).collect();
-    let mut kept = vectors("vectors.jsonl");
-    kept.retain(|vector| !anew.contains(&number(&vector["n"])));
-    all(Level::PARAMETERS, "vectors.jsonl", &kept);
-    all(Level::PARAMETERS, "deep.jsonl", &vectors("deep.jsonl"));
+fn each_level() {
+    let mut anew: HashSet<i64> = HashSet::new();
+    for (number_of, level) in Level::ALL.into_iter().enumerate().skip(1) {
+        let file = format!("level-{number_of:02}.jsonl");
+        let own = vectors(&file);
+        all(level, &file, &own);
+        anew.extend(own.iter().filter_map(|vector| vector.get("base")).map(number));
+        let mut kept = vectors("vectors.jsonl");
+        kept.retain(|vector| !anew.contains(&number(&vector["n"])));
+        all(level, "vectors.jsonl", &kept);
+        all(level, "deep.jsonl", &vectors("deep.jsonl"));
+    }
 }

@@ -1,7 +1,7 @@
 //! `timing`: the time of both in one run, checks per byte, runs and markings per step. Least of five rounds, in which the two take turns.
 //! Before each run the store is cleared, outside the time taken; the working list is all 0 from the call before, and that the library
 //! clears it again is part of its time. The peer lends no working list and makes its own lists.
-use compare::workloads::{enum_names, examples, first_name, full, generated, mixed_labels, passing, LOOPS};
+use compare::workloads::{enum_names, examples, first_name, full, generated, mixed_labels, passing, COPIES, LOOPS};
 use drive::{Bench, Store, WORK};
 use peer::{Level, LANDED};
 use std::hint::black_box;
@@ -39,12 +39,14 @@ fn main() {
     for (what, text) in LOOPS {
         steps(what, text, 1_000_000, &CHAIR);
     }
+    steps("copies, 68 cells a step", COPIES, 100_000, &CHAIR);
     steps("a loop that passes 4,000 nodes", &passing(), 10_000, &CHAIR);
     steps("a set of one of 2,000 names, 2,000 times", &first_name(2_000), 10_000, &CHAIR);
     head("mark, ns per step", "steps");
     for (what, text) in LOOPS {
         steps(what, text, 100_000, &MARKING);
     }
+    steps("copies, 68 cells a step", COPIES, 10_000, &MARKING);
     steps("a loop that passes 4,000 nodes", &passing(), 1_000, &MARKING);
     steps("a set of one of 2,000 names, 2,000 times", &first_name(2_000), 50, &MARKING);
 }

@@ -105,9 +105,13 @@ impl Machine<'_> {
     fn read(&self, target: &Target) -> Worked<Value> {
         let place = self.place(target)?;
         self.worked(self.world.types.cells(place.ty));
+        let undefined = match self.world.types.kind(place.ty) {
+            Kind::Array { .. } | Kind::Record { .. } => Why::UndefinedPart,
+            _ => Why::Undefined,
+        };
         let cells = (0..self.world.types.cells(place.ty)).map(|offset| {
             let cell = place.cell.on(offset);
-            self.cell(cell).ok_or(Failure::Raise(target.span(), Why::Undefined(cell)))
+            self.cell(cell).ok_or(Failure::Raise(target.span(), undefined(cell)))
         });
         Ok(Value { ty: self.world.types.host(place.ty), cells: cells.collect::<Worked<_>>()? })
     }

@@ -47,6 +47,8 @@ pub enum Why {
     Edge(&'static str, i64, TypeId),
     EmptySet(&'static str),
     Undefined(Cell),
+    /// The first cell without a value of a table or record that is read whole.
+    UndefinedPart(Cell),
     NoLabel(i64, TypeId),
     Raised,
     NothingBefore,
@@ -367,7 +369,7 @@ impl Why {
         match self {
             Why::Past(_) | Why::Divisor(..) | Why::Exponent(..) => NUMERIC_ERROR,
             Why::Outside(..) | Why::Edge(..) | Why::EmptySet(_) => RANGE_ERROR,
-            Why::Undefined(_) => UNDEFINED_ERROR,
+            Why::Undefined(_) | Why::UndefinedPart(_) => UNDEFINED_ERROR,
             Why::NoLabel(..) => CASE_ERROR,
             Why::Raised | Why::NothingBefore => SYSTEM_ERROR,
         }

@@ -43,6 +43,7 @@ pub fn script(level: Level, rng: Rng, size: Size) -> Scene {
         };
         scene.var_line(ty);
     }
+    scene.kin();
     if size.calls {
         scene.var_line(INTEGER);
     }
@@ -87,11 +88,15 @@ fn starts(scene: &mut Scene, wild: usize) -> Vec<Node> {
     let mut parts = Vec::new();
     for place in 0..scene.variables.len().min(20) {
         let (name, ty) = scene.variables[place].clone();
-        if scene.bounds(ty).is_some() && scene.rng.percent(85) {
-            let (controls, counted) = (Vec::new(), Vec::new());
-            let mut writer = Writer { scene, wild, rough: SMOOTH, controls, counted, room: 1 };
+        let ordinal = scene.bounds(ty).is_some();
+        let set = ordinal && scene.rng.percent(85);
+        let (controls, counted) = (Vec::new(), Vec::new());
+        let mut writer = Writer { scene, wild, rough: SMOOTH, controls, counted, room: 1 };
+        if set {
             let value = writer.constant(ty);
             parts.push(form(":=", vec![word(name), value]));
+        } else if !ordinal {
+            parts.extend(writer.filled_at_start(&name, ty));
         }
     }
     parts
@@ -102,6 +107,9 @@ impl Writer<'_> {
         self.room = self.room.saturating_sub(1);
         if depth < 5 || self.room == 0 {
             return self.assign(depth.min(3));
+        }
+        if let Some(copy) = self.copy_instead() {
+            return copy;
         }
         match self.scene.rng.weighted(&[40, 6, 14, 5, 9, 9, 8, 2, 2, 1]) {
             0 => self.assign(5),
@@ -163,6 +171,10 @@ impl Writer<'_> {
     /// A statement of which several parts raise: the first one counts.
     fn clash(&mut self, depth: usize) -> Node {
         let before = std::mem::replace(&mut self.rough, CLASHING);
+        if let Some(copy) = self.copy_instead() {
+            self.rough = before;
+            return copy;
+        }
         let calls = self.scene.level.has(Level::PARAMETERS) && self.scene.rng.percent(25);
         let statement = match self.scene.rng.below(6) {
             _ if calls => self.call(),

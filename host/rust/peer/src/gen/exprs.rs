@@ -308,7 +308,7 @@ impl Writer<'_> {
             left -= 1;
             (node, ty) = match self.scene.types[ty].shape.clone() {
                 Shape::Array { index, element } => {
-                    let index = self.fitting(index, left.min(2));
+                    let index = self.index(index, left.min(2));
                     (form("at", vec![node, index]), element)
                 }
                 Shape::Record(fields) => {
@@ -325,7 +325,7 @@ impl Writer<'_> {
 }
 
 /// Does a type pass the test, or a part of it within so many levels?
-fn holds(scene: &Scene, ty: usize, test: &dyn Fn(&Scene, usize) -> bool, depth: usize) -> bool {
+pub fn holds(scene: &Scene, ty: usize, test: &dyn Fn(&Scene, usize) -> bool, depth: usize) -> bool {
     if test(scene, ty) {
         return true;
     }

@@ -4,6 +4,7 @@
 
 mod bodies;
 mod ceilings;
+mod copies;
 mod damage;
 mod exprs;
 mod node;
@@ -18,7 +19,7 @@ mod store;
 pub use rng::Rng;
 pub use store::{budget, store, Store};
 
-use crate::answer::{Answer, Outcome, Refusal};
+use crate::answer::{Answer, Copies, Outcome, Refusal};
 use crate::bytes::WORK;
 use crate::faults::Fits;
 use crate::judge::judge;
@@ -202,6 +203,12 @@ impl Case {
     pub fn deepest(&self) -> Option<usize> {
         let store = (self.values.as_slice(), self.marks.as_slice());
         crate::deepest(self.level, &self.text, self.work_len, store, self.budget)
+    }
+
+    /// The whole copies of its run; nothing if it doesn't run.
+    pub fn copies(&self) -> Option<Copies> {
+        let store = (self.values.as_slice(), self.marks.as_slice());
+        crate::copies(self.level, &self.text, self.work_len, store, self.budget)
     }
 
     /// The marking machine's answer and the store that it leaves.

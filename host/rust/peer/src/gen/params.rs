@@ -34,8 +34,13 @@ impl Scene {
         };
         let types = self.types_where(plain);
         let mut pairs = Vec::new();
+        let mut index = self.index_type();
         for _ in 0..self.own {
-            let ty = if self.rng.percent(20) { INTEGER } else { *self.rng.pick(&types) };
+            let ty = match index.take() {
+                Some(index) => index,
+                None if self.rng.percent(20) => INTEGER,
+                None => *self.rng.pick(&types),
+            };
             let name = self.fresh();
             pairs.push(Node::List(vec![word(&name), self.type_word(ty)]));
             self.variables.push((name, ty));
@@ -173,7 +178,7 @@ impl Writer<'_> {
     }
 
     /// A constant, or a set of one.
-    fn plain(&mut self, ty: usize) -> Node {
+    pub fn plain(&mut self, ty: usize) -> Node {
         match self.scene.types[ty].shape {
             Shape::Set { base } => {
                 form("members", vec![self.scene.type_word(ty), self.constant(base)])

@@ -218,7 +218,7 @@ impl Scene {
         self.add(Shape::Array { index, element }, written, cells);
     }
 
-    fn record(&mut self) {
+    pub fn record(&mut self) {
         let elements = self.types_where(|s, ty| s.types[ty].cells <= 40);
         let mut fields: Vec<(String, usize)> = Vec::new();
         for place in 0..1 + self.rng.below(4) {

@@ -2,6 +2,7 @@
 
 use super::rng::Rng;
 use crate::judge::Script;
+use crate::level::Level;
 use crate::types::Type;
 
 /// Values and marks.
@@ -14,6 +15,7 @@ pub fn store(seed: u64, script: &Script) -> Store {
     let (mut values, mut marks) = match rng.below(10) {
         0..=2 => (vec![0; cells], vec![0; cells]),
         3..=6 => defined(script, 100, &mut rng),
+        7 | 8 if script.level.has(Level::COPIES) => all_but_one(script, &mut rng),
         _ => {
             let share = 10 + rng.below(85);
             defined(script, share, &mut rng)
@@ -46,6 +48,19 @@ fn defined(script: &Script, share: usize, rng: &mut Rng) -> Store {
         };
         store.0.push(value);
         store.1.push(1);
+    }
+    store
+}
+
+/// A store with one cell that has no value, behind the first of an array or a record if there is
+/// any: at that cell a whole copy is stopped.
+fn all_but_one(script: &Script, rng: &mut Rng) -> Store {
+    let mut store = defined(script, 100, rng);
+    let owners = script.world.owners();
+    let behind: Vec<usize> = (1..owners.len()).filter(|i| owners[i - 1] == owners[*i]).collect();
+    if !behind.is_empty() {
+        let cell = *rng.pick(&behind);
+        (store.0[cell], store.1[cell]) = (0, 0);
     }
     store
 }
