@@ -4,26 +4,26 @@ use mathlib.Core.List.{List, [], ◌∷◌}
 use Prim.Native.Nat.{ℕ, suc, ◌+◌, ◌*◌, ◌≤◌}
 use native.Mathlib.Omega.{arith}
 use lib.ListN.{length}
-use Rattle.law.specs.Code.{Act, assignOrdinal, assignCell, copyCells, sequence, branchOn, whileLoop, forLoop, case_of, callTo, raiseWith, noAct, Acts, stop, ◌also◌, Cases, elseCase, no_case, oneCase, BodyCode}
+use Rattle.law.specs.Code.{Act, assign_ordinal, assign_cell, copy_cells, sequence, branch_on, while_loop, for_loop, case_of, call_to, raise_with, no_act, Acts, stop, ◌also◌, Cases, else_case, no_case, one_case, BodyCode}
 use Rattle.code.proofs.Measure.{Measure, total}
-use Rattle.code.specs.ForLoops.{forsAct, forsActs, forsCases}
+use Rattle.code.specs.ForLoops.{fors_act, fors_acts, fors_cases}
 
 -- of all bodies
-unfoldable pub forsBodies : List BodyCode → ℕ
-forsBodies [] = 0
-forsBodies (b ∷ bs) = forsActs b.acts + forsActs b.handler + forsBodies bs
+unfoldable pub fors_bodies : List BodyCode → ℕ
+fors_bodies [] = 0
+fors_bodies (b ∷ bs) = fors_acts b.acts + fors_acts b.handler + fors_bodies bs
 
-unfoldable pub ofFors : Measure
-unfolding forsAct
-ofFors = record {
+unfoldable pub of_fors : Measure
+unfolding fors_act
+of_fors = record {
   code = λ c. 0;
   place = λ p. 0;
   codes = λ cs. 0;
   arguments = λ cs. 0;
   labels = λ zs. 0;
-  act = λ a. 16 * forsAct a;
-  acts = λ bs. 16 * forsActs bs;
-  cases = λ cs. 16 * forsCases cs;
+  act = λ a. 16 * fors_act a;
+  acts = λ bs. 16 * fors_acts bs;
+  cases = λ cs. 16 * fors_cases cs;
   of-literal = λ z. omega arith;
   of_number = omega arith;
   of-set = λ lo hi cs. omega arith;
@@ -60,7 +60,7 @@ ofFors = record {
   one_arm = λ ls a cs. omega arith;
 }
 
-pub total-fors : (bs : List BodyCode) → total ofFors bs ≡ 16 * forsBodies bs + 8 * length bs
-unfolding total ofFors forsBodies
+pub total-fors : (bs : List BodyCode) → total of_fors bs ≡ 16 * fors_bodies bs + 8 * length bs
+unfolding total of_fors fors_bodies
 total-fors [] = refl
 total-fors (b ∷ bs) = rw (total-fors bs) (omega arith)

@@ -9,9 +9,9 @@ use lib.Dec.{ltb}
 use lib.ListN.{length, get_or, length-append, get_or-append}
 use lib.Seq.{get_or-append_seam}
 use Rattle.law.specs.Code.{BodyCode}
-use Rattle.code.specs.Layout.{layBody}
-use Rattle.code.specs.Readback.{read_body, bodyAtPlaces}
-use Rattle.code.specs.LayoutSize.{sizeBody, BodyFits}
+use Rattle.code.specs.Layout.{lay_body}
+use Rattle.code.specs.Readback.{read_body, body_at_places}
+use Rattle.code.specs.LayoutSize.{size_body, BodyFits}
 use Rattle.code.proofs.LayoutRegions.{Lays}
 use Rattle.code.specs.LayoutRegions.{Same, Room}
 use Rattle.code.proofs.LayoutActs.{BodyAt, laid-body}
@@ -48,13 +48,13 @@ module _ (other : BodyCode) where
   }
 
   -- the next body is laid at the free place
-  pub body-next : (a t : ℕ) (l places : List ℕ) (bs : List BodyCode) (b : BodyCode) → a ≤ t → Room (sizeBody b) t l → BodyFits (length places) b
+  pub body-next : (a t : ℕ) (l places : List ℕ) (bs : List BodyCode) (b : BodyCode) → a ≤ t → Room (size_body b) t l → BodyFits (length places) b
       → Bodies other a t l places bs
-      → Bodies other a (layBody places (length places) b t l).top (layBody places (length places) b t l).list (places ++ (layBody places (length places) b t l).pos ∷ [])
+      → Bodies other a (lay_body places (length places) b t l).top (lay_body places (length places) b t l).list (places ++ (lay_body places (length places) b t l).pos ∷ [])
       (bs ++ b ∷ [])
   body-next a t l places bs b i r f B =
-      let o = layBody places (length places) b t l in
-      let L : Lays (sizeBody b) t l o (λ l'. BodyAt places (length places) l' o.pos b) = laid-body places (length places) b t l in
+      let o = lay_body places (length places) b t l in
+      let L : Lays (size_body b) t l o (λ l'. BodyAt places (length places) l' o.pos b) = laid-body places (length places) b t l in
       record {
         count = omega (arith, length-append places (o.pos ∷ []), length-append bs (b ∷ []), B.count);
         held = λ l' e.
@@ -66,7 +66,7 @@ module _ (other : BodyCode) where
               number = one_more places o.pos 0 (λ k q. get_or l' q 0 ≡ k) old.number new.number;
               read = λ all N.
                   let M : Begins places all = begun places o.pos all N in
-                  one_more bs b other (λ k c. (d : ℕ) → sizeBody c ≤ d → read_body d l' (get_or (places ++ o.pos ∷ []) k 0) ≡ bodyAtPlaces all c)
+                  one_more bs b other (λ k c. (d : ℕ) → size_body c ≤ d → read_body d l' (get_or (places ++ o.pos ∷ []) k 0) ≡ body_at_places all c)
                   (λ k h d g. rw (get_or-append places (o.pos ∷ []) 0 k (omega (arith, B.count))) (old.read all M k h d g))
                   (λ d g. rw (← B.count, get_or-append_seam places o.pos [] 0) (new.read f all M d g));
             };

@@ -5,9 +5,9 @@ use mathlib.Core.List.{List, [], ◌∷◌}
 use Prim.Native.Nat.{ℕ, ◌+◌, ◌≤◌}
 use native.Mathlib.Omega.{arith}
 use lib.IntN.{ℤ}
-use Rattle.law.specs.Operators.{Operation, Operation1, intNegate, boolNot, intAbs, intSqr, intOdd, ordinalOf, predIn, succIn, setCard, setLeast, setGreatest}
-use Rattle.law.specs.Code.{Code, literal, load, lastNumber, makeSet, calculate, shortCut, calculate1, Place, cell, index, shift, Codes, noCodes, ◌with◌, Act, assignOrdinal, assignCell, copyCells, sequence, branchOn, whileLoop, forLoop, case_of, callTo, raiseWith, noAct, Acts, stop, ◌also◌, Cases, elseCase, no_case, oneCase, BodyCode}
-use Rattle.code.specs.LayoutSize.{sizeNode1, sizeLoad, sizeCode, sizePlace, sizeCodes, sizeLabels, sizeAct, sizeActs, sizeCases}
+use Rattle.law.specs.Operators.{Operation, Operation1, int_negate, bool_not, int_abs, int_sqr, int_odd, ordinal_of, pred_in, succ_in, set_card, set_least, set_greatest}
+use Rattle.law.specs.Code.{Code, literal, load, last_number, make_set, calculate, short_cut, calculate1, Place, cell, index, shift, Codes, no_codes, ◌with◌, Act, assign_ordinal, assign_cell, copy_cells, sequence, branch_on, while_loop, for_loop, case_of, call_to, raise_with, no_act, Acts, stop, ◌also◌, Cases, else_case, no_case, one_case, BodyCode}
+use Rattle.code.specs.LayoutSize.{size_node1, size_load, size_code, size_place, size_codes, size_labels, size_act, size_acts, size_cases}
 
 pub record Measure : Type 0 where
   pub code : Code → ℕ
@@ -19,10 +19,10 @@ pub record Measure : Type 0 where
   pub acts : Acts → ℕ
   pub cases : Cases → ℕ
   pub of-literal : (z : ℤ) → code (literal z) ≤ 2
-  pub of_number : code lastNumber ≤ 2
-  pub of-set : (lo hi : ℤ) (cs : Codes) → code (makeSet lo hi cs) ≤ codes cs + 10
+  pub of_number : code last_number ≤ 2
+  pub of-set : (lo hi : ℤ) (cs : Codes) → code (make_set lo hi cs) ≤ codes cs + 10
   pub of-calculate : (o : Operation) (a b : Code) → code (calculate o a b) ≤ code a + code b + 10
-  pub of-short : (q : Bool) (a b : Code) → code (shortCut q a b) ≤ code a + code b + 10
+  pub of-short : (q : Bool) (a b : Code) → code (short_cut q a b) ≤ code a + code b + 10
   pub of-calculate1 : (o : Operation1) (a : Code) → code (calculate1 o a) ≤ code a + 8
   -- a place, and the load of cells at one
   pub of-cell : (a : ℕ) → place (cell a) ≤ 2
@@ -31,28 +31,28 @@ pub record Measure : Type 0 where
   pub load_cell : (a n : ℕ) → code (load (cell a) n) ≤ 2
   pub load-index : (p : Place) (c : Code) (lo hi : ℤ) (k n : ℕ) → code (load (index p c lo hi k) n) ≤ place p + code c + 10
   pub load-shift : (p : Place) (k n : ℕ) → code (load (shift p k) n) ≤ place p + 12
-  pub no-codes : codes noCodes ≤ 0
+  pub no-codes : codes no_codes ≤ 0
   pub one_code : (c : Code) (cs : Codes) → codes (c with cs) ≤ code c + 2 + codes cs
-  pub no_arguments : arguments noCodes ≤ 0
+  pub no_arguments : arguments no_codes ≤ 0
   pub one_argument : (c : Code) (cs : Codes) → arguments (c with cs) ≤ code c + 2 + arguments cs
   pub no-labels : labels [] ≤ 0
   pub one_label : (z : ℤ) (zs : List ℤ) → labels (z ∷ zs) ≤ 4 + labels zs
-  pub of-ordinal : (n : ℕ) (p : Place) (lo hi : ℤ) (c : Code) → act (assignOrdinal n p lo hi c) ≤ place p + code c + 10
-  pub of-set-cell : (n : ℕ) (p : Place) (c : Code) → act (assignCell n p c) ≤ place p + code c + 10
-  pub of-copy : (n : ℕ) (p q : Place) (k : ℕ) → act (copyCells n p q k) ≤ place p + code (load q k) + 10
+  pub of-ordinal : (n : ℕ) (p : Place) (lo hi : ℤ) (c : Code) → act (assign_ordinal n p lo hi c) ≤ place p + code c + 10
+  pub of-set-cell : (n : ℕ) (p : Place) (c : Code) → act (assign_cell n p c) ≤ place p + code c + 10
+  pub of-copy : (n : ℕ) (p q : Place) (k : ℕ) → act (copy_cells n p q k) ≤ place p + code (load q k) + 10
   pub of-sequence : (n : ℕ) (bs : Acts) → act (sequence n bs) ≤ acts bs + 6
-  pub of-branch : (n : ℕ) (c : Code) (a b : Act) → act (branchOn n c a b) ≤ code c + act a + act b + 8
-  pub of-while : (n : ℕ) (c : Code) (a : Act) → act (whileLoop n c a) ≤ code c + act a + 10
-  pub of-for : (n i : ℕ) (lo hi : ℤ) (x y : Code) (a : Act) → act (forLoop n i lo hi x y a) ≤ code x + code y + act a + 16
+  pub of-branch : (n : ℕ) (c : Code) (a b : Act) → act (branch_on n c a b) ≤ code c + act a + act b + 8
+  pub of-while : (n : ℕ) (c : Code) (a : Act) → act (while_loop n c a) ≤ code c + act a + 10
+  pub of-for : (n i : ℕ) (lo hi : ℤ) (x y : Code) (a : Act) → act (for_loop n i lo hi x y a) ≤ code x + code y + act a + 16
   pub of-case : (n : ℕ) (c : Code) (cs : Cases) → act (case_of n c cs) ≤ code c + cases cs + 8
-  pub of-call : (n p : ℕ) (cs : Codes) → act (callTo n p cs) ≤ arguments cs + 10
-  pub of-raise : (n : ℕ) (c : Code) → act (raiseWith n c) ≤ code c + 8
-  pub of-nothing : act noAct ≤ 2
+  pub of-call : (n p : ℕ) (cs : Codes) → act (call_to n p cs) ≤ arguments cs + 10
+  pub of-raise : (n : ℕ) (c : Code) → act (raise_with n c) ≤ code c + 8
+  pub of-nothing : act no_act ≤ 2
   pub no-acts : acts stop ≤ 0
   pub one-act : (a : Act) (bs : Acts) → acts (a also bs) ≤ act a + 2 + acts bs
-  pub of-else : (a : Act) → cases (elseCase a) ≤ act a + 10
+  pub of-else : (a : Act) → cases (else_case a) ≤ act a + 10
   pub no-arms : cases no_case ≤ 0
-  pub one_arm : (ls : List ℤ) (a : Act) (cs : Cases) → cases (oneCase ls a cs) ≤ labels ls + act a + cases cs + 10
+  pub one_arm : (ls : List ℤ) (a : Act) (cs : Cases) → cases (one_case ls a cs) ≤ labels ls + act a + cases cs + 10
 
 -- bodies, with 8 numbers beside the statements of each: what the brackets and words of `(main)` pay for. What parameters' pay for is left
 unfoldable pub total : Measure → List BodyCode → ℕ
@@ -61,31 +61,31 @@ total M (b ∷ bs) = M.acts b.acts + M.acts b.handler + 8 + total M bs
 
 -- ---- the layout's numbers
 
-pub node-small : (o : Operation1) → sizeNode1 o ≤ 4
-unfolding sizeNode1
-node-small intNegate = omega arith
-node-small boolNot = omega arith
-node-small intAbs = omega arith
-node-small intSqr = omega arith
-node-small intOdd = omega arith
-node-small ordinalOf = omega arith
-node-small setCard = omega arith
-node-small setLeast = omega arith
-node-small setGreatest = omega arith
-node-small (predIn lo hi) = omega arith
-node-small (succIn lo hi) = omega arith
+pub node-small : (o : Operation1) → size_node1 o ≤ 4
+unfolding size_node1
+node-small int_negate = omega arith
+node-small bool_not = omega arith
+node-small int_abs = omega arith
+node-small int_sqr = omega arith
+node-small int_odd = omega arith
+node-small ordinal_of = omega arith
+node-small set_card = omega arith
+node-small set_least = omega arith
+node-small set_greatest = omega arith
+node-small (pred_in lo hi) = omega arith
+node-small (succ_in lo hi) = omega arith
 
-unfoldable pub inLayout : Measure
-unfolding sizeCode sizeLoad sizeLabels sizeAct
-inLayout = record {
-  code = sizeCode;
-  place = sizePlace;
-  codes = sizeCodes;
-  arguments = sizeCodes;
-  labels = sizeLabels;
-  act = sizeAct;
-  acts = sizeActs;
-  cases = sizeCases;
+unfoldable pub in_layout : Measure
+unfolding size_code size_load size_labels size_act
+in_layout = record {
+  code = size_code;
+  place = size_place;
+  codes = size_codes;
+  arguments = size_codes;
+  labels = size_labels;
+  act = size_act;
+  acts = size_acts;
+  cases = size_cases;
   of-literal = λ z. omega arith;
   of_number = omega arith;
   of-set = λ lo hi cs. omega arith;

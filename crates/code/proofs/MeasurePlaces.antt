@@ -4,20 +4,20 @@ use mathlib.Core.List.{List, [], ◌∷◌, map}
 use Prim.Native.Nat.{ℕ}
 use lib.ListN.{get_or}
 use Rattle.law.specs.Code.{BodyCode}
-use Rattle.code.specs.Readback.{allAtPlaces, atPlaces, bodyAtPlaces, casesAtPlaces}
+use Rattle.code.specs.Readback.{all_at_places, at_places, body_at_places, cases_at_places}
 use Rattle.code.proofs.Measure.{Measure, total}
 
-unfoldable pub throughPlaces : List ℕ → Measure → Measure
-unfolding atPlaces
-throughPlaces ps M = record {
+unfoldable pub through_places : List ℕ → Measure → Measure
+unfolding at_places
+through_places ps M = record {
   code = M.code;
   place = M.place;
   codes = M.codes;
   arguments = M.arguments;
   labels = M.labels;
-  act = λ a. M.act (atPlaces ps a);
-  acts = λ bs. M.acts (allAtPlaces ps bs);
-  cases = λ cs. M.cases (casesAtPlaces ps cs);
+  act = λ a. M.act (at_places ps a);
+  acts = λ bs. M.acts (all_at_places ps bs);
+  cases = λ cs. M.cases (cases_at_places ps cs);
   of-literal = M.of-literal;
   of_number = M.of_number;
   of-set = M.of-set;
@@ -39,22 +39,22 @@ throughPlaces ps M = record {
   of-ordinal = M.of-ordinal;
   of-set-cell = M.of-set-cell;
   of-copy = M.of-copy;
-  of-sequence = λ n bs. M.of-sequence n (allAtPlaces ps bs);
-  of-branch = λ n c a b. M.of-branch n c (atPlaces ps a) (atPlaces ps b);
-  of-while = λ n c a. M.of-while n c (atPlaces ps a);
-  of-for = λ n i lo hi x y a. M.of-for n i lo hi x y (atPlaces ps a);
-  of-case = λ n c cs. M.of-case n c (casesAtPlaces ps cs);
+  of-sequence = λ n bs. M.of-sequence n (all_at_places ps bs);
+  of-branch = λ n c a b. M.of-branch n c (at_places ps a) (at_places ps b);
+  of-while = λ n c a. M.of-while n c (at_places ps a);
+  of-for = λ n i lo hi x y a. M.of-for n i lo hi x y (at_places ps a);
+  of-case = λ n c cs. M.of-case n c (cases_at_places ps cs);
   of-call = λ n p cs. M.of-call n (get_or ps p 0) cs;
   of-raise = M.of-raise;
   of-nothing = M.of-nothing;
   no-acts = M.no-acts;
-  one-act = λ a bs. M.one-act (atPlaces ps a) (allAtPlaces ps bs);
-  of-else = λ a. M.of-else (atPlaces ps a);
+  one-act = λ a bs. M.one-act (at_places ps a) (all_at_places ps bs);
+  of-else = λ a. M.of-else (at_places ps a);
   no-arms = M.no-arms;
-  one_arm = λ ls a cs. M.one_arm ls (atPlaces ps a) (casesAtPlaces ps cs);
+  one_arm = λ ls a cs. M.one_arm ls (at_places ps a) (cases_at_places ps cs);
 }
 
-pub total-places : (ps : List ℕ) (M : Measure) (bs : List BodyCode) → total (throughPlaces ps M) bs ≡ total M (map (bodyAtPlaces ps) bs)
-unfolding total throughPlaces bodyAtPlaces
+pub total-places : (ps : List ℕ) (M : Measure) (bs : List BodyCode) → total (through_places ps M) bs ≡ total M (map (body_at_places ps) bs)
+unfolding total through_places body_at_places
 total-places ps M [] = refl
 total-places ps M (b ∷ bs) = rw (total-places ps M bs)

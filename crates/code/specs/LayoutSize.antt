@@ -2,92 +2,92 @@
 use Rattle.std.specs.Prelude.{Bool, true, List, [], ◌∷◌, ◌≡◌, ℕ, suc, ◌+◌, ◌*◌, ◌<◌, ℤ, length, drop}
 use Rattle.std.specs.Int.Signed.{le_z}
 use Rattle.leaf_integers.specs.Integers.{least, most, inside}
-use Rattle.law.specs.Operators.{Operation, Operation1, intNegate, boolNot, intAbs, intSqr, intOdd, ordinalOf, predIn, succIn, setCard, setLeast, setGreatest}
+use Rattle.law.specs.Operators.{Operation, Operation1, int_negate, bool_not, int_abs, int_sqr, int_odd, ordinal_of, pred_in, succ_in, set_card, set_least, set_greatest}
 use Rattle.law.specs.Types.{Types, facts}
-use Rattle.law.specs.Script.{Decl, Entry, alias, array_of, enum, newMain, newProc, newType, newVar, range, recordOf, setOf}
+use Rattle.law.specs.Script.{Decl, Entry, alias, array_of, enum, new_main, new_proc, new_type, new_var, range, record_of, set_of}
 use Rattle.law.specs.Environment.{Environment}
-use Rattle.law.specs.Code.{Code, literal, load, lastNumber, makeSet, calculate, shortCut, calculate1, Place, cell, index, shift, Codes, noCodes, ◌with◌, Act, assignOrdinal, assignCell, copyCells, sequence, branchOn, whileLoop, forLoop, case_of, callTo, raiseWith, noAct, Acts, stop, ◌also◌, Cases, elseCase, no_case, oneCase, Want, ranged, anySet, Frame, BodyCode}
+use Rattle.law.specs.Code.{Code, literal, load, last_number, make_set, calculate, short_cut, calculate1, Place, cell, index, shift, Codes, no_codes, ◌with◌, Act, assign_ordinal, assign_cell, copy_cells, sequence, branch_on, while_loop, for_loop, case_of, call_to, raise_with, no_act, Acts, stop, ◌also◌, Cases, else_case, no_case, one_case, Want, ranged, any_set, Frame, BodyCode}
 
 -- ---- sizes
 
 -- of a node of one part
-unfoldable pub sizeNode1 : Operation1 → ℕ
-sizeNode1 intNegate = 2
-sizeNode1 boolNot = 2
-sizeNode1 intAbs = 2
-sizeNode1 intSqr = 2
-sizeNode1 intOdd = 2
-sizeNode1 ordinalOf = 2
-sizeNode1 setCard = 2
-sizeNode1 setLeast = 2
-sizeNode1 setGreatest = 2
-sizeNode1 (predIn lo hi) = 4
-sizeNode1 (succIn lo hi) = 4
+unfoldable pub size_node1 : Operation1 → ℕ
+size_node1 int_negate = 2
+size_node1 bool_not = 2
+size_node1 int_abs = 2
+size_node1 int_sqr = 2
+size_node1 int_odd = 2
+size_node1 ordinal_of = 2
+size_node1 set_card = 2
+size_node1 set_least = 2
+size_node1 set_greatest = 2
+size_node1 (pred_in lo hi) = 4
+size_node1 (succ_in lo hi) = 4
 
 -- of the cells at a place of a given size
-unfoldable pub sizeLoad : Place → ℕ → ℕ
-sizeLoad (cell a) n = 2
-sizeLoad (index p c lo hi k) n = n + 3
-sizeLoad (shift p k) n = n + 3
+unfoldable pub size_load : Place → ℕ → ℕ
+size_load (cell a) n = 2
+size_load (index p c lo hi k) n = n + 3
+size_load (shift p k) n = n + 3
 
 unfoldable mutual
-  pub sizeCode : Code → ℕ
-  sizeCode (literal z) = 2
-  sizeCode (load p n) = sizeLoad p (sizePlace p)
-  sizeCode lastNumber = 1
-  sizeCode (makeSet lo hi cs) = 1 + sizeCodes cs + 4
-  sizeCode (calculate o a b) = sizeCode a + sizeCode b + 3
-  sizeCode (shortCut q a b) = sizeCode a + sizeCode b + 3
-  sizeCode (calculate1 o a) = sizeCode a + sizeNode1 o
+  pub size_code : Code → ℕ
+  size_code (literal z) = 2
+  size_code (load p n) = size_load p (size_place p)
+  size_code last_number = 1
+  size_code (make_set lo hi cs) = 1 + size_codes cs + 4
+  size_code (calculate o a b) = size_code a + size_code b + 3
+  size_code (short_cut q a b) = size_code a + size_code b + 3
+  size_code (calculate1 o a) = size_code a + size_node1 o
 
-  pub sizePlace : Place → ℕ
-  sizePlace (cell a) = 2
-  sizePlace (index p c lo hi k) = sizePlace p + sizeCode c + 6
-  sizePlace (shift p k) = sizePlace p + 3
+  pub size_place : Place → ℕ
+  size_place (cell a) = 2
+  size_place (index p c lo hi k) = size_place p + size_code c + 6
+  size_place (shift p k) = size_place p + 3
 
   -- each has a link of two numbers
-  pub sizeCodes : Codes → ℕ
-  sizeCodes noCodes = 0
-  sizeCodes (c with cs) = sizeCode c + 2 + sizeCodes cs
+  pub size_codes : Codes → ℕ
+  size_codes no_codes = 0
+  size_codes (c with cs) = size_code c + 2 + size_codes cs
 
-unfoldable pub sizeLabels : List ℤ → ℕ
-sizeLabels [] = 0
-sizeLabels (z ∷ zs) = 2 + sizeLabels zs
+unfoldable pub size_labels : List ℤ → ℕ
+size_labels [] = 0
+size_labels (z ∷ zs) = 2 + size_labels zs
 
 unfoldable mutual
-  pub sizeAct : Act → ℕ
-  sizeAct (assignOrdinal n p lo hi c) = sizePlace p + sizeCode c + 6
-  sizeAct (assignCell n p c) = sizePlace p + sizeCode c + 4
-  sizeAct (copyCells n p q k) = sizePlace p + sizeCode (load q k) + 4
-  sizeAct (sequence n bs) = 1 + sizeActs bs + 3
-  sizeAct (branchOn n c a b) = sizeCode c + sizeAct a + sizeAct b + 5
-  sizeAct (whileLoop n c a) = sizeCode c + sizeAct a + 4
-  sizeAct (forLoop n i lo hi c d a) = sizeCode c + sizeCode d + sizeAct a + 8
-  sizeAct (case_of n c cs) = sizeCode c + (1 + sizeCases cs) + 4
-  sizeAct (callTo n p cs) = 1 + sizeCodes cs + 4
-  sizeAct (raiseWith n c) = sizeCode c + 3
-  sizeAct noAct = 0
+  pub size_act : Act → ℕ
+  size_act (assign_ordinal n p lo hi c) = size_place p + size_code c + 6
+  size_act (assign_cell n p c) = size_place p + size_code c + 4
+  size_act (copy_cells n p q k) = size_place p + size_code (load q k) + 4
+  size_act (sequence n bs) = 1 + size_acts bs + 3
+  size_act (branch_on n c a b) = size_code c + size_act a + size_act b + 5
+  size_act (while_loop n c a) = size_code c + size_act a + 4
+  size_act (for_loop n i lo hi c d a) = size_code c + size_code d + size_act a + 8
+  size_act (case_of n c cs) = size_code c + (1 + size_cases cs) + 4
+  size_act (call_to n p cs) = 1 + size_codes cs + 4
+  size_act (raise_with n c) = size_code c + 3
+  size_act no_act = 0
 
-  pub sizeActs : Acts → ℕ
-  sizeActs stop = 0
-  sizeActs (a also bs) = sizeAct a + 2 + sizeActs bs
+  pub size_acts : Acts → ℕ
+  size_acts stop = 0
+  size_acts (a also bs) = size_act a + 2 + size_acts bs
 
-  pub sizeCases : Cases → ℕ
-  sizeCases (elseCase a) = sizeAct a + 3
-  sizeCases no_case = 0
-  sizeCases (oneCase ls a cs) = 1 + sizeLabels ls + sizeAct a + 3 + sizeCases cs
+  pub size_cases : Cases → ℕ
+  size_cases (else_case a) = size_act a + 3
+  size_cases no_case = 0
+  size_cases (one_case ls a cs) = 1 + size_labels ls + size_act a + 3 + size_cases cs
 
-unfoldable pub sizeWants : List Want → ℕ
-sizeWants [] = 0
-sizeWants (w ∷ ws) = 2 + sizeWants ws
+unfoldable pub size_wants : List Want → ℕ
+size_wants [] = 0
+size_wants (w ∷ ws) = 2 + size_wants ws
 
 -- of parameters, where there are any
-unfoldable pub sizeParameters : List Want → ℕ
-sizeParameters [] = 0
-sizeParameters (w ∷ ws) = 2 + sizeWants (w ∷ ws)
+unfoldable pub size_parameters : List Want → ℕ
+size_parameters [] = 0
+size_parameters (w ∷ ws) = 2 + size_wants (w ∷ ws)
 
-unfoldable pub sizeBody : BodyCode → ℕ
-sizeBody b = sizeParameters b.frame.wants + (1 + sizeActs b.acts) + (1 + sizeActs b.handler) + 5
+unfoldable pub size_body : BodyCode → ℕ
+size_body b = size_parameters b.frame.wants + (1 + size_acts b.acts) + (1 + size_acts b.handler) + 5
 
 -- ---- code that numbers of 32 bits can hold
 
@@ -97,27 +97,27 @@ IsInteger z = inside least most z ≡ true
 
 -- the bounds of `pred` and `succ` are integers
 pub data Fits1 : Operation1 → Type 0 where
-  negate-fits : Fits1 intNegate
-  not-fits : Fits1 boolNot
-  abs-fits : Fits1 intAbs
-  sqr-fits : Fits1 intSqr
-  odd-fits : Fits1 intOdd
-  ord-fits : Fits1 ordinalOf
-  card-fits : Fits1 setCard
-  least_fits : Fits1 setLeast
-  greatest-fits : Fits1 setGreatest
-  pred_fits : {lo hi : ℤ} → IsInteger lo → IsInteger hi → Fits1 (predIn lo hi)
-  succ-fits : {lo hi : ℤ} → IsInteger lo → IsInteger hi → Fits1 (succIn lo hi)
+  negate-fits : Fits1 int_negate
+  not-fits : Fits1 bool_not
+  abs-fits : Fits1 int_abs
+  sqr-fits : Fits1 int_sqr
+  odd-fits : Fits1 int_odd
+  ord-fits : Fits1 ordinal_of
+  card-fits : Fits1 set_card
+  least_fits : Fits1 set_least
+  greatest-fits : Fits1 set_greatest
+  pred_fits : {lo hi : ℤ} → IsInteger lo → IsInteger hi → Fits1 (pred_in lo hi)
+  succ-fits : {lo hi : ℤ} → IsInteger lo → IsInteger hi → Fits1 (succ_in lo hi)
 
 -- literals and bounds are integers; the cells of a whole variable are below 4,096
 mutual
   pub data CodeFits : Code → Type 0 where
     literal-fits : {z : ℤ} → IsInteger z → CodeFits (literal z)
     load_fits : {p : Place} {n : ℕ} → PlaceFits p → CodeFits (load p n)
-    last_fits : CodeFits lastNumber
-    set-fits : {lo hi : ℤ} {cs : Codes} → IsInteger lo → IsInteger hi → CodesFit cs → CodeFits (makeSet lo hi cs)
+    last_fits : CodeFits last_number
+    set-fits : {lo hi : ℤ} {cs : Codes} → IsInteger lo → IsInteger hi → CodesFit cs → CodeFits (make_set lo hi cs)
     calculate-fits : {o : Operation} {a b : Code} → CodeFits a → CodeFits b → CodeFits (calculate o a b)
-    short-fits : {q : Bool} {a b : Code} → CodeFits a → CodeFits b → CodeFits (shortCut q a b)
+    short-fits : {q : Bool} {a b : Code} → CodeFits a → CodeFits b → CodeFits (short_cut q a b)
     calculate1-fits : {o : Operation1} {a : Code} → Fits1 o → CodeFits a → CodeFits (calculate1 o a)
 
   pub data PlaceFits : Place → Type 0 where
@@ -127,7 +127,7 @@ mutual
     shift_fits : {p : Place} {k : ℕ} → PlaceFits p → PlaceFits (shift p k)
 
   pub data CodesFit : Codes → Type 0 where
-    none-fit : CodesFit noCodes
+    none-fit : CodesFit no_codes
     with-fit : {c : Code} {cs : Codes} → CodeFits c → CodesFit cs → CodesFit (c with cs)
 
 pub data LabelsFit : List ℤ → Type 0 where
@@ -138,33 +138,33 @@ pub data LabelsFit : List ℤ → Type 0 where
 mutual
   pub data ActFits (bodies : ℕ) : Act → Type 0 where
     ordinal-fits : {n : ℕ} {p : Place} {lo hi : ℤ} {c : Code} → PlaceFits p → IsInteger lo → IsInteger hi → CodeFits c
-        → ActFits bodies (assignOrdinal n p lo hi c)
-    cell-fits : {n : ℕ} {p : Place} {c : Code} → PlaceFits p → CodeFits c → ActFits bodies (assignCell n p c)
-    copy-fits : {n k : ℕ} {p q : Place} → PlaceFits p → CodeFits (load q k) → ActFits bodies (copyCells n p q k)
+        → ActFits bodies (assign_ordinal n p lo hi c)
+    cell-fits : {n : ℕ} {p : Place} {c : Code} → PlaceFits p → CodeFits c → ActFits bodies (assign_cell n p c)
+    copy-fits : {n k : ℕ} {p q : Place} → PlaceFits p → CodeFits (load q k) → ActFits bodies (copy_cells n p q k)
     sequence-fits : {n : ℕ} {bs : Acts} → ActsFit bodies bs → ActFits bodies (sequence n bs)
-    branch_fits : {n : ℕ} {c : Code} {a b : Act} → CodeFits c → ActFits bodies a → ActFits bodies b → ActFits bodies (branchOn n c a b)
-    while-fits : {n : ℕ} {c : Code} {a : Act} → CodeFits c → ActFits bodies a → ActFits bodies (whileLoop n c a)
+    branch_fits : {n : ℕ} {c : Code} {a b : Act} → CodeFits c → ActFits bodies a → ActFits bodies b → ActFits bodies (branch_on n c a b)
+    while-fits : {n : ℕ} {c : Code} {a : Act} → CodeFits c → ActFits bodies a → ActFits bodies (while_loop n c a)
     for-fits : {n i : ℕ} {lo hi : ℤ} {c d : Code} {a : Act} → IsInteger lo → IsInteger hi → CodeFits c → CodeFits d → ActFits bodies a
-        → ActFits bodies (forLoop n i lo hi c d a)
+        → ActFits bodies (for_loop n i lo hi c d a)
     case-fits : {n : ℕ} {c : Code} {cs : Cases} → CodeFits c → CasesFit bodies cs → ActFits bodies (case_of n c cs)
-    call_fits : {n p : ℕ} {cs : Codes} → p < bodies → CodesFit cs → ActFits bodies (callTo n p cs)
-    raise-fits : {n : ℕ} {c : Code} → CodeFits c → ActFits bodies (raiseWith n c)
-    no-act-fits : ActFits bodies noAct
+    call_fits : {n p : ℕ} {cs : Codes} → p < bodies → CodesFit cs → ActFits bodies (call_to n p cs)
+    raise-fits : {n : ℕ} {c : Code} → CodeFits c → ActFits bodies (raise_with n c)
+    no-act-fits : ActFits bodies no_act
 
   pub data ActsFit (bodies : ℕ) : Acts → Type 0 where
     stop-fits : ActsFit bodies stop
     also-fit : {a : Act} {bs : Acts} → ActFits bodies a → ActsFit bodies bs → ActsFit bodies (a also bs)
 
   pub data CasesFit (bodies : ℕ) : Cases → Type 0 where
-    else-fits : {a : Act} → ActFits bodies a → CasesFit bodies (elseCase a)
+    else-fits : {a : Act} → ActFits bodies a → CasesFit bodies (else_case a)
     no-case-fits : CasesFit bodies no_case
-    one-case-fits : {ls : List ℤ} {a : Act} {cs : Cases} → LabelsFit ls → ActFits bodies a → CasesFit bodies cs → CasesFit bodies (oneCase ls a cs)
+    one-case-fits : {ls : List ℤ} {a : Act} {cs : Cases} → LabelsFit ls → ActFits bodies a → CasesFit bodies cs → CasesFit bodies (one_case ls a cs)
 
 -- bounds of parameters are integers, none of them reversed
 pub data WantsFit : List Want → Type 0 where
   no-wants-fit : WantsFit []
   ranged-fits : {lo hi : ℤ} {ws : List Want} → IsInteger lo → IsInteger hi → le_z lo hi ≡ true → WantsFit ws → WantsFit (ranged lo hi ∷ ws)
-  set-want-fits : {ws : List Want} → WantsFit ws → WantsFit (anySet ∷ ws)
+  set-want-fits : {ws : List Want} → WantsFit ws → WantsFit (any_set ∷ ws)
 
 -- without parameters, a frame is that of none
 pub record FrameFits (q : Frame) : Type 0 where
@@ -179,31 +179,31 @@ pub record BodyFits (bodies : ℕ) (b : BodyCode) : Type 0 where
 -- ---- symbol entries: 4 numbers for each name, 8 for each type's description, 4 for each field of a record, 1 for each parameter's type
 
 -- of a `type` line; an alias is a name alone
-unfoldable pub sizeDecl : Decl → ℕ
-sizeDecl (alias t) = 4
-sizeDecl (enum v vs) = 4 + 8 + 4 * suc (length vs)
-sizeDecl (range a b) = 4 + 8
-sizeDecl (array_of i e) = 4 + 8
-sizeDecl (recordOf fs) = 4 + 8 + 4 * length fs
-sizeDecl (setOf b) = 4 + 8
+unfoldable pub size_decl : Decl → ℕ
+size_decl (alias t) = 4
+size_decl (enum v vs) = 4 + 8 + 4 * suc (length vs)
+size_decl (range a b) = 4 + 8
+size_decl (array_of i e) = 4 + 8
+size_decl (record_of fs) = 4 + 8 + 4 * length fs
+size_decl (set_of b) = 4 + 8
 
 -- of a line
-unfoldable pub symbolSize : Entry → ℕ
-symbolSize (newType w d) = sizeDecl d
-symbolSize (newVar w t) = 4
-symbolSize (newProc w ps b) = 4 + length ps
-symbolSize (newMain b) = 0
+unfoldable pub symbol_size : Entry → ℕ
+symbol_size (new_type w d) = size_decl d
+symbol_size (new_var w t) = 4
+symbol_size (new_proc w ps b) = 4 + length ps
+symbol_size (new_main b) = 0
 
-unfoldable pub sizeTypes : Types → ℕ
-sizeTypes [] = 0
-sizeTypes (t ∷ ts) = 8 + 4 * length (facts t).fields + sizeTypes ts
+unfoldable pub size_types : Types → ℕ
+size_types [] = 0
+size_types (t ∷ ts) = 8 + 4 * length (facts t).fields + size_types ts
 
 -- of all that the lines so far declared; the two built-in types take none
-unfoldable pub sizeSymbols : Environment → ℕ
-sizeSymbols σ = 4 * length σ.names + sizeTypes (drop 2 σ.types) + length σ.parameters
+unfoldable pub size_symbols : Environment → ℕ
+size_symbols σ = 4 * length σ.names + size_types (drop 2 σ.types) + length σ.parameters
 
 -- ---- all bodies
 
-unfoldable pub sizeBodies : List BodyCode → ℕ
-sizeBodies [] = 0
-sizeBodies (b ∷ bs) = sizeBody b + sizeBodies bs
+unfoldable pub size_bodies : List BodyCode → ℕ
+size_bodies [] = 0
+size_bodies (b ∷ bs) = size_body b + size_bodies bs

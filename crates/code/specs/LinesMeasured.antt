@@ -4,8 +4,8 @@ use Rattle.law.specs.Code.{BodyCode}
 use Rattle.law.specs.Environment.{Declared}
 use Rattle.law.specs.Trees.{nodes}
 use Rattle.law_theorems.specs.TypeSizes.{SmallTypes}
-use Rattle.law_theorems.specs.LinesKeep.{Keeps, framesOf}
-use Rattle.law_theorems.specs.CodeCalls.{CallsBody, frameBy}
+use Rattle.law_theorems.specs.LinesKeep.{Keeps, frames_of}
+use Rattle.law_theorems.specs.CodeCalls.{CallsBody, frame_by}
 use Rattle.law_theorems.specs.CodeSized.{SizedBody}
 use Rattle.code.specs.CodeReady.{ReadyBody}
 use Rattle.law_theorems.specs.Bodies.{Bodies}
@@ -17,10 +17,10 @@ pub record Measured (k : Declared) (cs : List BodyCode) : Type 0 where
   pub stmts : k.stmts ≤ k.nodes
   pub nodes : k.nodes ≤ 4096
   pub long : length cs ≡ length k.bodies
-  pub frames : map (λ (c : BodyCode). c.frame) cs ≡ framesOf k.bodies
+  pub frames : map (λ (c : BodyCode). c.frame) cs ≡ frames_of k.bodies
   pub procs : k.ended ≡ false → length cs ≤ 32
   pub most : length cs ≤ 33
   pub main : k.ended ≡ true → 1 ≤ length cs
-  pub calls : Bodies (CallsBody (frameBy cs)) 0 cs
+  pub calls : Bodies (CallsBody (frame_by cs)) 0 cs
   pub sized : Bodies (λ _. SizedBody) 0 cs
   pub ready : Bodies (λ _. ReadyBody 31) 0 cs

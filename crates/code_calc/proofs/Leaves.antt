@@ -13,19 +13,19 @@ use Rattle.leaf_words.proofs.DecimalHex.{below}
 use Rattle.law.specs.Calculate.{truth, nat_of}
 use Rattle.law.specs.Base.{pick}
 use Rattle.law.specs.Machine.{store_cells}
-use Rattle.code_calc.specs.Words.{greatest, latestAt, storeWord, latestIn, undefinedWord, allValues, cellsWord, cellsAt}
+use Rattle.code_calc.specs.Words.{greatest, latest_at, store_word, latest_in, undefined_word, all_values, cells_word, cells_at}
 
 -- ---- `cell`, `latest`
-pub cell-here : (l : List ℤ) (a : ℕ) → a < store_cells → SFits w64 (get_or l a (pos 0)) → wire (get_or l a (pos 0)) ≡ storeWord l a
-unfolding storeWord pick
+pub cell-here : (l : List ℤ) (a : ℕ) → a < store_cells → SFits w64 (get_or l a (pos 0)) → wire (get_or l a (pos 0)) ≡ store_word l a
+unfolding store_word pick
 cell-here l a h f = to_z-of_z f ∙ rw (lt-ltb a store_cells h)
 
-pub cell-past : (l : List ℤ) (a : ℕ) → store_cells ≤ a → undefinedWord ≡ storeWord l a
-unfolding storeWord pick
+pub cell-past : (l : List ℤ) (a : ℕ) → store_cells ≤ a → undefined_word ≡ store_word l a
+unfolding store_word pick
 cell-past l a h = rw (le-ltb a store_cells h)
 
-pub latest-here : (l : List ℤ) → SFits w64 (get_or l latestAt (pos 0)) → wire (get_or l latestAt (pos 0)) ≡ latestIn l
-unfolding latestIn
+pub latest-here : (l : List ℤ) → SFits w64 (get_or l latest_at (pos 0)) → wire (get_or l latest_at (pos 0)) ≡ latest_in l
+unfolding latest_in
 latest-here l f = to_z-of_z f
 
 -- ---- `signed_of`, `truth_of`
@@ -135,70 +135,70 @@ capped-here a h = to_z_pos w64 {n = a} (omega arith) ∙ ap pos (omega arith)
 -- after the cells before i: those from there on are left
 pub record Left (ws : List ℤ) (a n i : ℕ) : Type 0 where
   pub within : i ≤ n
-  pub rest : allValues ws a n ≡ allValues ws (a + i) (n - i)
+  pub rest : all_values ws a n ≡ all_values ws (a + i) (n - i)
 
-cells-fault : (ws : List ℤ) (a n : ℕ) → 1 ≤ n → allValues ws a n ≡ false → cellsWord ws a n ≡ undefinedWord
-unfolding cellsWord pick
+cells-fault : (ws : List ℤ) (a n : ℕ) → 1 ≤ n → all_values ws a n ≡ false → cells_word ws a n ≡ undefined_word
+unfolding cells_word pick
 cells-fault ws a zero h e = absurd (omega arith)
 cells-fault ws a (suc n) h e = rw e
 
-cells_are : (ws : List ℤ) (a n : ℕ) → 1 ≤ n → allValues ws a n ≡ true → cellsWord ws a n ≡ storeWord ws a
-unfolding cellsWord pick
+cells_are : (ws : List ℤ) (a n : ℕ) → 1 ≤ n → all_values ws a n ≡ true → cells_word ws a n ≡ store_word ws a
+unfolding cells_word pick
 cells_are ws a zero h e = absurd (omega arith)
 cells_are ws a (suc n) h e = rw e
 
-none_left : (ws : List ℤ) (a k : ℕ) → k ≡ 0 → allValues ws a k ≡ true
-unfolding allValues
+none_left : (ws : List ℤ) (a k : ℕ) → k ≡ 0 → all_values ws a k ≡ true
+unfolding all_values
 none_left ws a k e = rw e
 
 module _ (ws : List ℤ) (a n : ℕ) where
   pub left-start : Left ws a n 0
-  left-start = record { within = omega arith; rest = ap (λ (q : ℕ). allValues ws q n) (omega arith) ∙ ap (allValues ws (a + 0)) (omega arith) }
+  left-start = record { within = omega arith; rest = ap (λ (q : ℕ). all_values ws q n) (omega arith) ∙ ap (all_values ws (a + 0)) (omega arith) }
 
-  seen : (k i : ℕ) → k ≡ suc (n - (i + 1)) → allValues ws (a + i) k ≡ (le_z (storeWord ws (a + i)) greatest && allValues ws (a + i + 1) (n - (i + 1)))
-  unfolding allValues
+  seen : (k i : ℕ) → k ≡ suc (n - (i + 1)) → all_values ws (a + i) k ≡ (le_z (store_word ws (a + i)) greatest && all_values ws (a + i + 1) (n - (i + 1)))
+  unfolding all_values
   seen k i e = rw e
 
-  module _ (i : ℕ) (h : Left ws a n i) (k : i < n) (w : ℤ) (e : w ≡ storeWord ws (a + i)) (f : SFits w64 w) where
-    after : (t : Bool) → le_z w greatest ≡ t → allValues ws a n ≡ (t && allValues ws (a + i + 1) (n - (i + 1)))
+  module _ (i : ℕ) (h : Left ws a n i) (k : i < n) (w : ℤ) (e : w ≡ store_word ws (a + i)) (f : SFits w64 w) where
+    after : (t : Bool) → le_z w greatest ≡ t → all_values ws a n ≡ (t && all_values ws (a + i + 1) (n - (i + 1)))
     after t g =
         h.rest ∙ seen (n - i) i (omega arith)
-        ∙ ap (λ (t : Bool). t && allValues ws (a + i + 1) (n - (i + 1))) (ap (λ (q : ℤ). le_z q greatest) (sym e) ∙ g)
+        ∙ ap (λ (t : Bool). t && all_values ws (a + i + 1) (n - (i + 1))) (ap (λ (q : ℤ). le_z q greatest) (sym e) ∙ g)
 
     pub left_step : lt_z greatest (wire w) ≡ false → Left ws a n (i + 1)
     left_step g =
         record {
           within = omega arith;
-          rest = after true (not-lt greatest w (rw (to_z-of_z f) at g)) ∙ ap (λ (q : ℕ). allValues ws q (n - (i + 1))) (omega arith);
+          rest = after true (not-lt greatest w (rw (to_z-of_z f) at g)) ∙ ap (λ (q : ℕ). all_values ws q (n - (i + 1))) (omega arith);
         }
 
-    pub left-fault : lt_z greatest (wire w) ≡ true → undefinedWord ≡ cellsWord ws a n
+    pub left-fault : lt_z greatest (wire w) ≡ true → undefined_word ≡ cells_word ws a n
     left-fault g = sym (cells-fault ws a n (omega arith) (after false (lt_not greatest w (rw (to_z-of_z f) at g))))
 
-  pub left_end : (i : ℕ) (z : ℤ) → ((n ≡ 0) → ⊥) → Left ws a n i → n ≤ i → z ≡ storeWord ws a → SFits w64 z → wire z ≡ cellsWord ws a n
+  pub left_end : (i : ℕ) (z : ℤ) → ((n ≡ 0) → ⊥) → Left ws a n i → n ≤ i → z ≡ store_word ws a → SFits w64 z → wire z ≡ cells_word ws a n
   left_end i z q h k e f = to_z-of_z f ∙ e ∙ sym (cells_are ws a n (omega arith) (h.rest ∙ none_left ws (a + i) (n - i) (omega arith)))
 
-pub cells-none : (ws : List ℤ) (a n : ℕ) → n ≡ 0 → pos 0 ≡ cellsWord ws a n
-unfolding cellsWord
+pub cells-none : (ws : List ℤ) (a n : ℕ) → n ≡ 0 → pos 0 ≡ cells_word ws a n
+unfolding cells_word
 cells-none ws a n e = rw e
 
 pub ruleset cells-laws = (cells-none, left-fault, left_end, sfits_of)
 
 module _ (ws : List ℤ) (w : ℤ) (n : ℕ) (f : SFits w64 w) where
-  pub at-fault : lt_z greatest (wire w) ≡ true → wire w ≡ cellsAt ws w n
-  unfolding cellsAt pick
+  pub at-fault : lt_z greatest (wire w) ≡ true → wire w ≡ cells_at ws w n
+  unfolding cells_at pick
   at-fault h = to_z-of_z f ∙ rw (rw (to_z-of_z f) at h)
 
   module _ (h : lt_z greatest (wire w) ≡ false) (a : ℕ) (e : a ≡ min (nat_of (wire w)) 4294967295) where
     pub at-fits : Fits w32 a
     at-fits = record { fits = omega (arith, e) }
 
-    pub at_one : (z : ℤ) → n ≡ 1 → z ≡ storeWord ws a → SFits w64 z → wire z ≡ cellsAt ws w n
-    unfolding cellsAt pick
+    pub at_one : (z : ℤ) → n ≡ 1 → z ≡ store_word ws a → SFits w64 z → wire z ≡ cells_at ws w n
+    unfolding cells_at pick
     at_one z o g k = to_z-of_z k ∙ g ∙ rw (o, rw (to_z-of_z f) at h, e, to_z-of_z f)
 
-    pub at_more : (z : ℤ) → ((n ≡ 1) → ⊥) → z ≡ cellsWord ws a n → SFits w64 z → wire z ≡ cellsAt ws w n
-    unfolding cellsAt pick
+    pub at_more : (z : ℤ) → ((n ≡ 1) → ⊥) → z ≡ cells_word ws a n → SFits w64 z → wire z ≡ cells_at ws w n
+    unfolding cells_at pick
     at_more z o g k = to_z-of_z k ∙ g ∙ rw (rw (to_z-of_z f) at h, ne_eqb n 1 o, e, to_z-of_z f)
 
 pub ruleset at-laws = (at-fault, at_one, at_more, sfits_of)

@@ -5,9 +5,9 @@ use lib.Signed.{le_z, lt_z, mag, non_neg}
 use Rattle.leaf_integers.specs.Integers.{inside, least, most}
 use Rattle.leaf_integers.proofs.Order.{le_not, not-le, le-or-lt}
 use Rattle.law.specs.Base.{pick}
-use Rattle.law.specs.Calculate.{Result, is, fails, stuck, ◌>>=◌, tested, rangeError, undefinedError}
-use Rattle.law.specs.Machine.{Store, readCell, readCells, isDefined, store_cells, undefined}
-use Rattle.code_calc.specs.Words.{greatest, faultBase, word_of, result_of, InRange, Exceptional, Ranged, Means, Holds, first, undefinedWord, storeWord, allValues, cellsWord}
+use Rattle.law.specs.Calculate.{Result, is, fails, stuck, ◌>>=◌, tested, range_error, undefined_error}
+use Rattle.law.specs.Machine.{Store, read_cell, read_cells, is_defined, store_cells, undefined}
+use Rattle.code_calc.specs.Words.{greatest, fault_base, word_of, result_of, InRange, Exceptional, Ranged, Means, Holds, first, undefined_word, store_word, all_values, cells_word}
 use Rattle.code_calc.proofs.Combining.{fault-again, value-again}
 use Rattle.code_calc.proofs.Placing.{index-span, index-up}
 use Rattle.code_calc.proofs.Ranging.{low-range, decoded}
@@ -18,26 +18,26 @@ one-read (is z) = refl
 one-read (fails e) = refl
 one-read stuck = refl
 
-pub cell-read : (a : ℕ) (m : Store) → readCell a m ≡ first (readCells a 1 m)
-unfolding readCells
-cell-read a m = one-read (readCell a m)
+pub cell-read : (a : ℕ) (m : Store) → read_cell a m ≡ first (read_cells a 1 m)
+unfolding read_cells
+cell-read a m = one-read (read_cell a m)
 
 value-fault : {z e : ℤ} → is z ≡ fails e → ⊥
 value-fault q = let z : ◌≡◌ {A = ℕ} 0 1 = cc in omega arith
 
 -- a cell gives a value or an Undefined_Error
-cell-fails : (a : ℕ) (m : Store) (e : ℤ) → readCell a m ≡ fails e → readCell a m ≡ fails undefinedError
-unfolding readCell pick
-cell-fails a m e h = go (isDefined (get_or m.marks a undefined)) h
+cell-fails : (a : ℕ) (m : Store) (e : ℤ) → read_cell a m ≡ fails e → read_cell a m ≡ fails undefined_error
+unfolding read_cell pick
+cell-fails a m e h = go (is_defined (get_or m.marks a undefined)) h
   where
-    go : (t : Bool) → pick t (is (get_or m.values a (pos 0))) (fails undefinedError) ≡ fails e → pick t (is (get_or m.values a (pos 0))) (fails undefinedError) ≡ fails undefinedError
+    go : (t : Bool) → pick t (is (get_or m.values a (pos 0))) (fails undefined_error) ≡ fails e → pick t (is (get_or m.values a (pos 0))) (fails undefined_error) ≡ fails undefined_error
     go true q = absurd (value-fault q)
     go false q = refl
 
 as-value : (w : ℤ) → lt_z greatest w ≡ false → result_of w ≡ is w
 as-value w e = value-again w e
 
-as-fault : (w : ℤ) → lt_z greatest w ≡ true → result_of w ≡ fails (w -ℤ faultBase)
+as-fault : (w : ℤ) → lt_z greatest w ≡ true → result_of w ≡ fails (w -ℤ fault_base)
 as-fault w e = fault-again w e
 
 pub zero_word : pos 0 ≡ word_of (is (pos 0))
@@ -48,86 +48,86 @@ pub zero-ranged : Ranged (is (pos 0))
 unfolding Ranged
 zero-ranged = low-range 0 (omega arith)
 
-undefined-means : Means undefinedWord (fails undefinedError)
+undefined-means : Means undefined_word (fails undefined_error)
 unfolding word_of Ranged Exceptional inside
 undefined-means = record { word = refl; ranged = refl }
 
-pub past_word : (ws : List ℤ) (a : ℕ) → store_cells ≤ a → storeWord ws a ≡ undefinedWord
-unfolding storeWord pick
+pub past_word : (ws : List ℤ) (a : ℕ) → store_cells ≤ a → store_word ws a ≡ undefined_word
+unfolding store_word pick
 past_word ws a e = rw (le-ltb a store_cells e)
 
 module _ (ws : List ℤ) (m : Store) (h : Holds ws m) where
-  cell-is : (a : ℕ) → le_z (storeWord ws a) greatest ≡ true → readCell a m ≡ is (storeWord ws a)
-  cell-is a e = go (readCell a m) (h.cells a)
+  cell-is : (a : ℕ) → le_z (store_word ws a) greatest ≡ true → read_cell a m ≡ is (store_word ws a)
+  cell-is a e = go (read_cell a m) (h.cells a)
     where
-      go : (v : Result ℤ) → Means (storeWord ws a) v → v ≡ is (storeWord ws a)
-      go v q = sym (decoded (storeWord ws a) v q) ∙ as-value (storeWord ws a) (le_not (storeWord ws a) greatest e)
+      go : (v : Result ℤ) → Means (store_word ws a) v → v ≡ is (store_word ws a)
+      go v q = sym (decoded (store_word ws a) v q) ∙ as-value (store_word ws a) (le_not (store_word ws a) greatest e)
 
-  cell-none : (a : ℕ) → le_z (storeWord ws a) greatest ≡ false → readCell a m ≡ fails undefinedError
-  cell-none a e = cell-fails a m (storeWord ws a -ℤ faultBase) (sym (decoded (storeWord ws a) (readCell a m) (h.cells a)) ∙ as-fault (storeWord ws a) (not-le (storeWord ws a) greatest e))
+  cell-none : (a : ℕ) → le_z (store_word ws a) greatest ≡ false → read_cell a m ≡ fails undefined_error
+  cell-none a e = cell-fails a m (store_word ws a -ℤ fault_base) (sym (decoded (store_word ws a) (read_cell a m) (h.cells a)) ∙ as-fault (store_word ws a) (not-le (store_word ws a) greatest e))
 
-  none_read : (a : ℕ) → Means (pos 0) (first (readCells a 0 m))
-  unfolding readCells
+  none_read : (a : ℕ) → Means (pos 0) (first (read_cells a 0 m))
+  unfolding read_cells
   none_read a = record { word = zero_word; ranged = zero-ranged }
 
-  up : (a n : ℕ) → allValues ws (a + 1) n ≡ allValues ws (suc a) n
-  up a n = ap (λ (q : ℕ). allValues ws q n) (omega arith)
+  up : (a n : ℕ) → all_values ws (a + 1) n ≡ all_values ws (suc a) n
+  up a n = ap (λ (q : ℕ). all_values ws q n) (omega arith)
 
   -- all values are read, or none
-  reads : (n a : ℕ) → allValues ws a n ≡ true → (zs : List ℤ) × (readCells a n m ≡ is zs)
-  unfolding readCells allValues
+  reads : (n a : ℕ) → all_values ws a n ≡ true → (zs : List ℤ) × (read_cells a n m ≡ is zs)
+  unfolding read_cells all_values
   reads zero a e = ([], refl)
   reads (suc n) a e =
-      let w = (and-eq-true_iff (le_z (storeWord ws a) greatest) (allValues ws (a + 1) n)).0 e in
+      let w = (and-eq-true_iff (le_z (store_word ws a) greatest) (all_values ws (a + 1) n)).0 e in
       let r = reads n (suc a) (sym (up a n) ∙ w.1) in
-      (storeWord ws a ∷ r.0, rw (cell-is a w.0, r.1))
+      (store_word ws a ∷ r.0, rw (cell-is a w.0, r.1))
 
-  reads_more : (n a : ℕ) → allValues ws a (suc n) ≡ true → (le_z (storeWord ws a) greatest ≡ true) × ((zs : List ℤ) × (readCells a (suc n) m ≡ is (storeWord ws a ∷ zs)))
-  unfolding readCells allValues
+  reads_more : (n a : ℕ) → all_values ws a (suc n) ≡ true → (le_z (store_word ws a) greatest ≡ true) × ((zs : List ℤ) × (read_cells a (suc n) m ≡ is (store_word ws a ∷ zs)))
+  unfolding read_cells all_values
   reads_more n a e =
-      let w = (and-eq-true_iff (le_z (storeWord ws a) greatest) (allValues ws (a + 1) n)).0 e in
+      let w = (and-eq-true_iff (le_z (store_word ws a) greatest) (all_values ws (a + 1) n)).0 e in
       let r = reads n (suc a) (sym (up a n) ∙ w.1) in
       (w.0, (r.0, rw (cell-is a w.0, r.1)))
 
-  reads_none : (n a : ℕ) → allValues ws a n ≡ false → readCells a n m ≡ fails undefinedError
-  unfolding readCells allValues
+  reads_none : (n a : ℕ) → all_values ws a n ≡ false → read_cells a n m ≡ fails undefined_error
+  unfolding read_cells all_values
   reads_none zero a e = absurd (true≢false e)
-  reads_none (suc n) a e = go (λ q. reads_none n (suc a) (sym (up a n) ∙ q)) (le_z (storeWord ws a) greatest) refl e
+  reads_none (suc n) a e = go (λ q. reads_none n (suc a) (sym (up a n) ∙ q)) (le_z (store_word ws a) greatest) refl e
     where
-      go : (allValues ws (a + 1) n ≡ false → readCells (suc a) n m ≡ fails undefinedError) → (t : Bool) → le_z (storeWord ws a) greatest ≡ t → (t && allValues ws (a + 1) n) ≡ false
-          → (readCell a m >>= λ z. readCells (suc a) n m >>= λ zs. is (z ∷ zs)) ≡ fails undefinedError
+      go : (all_values ws (a + 1) n ≡ false → read_cells (suc a) n m ≡ fails undefined_error) → (t : Bool) → le_z (store_word ws a) greatest ≡ t → (t && all_values ws (a + 1) n) ≡ false
+          → (read_cell a m >>= λ z. read_cells (suc a) n m >>= λ zs. is (z ∷ zs)) ≡ fails undefined_error
       go f true q r = rw (cell-is a q, f r)
       go f false q r = rw (cell-none a q)
 
-  pub cells-word : (a n : ℕ) → Means (cellsWord ws a n) (first (readCells a n m))
-  unfolding cellsWord pick
+  pub cells-word : (a n : ℕ) → Means (cells_word ws a n) (first (read_cells a n m))
+  unfolding cells_word pick
   cells-word a zero = none_read a
-  cells-word a (suc n) = go (allValues ws a (suc n)) refl
+  cells-word a (suc n) = go (all_values ws a (suc n)) refl
     where
-      go : (t : Bool) → allValues ws a (suc n) ≡ t → Means (pick t (storeWord ws a) undefinedWord) (first (readCells a (suc n) m))
+      go : (t : Bool) → all_values ws a (suc n) ≡ t → Means (pick t (store_word ws a) undefined_word) (first (read_cells a (suc n) m))
       go true q =
-          subst (λ (v : Result (List ℤ)). Means (storeWord ws a) (first v)) (sym (reads_more n a q).1.1)
-          (subst (λ (v : Result ℤ). Means (storeWord ws a) v) (cell-is a (reads_more n a q).0) (h.cells a))
-      go false q = subst (λ (v : Result (List ℤ)). Means undefinedWord (first v)) (sym (reads_none (suc n) a q)) undefined-means
+          subst (λ (v : Result (List ℤ)). Means (store_word ws a) (first v)) (sym (reads_more n a q).1.1)
+          (subst (λ (v : Result ℤ). Means (store_word ws a) v) (cell-is a (reads_more n a q).0) (h.cells a))
+      go false q = subst (λ (v : Result (List ℤ)). Means undefined_word (first v)) (sym (reads_none (suc n) a q)) undefined-means
 
   -- past every store
-  cell-past : (a : ℕ) → store_cells ≤ a → readCell a m ≡ fails undefinedError
+  cell-past : (a : ℕ) → store_cells ≤ a → read_cell a m ≡ fails undefined_error
   cell-past a e = cell-none a (rw (past_word ws a e))
 
-  pub capped-cells : (a n : ℕ) → readCells (min a 4294967295) n m ≡ readCells a n m
-  unfolding readCells
+  pub capped-cells : (a n : ℕ) → read_cells (min a 4294967295) n m ≡ read_cells a n m
+  unfolding read_cells
   capped-cells a zero = refl
   capped-cells a (suc n) = go (leb a 4294967295) refl
     where
-      go : (t : Bool) → leb a 4294967295 ≡ t → readCells (min a 4294967295) (suc n) m ≡ readCells a (suc n) m
-      go true q = ap (λ (b : ℕ). readCells b (suc n) m) (omega (arith, leb-true a 4294967295 q))
+      go : (t : Bool) → leb a 4294967295 ≡ t → read_cells (min a 4294967295) (suc n) m ≡ read_cells a (suc n) m
+      go true q = ap (λ (b : ℕ). read_cells b (suc n) m) (omega (arith, leb-true a 4294967295 q))
       go false q = rw (cell-past (min a 4294967295) (omega (arith, leb-false a 4294967295 q)), cell-past a (omega (arith, leb-false a 4294967295 q)))
 
-pub one-or-more : (ws : List ℤ) (m : Store) → Holds ws m → (a c : ℕ) → Means (pick (eqb c 1) (storeWord ws a) (cellsWord ws a c)) (first (readCells a c m))
+pub one-or-more : (ws : List ℤ) (m : Store) → Holds ws m → (a c : ℕ) → Means (pick (eqb c 1) (store_word ws a) (cells_word ws a c)) (first (read_cells a c m))
 unfolding pick
 one-or-more ws m h a c = go (eqb c 1) refl
   where
-    go : (t : Bool) → eqb c 1 ≡ t → Means (pick t (storeWord ws a) (cellsWord ws a c)) (first (readCells a c m))
+    go : (t : Bool) → eqb c 1 ≡ t → Means (pick t (store_word ws a) (cells_word ws a c)) (first (read_cells a c m))
     go true q = rw (eqb-true c 1 q, ← cell-read a m) (h.cells a)
     go false q = cells-word ws m h a c
 
@@ -154,10 +154,10 @@ up-range : (z : ℤ) → mag z ≤ 4294967295 → non_neg z ≡ true → InRange
 up-range (pos n) h k = low-range n h
 up-range (negsuc n) h k = absurd (true≢false (sym k))
 
-pub test-cases : (lo hi u : ℤ) → inside least most lo ≡ true → inside least most hi ≡ true → Ranged (tested rangeError lo hi u >>= λ z. is (z -ℤ lo))
+pub test-cases : (lo hi u : ℤ) → inside least most lo ≡ true → inside least most hi ≡ true → Ranged (tested range_error lo hi u >>= λ z. is (z -ℤ lo))
 unfolding tested pick Ranged Exceptional inside
 test-cases lo hi u p q = go (inside lo hi u) refl
   where
-    go : (t : Bool) → inside lo hi u ≡ t → Ranged (pick t (is u) (fails rangeError) >>= λ z. is (z -ℤ lo))
+    go : (t : Bool) → inside lo hi u ≡ t → Ranged (pick t (is u) (fails range_error) >>= λ z. is (z -ℤ lo))
     go true h = up-range (u -ℤ lo) (index-span lo hi u p q h) (index-up lo hi u p q h)
     go false h = refl

@@ -1,34 +1,34 @@
 -- What operators give lies in the range of values again, and a word is decoded to the result that it is of.
 use Rattle.std.proofs.Common.{◌≡◌, ℕ, zero, suc, ◌+◌, ◌-◌, ◌<◌, ◌≤◌, Bool, true, false, not, ◌&&◌, ◌||◌, List, length, ℤ, pos, negsuc, ◌+ℤ◌, ◌-ℤ◌, ◌*ℤ◌, neg_ℤ, nat_abs, sym, refl, ap, ◌∙◌, subst, true≢false, arith, le-ltb, lt-ltb, le-leb, leb-true}
 use lib.Signed.{le_z, lt_z}
-use Rattle.leaf_integers.specs.Integers.{inside, least, most, exact, quotient, modulus, next, previous, isOdd}
+use Rattle.leaf_integers.specs.Integers.{inside, least, most, exact, quotient, modulus, next, previous, is_odd}
 use Rattle.leaf_powers.specs.Powers.{power}
 use Rattle.leaf_integers.specs.declared.Fault.TheVariants.{Overflow, Divisor, Exponent, Bound}
 use Rattle.leaf_integers.specs.declared.Num.{Num}
 use Rattle.leaf_integers.specs.declared.Num.TheVariants.{Value, Failed}
-use Rattle.leaf_integers.proofs.Order.{leZ-trans, add_low, le_not}
+use Rattle.leaf_integers.proofs.Order.{le_z-trans, add_low, le_not}
 use Rattle.leaf_integers.proofs.Ranges.{inside_is, inside_both, exact-value}
 use Rattle.leaf_integers.proofs.Division.{quotient-value, modulus-value}
 use Rattle.leaf_powers.proofs.Powers.{power-value}
 use Rattle.leaf_integers.proofs.RangeTests.{next-value, previous-value}
-use Rattle.leaf_sets.specs.Sets.{members_of, patternOf, those, value_of, holds, least as leastOf, greatest as greatestOf, unionOf, differenceOf, intersectionOf, within}
+use Rattle.leaf_sets.specs.Sets.{members_of, pattern_of, those, value_of, holds, least as least_of, greatest as greatest_of, union_of, difference_of, intersection_of, within}
 use Rattle.leaf_sets.specs.declared.Member.{Member}
 use Rattle.leaf_sets.specs.declared.Member.TheVariants.{Ordinal, Empty}
 use Rattle.leaf_sets.proofs.Digits.{value-lt, members-length}
 use Rattle.leaf_sets.proofs.Base.{least_lt, greatest-lt}
 use Rattle.law.specs.Base.{pick}
-use Rattle.law.specs.Calculate.{nat_of, Result, is, fails, stuck, ◌>>=◌, integer, exceptionOf, memberIn, truth, isTrue, equalZ, setValue, compute, compute1}
-use Rattle.law.specs.Machine.{sole, oneCell}
-use Rattle.law.specs.Operators.{Operation, intAdd, intSub, intMul, intPower, intDiv, intMod, setUnion, setDifference, setIntersection, numEqual, numUnequal, numLess, numAtMost, numGreater, numAtLeast, setWithin, setHolds, memberOf, boolAnd, boolOr, Operation1, intNegate, boolNot, intAbs, intSqr, intOdd, ordinalOf, predIn, succIn, setCard, setLeast, setGreatest}
-use Rattle.code.specs.Readback.{operations1, operation1At}
-use Rattle.code_calc.specs.Words.{lowest, noResult, greatest, faultBase, word_of, result_of, applied, applied1, InRange, Exceptional, Ranged, Means, first}
+use Rattle.law.specs.Calculate.{nat_of, Result, is, fails, stuck, ◌>>=◌, integer, exception_of, member_in, truth, is_true, equal_z, set_value, compute, compute1}
+use Rattle.law.specs.Machine.{sole, one_cell}
+use Rattle.law.specs.Operators.{Operation, int_add, int_sub, int_mul, int_power, int_div, int_mod, set_union, set_difference, set_intersection, num_equal, num_unequal, num_less, num_at_most, num_greater, num_at_least, set_within, set_holds, member_of, bool_and, bool_or, Operation1, int_negate, bool_not, int_abs, int_sqr, int_odd, ordinal_of, pred_in, succ_in, set_card, set_least, set_greatest}
+use Rattle.code.specs.Readback.{operations1, operation1_at}
+use Rattle.code_calc.specs.Words.{lowest, no_result, greatest, fault_base, word_of, result_of, applied, applied1, InRange, Exceptional, Ranged, Means, first}
 
 -- ---- the range
 pub wide : (z : ℤ) → inside least most z ≡ true → InRange z
 unfolding InRange
 wide z h =
-    inside_both lowest greatest z (leZ-trans lowest least z refl (inside_is least most z h).0)
-    (leZ-trans z most greatest (inside_is least most z h).1 refl)
+    inside_both lowest greatest z (le_z-trans lowest least z refl (inside_is least most z h).0)
+    (le_z-trans z most greatest (inside_is least most z h).1 refl)
 
 pub low-range : (n : ℕ) → n ≤ 4294967295 → InRange (pos n)
 unfolding InRange
@@ -39,7 +39,7 @@ unfolding InRange
 range-value z h = le_not z greatest (inside_is lowest greatest z h).1
 
 num-ranged : (n : Num) → ((v : ℤ) → n ≡ Value v → InRange v) → Ranged (integer n)
-unfolding Ranged Exceptional inside integer exceptionOf
+unfolding Ranged Exceptional inside integer exception_of
 num-ranged (Value z) h = h z refl
 num-ranged (Failed Overflow) h = refl
 num-ranged (Failed Divisor) h = refl
@@ -54,85 +54,85 @@ unfolding InRange truth inside
 truth-ranged true = refl
 truth-ranged false = refl
 
-those-ranged : (f : ℕ → Bool) → InRange (setValue (those f 0 32))
-unfolding setValue
+those-ranged : (f : ℕ → Bool) → InRange (set_value (those f 0 32))
+unfolding set_value
 those-ranged f = low-range (value_of (those f 0 32)) (omega (arith, value-lt f))
 
 mod-range : (i j v : ℤ) → InRange j → modulus i j ≡ Value v → InRange v
 unfolding InRange
 mod-range i j v h e =
     let w = inside_is (pos 0) (j -ℤ pos 1) v (modulus-value i j v e) in
-    inside_both lowest greatest v (leZ-trans lowest (pos 0) v refl w.0)
-    (leZ-trans v (j -ℤ pos 1) greatest w.1 (leZ-trans (j -ℤ pos 1) j greatest (add_low j (negsuc 0) refl) (inside_is lowest greatest j h).1))
+    inside_both lowest greatest v (le_z-trans lowest (pos 0) v refl w.0)
+    (le_z-trans v (j -ℤ pos 1) greatest w.1 (le_z-trans (j -ℤ pos 1) j greatest (add_low j (negsuc 0) refl) (inside_is lowest greatest j h).1))
 
-member-ranged : (m : Member) → ((x : ℕ) → m ≡ Ordinal x → x < 32) → Ranged (memberIn m)
-unfolding Ranged Exceptional inside memberIn
+member-ranged : (m : Member) → ((x : ℕ) → m ≡ Ordinal x → x < 32) → Ranged (member_in m)
+unfolding Ranged Exceptional inside member_in
 member-ranged (Ordinal i) h = low-range i (omega (arith, h i refl))
 member-ranged Empty h = refl
 
 card-small : (a : ℤ) → length (members_of a) ≤ 4294967295
 unfolding members_of
-card-small a = omega (arith, members-length (patternOf a))
+card-small a = omega (arith, members-length (pattern_of a))
 
 -- ---- operators
 pub compute-ranged : (c : Operation) (a b : ℤ) → InRange a → InRange b → Ranged (compute c a b)
-unfolding compute Ranged unionOf differenceOf intersectionOf
-compute-ranged intAdd a b p q = exact-ranged (a +ℤ b)
-compute-ranged intSub a b p q = exact-ranged (a -ℤ b)
-compute-ranged intMul a b p q = exact-ranged (a *ℤ b)
-compute-ranged intPower a b p q = num-ranged (power a b) (λ v e. wide v (power-value a b v e).0)
-compute-ranged intDiv a b p q = num-ranged (quotient a b) (λ v e. wide v (quotient-value a b v e).0)
-compute-ranged intMod a b p q = num-ranged (modulus a b) (λ v e. mod-range a b v q e)
-compute-ranged setUnion a b p q = those-ranged _
-compute-ranged setDifference a b p q = those-ranged _
-compute-ranged setIntersection a b p q = those-ranged _
-compute-ranged numEqual a b p q = truth-ranged (equalZ a b)
-compute-ranged numUnequal a b p q = truth-ranged (not (equalZ a b))
-compute-ranged numLess a b p q = truth-ranged (lt_z a b)
-compute-ranged numAtMost a b p q = truth-ranged (le_z a b)
-compute-ranged numGreater a b p q = truth-ranged (lt_z b a)
-compute-ranged numAtLeast a b p q = truth-ranged (le_z b a)
-compute-ranged setWithin a b p q = truth-ranged (within (members_of a) (members_of b))
-compute-ranged setHolds a b p q = truth-ranged (within (members_of b) (members_of a))
-compute-ranged memberOf a b p q = truth-ranged (holds a (members_of b))
-compute-ranged boolAnd a b p q = truth-ranged (isTrue a && isTrue b)
-compute-ranged boolOr a b p q = truth-ranged (isTrue a || isTrue b)
+unfolding compute Ranged union_of difference_of intersection_of
+compute-ranged int_add a b p q = exact-ranged (a +ℤ b)
+compute-ranged int_sub a b p q = exact-ranged (a -ℤ b)
+compute-ranged int_mul a b p q = exact-ranged (a *ℤ b)
+compute-ranged int_power a b p q = num-ranged (power a b) (λ v e. wide v (power-value a b v e).0)
+compute-ranged int_div a b p q = num-ranged (quotient a b) (λ v e. wide v (quotient-value a b v e).0)
+compute-ranged int_mod a b p q = num-ranged (modulus a b) (λ v e. mod-range a b v q e)
+compute-ranged set_union a b p q = those-ranged _
+compute-ranged set_difference a b p q = those-ranged _
+compute-ranged set_intersection a b p q = those-ranged _
+compute-ranged num_equal a b p q = truth-ranged (equal_z a b)
+compute-ranged num_unequal a b p q = truth-ranged (not (equal_z a b))
+compute-ranged num_less a b p q = truth-ranged (lt_z a b)
+compute-ranged num_at_most a b p q = truth-ranged (le_z a b)
+compute-ranged num_greater a b p q = truth-ranged (lt_z b a)
+compute-ranged num_at_least a b p q = truth-ranged (le_z b a)
+compute-ranged set_within a b p q = truth-ranged (within (members_of a) (members_of b))
+compute-ranged set_holds a b p q = truth-ranged (within (members_of b) (members_of a))
+compute-ranged member_of a b p q = truth-ranged (holds a (members_of b))
+compute-ranged bool_and a b p q = truth-ranged (is_true a && is_true b)
+compute-ranged bool_or a b p q = truth-ranged (is_true a || is_true b)
 
 -- bounds are integers of 32 bits
 abbrev pub Bounded : Operation1 → Type 0
-Bounded intNegate = Unit {0}
-Bounded boolNot = Unit {0}
-Bounded intAbs = Unit {0}
-Bounded intSqr = Unit {0}
-Bounded intOdd = Unit {0}
-Bounded ordinalOf = Unit {0}
-Bounded (predIn lo hi) = (inside least most lo ≡ true) × (inside least most hi ≡ true)
-Bounded (succIn lo hi) = (inside least most lo ≡ true) × (inside least most hi ≡ true)
-Bounded setCard = Unit {0}
-Bounded setLeast = Unit {0}
-Bounded setGreatest = Unit {0}
+Bounded int_negate = Unit {0}
+Bounded bool_not = Unit {0}
+Bounded int_abs = Unit {0}
+Bounded int_sqr = Unit {0}
+Bounded int_odd = Unit {0}
+Bounded ordinal_of = Unit {0}
+Bounded (pred_in lo hi) = (inside least most lo ≡ true) × (inside least most hi ≡ true)
+Bounded (succ_in lo hi) = (inside least most lo ≡ true) × (inside least most hi ≡ true)
+Bounded set_card = Unit {0}
+Bounded set_least = Unit {0}
+Bounded set_greatest = Unit {0}
 
 between : (lo hi v : ℤ) → (inside least most lo ≡ true) × (inside least most hi ≡ true) → inside lo hi v ≡ true → InRange v
 between lo hi v h e =
-    wide v (inside_both least most v (leZ-trans least lo v (inside_is least most lo h.0).0 (inside_is lo hi v e).0)
-    (leZ-trans v hi most (inside_is lo hi v e).1 (inside_is least most hi h.1).1))
+    wide v (inside_both least most v (le_z-trans least lo v (inside_is least most lo h.0).0 (inside_is lo hi v e).0)
+    (le_z-trans v hi most (inside_is lo hi v e).1 (inside_is least most hi h.1).1))
 
 pub compute1-ranged : (c : Operation1) (a : ℤ) → Bounded c → InRange a → Ranged (compute1 c a)
 unfolding compute1 Ranged
-compute1-ranged intNegate a b p = exact-ranged (neg_ℤ a)
-compute1-ranged boolNot a b p = truth-ranged (not (isTrue a))
-compute1-ranged intAbs a b p = exact-ranged (pos (nat_abs a))
-compute1-ranged intSqr a b p = exact-ranged (a *ℤ a)
-compute1-ranged intOdd a b p = truth-ranged (isOdd a)
-compute1-ranged ordinalOf a b p = p
-compute1-ranged (predIn lo hi) a b p = num-ranged (previous lo hi a) (λ v e. between lo hi v b (previous-value lo hi a v e).0)
-compute1-ranged (succIn lo hi) a b p = num-ranged (next lo hi a) (λ v e. between lo hi v b (next-value lo hi a v e).0)
-compute1-ranged setCard a b p = low-range (length (members_of a)) (card-small a)
-compute1-ranged setLeast a b p = member-ranged (leastOf (members_of a)) (λ x e. least_lt a x e)
-compute1-ranged setGreatest a b p = member-ranged (greatestOf (members_of a)) (λ x e. greatest-lt a x e)
+compute1-ranged int_negate a b p = exact-ranged (neg_ℤ a)
+compute1-ranged bool_not a b p = truth-ranged (not (is_true a))
+compute1-ranged int_abs a b p = exact-ranged (pos (nat_abs a))
+compute1-ranged int_sqr a b p = exact-ranged (a *ℤ a)
+compute1-ranged int_odd a b p = truth-ranged (is_odd a)
+compute1-ranged ordinal_of a b p = p
+compute1-ranged (pred_in lo hi) a b p = num-ranged (previous lo hi a) (λ v e. between lo hi v b (previous-value lo hi a v e).0)
+compute1-ranged (succ_in lo hi) a b p = num-ranged (next lo hi a) (λ v e. between lo hi v b (next-value lo hi a v e).0)
+compute1-ranged set_card a b p = low-range (length (members_of a)) (card-small a)
+compute1-ranged set_least a b p = member-ranged (least_of (members_of a)) (λ x e. least_lt a x e)
+compute1-ranged set_greatest a b p = member-ranged (greatest_of (members_of a)) (λ x e. greatest-lt a x e)
 
-pub plain : (k : ℕ) → Bounded (operation1At k)
-unfolding operation1At operations1
+pub plain : (k : ℕ) → Bounded (operation1_at k)
+unfolding operation1_at operations1
 plain zero = tt
 plain (suc zero) = tt
 plain (suc (suc zero)) = tt
@@ -153,26 +153,26 @@ negative (negsuc k) h =
     let q = inside_is (negsuc 998) (negsuc 100) (negsuc k) h in
     (k, (refl, (leb-true 100 k q.1, leb-true k 998 q.0)))
 
-based : (k : ℕ) → k ≤ 998 → negsuc k +ℤ faultBase ≡ pos (9223372036854775807 - suc k)
+based : (k : ℕ) → k ≤ 998 → negsuc k +ℤ fault_base ≡ pos (9223372036854775807 - suc k)
 based k h = rw (le-ltb 9223372036854775807 (suc k) (omega arith))
 
-pub above-fault : (e : ℤ) → Exceptional e → true ≡ lt_z greatest (e +ℤ faultBase)
+pub above-fault : (e : ℤ) → Exceptional e → true ≡ lt_z greatest (e +ℤ fault_base)
 above-fault e h = let n = negative e h in rw (n.1.0, based n.0 n.1.1.1) (sym (lt-ltb 9218868437227405311 (9223372036854775807 - suc n.0) (omega (arith, n.1.1.1))))
 
-pub back-fault : (e : ℤ) → Exceptional e → (e +ℤ faultBase) -ℤ faultBase ≡ e
+pub back-fault : (e : ℤ) → Exceptional e → (e +ℤ fault_base) -ℤ fault_base ≡ e
 back-fault e h = let n = negative e h in rw (n.1.0, based n.0 n.1.1.1, lt-ltb (9223372036854775807 - suc n.0) 9223372036854775807 (omega (arith, n.1.1.1))) (ap negsuc (omega (arith, n.1.1.1)))
 
-pub not_stuck : (e : ℤ) → Exceptional e → (e +ℤ faultBase) ≡ noResult → ⊥
+pub not_stuck : (e : ℤ) → Exceptional e → (e +ℤ fault_base) ≡ no_result → ⊥
 not_stuck e h g =
     let n = negative e h in
-    let q : ◌≡◌ {A = ℕ} (9223372036854775807 - suc n.0) 9223372036854775807 = ap nat_of (sym (based n.0 n.1.1.1) ∙ ap (λ (x : ℤ). x +ℤ faultBase) (sym n.1.0) ∙ g) in
+    let q : ◌≡◌ {A = ℕ} (9223372036854775807 - suc n.0) 9223372036854775807 = ap nat_of (sym (based n.0 n.1.1.1) ∙ ap (λ (x : ℤ). x +ℤ fault_base) (sym n.1.0) ∙ g) in
     omega (arith, n.1.1.1)
 
 pub small-fault : (e : ℤ) → Exceptional e → InRange e
 unfolding Exceptional
-small-fault e h = let q = inside_is (negsuc 998) (negsuc 100) e h in wide e (inside_both least most e (leZ-trans least (negsuc 998) e refl q.0) (leZ-trans e (negsuc 100) most q.1 refl))
+small-fault e h = let q = inside_is (negsuc 998) (negsuc 100) e h in wide e (inside_both least most e (le_z-trans least (negsuc 998) e refl q.0) (le_z-trans e (negsuc 100) most q.1 refl))
 
-pub fault-result : (e : ℤ) → Ranged (fails e) → result_of (e +ℤ faultBase) ≡ fails e
+pub fault-result : (e : ℤ) → Ranged (fails e) → result_of (e +ℤ fault_base) ≡ fails e
 unfolding result_of pick Ranged
 fault-result e h = rw (sym (above-fault e h), back-fault e h)
 
@@ -195,25 +195,25 @@ bind-ranged (is z) f h k = k z h
 bind-ranged (fails e) f h k = h
 bind-ranged stuck f h k = absurd h
 
-one-first : (u : Result ℤ) → u ≡ first (oneCell u)
+one-first : (u : Result ℤ) → u ≡ first (one_cell u)
 one-first (is z) = refl
 one-first (fails e) = refl
 one-first stuck = refl
 
-join2 : (f : ℤ → ℤ → Result ℤ) (v w : Result (List ℤ)) → (first v >>= λ a. first w >>= λ b. f a b) ≡ first (v >>= λ a. w >>= λ b. oneCell (f (sole a) (sole b)))
+join2 : (f : ℤ → ℤ → Result ℤ) (v w : Result (List ℤ)) → (first v >>= λ a. first w >>= λ b. f a b) ≡ first (v >>= λ a. w >>= λ b. one_cell (f (sole a) (sole b)))
 join2 f (is a) (is b) = one-first (f (sole a) (sole b))
 join2 f (is a) (fails e) = refl
 join2 f (is a) stuck = refl
 join2 f (fails e) w = refl
 join2 f stuck w = refl
 
-join1 : (f : ℤ → Result ℤ) (v : Result (List ℤ)) → (first v >>= λ a. f a) ≡ first (v >>= λ a. oneCell (f (sole a)))
+join1 : (f : ℤ → Result ℤ) (v : Result (List ℤ)) → (first v >>= λ a. f a) ≡ first (v >>= λ a. one_cell (f (sole a)))
 join1 f (is a) = one-first (f (sole a))
 join1 f (fails e) = refl
 join1 f stuck = refl
 
 pub binary-means : (c : Operation) (x y z : ℤ) (v w : Result (List ℤ)) → Means x (first v) → Means y (first w) → z ≡ applied c x y
-    → Means z (first (v >>= λ a. w >>= λ b. oneCell (compute c (sole a) (sole b))))
+    → Means z (first (v >>= λ a. w >>= λ b. one_cell (compute c (sole a) (sole b))))
 unfolding applied
 binary-means c x y z v w h k e =
     subst (λ (u : Result ℤ). Means z u) (join2 (λ a b. compute c a b) v w)
@@ -222,7 +222,7 @@ binary-means c x y z v w h k e =
       ranged = bind-ranged (first v) (λ a. first w >>= λ b. compute c a b) h.ranged (λ a p. bind-ranged (first w) (λ b. compute c a b) k.ranged (λ b q. compute-ranged c a b p q));
     })
 
-pub unary-means : (c : Operation1) (x z : ℤ) (v : Result (List ℤ)) → Bounded c → Means x (first v) → z ≡ applied1 c x → Means z (first (v >>= λ a. oneCell (compute1 c (sole a))))
+pub unary-means : (c : Operation1) (x z : ℤ) (v : Result (List ℤ)) → Bounded c → Means x (first v) → z ≡ applied1 c x → Means z (first (v >>= λ a. one_cell (compute1 c (sole a))))
 unfolding applied1
 unary-means c x z v b h e =
     subst (λ (u : Result ℤ). Means z u) (join1 (λ a. compute1 c a) v)

@@ -1,12 +1,12 @@
 // The store as words: a cell holds its value, or the word of an Undefined_Error; the last exception stands above the cells.
 ghost use Rattle.std.specs.Prelude.{◌≡◌};
-ghost use Rattle.code_calc.specs.Words.{storeWord, latestIn, cellsWord, cellsAt};
+ghost use Rattle.code_calc.specs.Words.{store_word, latest_in, cells_word, cells_at};
 
 use crate::words::{CELLS, GREATEST, LATEST, Store, UNDEFINED, reach};
 
 // The word of a cell.
 pub fn cell(store: &Store, a: usize) -> i64
-    ensures { result ≡ storeWord store.now a }
+    ensures { result ≡ store_word store.now a }
 {
     if a < CELLS {
         return store[a];
@@ -16,14 +16,14 @@ pub fn cell(store: &Store, a: usize) -> i64
 
 // The last exception's number, 0 before any.
 pub fn latest(store: &Store) -> i64
-    ensures { result ≡ latestIn store.now }
+    ensures { result ≡ latest_in store.now }
 {
     store[LATEST]
 }
 
 // The first of n cells from a on, all of which must be defined; 0 for no cell.
 pub fn cells(store: &Store, a: u32, n: u32) -> i64
-    ensures { result ≡ cellsWord store.now a n }
+    ensures { result ≡ cells_word store.now a n }
 {
     if n == 0 {
         return 0;
@@ -41,7 +41,7 @@ pub fn cells(store: &Store, a: u32, n: u32) -> i64
 
 // The same by the word of a place.
 pub fn cells_at(store: &Store, place: i64, n: u32) -> i64
-    ensures { result ≡ cellsAt store.now place n }
+    ensures { result ≡ cells_at store.now place n }
 {
     if place > GREATEST {
         return place;

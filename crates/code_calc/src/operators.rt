@@ -1,11 +1,11 @@
 // Operators on words.
 ghost use Rattle.std.specs.Prelude.{◌≡◌, ◌-◌, not, ◌&&◌, ◌||◌, int_le, int_lt};
 ghost use Rattle.leaf_words.specs.Numbers.{signed};
-ghost use Rattle.leaf_sets.specs.Sets.{members_of, holds, unionOf, differenceOf, intersectionOf, within};
-ghost use Rattle.law.specs.Calculate.{integer, memberIn, truth, isTrue, equalZ, setValue, tested, rangeError, compute, compute1};
-ghost use Rattle.law.specs.Operators.{predIn, succIn};
-ghost use Rattle.code.specs.Readback.{operationAt, operation1At};
-ghost use Rattle.code_calc.specs.Words.{word_of, applied, applied1, testedWord, distanceWord, elementWord, shiftedWord};
+ghost use Rattle.leaf_sets.specs.Sets.{members_of, holds, union_of, difference_of, intersection_of, within};
+ghost use Rattle.law.specs.Calculate.{integer, member_in, truth, is_true, equal_z, set_value, tested, range_error, compute, compute1};
+ghost use Rattle.law.specs.Operators.{pred_in, succ_in};
+ghost use Rattle.code.specs.Readback.{operation_at, operation1_at};
+ghost use Rattle.code_calc.specs.Words.{word_of, applied, applied1, tested_word, distance_word, element_word, shifted_word};
 
 use crate::words::{GREATEST, NUMERIC, RANGE, capped, reach, signed_of, truth_of};
 use leaf_integers::{Fault, Num};
@@ -28,7 +28,7 @@ pub fn word(n: Num) -> i64
 
 // The word of a member.
 pub fn member(m: Member) -> i64
-    ensures { result ≡ word_of (memberIn m) }
+    ensures { result ≡ word_of (member_in m) }
 {
     match m {
         Member::Ordinal(i) => i as i64,
@@ -38,7 +38,7 @@ pub fn member(m: Member) -> i64
 
 // `+` of sets.
 fn union(x: i64, y: i64) -> i64
-    ensures { result ≡ setValue (unionOf (members_of x) (members_of y)) }
+    ensures { result ≡ set_value (union_of (members_of x) (members_of y)) }
 {
     let s = leaf_sets::union(leaf_sets::pattern(x), leaf_sets::pattern(y));
     leaf_sets::value(s)
@@ -46,7 +46,7 @@ fn union(x: i64, y: i64) -> i64
 
 // `-` of sets.
 fn difference(x: i64, y: i64) -> i64
-    ensures { result ≡ setValue (differenceOf (members_of x) (members_of y)) }
+    ensures { result ≡ set_value (difference_of (members_of x) (members_of y)) }
 {
     let s = leaf_sets::difference(leaf_sets::pattern(x), leaf_sets::pattern(y));
     leaf_sets::value(s)
@@ -54,7 +54,7 @@ fn difference(x: i64, y: i64) -> i64
 
 // `*` of sets.
 fn intersection(x: i64, y: i64) -> i64
-    ensures { result ≡ setValue (intersectionOf (members_of x) (members_of y)) }
+    ensures { result ≡ set_value (intersection_of (members_of x) (members_of y)) }
 {
     let s = leaf_sets::intersection(leaf_sets::pattern(x), leaf_sets::pattern(y));
     leaf_sets::value(s)
@@ -76,7 +76,7 @@ fn contained(x: i64, y: i64) -> i64
 
 // `=`.
 fn equal(x: i64, y: i64) -> i64
-    ensures { result ≡ truth (equalZ x y) }
+    ensures { result ≡ truth (equal_z x y) }
 {
     if x == y {
         return 1;
@@ -86,7 +86,7 @@ fn equal(x: i64, y: i64) -> i64
 
 // `<>`.
 fn unequal(x: i64, y: i64) -> i64
-    ensures { result ≡ truth (not (equalZ x y)) }
+    ensures { result ≡ truth (not (equal_z x y)) }
 {
     if x == y {
         return 0;
@@ -116,7 +116,7 @@ fn at_most(x: i64, y: i64) -> i64
 
 // `and`.
 fn both(x: i64, y: i64) -> i64
-    ensures { result ≡ truth (isTrue x && isTrue y) }
+    ensures { result ≡ truth (is_true x && is_true y) }
 {
     if 0 < x {
         return less(0, y);
@@ -126,7 +126,7 @@ fn both(x: i64, y: i64) -> i64
 
 // `or`.
 fn either(x: i64, y: i64) -> i64
-    ensures { result ≡ truth (isTrue x || isTrue y) }
+    ensures { result ≡ truth (is_true x || is_true y) }
 {
     if 0 < x {
         return 1;
@@ -136,7 +136,7 @@ fn either(x: i64, y: i64) -> i64
 
 // A two-sided operator on values, by its node's number.
 pub fn combine(op: u32, x: i64, y: i64) -> i64
-    ensures { result ≡ word_of (compute (operationAt (op - 9)) x y) }
+    ensures { result ≡ word_of (compute (operation_at (op - 9)) x y) }
 {
     match op {
         code_ops::expr::SUB => word(leaf_integers::sub(x, y)),
@@ -164,7 +164,7 @@ pub fn combine(op: u32, x: i64, y: i64) -> i64
 
 // The same on words: the left fault first.
 pub fn binary(op: u32, x: i64, y: i64) -> i64
-    ensures { result ≡ applied (operationAt (op - 9)) x y }
+    ensures { result ≡ applied (operation_at (op - 9)) x y }
 {
     if x > GREATEST {
         return x;
@@ -177,7 +177,7 @@ pub fn binary(op: u32, x: i64, y: i64) -> i64
 
 // `not`.
 fn negated(x: i64) -> i64
-    ensures { result ≡ truth (not (isTrue x)) }
+    ensures { result ≡ truth (not (is_true x)) }
 {
     if 0 < x {
         return 0;
@@ -187,7 +187,7 @@ fn negated(x: i64) -> i64
 
 // A one-sided operator on a value, by its node's number.
 pub fn change(op: u32, x: i64) -> i64
-    ensures { result ≡ word_of (compute1 (operation1At (op - 29)) x) }
+    ensures { result ≡ word_of (compute1 (operation1_at (op - 29)) x) }
 {
     match op {
         code_ops::expr::NOT => negated(x),
@@ -204,7 +204,7 @@ pub fn change(op: u32, x: i64) -> i64
 
 // The same on a word.
 pub fn unary(op: u32, x: i64) -> i64
-    ensures { result ≡ applied1 (operation1At (op - 29)) x }
+    ensures { result ≡ applied1 (operation1_at (op - 29)) x }
 {
     if x > GREATEST {
         return x;
@@ -214,7 +214,7 @@ pub fn unary(op: u32, x: i64) -> i64
 
 // `pred` on a word.
 pub fn pred(x: i64, lo: i64, hi: i64) -> i64
-    ensures { result ≡ applied1 (predIn lo hi) x }
+    ensures { result ≡ applied1 (pred_in lo hi) x }
 {
     if x > GREATEST {
         return x;
@@ -224,7 +224,7 @@ pub fn pred(x: i64, lo: i64, hi: i64) -> i64
 
 // `succ` on a word.
 pub fn succ(x: i64, lo: i64, hi: i64) -> i64
-    ensures { result ≡ applied1 (succIn lo hi) x }
+    ensures { result ≡ applied1 (succ_in lo hi) x }
 {
     if x > GREATEST {
         return x;
@@ -234,7 +234,7 @@ pub fn succ(x: i64, lo: i64, hi: i64) -> i64
 
 // A word tested against bounds.
 pub fn test(x: i64, lo: i64, hi: i64) -> i64
-    ensures { result ≡ testedWord lo hi x }
+    ensures { result ≡ tested_word lo hi x }
 {
     if x > GREATEST {
         return x;
@@ -247,7 +247,7 @@ pub fn test(x: i64, lo: i64, hi: i64) -> i64
 
 // How far an index is from its lower bound, after the test against both.
 pub fn distance(x: i64, low: u32, high: u32) -> i64
-    ensures { result ≡ distanceWord (signed low) (signed high) x }
+    ensures { result ≡ distance_word (signed low) (signed high) x }
 {
     if x > GREATEST {
         return x;
@@ -261,7 +261,7 @@ pub fn distance(x: i64, low: u32, high: u32) -> i64
 
 // The place of an element of size n, by the words of the array's place and of the index's distance.
 pub fn element(a: i64, d: i64, n: u32) -> i64
-    ensures { result ≡ elementWord a d n }
+    ensures { result ≡ element_word a d n }
 {
     if a > GREATEST {
         return a;
@@ -275,7 +275,7 @@ pub fn element(a: i64, d: i64, n: u32) -> i64
 
 // The place of an element of size n, by the words of the array's place and of the index, whose bounds are low and high.
 pub fn element_of(a: i64, x: i64, low: u32, high: u32, n: u32) -> i64
-    ensures { result ≡ elementWord a (distanceWord (signed low) (signed high) x) n }
+    ensures { result ≡ element_word a (distance_word (signed low) (signed high) x) n }
 {
     if a > GREATEST {
         return a;
@@ -292,7 +292,7 @@ pub fn element_of(a: i64, x: i64, low: u32, high: u32, n: u32) -> i64
 
 // The place of a field, by the word of the record's place.
 pub fn shifted(a: i64, k: u32) -> i64
-    ensures { result ≡ shiftedWord a k }
+    ensures { result ≡ shifted_word a k }
 {
     if a > GREATEST {
         return a;

@@ -12,11 +12,11 @@ use lib.Dec.{eqb, leb}
 use lib.IntN.{ℤ, pos, negsuc}
 use lib.ListN.{length, get_or, get_or-eq_default}
 use Rattle.leaf_integers.specs.Integers.{inside, is_zero, least, most}
-use Rattle.leaf_integers.proofs.Order.{leZ-trans}
+use Rattle.leaf_integers.proofs.Order.{le_z-trans}
 use Rattle.leaf_integers.proofs.Ranges.{inside_both, inside_is}
-use Rattle.leaf_sets.specs.Sets.{liesIn}
-use Rattle.law.specs.Store.{cellFits, storeFault}
-use Rattle.law.specs.Types.{Types, infoAt, ordinal?}
+use Rattle.leaf_sets.specs.Sets.{lies_in}
+use Rattle.law.specs.Store.{cell_fits, store_fault}
+use Rattle.law.specs.Types.{Types, info_at, ordinal?}
 use Rattle.law_theorems.proofs.BodiesInRange.{Passes, store-passes}
 use Rattle.law_theorems.proofs.Inversion.{and-true}
 use Rattle.law_theorems.proofs.LinesKeep.{tests-get}
@@ -28,19 +28,19 @@ use Rattle.code_calc.proofs.Ranging.{wide, low-range}
 use Rattle.code_store.specs.Answers.{Lent}
 
 -- a value of a cell's type is an ordinal or a set
-fits-range : (Γ : Types) → Table Γ → (t : ℕ) (z : ℤ) → cellFits Γ t z ≡ true → InRange z
-unfolding liesIn
+fits-range : (Γ : Types) → Table Γ → (t : ℕ) (z : ℤ) → cell_fits Γ t z ≡ true → InRange z
+unfolding lies_in
 fits-range Γ T t z h = go (ordinal? Γ t) refl h
   where
-    set-range : (z : ℤ) → liesIn (infoAt Γ t).low (infoAt Γ t).high z ≡ true → InRange z
+    set-range : (z : ℤ) → lies_in (info_at Γ t).low (info_at Γ t).high z ≡ true → InRange z
     set-range (pos n) k = low-range n (leb-true n 4294967295 (and-true (leb n 4294967295) _ k).0)
     set-range (negsuc n) k = absurd (let e : ◌≡◌ {A = ℕ} 0 1 = cc in omega arith)
 
-    go : (b : Bool) → ordinal? Γ t ≡ b → cond b (inside (infoAt Γ t).low (infoAt Γ t).high z) (liesIn (infoAt Γ t).low (infoAt Γ t).high z) ≡ true → InRange z
+    go : (b : Bool) → ordinal? Γ t ≡ b → cond b (inside (info_at Γ t).low (info_at Γ t).high z) (lies_in (info_at Γ t).low (info_at Γ t).high z) ≡ true → InRange z
     go true e k =
         let b = (T.each t).small e in
-        let i = inside_is (infoAt Γ t).low (infoAt Γ t).high z k in
-        wide z (inside_both least most z (leZ-trans least (infoAt Γ t).low z b.0 i.0) (leZ-trans z (infoAt Γ t).high most i.1 b.1))
+        let i = inside_is (info_at Γ t).low (info_at Γ t).high z k in
+        wide z (inside_both least most z (le_z-trans least (info_at Γ t).low z b.0 i.0) (le_z-trans z (info_at Γ t).high most i.1 b.1))
     go false e k = set-range z k
 
 zero_is : (z : ℤ) → is_zero z ≡ true → z ≡ pos 0
@@ -48,7 +48,7 @@ unfolding is_zero
 zero_is (pos n) h = let e : n ≡ 0 = eqb-true n 0 h in rw e refl
 zero_is (negsuc n) h = absurd (let e : ◌≡◌ {A = ℕ} 0 1 = cc in omega arith)
 
-pub lent-store : (Γ : Types) → Table Γ → (ts : List ℕ) (vs : List ℤ) (ms : List ℕ) → length ts ≤ 2048 → storeFault Γ ts vs ms ≡ none → Lent vs ms
+pub lent-store : (Γ : Types) → Table Γ → (ts : List ℕ) (vs : List ℤ) (ms : List ℕ) → length ts ≤ 2048 → store_fault Γ ts vs ms ≡ none → Lent vs ms
 lent-store Γ T ts vs ms few h = record { even = P.marks ∙ sym P.values; few = omega (arith, P.values); cells = λ a. at a (dec_lt a (length vs)) }
   where
     P : Passes Γ ts vs ms

@@ -2,7 +2,7 @@
 use Rattle.std.specs.Prelude.{List, ◌⊎◌, ◌≡◌, ℕ, ◌-◌, ◌≤◌, ℤ, pos, length, get_or, take}
 use Rattle.law.specs.Machine as Machine
 use Rattle.law_answers.specs.declared.Answer.{Answer}
-use Rattle.law_answers.specs.RunReports.{outcomeOf}
+use Rattle.law_answers.specs.RunReports.{outcome_of}
 use Rattle.code_calc.specs.Words.{InRange}
 
 -- a store that rows 10 and 11 let pass, as far as a run needs it: lists of one length, a cell defined with a value, or undefined with 0
@@ -13,7 +13,7 @@ pub record Lent (vs : List ℤ) (ms : List ℕ) : Type 0 where
 
 -- the answer z of a machine that was given n cells and so many steps
 pub record Answers (z : Machine.Answer) (n budget : ℕ) (r : Answer) (vs' : List ℤ) (ms' : List ℕ) : Type 0 where
-  pub outcome : outcomeOf r.outcome ≡ z.outcome
+  pub outcome : outcome_of r.outcome ≡ z.outcome
   pub steps : r.steps ≡ budget - z.state.left
   pub values : vs' ≡ take n z.state.store.values
   pub marks : ms' ≡ take n z.state.store.marks

@@ -1,14 +1,14 @@
 // A lent store as words for a run, and as lists again after it: what the chair's runner and the marking machine share.
 ghost use Rattle.std.specs.Prelude.{◌≡◌, pos, length, set};
 ghost use Rattle.law.specs.Machine.{store_cells};
-ghost use Rattle.code_calc.specs.Words.{storeWord, valueIn, markIn};
-ghost use Rattle.code_store.specs.Lending.{lentWord, Loads, SavesValues, SavesMarks, Saves, Begins};
+ghost use Rattle.code_calc.specs.Words.{store_word, value_in, mark_in};
+ghost use Rattle.code_store.specs.Lending.{lent_word, Loads, SavesValues, SavesMarks, Saves, Begins};
 
 use code_calc::words::{CELLS, GREATEST, LATEST, PLACE, UNDEFINED};
 
 // The word of a cell of the lists.
 fn lent_word(values: &[i64], marks: &[u8], a: usize) -> i64
-    ensures { result ≡ lentWord values.now marks.now a }
+    ensures { result ≡ lent_word values.now marks.now a }
 {
     if a >= marks.len() {
         return UNDEFINED;
@@ -52,7 +52,7 @@ pub fn begin(store: &mut [i64])
 
 // The word of a cell.
 fn word(store: &[i64], a: usize) -> i64
-    ensures { result ≡ storeWord store.now a }
+    ensures { result ≡ store_word store.now a }
 {
     if a >= CELLS {
         return UNDEFINED;
@@ -65,7 +65,7 @@ fn word(store: &[i64], a: usize) -> i64
 
 // The value that a word leaves in its cell: an undefined one has 0.
 fn value_in(w: i64) -> i64
-    ensures { result ≡ valueIn w }
+    ensures { result ≡ value_in w }
 {
     if w > GREATEST {
         return 0;
@@ -75,7 +75,7 @@ fn value_in(w: i64) -> i64
 
 // The mark that a word leaves in its cell.
 fn mark_in(w: i64) -> u8
-    ensures { result ≡ markIn w }
+    ensures { result ≡ mark_in w }
 {
     if w > GREATEST {
         return 0;

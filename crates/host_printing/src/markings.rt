@@ -1,6 +1,6 @@
 // A text run by the marking machine, and its report as `markscript` prints it.
 ghost use Rattle.std.specs.Prelude.{◌≡◌, length};
-ghost use Rattle.law.specs.Whole.{mark_of, workAfter};
+ghost use Rattle.law.specs.Whole.{mark_of, work_after};
 ghost use Rattle.law_answers.specs.Written.{names_at};
 ghost use Rattle.law_answers.specs.Shown.{Shows};
 
@@ -17,7 +17,7 @@ pub fn mark_scripted(
     marks: &mut [u8],
     budget: u32,
 ) -> usize
-    ensures { Shows (names_at text.now names.now) (mark_of text.now (length work.old) values.old marks.old budget) out.old result out.new values.new marks.new × (work.new ≡ workAfter work.old) }
+    ensures { Shows (names_at text.now names.now) (mark_of text.now (length work.old) values.old marks.old budget) out.old result out.new values.new marks.new × (work.new ≡ work_after work.old) }
 {
     let report = mark(text, work, values, marks, budget);
     mark_shown(out, text, names, values, marks, report)

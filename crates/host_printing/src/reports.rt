@@ -1,6 +1,6 @@
 // A text run, and its report as `runscript` prints it.
 ghost use Rattle.std.specs.Prelude.{◌≡◌, length};
-ghost use Rattle.law.specs.Whole.{run_of, workAfter};
+ghost use Rattle.law.specs.Whole.{run_of, work_after};
 ghost use Rattle.law_answers.specs.Written.{names_at};
 ghost use Rattle.law_answers.specs.Shown.{Shows};
 
@@ -17,7 +17,7 @@ pub fn scripted(
     marks: &mut [u8],
     budget: u32,
 ) -> usize
-    ensures { Shows (names_at text.now names.now) (run_of text.now (length work.old) values.old marks.old budget) out.old result out.new values.new marks.new × (work.new ≡ workAfter work.old) }
+    ensures { Shows (names_at text.now names.now) (run_of text.now (length work.old) values.old marks.old budget) out.old result out.new values.new marks.new × (work.new ≡ work_after work.old) }
 {
     let report = run(text, work, values, marks, budget);
     shown(out, text, names, values, marks, report)

@@ -1,8 +1,8 @@
 // The answers of the public functions in numbers, as a host is told them, by the definitions of `Replies`.
 ghost use Rattle.std.specs.Prelude.{◌≡◌};
-ghost use Rattle.law_answers.specs.RunReports.{outcomeOf, endingOf};
-ghost use Rattle.law_answers.specs.MarkingReports.{markOutcome, markEnding};
-ghost use Rattle.host_replies.specs.Replies.{refusedReply, cellsReply, endedReply, outcomeReply, verdictReply, countReply, endingReply};
+ghost use Rattle.law_answers.specs.RunReports.{outcome_of, ending_of};
+ghost use Rattle.law_answers.specs.MarkingReports.{mark_outcome, mark_ending};
+ghost use Rattle.host_replies.specs.Replies.{refused_reply, cells_reply, ended_reply, outcome_reply, verdict_reply, count_reply, ending_reply};
 
 use law_answers::{Answer, Counted, Ending, MarkReport, Marked, Outcome, Report, Verdict};
 
@@ -21,7 +21,7 @@ pub struct Reply {
 
 // A refusal.
 fn refused(number: u32, line: usize) -> Reply
-    ensures { result ≡ refusedReply number line }
+    ensures { result ≡ refused_reply number line }
 {
     Reply {
         refusal: number,
@@ -36,7 +36,7 @@ fn refused(number: u32, line: usize) -> Reply
 
 // No refusal, so many cells.
 fn accepted(cells: usize) -> Reply
-    ensures { result ≡ cellsReply cells }
+    ensures { result ≡ cells_reply cells }
 {
     Reply {
         refusal: 0,
@@ -51,7 +51,7 @@ fn accepted(cells: usize) -> Reply
 
 // How a run ended.
 fn ended(outcome: u32, exception: i64, statement: u32, steps: u32) -> Reply
-    ensures { result ≡ endedReply outcome exception statement steps }
+    ensures { result ≡ ended_reply outcome exception statement steps }
 {
     Reply {
         refusal: 0,
@@ -66,7 +66,7 @@ fn ended(outcome: u32, exception: i64, statement: u32, steps: u32) -> Reply
 
 // A verdict.
 pub fn told(v: Verdict) -> Reply
-    ensures { result ≡ verdictReply v }
+    ensures { result ≡ verdict_reply v }
 {
     match v {
         Verdict::Accepted => accepted(0),
@@ -76,7 +76,7 @@ pub fn told(v: Verdict) -> Reply
 
 // A count of cells.
 pub fn counted(c: Counted) -> Reply
-    ensures { result ≡ countReply c }
+    ensures { result ≡ count_reply c }
 {
     match c {
         Counted::Refused(number, line) => refused(number, line),
@@ -86,7 +86,7 @@ pub fn counted(c: Counted) -> Reply
 
 // The answer of a run.
 fn answered(answer: Answer) -> Reply
-    ensures { result ≡ outcomeReply (outcomeOf answer.outcome) answer.steps }
+    ensures { result ≡ outcome_reply (outcome_of answer.outcome) answer.steps }
 {
     let steps = answer.steps;
     let outcome = answer.outcome;
@@ -99,7 +99,7 @@ fn answered(answer: Answer) -> Reply
 
 // The report of a run.
 pub fn reported(report: Report) -> Reply
-    ensures { result ≡ endingReply (endingOf report) }
+    ensures { result ≡ ending_reply (ending_of report) }
 {
     match report {
         Report::Refused(number, line) => refused(number, line),
@@ -109,7 +109,7 @@ pub fn reported(report: Report) -> Reply
 
 // The answer of a run by the marking machine.
 fn mark_answered(answer: Marked) -> Reply
-    ensures { result ≡ outcomeReply (markOutcome answer.ending) answer.steps }
+    ensures { result ≡ outcome_reply (mark_outcome answer.ending) answer.steps }
 {
     let steps = answer.steps;
     let ending = answer.ending;
@@ -123,7 +123,7 @@ fn mark_answered(answer: Marked) -> Reply
 
 // The report of a run by the marking machine.
 pub fn mark_reported(report: MarkReport) -> Reply
-    ensures { result ≡ endingReply (markEnding report) }
+    ensures { result ≡ ending_reply (mark_ending report) }
 {
     match report {
         MarkReport::Refused(number, line) => refused(number, line),

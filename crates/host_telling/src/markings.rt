@@ -1,13 +1,13 @@
 // A report of the marking machine, as rows.
 ghost use Rattle.law_answers.specs.Written.{Puts};
-ghost use Rattle.host_telling.specs.MarkTold.{markedRow, markRows};
+ghost use Rattle.host_telling.specs.MarkTold.{marked_row, mark_rows};
 
 use host_writing::rows::{cell_rows, exception, normal, refused, spent, stuck};
 use law_answers::{Ending, MarkReport, Marked};
 
 // The row of an outcome.
 pub fn marked_by(out: &mut [u8], at: usize, answer: Marked) -> usize
-    ensures { Puts (markedRow answer) out.old at result out.new }
+    ensures { Puts (marked_row answer) out.old at result out.new }
 {
     let steps = answer.steps;
     let ending = answer.ending;
@@ -28,7 +28,7 @@ pub fn mark_shown(
     marks: &[u8],
     report: MarkReport,
 ) -> usize
-    ensures { Puts (markRows text.now names.now values.now marks.now report) out.old 0 result out.new }
+    ensures { Puts (mark_rows text.now names.now values.now marks.now report) out.old 0 result out.new }
 {
     match report {
         MarkReport::Refused(number, line) => refused(out, 0, number, line),

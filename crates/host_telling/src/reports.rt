@@ -1,13 +1,13 @@
 // A report of a run, as rows.
 ghost use Rattle.law_answers.specs.Written.{Puts};
-ghost use Rattle.host_telling.specs.Told.{answerRow, reportRows};
+ghost use Rattle.host_telling.specs.Told.{answer_row, report_rows};
 
 use host_writing::rows::{cell_rows, exception, normal, refused, spent};
 use law_answers::{Answer, Outcome, Report};
 
 // The row of an outcome.
 pub fn ended_by(out: &mut [u8], at: usize, answer: Answer) -> usize
-    ensures { Puts (answerRow answer) out.old at result out.new }
+    ensures { Puts (answer_row answer) out.old at result out.new }
 {
     let steps = answer.steps;
     let outcome = answer.outcome;
@@ -27,7 +27,7 @@ pub fn shown(
     marks: &[u8],
     report: Report,
 ) -> usize
-    ensures { Puts (reportRows text.now names.now values.now marks.now report) out.old 0 result out.new }
+    ensures { Puts (report_rows text.now names.now values.now marks.now report) out.old 0 result out.new }
 {
     match report {
         Report::Refused(number, line) => refused(out, 0, number, line),

@@ -8,15 +8,15 @@ use native.Mathlib.Omega.{arith}
 use borrow.Author.Tests.{lt-ltb}
 use lib.ListN.{length, get_or, set, take, length-set}
 use lib.Seq.{take-suc, take-set-le, get_or-set_same}
-use Rattle.law_answers.specs.Written.{Out, out_of, putOne, put_all, Puts}
+use Rattle.law_answers.specs.Written.{Out, out_of, put_one, put_all, Puts}
 
 -- what stands after bs were written into l from p on
 pub record Stand (bs l : List ℕ) (p : ℕ) (o : Out) : Type 0 where
   pub after : o.place ≡ p + length bs
   pub bytes : take (p + length bs) o.list ≡ take p l ++ bs
 
-one_in : (b : ℕ) (l : List ℕ) (p : ℕ) → p < length l → putOne b (out_of l p) ≡ out_of (set l p b) (p + 1)
-unfolding putOne
+one_in : (b : ℕ) (l : List ℕ) (p : ℕ) → p < length l → put_one b (out_of l p) ≡ out_of (set l p b) (p + 1)
+unfolding put_one
 one_in b l p h = ap (λ (t : Bool). cond t (out_of (set l p b) (p + 1)) (out_of l p)) (lt-ltb p (length l) h)
 
 one-taken : (b : ℕ) (l : List ℕ) (p : ℕ) → p < length l → take (p + 1) (set l p b) ≡ take p l ++ (b ∷ [])

@@ -7,6 +7,6 @@ turn_of (pos n) = negsuc n
 turn_of (negsuc n) = pos n
 
 -- 0 of a negative number
-unfoldable pub naturalOf : ℤ → ℕ
-naturalOf (pos n) = n
-naturalOf (negsuc n) = 0
+unfoldable pub natural_of : ℤ → ℕ
+natural_of (pos n) = n
+natural_of (negsuc n) = 0

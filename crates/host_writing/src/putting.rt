@@ -1,9 +1,9 @@
 // Bytes and numbers written into a list from a place on, as far as the list reaches; each answers the place after.
 ghost use Rattle.std.specs.Prelude.{◌≡◌, [], ◌∷◌, map, ◌+◌, ◌%◌};
 ghost use Rattle.leaf_bytes.specs.Bytes.{small};
-ghost use Rattle.law.specs.Print.{decimalOf, signed_of};
-ghost use Rattle.law.specs.Print.{decimal as decimalBy};
-ghost use Rattle.host_writing.specs.Written.{naturalOf, turn_of};
+ghost use Rattle.law.specs.Print.{decimal_of, signed_of};
+ghost use Rattle.law.specs.Print.{decimal as decimal_by};
+ghost use Rattle.host_writing.specs.Written.{natural_of, turn_of};
 ghost use Rattle.law_answers.specs.Written.{Puts};
 
 use leaf_bytes::bytes::small_of;
@@ -54,7 +54,7 @@ fn digit(n: u64) -> u8
 
 // The last digits of a number, at most so many.
 fn digits(out: &mut [u8], at: usize, n: u64, most: u32) -> usize
-    ensures { Puts (decimalBy most n []) out.old at result out.new }
+    ensures { Puts (decimal_by most n []) out.old at result out.new }
 {
     if most == 0 {
         return at;
@@ -68,14 +68,14 @@ fn digits(out: &mut [u8], at: usize, n: u64, most: u32) -> usize
 
 // A number in decimal digits.
 pub fn decimal(out: &mut [u8], at: usize, n: u64) -> usize
-    ensures { Puts (decimalOf n) out.old at result out.new }
+    ensures { Puts (decimal_of n) out.old at result out.new }
 {
     digits(out, at, n, 20)
 }
 
 // The natural number that z is, 0 of a negative one.
 fn natural(z: i64) -> u64
-    ensures { result ≡ naturalOf z }
+    ensures { result ≡ natural_of z }
 {
     if z < 0 {
         return 0;
@@ -92,7 +92,7 @@ fn turned(z: i64) -> i64
 
 // How far a negative number is below 0.
 fn below(z: i64) -> u64
-    ensures { result ≡ naturalOf (turn_of z) + 1 }
+    ensures { result ≡ natural_of (turn_of z) + 1 }
 {
     natural(turned(z)) + 1
 }

@@ -1,7 +1,7 @@
 // The rows of a report.
 ghost use Rattle.std.specs.Prelude.{◌≡◌, [], ◌∷◌, ◌++◌, ◌+◌, ◌<◌, pos, length, get_or};
 ghost use Rattle.leaf_bytes.specs.Bytes.{bytes};
-ghost use Rattle.law.specs.Print.{decimalOf, signed_of, row, cellValue, cells};
+ghost use Rattle.law.specs.Print.{decimal_of, signed_of, row, cell_value, cells};
 ghost use Rattle.law_answers.specs.Written.{Puts, name_at, names_at};
 
 use crate::putting::{decimal, put, put_all, put_small, signed};
@@ -9,7 +9,7 @@ use text_words::sight::word_end;
 
 // A number and a space.
 fn spaced(out: &mut [u8], at: usize, n: u64) -> usize
-    ensures { Puts (decimalOf n ++ (32 ∷ [])) out.old at result out.new }
+    ensures { Puts (decimal_of n ++ (32 ∷ [])) out.old at result out.new }
 {
     let p = decimal(out, at, n);
     put(out, p, 32)
@@ -17,7 +17,7 @@ fn spaced(out: &mut [u8], at: usize, n: u64) -> usize
 
 // A number and a line feed.
 fn ended(out: &mut [u8], at: usize, n: u64) -> usize
-    ensures { Puts (row (decimalOf n ∷ [])) out.old at result out.new }
+    ensures { Puts (row (decimal_of n ∷ [])) out.old at result out.new }
 {
     let p = decimal(out, at, n);
     put(out, p, 10)
@@ -25,7 +25,7 @@ fn ended(out: &mut [u8], at: usize, n: u64) -> usize
 
 // The row of a normal end.
 pub fn normal(out: &mut [u8], at: usize, steps: u32) -> usize
-    ensures { Puts (row (bytes "normal" ∷ decimalOf steps ∷ [])) out.old at result out.new }
+    ensures { Puts (row (bytes "normal" ∷ decimal_of steps ∷ [])) out.old at result out.new }
 {
     let p = put_all(out, at, b"normal ");
     ended(out, p, steps as u64)
@@ -33,7 +33,7 @@ pub fn normal(out: &mut [u8], at: usize, steps: u32) -> usize
 
 // The row of a spent run.
 pub fn spent(out: &mut [u8], at: usize, steps: u32) -> usize
-    ensures { Puts (row (bytes "spent" ∷ decimalOf steps ∷ [])) out.old at result out.new }
+    ensures { Puts (row (bytes "spent" ∷ decimal_of steps ∷ [])) out.old at result out.new }
 {
     let p = put_all(out, at, b"spent ");
     ended(out, p, steps as u64)
@@ -41,7 +41,7 @@ pub fn spent(out: &mut [u8], at: usize, steps: u32) -> usize
 
 // The row of a stuck run.
 pub fn stuck(out: &mut [u8], at: usize, steps: u32) -> usize
-    ensures { Puts (row (bytes "stuck" ∷ decimalOf steps ∷ [])) out.old at result out.new }
+    ensures { Puts (row (bytes "stuck" ∷ decimal_of steps ∷ [])) out.old at result out.new }
 {
     let p = put_all(out, at, b"stuck ");
     ended(out, p, steps as u64)
@@ -49,7 +49,7 @@ pub fn stuck(out: &mut [u8], at: usize, steps: u32) -> usize
 
 // The statement of an exception and the steps.
 fn place_and_steps(out: &mut [u8], at: usize, place: u32, steps: u32) -> usize
-    ensures { Puts (32 ∷ row (decimalOf place ∷ decimalOf steps ∷ [])) out.old at result out.new }
+    ensures { Puts (32 ∷ row (decimal_of place ∷ decimal_of steps ∷ [])) out.old at result out.new }
 {
     let p = put(out, at, 32);
     let q = spaced(out, p, place as u64);
@@ -58,7 +58,7 @@ fn place_and_steps(out: &mut [u8], at: usize, place: u32, steps: u32) -> usize
 
 // The row of an exception.
 pub fn exception(out: &mut [u8], at: usize, number: i64, place: u32, steps: u32) -> usize
-    ensures { Puts (row (bytes "exception" ∷ signed_of number ∷ decimalOf place ∷ decimalOf steps ∷ [])) out.old at result out.new }
+    ensures { Puts (row (bytes "exception" ∷ signed_of number ∷ decimal_of place ∷ decimal_of steps ∷ [])) out.old at result out.new }
 {
     let p = put_all(out, at, b"exception ");
     let q = signed(out, p, number);
@@ -67,7 +67,7 @@ pub fn exception(out: &mut [u8], at: usize, number: i64, place: u32, steps: u32)
 
 // The row of a refusal.
 pub fn refused(out: &mut [u8], at: usize, number: u32, line: usize) -> usize
-    ensures { Puts (row (bytes "refused" ∷ decimalOf number ∷ decimalOf line ∷ [])) out.old at result out.new }
+    ensures { Puts (row (bytes "refused" ∷ decimal_of number ∷ decimal_of line ∷ [])) out.old at result out.new }
 {
     let p = put_all(out, at, b"refused ");
     let q = spaced(out, p, number as u64);
@@ -87,7 +87,7 @@ pub fn name(out: &mut [u8], at: usize, text: &[u8], offset: usize) -> usize
 
 // A cell's value, or `-`.
 fn value(out: &mut [u8], at: usize, v: i64, mark: u8) -> usize
-    ensures { Puts (cellValue v mark) out.old at result out.new }
+    ensures { Puts (cell_value v mark) out.old at result out.new }
 {
     if mark == 0 {
         return put(out, at, 45);
@@ -97,7 +97,7 @@ fn value(out: &mut [u8], at: usize, v: i64, mark: u8) -> usize
 
 // A cell's name and value, and the space between.
 fn named(out: &mut [u8], at: usize, text: &[u8], offset: usize, v: i64, mark: u8) -> usize
-    ensures { Puts (name_at text.now offset ++ (32 ∷ cellValue v mark)) out.old at result out.new }
+    ensures { Puts (name_at text.now offset ++ (32 ∷ cell_value v mark)) out.old at result out.new }
 {
     let p = name(out, at, text, offset);
     let q = put(out, p, 32);
@@ -114,7 +114,7 @@ pub fn cell(
     v: i64,
     mark: u8,
 ) -> usize
-    ensures { Puts (row (decimalOf number ∷ name_at text.now offset ∷ cellValue v mark ∷ [])) out.old at result out.new }
+    ensures { Puts (row (decimal_of number ∷ name_at text.now offset ∷ cell_value v mark ∷ [])) out.old at result out.new }
 {
     let p = spaced(out, at, number);
     let q = named(out, p, text, offset, v, mark);
@@ -140,7 +140,7 @@ fn cell_at(
     i: usize,
 ) -> usize
     requires { (i < length names.now) × ((i < length values.now) × (i < length marks.now)) }
-    ensures { Puts (row (decimalOf (i + 1) ∷ name_at text.now (get_or names.now i 0) ∷ cellValue (get_or values.now i (pos 0)) (get_or marks.now i 0) ∷ [])) out.old at result out.new }
+    ensures { Puts (row (decimal_of (i + 1) ∷ name_at text.now (get_or names.now i 0) ∷ cell_value (get_or values.now i (pos 0)) (get_or marks.now i 0) ∷ [])) out.old at result out.new }
 {
     cell(out, at, number_of(i), text, names[i], values[i], marks[i])
 }

@@ -8,19 +8,19 @@ use Rattle.law_answers.specs.declared.Verdict.{Verdict}
 use Rattle.law_answers.specs.declared.Counted.{Counted}
 use Rattle.law_answers.specs.declared.Report.{Report}
 use Rattle.law_answers.specs.declared.MarkReport.{MarkReport}
-use Rattle.law_answers.specs.RunReports.{endingOf, Reports}
-use Rattle.law_answers.specs.MarkingReports.{markEnding, MarkReports}
+use Rattle.law_answers.specs.RunReports.{ending_of, Reports}
+use Rattle.law_answers.specs.MarkingReports.{mark_ending, MarkReports}
 use Rattle.host_replies.specs.declared.Reply.{Reply}
-use Rattle.host_replies.specs.Replies.{verdictReply, countReply, endingReply, Replies}
+use Rattle.host_replies.specs.Replies.{verdict_reply, count_reply, ending_reply, Replies}
 
-pub verdict-told : (r : Reply) (v w : Verdict) → v ≡ w → r ≡ verdictReply v → r ≡ verdictReply w
-verdict-told r v w e f = f ∙ ap verdictReply e
+pub verdict-told : (r : Reply) (v w : Verdict) → v ≡ w → r ≡ verdict_reply v → r ≡ verdict_reply w
+verdict-told r v w e f = f ∙ ap verdict_reply e
 
-pub count-told : (r : Reply) (c d : Counted) → c ≡ d → r ≡ countReply c → r ≡ countReply d
-count-told r c d e f = f ∙ ap countReply e
+pub count-told : (r : Reply) (c d : Counted) → c ≡ d → r ≡ count_reply c → r ≡ count_reply d
+count-told r c d e f = f ∙ ap count_reply e
 
-pub run-told : (q : Whole.Report) (x : Report) (r : Reply) (vs : List ℤ) (ms : List ℕ) → Reports q x vs ms → r ≡ endingReply (endingOf x) → Replies q r vs ms
-run-told q x r vs ms R f = record { ending = f ∙ ap endingReply R.ending; values = R.values; marks = R.marks }
+pub run-told : (q : Whole.Report) (x : Report) (r : Reply) (vs : List ℤ) (ms : List ℕ) → Reports q x vs ms → r ≡ ending_reply (ending_of x) → Replies q r vs ms
+run-told q x r vs ms R f = record { ending = f ∙ ap ending_reply R.ending; values = R.values; marks = R.marks }
 
-pub mark-told : (q : Whole.Report) (x : MarkReport) (r : Reply) (vs : List ℤ) (ms : List ℕ) → MarkReports q x vs ms → r ≡ endingReply (markEnding x) → Replies q r vs ms
-mark-told q x r vs ms R f = record { ending = f ∙ ap endingReply R.ending; values = R.values; marks = R.marks }
+pub mark-told : (q : Whole.Report) (x : MarkReport) (r : Reply) (vs : List ℤ) (ms : List ℕ) → MarkReports q x vs ms → r ≡ ending_reply (mark_ending x) → Replies q r vs ms
+mark-told q x r vs ms R f = record { ending = f ∙ ap ending_reply R.ending; values = R.values; marks = R.marks }

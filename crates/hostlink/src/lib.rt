@@ -1,10 +1,10 @@
 // The functions that a host in C or Rust calls (include/drive.h): each is one that `drive` passes on, its answer told in numbers.
 ghost use Rattle.std.specs.Prelude.{◌≡◌, length};
 ghost use Rattle.law.specs.Verdict.{judge, loosely};
-ghost use Rattle.law.specs.Whole.{verdictOf, run_of, mark_of, workAfter};
-ghost use Rattle.law_answers.specs.Verdicts.{toldVerdict, cellsTold};
+ghost use Rattle.law.specs.Whole.{verdict_of, run_of, mark_of, work_after};
+ghost use Rattle.law_answers.specs.Verdicts.{told_verdict, cells_told};
 ghost use Rattle.law_answers.specs.Owners.{Owners};
-ghost use Rattle.host_replies.specs.Replies.{verdictReply, countReply, Replies};
+ghost use Rattle.host_replies.specs.Replies.{verdict_reply, count_reply, Replies};
 
 use host_replies::{Reply, counted, mark_reported, reported, told};
 use mark_texts::mark;
@@ -16,7 +16,7 @@ use run_texts::run;
 // The verdict on a text.
 #[unsafe(no_mangle)]
 pub extern "C" fn drive_verdict(text: &[u8], work: &mut [u32]) -> Reply
-    ensures { (result ≡ verdictReply (toldVerdict (verdictOf text.now (length work.old)))) × (work.new ≡ workAfter work.old) }
+    ensures { (result ≡ verdict_reply (told_verdict (verdict_of text.now (length work.old)))) × (work.new ≡ work_after work.old) }
 {
     let v = verdict_of(text, work);
     told(v)
@@ -25,7 +25,7 @@ pub extern "C" fn drive_verdict(text: &[u8], work: &mut [u32]) -> Reply
 // How many cells a text has.
 #[unsafe(no_mangle)]
 pub extern "C" fn drive_cells(text: &[u8], work: &mut [u32]) -> Reply
-    ensures { (result ≡ countReply (cellsTold (verdictOf text.now (length work.old)))) × (work.new ≡ workAfter work.old) }
+    ensures { (result ≡ count_reply (cells_told (verdict_of text.now (length work.old)))) × (work.new ≡ work_after work.old) }
 {
     let c = cells(text, work);
     counted(c)
@@ -35,7 +35,7 @@ pub extern "C" fn drive_cells(text: &[u8], work: &mut [u32]) -> Reply
 // it on a refusal, stays as lent.
 #[unsafe(no_mangle)]
 pub extern "C" fn drive_owners(text: &[u8], work: &mut [u32], names: &mut [usize]) -> Reply
-    ensures { (result ≡ countReply (cellsTold (verdictOf text.now (length work.old)))) × (work.new ≡ workAfter work.old) × Owners text.now (verdictOf text.now (length work.old)) names.old names.new }
+    ensures { (result ≡ count_reply (cells_told (verdict_of text.now (length work.old)))) × (work.new ≡ work_after work.old) × Owners text.now (verdict_of text.now (length work.old)) names.old names.new }
 {
     let c = owners(text, work, names);
     counted(c)
@@ -50,7 +50,7 @@ pub extern "C" fn drive_run(
     marks: &mut [u8],
     budget: u32,
 ) -> Reply
-    ensures { Replies (run_of text.now (length work.old) values.old marks.old budget) result values.new marks.new × (work.new ≡ workAfter work.old) }
+    ensures { Replies (run_of text.now (length work.old) values.old marks.old budget) result values.new marks.new × (work.new ≡ work_after work.old) }
 {
     let report = run(text, work, values, marks, budget);
     reported(report)
@@ -59,7 +59,7 @@ pub extern "C" fn drive_run(
 // As `drive_owners`, of a text that the marking machine takes.
 #[unsafe(no_mangle)]
 pub extern "C" fn drive_mark_owners(text: &[u8], work: &mut [u32], names: &mut [usize]) -> Reply
-    ensures { (result ≡ countReply (cellsTold (judge loosely text.now (length work.old)))) × (work.new ≡ workAfter work.old) × Owners text.now (judge loosely text.now (length work.old)) names.old names.new }
+    ensures { (result ≡ count_reply (cells_told (judge loosely text.now (length work.old)))) × (work.new ≡ work_after work.old) × Owners text.now (judge loosely text.now (length work.old)) names.old names.new }
 {
     let c = mark_owners(text, work, names);
     counted(c)
@@ -74,7 +74,7 @@ pub extern "C" fn drive_mark(
     marks: &mut [u8],
     budget: u32,
 ) -> Reply
-    ensures { Replies (mark_of text.now (length work.old) values.old marks.old budget) result values.new marks.new × (work.new ≡ workAfter work.old) }
+    ensures { Replies (mark_of text.now (length work.old) values.old marks.old budget) result values.new marks.new × (work.new ≡ work_after work.old) }
 {
     let report = mark(text, work, values, marks, budget);
     mark_reported(report)

@@ -7,7 +7,7 @@ use Prim.Native.String.{String}
 use lib.Dec.{ltb}
 use Rattle.leaf_bytes.specs.Bytes.{bytes}
 use Rattle.leaf_reserved.specs.Table.{place_of}
-use Rattle.law.specs.Forms.{armHeads, heads, lineHeads, makers, truths, verbs}
+use Rattle.law.specs.Forms.{arm_heads, heads, line_heads, makers, truths, verbs}
 use Rattle.law.specs.Print.{runscript}
 use Rattle.law.proofs.Open.{everything}
 
@@ -69,10 +69,10 @@ unstarred-hold = refl & refl & refl & refl & refl & refl & all
 
 -- ---- each head word of the forms stands in the one table
 
-unfoldable pub allListed : {A : Type 0} → List (String × A) → Bool
-allListed [] = true
-allListed (p ∷ ps) = ltb (place_of (bytes p.0)) 57 && allListed ps
+unfoldable pub all_listed : {A : Type 0} → List (String × A) → Bool
+all_listed [] = true
+all_listed (p ∷ ps) = ltb (place_of (bytes p.0)) 57 && all_listed ps
 
-pub heads-listed : (allListed heads && allListed verbs && allListed armHeads && allListed makers && allListed lineHeads && allListed truths) ≡ true
-unfolding allListed everything
+pub heads-listed : (all_listed heads && all_listed verbs && all_listed arm_heads && all_listed makers && all_listed line_heads && all_listed truths) ≡ true
+unfolding all_listed everything
 heads-listed = refl

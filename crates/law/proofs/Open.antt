@@ -35,43 +35,43 @@ use Rattle.law.specs.Print as Print
 unfoldable pub everything : Unit {0}
 unfolding
     IntegersIntegers.inside IntegersIntegers.pick IntegersIntegers.ranged IntegersIntegers.exact IntegersIntegers.is_zero
-    IntegersIntegers.quotient IntegersIntegers.modℕ IntegersIntegers.modulus IntegersIntegers.isOdd IntegersIntegers.next
-    IntegersIntegers.previous PowersPowers.signed PowersPowers.powZ PowersPowers.small PowersPowers.power SetsSets.those SetsSets.bit
-    SetsSets.members SetsSets.value_of SetsSets.patternOf SetsSets.members_of SetsSets.has SetsSets.holds SetsSets.least SetsSets.greatest
-    SetsSets.with SetsSets.unionOf SetsSets.differenceOf SetsSets.intersectionOf SetsSets.all SetsSets.within SetsSets.equals
-    SetsSets.allIn SetsSets.liesIn BytesBytes.bytes BytesBytes.same BytesBytes.class_of BytesBytes.small BytesBytes.isLetter
-    BytesBytes.isDigit BytesBytes.isAlnum BytesBytes.digitOf BytesNames.alnumFirst BytesNames.partOk BytesNames.goesOn BytesNames.isName
+    IntegersIntegers.quotient IntegersIntegers.modℕ IntegersIntegers.modulus IntegersIntegers.is_odd IntegersIntegers.next
+    IntegersIntegers.previous PowersPowers.signed PowersPowers.pow_z PowersPowers.small PowersPowers.power SetsSets.those SetsSets.bit
+    SetsSets.members SetsSets.value_of SetsSets.pattern_of SetsSets.members_of SetsSets.has SetsSets.holds SetsSets.least SetsSets.greatest
+    SetsSets.with SetsSets.union_of SetsSets.difference_of SetsSets.intersection_of SetsSets.all SetsSets.within SetsSets.equals
+    SetsSets.all_in SetsSets.lies_in BytesBytes.bytes BytesBytes.same BytesBytes.class_of BytesBytes.small BytesBytes.is_letter
+    BytesBytes.is_digit BytesBytes.is_alnum BytesBytes.digit_of BytesNames.alnum_first BytesNames.part_ok BytesNames.goes_on BytesNames.is_name
     ReservedTable.reserved ReservedTable.operators ReservedTable.fixed ReservedTable.letter ReservedTable.letters ReservedTable.rows
-    ReservedTable.position ReservedTable.isFixed ReservedTable.place_of ReservedSlots.slot_of ReservedSlots.spot ReservedSlots.guess
-    ReservedSlots.hasLetters WordsNumbers.digits WordsNumbers.at_most WordsNumbers.numeral WordsNumbers.decimal WordsNumbers.decimalOf
-    WordsNumbers.signed WordsNumbers.hexadecimal WordsNumbers.hexOf WordsNumbers.number_of WordsWords.named WordsWords.placed
-    WordsWords.word_of Base.find Base.◌>>=◌ Base.both Base.given Base.either Base.each Base.pick Lines.refusedAt Lines.inFront Lines.lines_of
-    Trees.list Trees.nodes Trees.nodesIn Trees.deeper Trees.opened Trees.closed Trees.spelled Trees.past Trees.isAfter Trees.balanced
-    Trees.isVisible Trees.word_of Trees.word_at Trees.withToken Trees.tokensOf Trees.levels Trees.treesOf Trees.single Trees.form_of
-    Words.wordBy Words.worded Words.wordedAll Forms.free Forms.key_of Forms.is_number Forms.first? Forms.headed Forms.one Forms.two
-    Forms.three Forms.some? Forms.among Forms.typeName Forms.truths Forms.minusNumber Forms.constant Forms.heads Forms.exprsOf Forms.atom
-    Forms.twoSided Forms.oneSided Forms.expr Forms.exprForm Forms.exprs Forms.membersForm Forms.target Forms.targetForm Forms.atForm
-    Forms.dotForm Forms.verbs Forms.armHeads Forms.labels Forms.armsFirst Forms.branches Forms.stmt Forms.stmtForm Forms.stmts Forms.lastly
-    Forms.ifForm Forms.caseForm Forms.arms Forms.labelled Forms.armForm Forms.handlerOf Forms.body Forms.field Forms.makers Forms.madeType
-    Forms.typeForm Forms.pairsOf Forms.parameters Forms.lineHeads Forms.lineBy Forms.lineForm Types.field_of Operators.operatorRule
-    Operators.functionRule Environment.copies Environment.layFields Environment.fieldCells Environment.typeSortOf Environment.extendTypes
-    Environment.enumNames Environment.declNames Environment.within Environment.frame_of Environment.declareLine Names.type_of Names.varOf
-    Names.constant_of Names.atomOf Names.elementOf Names.fieldIn Names.exprOf Names.target_of Names.exprsOf Names.stmt_of Names.stmtsOf
-    Names.arms_of Names.body_of Names.isKnown Names.listedIn Names.distinct Names.noneKnown Names.newNames Names.fieldNames Names.declOf
-    Names.entry_of Elaborate.copying Elaborate.elabExpr Elaborate.elabTarget Elaborate.elabMembers Elaborate.expects Elaborate.elabLabels
-    Elaborate.elabArguments Elaborate.elabStmt Elaborate.elabStmts Elaborate.elabArms Elaborate.elabBody Rules.plain Rules.allPlain
-    Rules.labelled Rules.differ Rules.labelsOf Rules.looping Rules.plainExpr Rules.plainTarget Rules.plainExprs Rules.howMany
-    Rules.keptStmt Rules.keptStmts Rules.keptArms Rules.keptBody Rules.keptDecl Rules.keptParameters Rules.keepsRules Ceilings.fieldSizes
-    Ceilings.typeBounded Ceilings.lineBounded Verdict.◌>>=◌ Verdict.orBad Verdict.must Verdict.strictly Verdict.loosely Verdict.judgeLine
-    Verdict.onward Verdict.judgeLines Verdict.opening Verdict.judge Calculate.exceptionOf Calculate.integer Calculate.tested
-    Calculate.truth Calculate.setValue Calculate.joined Calculate.memberIn Calculate.compute Calculate.compute1 Machine.readCell
-    Machine.readCells Machine.whileRounds Machine.forRounds Machine.planned Machine.opened Machine.countUp Machine.storeOrdinal
-    Machine.storeWhole Machine.passOn Machine.raiseNumber Machine.procedureAt Machine.admitted Machine.entered Chair.evalCode
-    Chair.placeCode Chair.gatherCodes Chair.runArguments Chair.condition Chair.matches Chair.runAct Chair.runActs Chair.runCases
-    Marking.markExpr Marking.markTarget Marking.markMembers Marking.markArguments Marking.markCondition Marking.markLabels
-    Marking.markBounds Marking.markStmt Marking.markStmts Marking.markArms Store.cellsOk Store.faultOf Store.storeFault Whole.runBody
-    Whole.markBody Whole.runAll Whole.markAll Whole.report Whole.lent Whole.onStore Whole.unless Whole.verdictOf Whole.run_of Whole.mark_of
-    Whole.workAfter Whole.refusalWords Whole.refusalWord Rest.procsOf Rest.resume Parameters.runProcs Parameters.markProcs Copies.writes
-    Copies.allWritten Copies.timesWritten Print.decimal Print.decimalOf Print.signed_of Print.row Print.outcome Print.cellValue Print.cells
+    ReservedTable.position ReservedTable.is_fixed ReservedTable.place_of ReservedSlots.slot_of ReservedSlots.spot ReservedSlots.guess
+    ReservedSlots.has_letters WordsNumbers.digits WordsNumbers.at_most WordsNumbers.numeral WordsNumbers.decimal WordsNumbers.decimal_of
+    WordsNumbers.signed WordsNumbers.hexadecimal WordsNumbers.hex_of WordsNumbers.number_of WordsWords.named WordsWords.placed
+    WordsWords.word_of Base.find Base.◌>>=◌ Base.both Base.given Base.either Base.each Base.pick Lines.refused_at Lines.in_front Lines.lines_of
+    Trees.list Trees.nodes Trees.nodes_in Trees.deeper Trees.opened Trees.closed Trees.spelled Trees.past Trees.is_after Trees.balanced
+    Trees.is_visible Trees.word_of Trees.word_at Trees.with_token Trees.tokens_of Trees.levels Trees.trees_of Trees.single Trees.form_of
+    Words.word_by Words.worded Words.worded_all Forms.free Forms.key_of Forms.is_number Forms.first? Forms.headed Forms.one Forms.two
+    Forms.three Forms.some? Forms.among Forms.type_name Forms.truths Forms.minus_number Forms.constant Forms.heads Forms.exprs_of Forms.atom
+    Forms.two_sided Forms.one_sided Forms.expr Forms.expr_form Forms.exprs Forms.members_form Forms.target Forms.target_form Forms.at_form
+    Forms.dot_form Forms.verbs Forms.arm_heads Forms.labels Forms.arms_first Forms.branches Forms.stmt Forms.stmt_form Forms.stmts Forms.lastly
+    Forms.if_form Forms.case_form Forms.arms Forms.labelled Forms.arm_form Forms.handler_of Forms.body Forms.field Forms.makers Forms.made_type
+    Forms.type_form Forms.pairs_of Forms.parameters Forms.line_heads Forms.line_by Forms.line_form Types.field_of Operators.operator_rule
+    Operators.function_rule Environment.copies Environment.lay_fields Environment.field_cells Environment.type_sort_of Environment.extend_types
+    Environment.enum_names Environment.decl_names Environment.within Environment.frame_of Environment.declare_line Names.type_of Names.var_of
+    Names.constant_of Names.atom_of Names.element_of Names.field_in Names.expr_of Names.target_of Names.exprs_of Names.stmt_of Names.stmts_of
+    Names.arms_of Names.body_of Names.is_known Names.listed_in Names.distinct Names.none_known Names.new_names Names.field_names Names.decl_of
+    Names.entry_of Elaborate.copying Elaborate.elab_expr Elaborate.elab_target Elaborate.elab_members Elaborate.expects Elaborate.elab_labels
+    Elaborate.elab_arguments Elaborate.elab_stmt Elaborate.elab_stmts Elaborate.elab_arms Elaborate.elab_body Rules.plain Rules.all_plain
+    Rules.labelled Rules.differ Rules.labels_of Rules.looping Rules.plain_expr Rules.plain_target Rules.plain_exprs Rules.how_many
+    Rules.kept_stmt Rules.kept_stmts Rules.kept_arms Rules.kept_body Rules.kept_decl Rules.kept_parameters Rules.keeps_rules Ceilings.field_sizes
+    Ceilings.type_bounded Ceilings.line_bounded Verdict.◌>>=◌ Verdict.or_bad Verdict.must Verdict.strictly Verdict.loosely Verdict.judge_line
+    Verdict.onward Verdict.judge_lines Verdict.opening Verdict.judge Calculate.exception_of Calculate.integer Calculate.tested
+    Calculate.truth Calculate.set_value Calculate.joined Calculate.member_in Calculate.compute Calculate.compute1 Machine.read_cell
+    Machine.read_cells Machine.while_rounds Machine.for_rounds Machine.planned Machine.opened Machine.count_up Machine.store_ordinal
+    Machine.store_whole Machine.pass_on Machine.raise_number Machine.procedure_at Machine.admitted Machine.entered Chair.eval_code
+    Chair.place_code Chair.gather_codes Chair.run_arguments Chair.condition Chair.matches Chair.run_act Chair.run_acts Chair.run_cases
+    Marking.mark_expr Marking.mark_target Marking.mark_members Marking.mark_arguments Marking.mark_condition Marking.mark_labels
+    Marking.mark_bounds Marking.mark_stmt Marking.mark_stmts Marking.mark_arms Store.cells_ok Store.fault_of Store.store_fault Whole.run_body
+    Whole.mark_body Whole.run_all Whole.mark_all Whole.report Whole.lent Whole.on_store Whole.unless Whole.verdict_of Whole.run_of Whole.mark_of
+    Whole.work_after Whole.refusal_words Whole.refusal_word Rest.procs_of Rest.resume Parameters.run_procs Parameters.mark_procs Copies.writes
+    Copies.all_written Copies.times_written Print.decimal Print.decimal_of Print.signed_of Print.row Print.outcome Print.cell_value Print.cells
     Print.show Print.scripted Print.runscript Print.markscript
 everything = tt

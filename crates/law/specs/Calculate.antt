@@ -5,13 +5,13 @@ use Rattle.leaf_integers.specs.declared.Fault.{Fault}
 use Rattle.leaf_integers.specs.declared.Fault.TheVariants.{Overflow, Divisor, Exponent, Bound}
 use Rattle.leaf_integers.specs.declared.Num.{Num}
 use Rattle.leaf_integers.specs.declared.Num.TheVariants.{Value, Failed}
-use Rattle.leaf_integers.specs.Integers.{inside, exact, is_zero, quotient, modulus, isOdd, next, previous}
+use Rattle.leaf_integers.specs.Integers.{inside, exact, is_zero, quotient, modulus, is_odd, next, previous}
 use Rattle.leaf_powers.specs.Powers.{power}
 use Rattle.leaf_sets.specs.declared.Member.{Member}
 use Rattle.leaf_sets.specs.declared.Member.TheVariants.{Ordinal, Empty}
-use Rattle.leaf_sets.specs.Sets.{members_of, value_of, holds, with, least, greatest, unionOf, differenceOf, intersectionOf, within}
+use Rattle.leaf_sets.specs.Sets.{members_of, value_of, holds, with, least, greatest, union_of, difference_of, intersection_of, within}
 use Rattle.law.specs.Base.{pick}
-use Rattle.law.specs.Operators.{Operation, intAdd, intSub, intMul, intPower, intDiv, intMod, setUnion, setDifference, setIntersection, numEqual, numUnequal, numLess, numAtMost, numGreater, numAtLeast, setWithin, setHolds, memberOf, boolAnd, boolOr, Operation1, intNegate, boolNot, intAbs, intSqr, intOdd, ordinalOf, predIn, succIn, setCard, setLeast, setGreatest}
+use Rattle.law.specs.Operators.{Operation, int_add, int_sub, int_mul, int_power, int_div, int_mod, set_union, set_difference, set_intersection, num_equal, num_unequal, num_less, num_at_most, num_greater, num_at_least, set_within, set_holds, member_of, bool_and, bool_or, Operation1, int_negate, bool_not, int_abs, int_sqr, int_odd, ordinal_of, pred_in, succ_in, set_card, set_least, set_greatest}
 
 -- what working something out gives: a value, an exception's number, or nothing (stuck, of the marking machine alone)
 pub data Result (A : Type 0) : Type 0 where
@@ -27,30 +27,30 @@ stuck >>= f = stuck
 
 -- ---- the exceptions' numbers
 
-abbrev pub numericError : ℤ
-numericError = negsuc 100  -- -101
+abbrev pub numeric_error : ℤ
+numeric_error = negsuc 100  -- -101
 
-abbrev pub systemError : ℤ
-systemError = negsuc 101  -- -102
+abbrev pub system_error : ℤ
+system_error = negsuc 101  -- -102
 
-abbrev pub rangeError : ℤ
-rangeError = negsuc 102  -- -103
+abbrev pub range_error : ℤ
+range_error = negsuc 102  -- -103
 
-abbrev pub undefinedError : ℤ
-undefinedError = negsuc 103  -- -104
+abbrev pub undefined_error : ℤ
+undefined_error = negsuc 103  -- -104
 
-abbrev pub caseError : ℤ
-caseError = negsuc 104  -- -105
+abbrev pub case_error : ℤ
+case_error = negsuc 104  -- -105
 
-unfoldable pub exceptionOf : Fault → ℤ
-exceptionOf Overflow = numericError
-exceptionOf Divisor = numericError
-exceptionOf Exponent = numericError
-exceptionOf Bound = rangeError
+unfoldable pub exception_of : Fault → ℤ
+exception_of Overflow = numeric_error
+exception_of Divisor = numeric_error
+exception_of Exponent = numeric_error
+exception_of Bound = range_error
 
 unfoldable pub integer : Num → Result ℤ
 integer (Value z) = is z
-integer (Failed f) = fails (exceptionOf f)
+integer (Failed f) = fails (exception_of f)
 
 -- a number in lo to hi, else an exception
 unfoldable pub tested : ℤ → ℤ → ℤ → ℤ → Result ℤ
@@ -63,66 +63,66 @@ unfoldable pub truth : Bool → ℤ
 truth false = pos 0
 truth true = pos 1
 
-abbrev pub isTrue : ℤ → Bool
-isTrue z = lt_z (pos 0) z
+abbrev pub is_true : ℤ → Bool
+is_true z = lt_z (pos 0) z
 
 -- a number that is not negative; 0 of any other
 abbrev pub nat_of : ℤ → ℕ
 nat_of (pos n) = n
 nat_of (negsuc n) = 0
 
-abbrev pub equalZ : ℤ → ℤ → Bool
-equalZ a b = is_zero (a -ℤ b)
+abbrev pub equal_z : ℤ → ℤ → Bool
+equal_z a b = is_zero (a -ℤ b)
 
 -- ---- sets as values
 
-unfoldable pub setValue : List ℕ → ℤ
-setValue l = pos (value_of l)
+unfoldable pub set_value : List ℕ → ℤ
+set_value l = pos (value_of l)
 
 -- a set with a member more
 unfoldable pub joined : ℤ → ℤ → ℤ
-joined z s = setValue (with z (members_of s))
+joined z s = set_value (with z (members_of s))
 
 -- `setmin` and `setmax` of an empty set are a Range_Error
-unfoldable pub memberIn : Member → Result ℤ
-memberIn (Ordinal i) = is (pos i)
-memberIn Empty = fails rangeError
+unfoldable pub member_in : Member → Result ℤ
+member_in (Ordinal i) = is (pos i)
+member_in Empty = fails range_error
 
 -- ---- two-sided operators. `and` and `or` have both sides worked out
 
 unfoldable pub compute : Operation → ℤ → ℤ → Result ℤ
-compute intAdd a b = integer (exact (a +ℤ b))
-compute intSub a b = integer (exact (a -ℤ b))
-compute intMul a b = integer (exact (a *ℤ b))
-compute intPower a b = integer (power a b)
-compute intDiv a b = integer (quotient a b)
-compute intMod a b = integer (modulus a b)
-compute setUnion a b = is (setValue (unionOf (members_of a) (members_of b)))
-compute setDifference a b = is (setValue (differenceOf (members_of a) (members_of b)))
-compute setIntersection a b = is (setValue (intersectionOf (members_of a) (members_of b)))
-compute numEqual a b = is (truth (equalZ a b))
-compute numUnequal a b = is (truth (not (equalZ a b)))
-compute numLess a b = is (truth (lt_z a b))
-compute numAtMost a b = is (truth (le_z a b))
-compute numGreater a b = is (truth (lt_z b a))
-compute numAtLeast a b = is (truth (le_z b a))
-compute setWithin a b = is (truth (within (members_of a) (members_of b)))
-compute setHolds a b = is (truth (within (members_of b) (members_of a)))
-compute memberOf a b = is (truth (holds a (members_of b)))
-compute boolAnd a b = is (truth (isTrue a && isTrue b))
-compute boolOr a b = is (truth (isTrue a || isTrue b))
+compute int_add a b = integer (exact (a +ℤ b))
+compute int_sub a b = integer (exact (a -ℤ b))
+compute int_mul a b = integer (exact (a *ℤ b))
+compute int_power a b = integer (power a b)
+compute int_div a b = integer (quotient a b)
+compute int_mod a b = integer (modulus a b)
+compute set_union a b = is (set_value (union_of (members_of a) (members_of b)))
+compute set_difference a b = is (set_value (difference_of (members_of a) (members_of b)))
+compute set_intersection a b = is (set_value (intersection_of (members_of a) (members_of b)))
+compute num_equal a b = is (truth (equal_z a b))
+compute num_unequal a b = is (truth (not (equal_z a b)))
+compute num_less a b = is (truth (lt_z a b))
+compute num_at_most a b = is (truth (le_z a b))
+compute num_greater a b = is (truth (lt_z b a))
+compute num_at_least a b = is (truth (le_z b a))
+compute set_within a b = is (truth (within (members_of a) (members_of b)))
+compute set_holds a b = is (truth (within (members_of b) (members_of a)))
+compute member_of a b = is (truth (holds a (members_of b)))
+compute bool_and a b = is (truth (is_true a && is_true b))
+compute bool_or a b = is (truth (is_true a || is_true b))
 
 -- ---- one-sided operators and functions
 
 unfoldable pub compute1 : Operation1 → ℤ → Result ℤ
-compute1 intNegate a = integer (exact (neg_ℤ a))
-compute1 boolNot a = is (truth (not (isTrue a)))
-compute1 intAbs a = integer (exact (pos (nat_abs a)))
-compute1 intSqr a = integer (exact (a *ℤ a))
-compute1 intOdd a = is (truth (isOdd a))
-compute1 ordinalOf a = is a
-compute1 (predIn lo hi) a = integer (previous lo hi a)
-compute1 (succIn lo hi) a = integer (next lo hi a)
-compute1 setCard a = is (pos (length (members_of a)))
-compute1 setLeast a = memberIn (least (members_of a))
-compute1 setGreatest a = memberIn (greatest (members_of a))
+compute1 int_negate a = integer (exact (neg_ℤ a))
+compute1 bool_not a = is (truth (not (is_true a)))
+compute1 int_abs a = integer (exact (pos (nat_abs a)))
+compute1 int_sqr a = integer (exact (a *ℤ a))
+compute1 int_odd a = is (truth (is_odd a))
+compute1 ordinal_of a = is a
+compute1 (pred_in lo hi) a = integer (previous lo hi a)
+compute1 (succ_in lo hi) a = integer (next lo hi a)
+compute1 set_card a = is (pos (length (members_of a)))
+compute1 set_least a = member_in (least (members_of a))
+compute1 set_greatest a = member_in (greatest (members_of a))

@@ -1,22 +1,22 @@
--- The demands of document 01 as statements on whole texts (`verdictOf`, `run_of`, `mark_of`, `workAfter`). Nothing is proved here: the theorem is
+-- The demands of document 01 as statements on whole texts (`verdict_of`, `run_of`, `mark_of`, `work_after`). Nothing is proved here: the theorem is
 -- proofs/DemandsHold.antt: `demands-hold`. What the code answers is tied to these definitions by the contracts of its public functions.
 use Rattle.std.specs.Prelude.{◌≡◌, List, [], ℕ, ◌+◌, ◌<◌, ◌≤◌, ℤ, get_or, length}
 use Rattle.std.proofs.Math.Option.{Option, none, some}
 use Rattle.law.specs.Machine.{Outcome, Store, answer, spent, state, sticks}
 use Rattle.law.specs.Rest.{Rest, resume}
-use Rattle.law.specs.Store.{storeFault}
+use Rattle.law.specs.Store.{store_fault}
 use Rattle.law.specs.Verdict.{Read, accepted, refused}
-use Rattle.law.specs.Whole.{Report, mark_of, ran, refusal, report, reported, run_of, verdictOf, workAfter}
+use Rattle.law.specs.Whole.{Report, mark_of, ran, refusal, report, reported, run_of, verdict_of, work_after}
 
 -- what rows 10 and 11 find in a store for a script
-abbrev pub faultIn : Read → List ℤ → List ℕ → Option ℕ
-faultIn r vs ms = storeFault r.known.env.types r.known.cells vs ms
+abbrev pub fault_in : Read → List ℤ → List ℕ → Option ℕ
+fault_in r vs ms = store_fault r.known.env.types r.known.cells vs ms
 
 -- "The first 16,384 working numbers, or all if there are fewer, are 0 after every call; any further ones are untouched"
 pub record WorkCleared (w : List ℕ) : Type 0 where
-  pub as_long : length (workAfter w) ≡ length w
-  pub zeros : (i x : ℕ) → i < 16384 → i < length w → get_or (workAfter w) i x ≡ 0
-  pub further : (i x : ℕ) → 16384 ≤ i → get_or (workAfter w) i x ≡ get_or w i x
+  pub as_long : length (work_after w) ≡ length w
+  pub zeros : (i x : ℕ) → i < 16384 → i < length w → get_or (work_after w) i x ≡ 0
+  pub further : (i x : ℕ) → 16384 ≤ i → get_or (work_after w) i x ≡ get_or w i x
 
 -- a text, a working list's length and a lent store
 module _ (text : List ℕ) (work : ℕ) (vs : List ℤ) (ms : List ℕ) where
@@ -35,16 +35,16 @@ module _ (text : List ℕ) (work : ℕ) (vs : List ℤ) (ms : List ℕ) where
 
   -- a refused text gives its number and line
   abbrev pub RefusesText : Type 0
-  RefusesText = (budget n l : ℕ) → verdictOf text work ≡ refused n l → (run budget).ending ≡ refusal n l
+  RefusesText = (budget n l : ℕ) → verdict_of text work ≡ refused n l → (run budget).ending ≡ refusal n l
 
   -- a refused store gives row 10 or 11; "the line is 0"
   abbrev pub RefusesStore : Type 0
-  RefusesStore = (r : Read) → verdictOf text work ≡ accepted r → (budget n : ℕ) → faultIn r vs ms ≡ some n → (run budget).ending ≡ refusal n 0
+  RefusesStore = (r : Read) → verdict_of text work ≡ accepted r → (budget n : ℕ) → fault_in r vs ms ≡ some n → (run budget).ending ≡ refusal n 0
 
   -- "a text, working list or store is accepted when no numbered refusal applies to it, whatever the checker answers"; r is what the text says
   pub record Accepted (r : Read) : Type 0 where
-    pub text-fits : verdictOf text work ≡ accepted r
-    pub store-fits : faultIn r vs ms ≡ none
+    pub text-fits : verdict_of text work ≡ accepted r
+    pub store-fits : fault_in r vs ms ≡ none
 
   -- ---- demand 2, steps
 
@@ -77,7 +77,7 @@ module _ (text : List ℕ) (work : ℕ) (vs : List ℤ) (ms : List ℕ) where
 
   -- "A cell is in range when row 11 finds no fault in it": neither row 10 nor row 11 finds one in the final store, "a spent run too"
   abbrev pub InRange : Read → Type 0
-  InRange r = (budget : ℕ) → faultIn r (run budget).values (run budget).marks ≡ none
+  InRange r = (budget : ℕ) → fault_in r (run budget).values (run budget).marks ≡ none
 
   -- "As every budget is meant, all this holds after each step": where a budget is spent, a run with k steps more is what the rest (Rest) of it
   -- does in k steps from the store that the smaller budget leaves. The rest is one for all k and holds no store: so the run passes through that one

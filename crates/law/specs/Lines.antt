@@ -5,14 +5,14 @@ use Rattle.leaf_bytes.specs.declared.bytes.Class.TheVariants.{Feed, Space, Open,
 use Rattle.leaf_bytes.specs.Bytes.{class_of}
 
 -- the line of the first refused byte, where n is the line that has been reached
-unfoldable pub refusedAt : ℕ → List ℕ → Option ℕ
-refusedAt n [] = none
-refusedAt n (b ∷ bs) = elim (class_of b) [
-  | Feed ↦ refusedAt (suc n) bs
-  | Space ↦ refusedAt n bs
-  | Open ↦ refusedAt n bs
-  | Close ↦ refusedAt n bs
-  | Visible ↦ refusedAt n bs
+unfoldable pub refused_at : ℕ → List ℕ → Option ℕ
+refused_at n [] = none
+refused_at n (b ∷ bs) = elim (class_of b) [
+  | Feed ↦ refused_at (suc n) bs
+  | Space ↦ refused_at n bs
+  | Open ↦ refused_at n bs
+  | Close ↦ refused_at n bs
+  | Visible ↦ refused_at n bs
   | Refused ↦ some n
 ]
 
@@ -25,11 +25,11 @@ abbrev pub line : List ℕ → Bool → Line
 line bs f = record { bytes = bs; fed = f }
 
 -- a byte in front of the first line
-unfoldable pub inFront : ℕ → List Line → List Line
-inFront b [] = line (b ∷ []) false ∷ []
-inFront b (l ∷ ls) = line (b ∷ l.bytes) l.fed ∷ ls
+unfoldable pub in_front : ℕ → List Line → List Line
+in_front b [] = line (b ∷ []) false ∷ []
+in_front b (l ∷ ls) = line (b ∷ l.bytes) l.fed ∷ ls
 
 -- the rest after the last line feed is a line if it is not empty
 unfoldable pub lines_of : List ℕ → List Line
 lines_of [] = []
-lines_of (b ∷ bs) = elim (eqb b 10) [ true ↦ line [] true ∷ lines_of bs | false ↦ inFront b (lines_of bs) ]
+lines_of (b ∷ bs) = elim (eqb b 10) [ true ↦ line [] true ∷ lines_of bs | false ↦ in_front b (lines_of bs) ]

@@ -6,8 +6,8 @@ use Rattle.std.proofs.Math.IntN.{suc_ℤ}
 use Rattle.std.specs.Int.Signed.{le_z}
 use Rattle.leaf_integers.specs.Integers.{inside, is_zero}
 use Rattle.law.specs.Base.{pick}
-use Rattle.law.specs.Calculate.{nat_of, Result, is, fails, stuck, ◌>>=◌, systemError, rangeError, undefinedError, tested}
-use Rattle.law.specs.Code.{Frame, Want, anySet, noFrame, ranged}
+use Rattle.law.specs.Calculate.{nat_of, Result, is, fails, stuck, ◌>>=◌, system_error, range_error, undefined_error, tested}
+use Rattle.law.specs.Code.{Frame, Want, any_set, no_frame, ranged}
 
 -- ---- the store
 
@@ -18,8 +18,8 @@ pub record Store : Type 0 where
   pub place : ℕ  -- and its statement
 
 -- every store has so many cells: the 2,048 that may be lent, then 128 for parameters, which "the starting store and the printed cells don't hold"
-abbrev pub lentCells : ℕ
-lentCells = 2048
+abbrev pub lent_cells : ℕ
+lent_cells = 2048
 
 abbrev pub store_cells : ℕ
 store_cells = 2176
@@ -31,8 +31,8 @@ undefined = 0
 abbrev pub defined : ℕ
 defined = 1
 
-abbrev pub isDefined : ℕ → Bool
-isDefined m = not (eqb m undefined)
+abbrev pub is_defined : ℕ → Bool
+is_defined m = not (eqb m undefined)
 
 pub record State : Type 0 where
   pub store : Store
@@ -56,20 +56,20 @@ abbrev pub noting : ℤ → ℕ → Store → Store
 noting z n m = record { values = m.values; marks = m.marks; latest = z; place = n }
 
 -- reading an undefined cell is an Undefined_Error
-unfoldable pub readCell : ℕ → Store → Result ℤ
-readCell a m = pick (isDefined (get_or m.marks a undefined)) (is (get_or m.values a (pos 0))) (fails undefinedError)
+unfoldable pub read_cell : ℕ → Store → Result ℤ
+read_cell a m = pick (is_defined (get_or m.marks a undefined)) (is (get_or m.values a (pos 0))) (fails undefined_error)
 
 -- n cells from a on
-unfoldable pub readCells : ℕ → ℕ → Store → Result (List ℤ)
-readCells a zero m = is []
-readCells a (suc n) m = readCell a m >>= λ z. readCells (suc a) n m >>= λ zs. is (z ∷ zs)
+unfoldable pub read_cells : ℕ → ℕ → Store → Result (List ℤ)
+read_cells a zero m = is []
+read_cells a (suc n) m = read_cell a m >>= λ z. read_cells (suc a) n m >>= λ zs. is (z ∷ zs)
 
 -- a value is its cells; an ordinal or a set has one
 abbrev pub sole : List ℤ → ℤ
 sole zs = get_or zs 0 (pos 0)
 
-abbrev pub oneCell : Result ℤ → Result (List ℤ)
-oneCell v = v >>= λ z. is (z ∷ [])
+abbrev pub one_cell : Result ℤ → Result (List ℤ)
+one_cell v = v >>= λ z. is (z ∷ [])
 
 -- ---- answers
 
@@ -110,69 +110,69 @@ handled true a f = caught a.outcome a.state f
 handled false a f = a
 
 -- goes on with what was worked out in statement n
-abbrev pub withResult : {A : Type 0} → ℕ → State → Result A → (A → Answer) → Answer
-withResult n s (is a) f = f a
-withResult n s (fails z) f = raising z n s
-withResult n s stuck f = answer sticks s
+abbrev pub with_result : {A : Type 0} → ℕ → State → Result A → (A → Answer) → Answer
+with_result n s (is a) f = f a
+with_result n s (fails z) f = raising z n s
+with_result n s stuck f = answer sticks s
 
 -- one step; when one is due and the budget is used up, the answer is spent
-abbrev pub stepIf : ℕ → State → (State → Answer) → Answer
-stepIf zero s f = answer spent s
-stepIf (suc n) s f = f (state s.store n)
+abbrev pub step_if : ℕ → State → (State → Answer) → Answer
+step_if zero s f = answer spent s
+step_if (suc n) s f = f (state s.store n)
 
 abbrev pub step : State → (State → Answer) → Answer
-step s f = stepIf s.left s f
+step s f = step_if s.left s f
 
 abbrev pub branch : Bool → (State → Answer) → (State → Answer) → State → Answer
 branch true f g s = f s
 branch false f g s = g s
 
 -- `while` tests before each round and its step. As each round takes a step, what is left of the budget is rounds enough
-unfoldable pub whileRounds : ℕ → (State → (Bool → Answer) → Answer) → (State → Answer) → State → Answer
-whileRounds zero condition body s = condition s λ b. branch b (answer spent) (answer normal) s
-whileRounds (suc f) condition body s = condition s λ b. branch b (λ t. step t (λ s'. and_then (body s') (whileRounds f condition body))) (answer normal) s
+unfoldable pub while_rounds : ℕ → (State → (Bool → Answer) → Answer) → (State → Answer) → State → Answer
+while_rounds zero condition body s = condition s λ b. branch b (answer spent) (answer normal) s
+while_rounds (suc f) condition body s = condition s λ b. branch b (λ t. step t (λ s'. and_then (body s') (while_rounds f condition body))) (answer normal) s
 
 -- "when a `for` ends normally, also with no round, its control variable has mark 0 and value 0": cell a. It takes no step
 abbrev pub ended : ℕ → State → Answer
 ended a s = answer normal (state (forgotten a 1 s.store) s.left)
 
 -- so many rounds, from z on, and the end. Each round, after its step, sets the control variable from the loop's own count
-abbrev pub setControl : ℕ → ℤ → State → State
-setControl a z s = state (stored a (z ∷ []) s.store) s.left
+abbrev pub set_control : ℕ → ℤ → State → State
+set_control a z s = state (stored a (z ∷ []) s.store) s.left
 
-unfoldable pub forRounds : ℕ → ℕ → (State → Answer) → ℤ → State → Answer
-forRounds zero a body z s = ended a s
-forRounds (suc k) a body z s = step s λ s'. and_then (body (setControl a z s')) (forRounds k a body (suc_ℤ z))
+unfoldable pub for_rounds : ℕ → ℕ → (State → Answer) → ℤ → State → Answer
+for_rounds zero a body z s = ended a s
+for_rounds (suc k) a body z s = step s λ s'. and_then (body (set_control a z s')) (for_rounds k a body (suc_ℤ z))
 
 -- where there is a round, both bounds must fit the control variable's type, lo to hi, before round one
 pub data Plan : Type 0 where
-  noRound outside : Plan
+  no_round outside : Plan
   rounds : ℕ → Plan
 
 unfoldable pub planned : ℤ → ℤ → ℤ → ℤ → Plan
-planned lo hi x y = pick (le_z x y) (pick (inside lo hi x && inside lo hi y) (rounds (nat_of (suc_ℤ (y -ℤ x)))) outside) noRound
+planned lo hi x y = pick (le_z x y) (pick (inside lo hi x && inside lo hi y) (rounds (nat_of (suc_ℤ (y -ℤ x)))) outside) no_round
 
 unfoldable pub opened : Plan → ℕ → ℕ → ℤ → (State → Answer) → State → Answer
-opened noRound n a x body s = ended a s
-opened outside n a x body s = raising rangeError n s
-opened (rounds k) n a x body s = forRounds k a body x s
+opened no_round n a x body s = ended a s
+opened outside n a x body s = raising range_error n s
+opened (rounds k) n a x body s = for_rounds k a body x s
 
-unfoldable pub countUp : ℕ → ℕ → ℤ → ℤ → ℤ → ℤ → (State → Answer) → State → Answer
-countUp n a lo hi x y body = opened (planned lo hi x y) n a x body
+unfoldable pub count_up : ℕ → ℕ → ℤ → ℤ → ℤ → ℤ → (State → Answer) → State → Answer
+count_up n a lo hi x y body = opened (planned lo hi x y) n a x body
 
 -- the range test is the last; a raising assignment changes no cell
-unfoldable pub storeOrdinal : ℕ → ℕ → ℤ → ℤ → ℤ → State → Answer
-storeOrdinal n a lo hi z = branch (inside lo hi z) (λ s. answer normal (state (stored a (z ∷ []) s.store) s.left)) (raising rangeError n)
+unfoldable pub store_ordinal : ℕ → ℕ → ℤ → ℤ → ℤ → State → Answer
+store_ordinal n a lo hi z = branch (inside lo hi z) (λ s. answer normal (state (stored a (z ∷ []) s.store) s.left)) (raising range_error n)
 
-unfoldable pub storeWhole : ℕ → ℕ → List ℤ → State → Answer
-storeWhole n a zs s = answer normal (state (stored a zs s.store) s.left)
+unfoldable pub store_whole : ℕ → ℕ → List ℤ → State → Answer
+store_whole n a zs s = answer normal (state (stored a zs s.store) s.left)
 
 -- `raise 0` passes on the last exception with its number and statement kept, or raises System_Error if there was none
-unfoldable pub passOn : ℕ → State → Answer
-passOn n s = branch (is_zero s.store.latest) (raising systemError n) (answer (raised s.store.latest s.store.place)) s
+unfoldable pub pass_on : ℕ → State → Answer
+pass_on n s = branch (is_zero s.store.latest) (raising system_error n) (answer (raised s.store.latest s.store.place)) s
 
-unfoldable pub raiseNumber : ℕ → ℤ → State → Answer
-raiseNumber n z = branch (is_zero z) (passOn n) (raising z n)
+unfoldable pub raise_number : ℕ → ℤ → State → Answer
+raise_number n z = branch (is_zero z) (pass_on n) (raising z n)
 
 -- ---- procedures
 
@@ -188,23 +188,23 @@ proc q f = record { frame = q; run = f }
 abbrev pub Procs : Type 0
 Procs = List Proc
 
-unfoldable pub procedureAt : Procs → ℕ → Proc
-procedureAt ps p = get_or ps p (proc noFrame (answer normal))
+unfoldable pub procedure_at : Procs → ℕ → Proc
+procedure_at ps p = get_or ps p (proc no_frame (answer normal))
 
 -- "A value outside its parameter's type raises Range_Error"; a set is of its own type
 unfoldable pub admitted : Want → ℤ → Result ℤ
-admitted (ranged lo hi) z = tested rangeError lo hi z
-admitted anySet z = is z
+admitted (ranged lo hi) z = tested range_error lo hi z
+admitted any_set z = is z
 
 -- parameters are "gone at return", be it by a normal end or by an exception. A run that is spent or stuck does not return
-abbrev pub withoutFrame : Frame → State → State
-withoutFrame q s = state (forgotten q.base (length q.wants) s.store) s.left
+abbrev pub without_frame : Frame → State → State
+without_frame q s = state (forgotten q.base (length q.wants) s.store) s.left
 
 abbrev pub returning : Frame → Outcome → State → Answer
-returning q normal s = answer normal (withoutFrame q s)
+returning q normal s = answer normal (without_frame q s)
 returning q spent s = answer spent s
 returning q sticks s = answer sticks s
-returning q (raised z n) s = answer (raised z n) (withoutFrame q s)
+returning q (raised z n) s = answer (raised z n) (without_frame q s)
 
 abbrev pub returned : Frame → Answer → Answer
 returned q a = returning q a.outcome a.state
@@ -214,8 +214,8 @@ unfoldable pub entered : Proc → List ℤ → State → Answer
 entered q zs s = returned q.frame (q.run (state (stored q.frame.base zs s.store) s.left))
 
 -- `and_then` (true) and `or_else` (false): the right side is worked out only if the left leaves it open
-abbrev pub shortCircuited : Bool → Bool → Result (List ℤ) → Result (List ℤ)
-shortCircuited true true v = v
-shortCircuited true false v = is (pos 0 ∷ [])
-shortCircuited false true v = is (pos 1 ∷ [])
-shortCircuited false false v = v
+abbrev pub short_circuited : Bool → Bool → Result (List ℤ) → Result (List ℤ)
+short_circuited true true v = v
+short_circuited true false v = is (pos 0 ∷ [])
+short_circuited false true v = is (pos 1 ∷ [])
+short_circuited false false v = v

@@ -12,11 +12,11 @@ mutual
   pub data Expr : Type 0 where
     const : Const → Expr
     read : Target → Expr
-    errorNumber : Expr
+    error_number : Expr
     members : ℕ → Exprs → Expr
     end_of : Bool → ℕ → Expr  -- first (false), last (true)
     binary : Op → Expr → Expr → Expr
-    shortCircuit : Bool → Expr → Expr → Expr  -- and_then (true), or_else (false)
+    short_circuit : Bool → Expr → Expr → Expr  -- and_then (true), or_else (false)
     unary : Fun → Expr → Expr
 
   pub data Target : Type 0 where
@@ -33,7 +33,7 @@ mutual
   pub data Stmt : Type 0 where
     assign : ℕ → Target → Expr → Stmt
     begin : ℕ → Stmts → Stmt
-    ifElse : ℕ → Expr → Stmt → Stmt → Stmt  -- an `if` with no else has an empty one, which takes no step
+    if_else : ℕ → Expr → Stmt → Stmt → Stmt  -- an `if` with no else has an empty one, which takes no step
     while : ℕ → Expr → Stmt → Stmt
     for : ℕ → ℕ → Expr → Expr → Stmt → Stmt
     case : ℕ → Expr → Arms → Stmt
@@ -46,8 +46,8 @@ mutual
     ◌next◌ : Stmt → Stmts → Stmts
 
   pub data Arms : Type 0 where
-    elseArm : Stmt → Arms  -- else
-    noElse : Arms  -- no else: Case_Error
+    else_arm : Stmt → Arms  -- else
+    no_else : Arms  -- no else: Case_Error
     arm : List Const → Stmt → Arms → Arms
 
 infixr 40 ◌next◌
@@ -63,12 +63,12 @@ pub data Decl : Type 0 where
   enum : Name → List Name → Decl  -- its first name and the others
   range : Const → Const → Decl
   array_of : ℕ → ℕ → Decl
-  recordOf : List (Name × ℕ) → Decl
-  setOf : ℕ → Decl
+  record_of : List (Name × ℕ) → Decl
+  set_of : ℕ → Decl
 
 -- a line with its names resolved
 pub data Entry : Type 0 where
-  newType : Name → Decl → Entry
-  newVar : Name → ℕ → Entry
-  newProc : Name → List (Name × ℕ) → Body → Entry  -- its parameters with their types
-  newMain : Body → Entry
+  new_type : Name → Decl → Entry
+  new_var : Name → ℕ → Entry
+  new_proc : Name → List (Name × ℕ) → Body → Entry  -- its parameters with their types
+  new_main : Body → Entry

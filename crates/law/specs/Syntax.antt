@@ -17,11 +17,11 @@ mutual
   pub data Expr : Type 0 where
     const : Constant → Expr  -- a name alone is `named`, a variable's too
     read : Target → Expr  -- `at` and `dot`
-    errorNumber : Expr
+    error_number : Expr
     members : TypeName → Exprs → Expr
     end_of : Bool → TypeName → Expr  -- first (false), last (true)
     binary : Op → Expr → Expr → Expr
-    shortCircuit : Bool → Expr → Expr → Expr  -- and_then (true), or_else (false)
+    short_circuit : Bool → Expr → Expr → Expr  -- and_then (true), or_else (false)
     unary : Fun → Expr → Expr
 
   pub data Target : Type 0 where
@@ -39,7 +39,7 @@ mutual
   pub data Stmt : Type 0 where
     assign : ℕ → Target → Expr → Stmt
     begin : ℕ → Stmts → Stmt
-    ifElse : ℕ → Expr → Stmt → Stmt → Stmt
+    if_else : ℕ → Expr → Stmt → Stmt → Stmt
     while : ℕ → Expr → Stmt → Stmt
     for : ℕ → Name → Expr → Expr → Stmt → Stmt
     case : ℕ → Expr → Arms → Stmt
@@ -52,8 +52,8 @@ mutual
     ◌next◌ : Stmt → Stmts → Stmts
 
   pub data Arms : Type 0 where
-    elseArm : Stmt → Arms
-    noElse : Arms
+    else_arm : Stmt → Arms
+    no_else : Arms
     arm : List Constant → Stmt → Arms → Arms
 
 infixr 40 ◌next◌
@@ -67,11 +67,11 @@ pub data TypeForm : Type 0 where
   enum : Name → List Name → TypeForm  -- its first name and the others
   range : Constant → Constant → TypeForm
   array_of : TypeName → TypeName → TypeForm
-  recordOf : List (Name × TypeName) → TypeForm
-  setOf : TypeName → TypeForm
+  record_of : List (Name × TypeName) → TypeForm
+  set_of : TypeName → TypeForm
 
 pub data LineForm : Type 0 where
-  typeLine : Name → TypeForm → LineForm
-  varLine : Name → TypeName → LineForm
-  procLine : Name → List (Name × TypeName) → Body → LineForm  -- its parameters: none, or one or more
-  mainLine : Body → LineForm
+  type_line : Name → TypeForm → LineForm
+  var_line : Name → TypeName → LineForm
+  proc_line : Name → List (Name × TypeName) → Body → LineForm  -- its parameters: none, or one or more
+  main_line : Body → LineForm

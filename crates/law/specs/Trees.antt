@@ -27,11 +27,11 @@ list (t then ts) = t ∷ list ts
 unfoldable mutual
   pub nodes : {W : Type 0} → Tree W → ℕ
   nodes (word w) = 1
-  nodes (form ts) = suc (nodesIn ts)
+  nodes (form ts) = suc (nodes_in ts)
 
-  pub nodesIn : {W : Type 0} → Trees W → ℕ
-  nodesIn end = 0
-  nodesIn (t then ts) = nodes t + nodesIn ts
+  pub nodes_in : {W : Type 0} → Trees W → ℕ
+  nodes_in end = 0
+  nodes_in (t then ts) = nodes t + nodes_in ts
 
 -- ---- row 4: one bracket pair, only spaces around it, depth at most 32
 
@@ -74,14 +74,14 @@ past Close p = closed p
 past Visible p = spelled p
 past Refused p = faulty
 
-unfoldable pub isAfter : Place → Bool
-isAfter before = false
-isAfter (inside n) = false
-isAfter after = true
-isAfter faulty = false
+unfoldable pub is_after : Place → Bool
+is_after before = false
+is_after (inside n) = false
+is_after after = true
+is_after faulty = false
 
 unfoldable pub balanced : List ℕ → Place → Bool
-balanced [] p = isAfter p
+balanced [] p = is_after p
 balanced (b ∷ bs) p = balanced bs (past (class_of b) p)
 
 -- ---- reading: a line's tokens, and the trees that its brackets make of them
@@ -90,26 +90,26 @@ balanced (b ∷ bs) p = balanced bs (past (class_of b) p)
 abbrev pub Run : Type 0
 Run = List ℕ
 
-unfoldable pub isVisible : Class → Bool
-isVisible Feed = false
-isVisible Space = false
-isVisible Open = false
-isVisible Close = false
-isVisible Visible = true
-isVisible Refused = false
+unfoldable pub is_visible : Class → Bool
+is_visible Feed = false
+is_visible Space = false
+is_visible Open = false
+is_visible Close = false
+is_visible Visible = true
+is_visible Refused = false
 
 -- the word that the bytes begin with, [] for none
 unfoldable pub word_of : List ℕ → Run
 word_of [] = []
-word_of (b ∷ bs) = cond (isVisible (class_of b)) (b ∷ word_of bs) []
+word_of (b ∷ bs) = cond (is_visible (class_of b)) (b ∷ word_of bs) []
 
 -- the word at an offset of a text
 unfoldable pub word_at : List ℕ → ℕ → Run
 word_at s p = word_of (drop p s)
 
 pub data Token : Type 0 where
-  openToken closeToken : Token
-  wordToken : Run → Token
+  open_token close_token : Token
+  word_token : Run → Token
 
 -- the tokens behind a word that they begin with
 abbrev pub behind : Run → List Token → List Token
@@ -118,17 +118,17 @@ behind (b ∷ w) [] = []
 behind (b ∷ w) (t ∷ ts) = ts
 
 -- with one byte more on the left; w is the word that goes on behind it. Nothing of a later line is seen before a line feed
-unfoldable pub withToken : Class → ℕ → Run → List Token → List Token
-withToken Feed b w ts = []
-withToken Space b w ts = ts
-withToken Open b w ts = openToken ∷ ts
-withToken Close b w ts = closeToken ∷ ts
-withToken Visible b w ts = wordToken (b ∷ w) ∷ behind w ts
-withToken Refused b w ts = []
+unfoldable pub with_token : Class → ℕ → Run → List Token → List Token
+with_token Feed b w ts = []
+with_token Space b w ts = ts
+with_token Open b w ts = open_token ∷ ts
+with_token Close b w ts = close_token ∷ ts
+with_token Visible b w ts = word_token (b ∷ w) ∷ behind w ts
+with_token Refused b w ts = []
 
-unfoldable pub tokensOf : List ℕ → List Token
-tokensOf [] = []
-tokensOf (b ∷ bs) = withToken (class_of b) b (word_of bs) (tokensOf bs)
+unfoldable pub tokens_of : List ℕ → List Token
+tokens_of [] = []
+tokens_of (b ∷ bs) = with_token (class_of b) b (word_of bs) (tokens_of bs)
 
 abbrev pub first : List (Trees Run) → Trees Run
 first [] = end
@@ -146,13 +146,13 @@ push t k = (t then first k) ∷ later k
 -- bracket, and so on outwards. So `)` begins a list, and `(` makes a form of the first one
 unfoldable pub levels : List Token → List (Trees Run)
 levels [] = []
-levels (openToken ∷ ts) = push (form (first (levels ts))) (later (levels ts))
-levels (closeToken ∷ ts) = end ∷ levels ts
-levels (wordToken w ∷ ts) = push (word w) (levels ts)
+levels (open_token ∷ ts) = push (form (first (levels ts))) (later (levels ts))
+levels (close_token ∷ ts) = end ∷ levels ts
+levels (word_token w ∷ ts) = push (word w) (levels ts)
 
 -- the trees that the bytes begin with
-unfoldable pub treesOf : List ℕ → Trees Run
-treesOf bs = first (levels (tokensOf bs))
+unfoldable pub trees_of : List ℕ → Trees Run
+trees_of bs = first (levels (tokens_of bs))
 
 -- one form, and nothing beside it
 unfoldable pub single : Trees Run → Option (Tree Run)
@@ -163,4 +163,4 @@ single (form f then (t then ts)) = none
 
 -- row 4: the line's one form, with its words as they stand
 unfoldable pub form_of : Line → Option (Tree Run)
-form_of l = given l.fed l.bytes >>= λ bs. given (balanced bs before) (treesOf bs) >>= single
+form_of l = given l.fed l.bytes >>= λ bs. given (balanced bs before) (trees_of bs) >>= single

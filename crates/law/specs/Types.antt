@@ -7,7 +7,7 @@ use Rattle.leaf_bytes.specs.Bytes.{same}
 use Rattle.law.specs.Base.{Name}
 
 pub data Shape : Type 0 where
-  ordinalShape setShape arrayShape recordShape : Shape
+  ordinal_shape set_shape array_shape record_shape : Shape
 
 -- a record's field: its name, its type, and where its cells begin in the record's
 pub record Field : Type 0 where
@@ -18,10 +18,10 @@ pub record Field : Type 0 where
 -- a type by its declaration. Bounds are the least and the greatest value: of an ordinal its own, of a set those of its base, of an array
 -- those of its index type. Cells are by their types, each an ordinal or a set
 pub data TypeSort : Type 0 where
-  ordinalType : (host : ℕ) (low high : ℤ) → TypeSort  -- a range's host, any other's own number
-  setType : (base : ℕ) (low high : ℤ) → TypeSort
-  arrayType : (index element : ℕ) (low high : ℤ) (cells : List ℕ) → TypeSort
-  recordType : (fields : List Field) (cells : List ℕ) → TypeSort
+  ordinal_type : (host : ℕ) (low high : ℤ) → TypeSort  -- a range's host, any other's own number
+  set_type : (base : ℕ) (low high : ℤ) → TypeSort
+  array_type : (index element : ℕ) (low high : ℤ) (cells : List ℕ) → TypeSort
+  record_type : (fields : List Field) (cells : List ℕ) → TypeSort
 
 -- what is asked of any type
 pub record TypeInfo : Type 0 where
@@ -36,20 +36,20 @@ pub record TypeInfo : Type 0 where
 
 -- the answers, 0 and none where there is nothing to ask
 abbrev pub facts : TypeSort → TypeInfo
-facts (ordinalType h lo hi) = record { shape = ordinalShape; host = h; low = lo; high = hi; cells = []; index = 0; element = 0; fields = [] }
-facts (setType b lo hi) = record { shape = setShape; host = 0; low = lo; high = hi; cells = []; index = 0; element = b; fields = [] }
-facts (arrayType i e lo hi cs) = record { shape = arrayShape; host = 0; low = lo; high = hi; cells = cs; index = i; element = e; fields = [] }
-facts (recordType fs cs) = record { shape = recordShape; host = 0; low = pos 0; high = pos 0; cells = cs; index = 0; element = 0; fields = fs }
+facts (ordinal_type h lo hi) = record { shape = ordinal_shape; host = h; low = lo; high = hi; cells = []; index = 0; element = 0; fields = [] }
+facts (set_type b lo hi) = record { shape = set_shape; host = 0; low = lo; high = hi; cells = []; index = 0; element = b; fields = [] }
+facts (array_type i e lo hi cs) = record { shape = array_shape; host = 0; low = lo; high = hi; cells = cs; index = i; element = e; fields = [] }
+facts (record_type fs cs) = record { shape = record_shape; host = 0; low = pos 0; high = pos 0; cells = cs; index = 0; element = 0; fields = fs }
 
 abbrev pub Types : Type 0
 Types = List TypeSort
 
 -- a number that no line declared is no ordinal, and has no cells and no fields
 abbrev pub undeclared : TypeSort
-undeclared = recordType [] []
+undeclared = record_type [] []
 
-abbrev pub infoAt : Types → ℕ → TypeInfo
-infoAt Γ t = facts (get_or Γ t undeclared)
+abbrev pub info_at : Types → ℕ → TypeInfo
+info_at Γ t = facts (get_or Γ t undeclared)
 
 -- a variable: its type and its first cell
 pub record Var : Type 0 where
@@ -64,42 +64,42 @@ variable Δ i = get_elem? Δ i
 
 -- ---- what a shape says
 
-abbrev pub isOrdinal : Shape → Bool
-isOrdinal ordinalShape = true
-isOrdinal setShape = false
-isOrdinal arrayShape = false
-isOrdinal recordShape = false
+abbrev pub is_ordinal : Shape → Bool
+is_ordinal ordinal_shape = true
+is_ordinal set_shape = false
+is_ordinal array_shape = false
+is_ordinal record_shape = false
 
 abbrev pub is_set : Shape → Bool
-is_set ordinalShape = false
-is_set setShape = true
-is_set arrayShape = false
-is_set recordShape = false
+is_set ordinal_shape = false
+is_set set_shape = true
+is_set array_shape = false
+is_set record_shape = false
 
-abbrev pub isArray : Shape → Bool
-isArray ordinalShape = false
-isArray setShape = false
-isArray arrayShape = true
-isArray recordShape = false
+abbrev pub is_array : Shape → Bool
+is_array ordinal_shape = false
+is_array set_shape = false
+is_array array_shape = true
+is_array record_shape = false
 
-abbrev pub isRecord : Shape → Bool
-isRecord ordinalShape = false
-isRecord setShape = false
-isRecord arrayShape = false
-isRecord recordShape = true
+abbrev pub is_record : Shape → Bool
+is_record ordinal_shape = false
+is_record set_shape = false
+is_record array_shape = false
+is_record record_shape = true
 
 -- the kind of type t, whose host is h; its cells' types
-abbrev pub hostBy : Shape → ℕ → ℕ → ℕ
-hostBy ordinalShape t h = h
-hostBy setShape t h = t
-hostBy arrayShape t h = t
-hostBy recordShape t h = t
+abbrev pub host_by : Shape → ℕ → ℕ → ℕ
+host_by ordinal_shape t h = h
+host_by set_shape t h = t
+host_by array_shape t h = t
+host_by record_shape t h = t
 
-abbrev pub cellsBy : Shape → ℕ → List ℕ → List ℕ
-cellsBy ordinalShape t cs = t ∷ []
-cellsBy setShape t cs = t ∷ []
-cellsBy arrayShape t cs = cs
-cellsBy recordShape t cs = cs
+abbrev pub cells_by : Shape → ℕ → List ℕ → List ℕ
+cells_by ordinal_shape t cs = t ∷ []
+cells_by set_shape t cs = t ∷ []
+cells_by array_shape t cs = cs
+cells_by record_shape t cs = cs
 
 -- the field of that name
 unfoldable pub field_of : List Field → Name → Option Field
@@ -107,28 +107,28 @@ field_of [] n = none
 field_of (f ∷ fs) n = elim (same f.name n) [ true ↦ some f | false ↦ field_of fs n ]
 
 module _ (Γ : Types) where
-  abbrev pub hostOf : ℕ → ℕ
-  hostOf t = hostBy (infoAt Γ t).shape t (infoAt Γ t).host
+  abbrev pub host_of : ℕ → ℕ
+  host_of t = host_by (info_at Γ t).shape t (info_at Γ t).host
 
   -- "An ordinal or set is one cell; arrays and records lay theirs in order"
   abbrev pub cells_of : ℕ → List ℕ
-  cells_of t = cellsBy (infoAt Γ t).shape t (infoAt Γ t).cells
+  cells_of t = cells_by (info_at Γ t).shape t (info_at Γ t).cells
 
   abbrev pub size_of : ℕ → ℕ
   size_of t = length (cells_of t)
 
   abbrev pub ordinal? : ℕ → Bool
-  ordinal? k = isOrdinal (infoAt Γ k).shape
+  ordinal? k = is_ordinal (info_at Γ k).shape
 
   abbrev pub set? : ℕ → Bool
-  set? k = is_set (infoAt Γ k).shape
+  set? k = is_set (info_at Γ k).shape
 
   abbrev pub array? : ℕ → Bool
-  array? k = isArray (infoAt Γ k).shape
+  array? k = is_array (info_at Γ k).shape
 
   abbrev pub record? : ℕ → Bool
-  record? k = isRecord (infoAt Γ k).shape
+  record? k = is_record (info_at Γ k).shape
 
   -- the kind of a set's members
   abbrev pub base_of : ℕ → ℕ
-  base_of k = hostOf (infoAt Γ k).element
+  base_of k = host_of (info_at Γ k).element

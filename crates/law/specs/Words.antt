@@ -15,19 +15,19 @@ pub data Word : Type 0 where
   name : Base.Name → Word
   key : Base.Name → Word
 
-unfoldable pub wordBy : Kind.Word → Run → Option Word
-wordBy (Number z) w = some (number z)
-wordBy Name w = some (name (map small w))
-wordBy (Reserved k) w = some (key (map small w))
-wordBy (Operator k) w = some (key (map small w))
-wordBy Unknown w = none
+unfoldable pub word_by : Kind.Word → Run → Option Word
+word_by (Number z) w = some (number z)
+word_by Name w = some (name (map small w))
+word_by (Reserved k) w = some (key (map small w))
+word_by (Operator k) w = some (key (map small w))
+word_by Unknown w = none
 
 -- row 5: the tree with its words read
 unfoldable mutual
   pub worded : Tree Run → Option (Tree Word)
-  worded (word w) = wordBy (word_of w) w >>= λ v. some (word v)
-  worded (form ts) = wordedAll ts >>= λ vs. some (form vs)
+  worded (word w) = word_by (word_of w) w >>= λ v. some (word v)
+  worded (form ts) = worded_all ts >>= λ vs. some (form vs)
 
-  pub wordedAll : Trees Run → Option (Trees Word)
-  wordedAll end = some end
-  wordedAll (t then ts) = worded t >>= λ v. wordedAll ts >>= λ vs. some (v then vs)
+  pub worded_all : Trees Run → Option (Trees Word)
+  worded_all end = some end
+  worded_all (t then ts) = worded t >>= λ v. worded_all ts >>= λ vs. some (v then vs)

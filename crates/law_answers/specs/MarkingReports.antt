@@ -10,19 +10,19 @@ use Rattle.law_answers.specs.declared.MarkReport.{MarkReport}
 use Rattle.law_answers.specs.declared.MarkReport.TheVariants.{Refused, Ran}
 
 -- document 01's outcomes by the cases of ours: an exception has its number and its statement
-unfoldable pub markOutcome : Ending → Machine.Outcome
-markOutcome Normal = normal
-markOutcome (Raised z p) = raised z p
-markOutcome Spent = spent
-markOutcome Stuck = sticks
+unfoldable pub mark_outcome : Ending → Machine.Outcome
+mark_outcome Normal = normal
+mark_outcome (Raised z p) = raised z p
+mark_outcome Spent = spent
+mark_outcome Stuck = sticks
 
 -- document 01's endings by the cases of ours: a refusal's number and line, or the outcome and the steps
-unfoldable pub markEnding : MarkReport → Whole.Ending
-markEnding (Refused n l) = refusal n l
-markEnding (Ran a) = ran (markOutcome a.ending) a.steps
+unfoldable pub mark_ending : MarkReport → Whole.Ending
+mark_ending (Refused n l) = refusal n l
+mark_ending (Ran a) = ran (mark_outcome a.ending) a.steps
 
 -- the answer and both lists are what q reports
 pub record MarkReports (q : Whole.Report) (r : MarkReport) (vs' : List ℤ) (ms' : List ℕ) : Type 0 where
-  pub ending : markEnding r ≡ q.ending
+  pub ending : mark_ending r ≡ q.ending
   pub values : vs' ≡ q.values
   pub marks : ms' ≡ q.marks

@@ -10,18 +10,18 @@ use Rattle.law_answers.specs.declared.Report.{Report}
 use Rattle.law_answers.specs.declared.Report.TheVariants.{Refused, Ran}
 
 -- document 01's outcomes by the cases of ours: an exception has its number and its statement
-unfoldable pub outcomeOf : Outcome → Machine.Outcome
-outcomeOf Normal = normal
-outcomeOf (Raised z p) = raised z p
-outcomeOf Spent = spent
+unfoldable pub outcome_of : Outcome → Machine.Outcome
+outcome_of Normal = normal
+outcome_of (Raised z p) = raised z p
+outcome_of Spent = spent
 
 -- document 01's endings by the cases of ours: a refusal's number and line, or the outcome and the steps
-unfoldable pub endingOf : Report → Ending
-endingOf (Refused n l) = refusal n l
-endingOf (Ran a) = ran (outcomeOf a.outcome) a.steps
+unfoldable pub ending_of : Report → Ending
+ending_of (Refused n l) = refusal n l
+ending_of (Ran a) = ran (outcome_of a.outcome) a.steps
 
 -- the answer and both lists are what q reports
 pub record Reports (q : Whole.Report) (r : Report) (vs' : List ℤ) (ms' : List ℕ) : Type 0 where
-  pub ending : endingOf r ≡ q.ending
+  pub ending : ending_of r ≡ q.ending
   pub values : vs' ≡ q.values
   pub marks : ms' ≡ q.marks

@@ -8,11 +8,11 @@ use Rattle.law_answers.specs.declared.Counted.{Counted}
 use Rattle.law_answers.specs.declared.Counted.TheVariants as counted
 
 -- the verdict on a text
-unfoldable pub toldVerdict : Meaning.Verdict Read → Verdict
-toldVerdict (accepted q) = verdict.Accepted
-toldVerdict (refused m n) = verdict.Refused m n
+unfoldable pub told_verdict : Meaning.Verdict Read → Verdict
+told_verdict (accepted q) = verdict.Accepted
+told_verdict (refused m n) = verdict.Refused m n
 
 -- the answer for a text: its refusal, or how many cells it has
-unfoldable pub cellsTold : Meaning.Verdict Read → Counted
-cellsTold (refused m n) = counted.Refused m n
-cellsTold (accepted q) = counted.Cells (length q.known.cells)
+unfoldable pub cells_told : Meaning.Verdict Read → Counted
+cells_told (refused m n) = counted.Refused m n
+cells_told (accepted q) = counted.Cells (length q.known.cells)

@@ -13,13 +13,13 @@ abbrev pub out_of : List ℕ → ℕ → Out
 out_of l p = record { list = l; place = p }
 
 -- a byte at the place; past the end nothing is written
-unfoldable pub putOne : ℕ → Out → Out
-putOne b o = cond (ltb o.place (length o.list)) (out_of (set o.list o.place b) (o.place + 1)) o
+unfoldable pub put_one : ℕ → Out → Out
+put_one b o = cond (ltb o.place (length o.list)) (out_of (set o.list o.place b) (o.place + 1)) o
 
 -- bytes one after another
 unfoldable pub put_all : List ℕ → Out → Out
 put_all [] o = o
-put_all (b ∷ bs) o = put_all bs (putOne b o)
+put_all (b ∷ bs) o = put_all bs (put_one b o)
 
 -- the bytes bs, written into l from p on, leave m and the place r
 pub record Puts (bs l : List ℕ) (p r : ℕ) (m : List ℕ) : Type 0 where

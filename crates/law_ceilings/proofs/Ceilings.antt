@@ -6,8 +6,8 @@ use Prim.Native.Nat.{ℕ, zero, suc}
 use lib.ListN.{replicate}
 use Rattle.leaf_bytes.specs.Bytes.{bytes}
 use Rattle.law.specs.Verdict.{Verdict, Read, accepted, refused}
-use Rattle.law.specs.Whole.{verdictOf}
-use Rattle.law.specs.Print.{decimalOf}
+use Rattle.law.specs.Whole.{verdict_of}
+use Rattle.law.specs.Print.{decimal_of}
 use Rattle.law.proofs.Open.{everything}
 
 -- n copies of the bytes; n copies with the numbers from i on between two parts
@@ -17,24 +17,24 @@ times (suc n) xs = xs ++ times n xs
 
 unfoldable pub numbered : List ℕ → List ℕ → ℕ → ℕ → List ℕ
 numbered xs ys i zero = []
-numbered xs ys i (suc n) = xs ++ (decimalOf i ++ (ys ++ numbered xs ys (suc i) n))
+numbered xs ys i (suc n) = xs ++ (decimal_of i ++ (ys ++ numbered xs ys (suc i) n))
 
 abbrev main : List ℕ
 main = bytes "(main)\n"
 
 -- the verdict on a text, with a working list that is long enough
 abbrev judged : List ℕ → Verdict Read
-judged text = verdictOf text 16384
+judged text = verdict_of text 16384
 
-abbrev isAccepted : Verdict Read → Bool
-isAccepted (accepted r) = true
-isAccepted (refused n l) = false
+abbrev is_accepted : Verdict Read → Bool
+is_accepted (accepted r) = true
+is_accepted (refused n l) = false
 
 -- 64 declared types, aliases among them
 abbrev types : ℕ → List ℕ
 types n = numbered (bytes "(type t") (bytes " integer)\n") 0 n
 
-pub declared-types : (isAccepted (judged (types 64 ++ main)) ≡ true) × (judged (types 65 ++ main) ≡ refused 9 65)
+pub declared-types : (is_accepted (judged (types 64 ++ main)) ≡ true) × (judged (types 65 ++ main) ≡ refused 9 65)
 unfolding everything times numbered
 declared-types = (refl, refl)
 
@@ -47,7 +47,7 @@ variables = refl
 abbrev procs : ℕ → List ℕ
 procs n = numbered (bytes "(proc p") (bytes ")\n") 0 n
 
-pub procedures : (isAccepted (judged (procs 32 ++ main)) ≡ true) × (judged (procs 33 ++ main) ≡ refused 9 33)
+pub procedures : (is_accepted (judged (procs 32 ++ main)) ≡ true) × (judged (procs 33 ++ main) ≡ refused 9 33)
 unfolding everything times numbered
 procedures = (refl, refl)
 
@@ -56,7 +56,7 @@ abbrev enum : ℕ → List ℕ → List ℕ
 enum n more = bytes "(type e (enum" ++ (numbered (bytes " e") [] 0 n ++ (more ++ bytes "))\n"))
 
 pub enum-names :
-    (isAccepted (judged (enum 256 [] ++ main)) ≡ true)
+    (is_accepted (judged (enum 256 [] ++ main)) ≡ true)
     × (judged (enum 257 [] ++ main) ≡ refused 9 1)
     × (judged (enum 257 (bytes " e0") ++ main) ≡ refused 7 1)
 unfolding everything times numbered
@@ -64,7 +64,7 @@ enum-names = (refl, refl, refl)
 
 -- 4,096 brackets and words over the text: `(main` and its bracket are 2, `(begin)` is 2
 pub nodes :
-    (isAccepted (judged (bytes "(main" ++ (times 2047 (bytes "(begin)") ++ bytes ")\n"))) ≡ true)
+    (is_accepted (judged (bytes "(main" ++ (times 2047 (bytes "(begin)") ++ bytes ")\n"))) ≡ true)
     × (judged (bytes "(proc p" ++ (times 2046 (bytes "(begin)") ++ (bytes ")\n" ++ main))) ≡ refused 9 2)
     × (judged (bytes "(main" ++ (times 2047 (bytes "(begin)") ++ bytes "(raise true))\n")) ≡ refused 8 1)
 unfolding everything times numbered
@@ -89,7 +89,7 @@ abbrev many : List ℕ → List ℕ
 many more = bytes "(proc p (" ++ (numbered (bytes "(a") (bytes " integer)") 0 600 ++ (more ++ bytes "))\n(main)\n"))
 
 pub parameters :
-    (isAccepted (judged (ramps 16 ++ main)) ≡ true)
+    (is_accepted (judged (ramps 16 ++ main)) ≡ true)
     × (judged (ramps 16 ++ bytes "(proc q ((a integer)))\n(main)\n") ≡ refused 9 17)
     × (judged (ramps 16 ++ bytes "(var x integer)\n(main)\n") ≡ refused 9 17)
     × (judged (bytes "(var x integer)\n" ++ (ramps 16 ++ main)) ≡ refused 9 17)
@@ -102,8 +102,8 @@ parameters = (refl, refl, refl, refl, refl, refl, refl, refl)
 
 -- 16,384 working numbers, then 32,768 bytes, before anything else
 pub lengths :
-    (verdictOf (replicate 32769 0) 16383 ≡ refused 1 0)
-    × (verdictOf (replicate 32769 0) 16384 ≡ refused 2 0)
-    × (verdictOf (replicate 32768 0) 16384 ≡ refused 3 1)
+    (verdict_of (replicate 32769 0) 16383 ≡ refused 1 0)
+    × (verdict_of (replicate 32769 0) 16384 ≡ refused 2 0)
+    × (verdict_of (replicate 32768 0) 16384 ≡ refused 3 1)
 unfolding everything replicate
 lengths = (refl, refl, refl)

@@ -12,8 +12,8 @@ use Rattle.leaf_bytes.specs.declared.bytes.Class.{Class}
 use Rattle.leaf_bytes.specs.declared.bytes.Class.TheVariants.{Feed, Space, Open, Close, Visible, Refused}
 use Rattle.leaf_bytes.specs.Bytes.{class_of}
 use Rattle.law.specs.Lines.{Line}
-use Rattle.law.specs.Trees.{Tree, word, form, Trees, end, ◌then◌, Place, before, after, faulty, inside, deeper, opened, closed, spelled, past, isAfter, balanced, Run, first, push, treesOf, single, form_of}
-use Rattle.law_theorems.specs.Readings.{Reading, reading, ended, wrapped, withByte, readBytes}
+use Rattle.law.specs.Trees.{Tree, word, form, Trees, end, ◌then◌, Place, before, after, faulty, inside, deeper, opened, closed, spelled, past, is_after, balanced, Run, first, push, trees_of, single, form_of}
+use Rattle.law_theorems.specs.Readings.{Reading, reading, ended, wrapped, with_byte, read_bytes}
 use Rattle.law_theorems.proofs.Reading.{trees-read}
 use Rattle.law_theorems.proofs.TreeDepth as Depth
 use Rattle.law_theorems.proofs.TreeDepth.{Shallow, ShallowAll}
@@ -54,7 +54,7 @@ past-faulty Visible = refl
 past-faulty Refused = refl
 
 lost : {X : Type 0} (bs : List ℕ) → balanced bs faulty ≡ true → X
-unfolding balanced isAfter
+unfolding balanced is_after
 lost [] h = wrong h
 lost (b ∷ bs) h = lost bs (rw (past-faulty (class_of b)) at h)
 
@@ -78,58 +78,58 @@ wrapped-more n l (level h (level g m)) = level (Depth.◌then◌ (same-depth n l
 -- ---- one byte
 
 module _ (b : ℕ) (bs : List ℕ) (r : Reading) (ih : (q : Place) → balanced bs q ≡ true → Deeply q r) where
-  spaced : (p : Place) → Deeply p r → Deeply p (withByte Space b r)
-  unfolding withByte
-  spaced before (one-deep f e) = one-deep {r = withByte Space b r} f (rw e)
+  spaced : (p : Place) → Deeply p r → Deeply p (with_byte Space b r)
+  unfolding with_byte
+  spaced before (one-deep f e) = one-deep {r = with_byte Space b r} f (rw e)
   spaced (inside n) (open-deep e) = open-deep e
-  spaced after (nothing-deep e) = nothing-deep {r = withByte Space b r} (rw e)
+  spaced after (nothing-deep e) = nothing-deep {r = with_byte Space b r} (rw e)
 
-  deep : (n : ℕ) (t : Bool) → ltb n 31 ≡ t → balanced bs (deeper t n) ≡ true → Deeply (inside n) (withByte Open b r)
-  unfolding deeper withByte
+  deep : (n : ℕ) (t : Bool) → ltb n 31 ≡ t → balanced bs (deeper t n) ≡ true → Deeply (inside n) (with_byte Open b r)
+  unfolding deeper with_byte
   deep n true l h = go (ih (inside (suc n)) h)
     where
-      go : Deeply (inside (suc n)) r → Deeply (inside n) (withByte Open b r)
+      go : Deeply (inside (suc n)) r → Deeply (inside n) (with_byte Open b r)
       go (open-deep e) = open-deep (wrapped-more n (ltb-true n 31 l) e)
   deep n false l h = lost bs h
 
-  opens : (p : Place) → balanced bs (opened p) ≡ true → Deeply p (withByte Open b r)
-  unfolding opened withByte
+  opens : (p : Place) → balanced bs (opened p) ≡ true → Deeply p (with_byte Open b r)
+  unfolding opened with_byte
   opens before h = go (ih (inside 0) h)
     where
       outer : {k : Stack} → Levels 1 k → Deeply before (reading [] (wrapped k))
       outer (level {ts = ts} h none) = one-deep {f = ts} h refl
 
-      go : Deeply (inside 0) r → Deeply before (withByte Open b r)
+      go : Deeply (inside 0) r → Deeply before (with_byte Open b r)
       go (open-deep e) = outer e
   opens (inside n) h = deep n (ltb n 31) refl h
   opens after h = lost bs h
   opens faulty h = lost bs h
 
-  closes : (p : Place) → balanced bs (closed p) ≡ true → Deeply p (withByte Close b r)
-  unfolding closed withByte
+  closes : (p : Place) → balanced bs (closed p) ≡ true → Deeply p (with_byte Close b r)
+  unfolding closed with_byte
   closes before h = lost bs h
   closes (inside zero) h = go (ih after h)
     where
-      go : Deeply after r → Deeply (inside zero) (withByte Close b r)
-      go (nothing-deep e) = open-deep {n = zero} {r = withByte Close b r} (rw e (level Depth.end none))
+      go : Deeply after r → Deeply (inside zero) (with_byte Close b r)
+      go (nothing-deep e) = open-deep {n = zero} {r = with_byte Close b r} (rw e (level Depth.end none))
   closes (inside (suc n)) h = go (ih (inside n) h)
     where
-      go : Deeply (inside n) r → Deeply (inside (suc n)) (withByte Close b r)
+      go : Deeply (inside n) r → Deeply (inside (suc n)) (with_byte Close b r)
       go (open-deep e) = open-deep (level Depth.end e)
   closes after h = lost bs h
   closes faulty h = lost bs h
 
-  spells : (p : Place) → balanced bs (spelled p) ≡ true → Deeply p (withByte Visible b r)
-  unfolding spelled withByte
+  spells : (p : Place) → balanced bs (spelled p) ≡ true → Deeply p (with_byte Visible b r)
+  unfolding spelled with_byte
   spells before h = lost bs h
   spells (inside n) h = go (ih (inside n) h)
     where
-      go : Deeply (inside n) r → Deeply (inside n) (withByte Visible b r)
+      go : Deeply (inside n) r → Deeply (inside n) (with_byte Visible b r)
       go (open-deep e) = open-deep (pushed (b ∷ r.begun) r.begun r.stack n e)
   spells after h = lost bs h
   spells faulty h = lost bs h
 
-  byte_reads : (c : Class) (p : Place) → balanced bs (past c p) ≡ true → Deeply p (withByte c b r)
+  byte_reads : (c : Class) (p : Place) → balanced bs (past c p) ≡ true → Deeply p (with_byte c b r)
   unfolding past
   byte_reads Feed p h = lost bs h
   byte_reads Space p h = spaced p (ih p h)
@@ -138,15 +138,15 @@ module _ (b : ℕ) (bs : List ℕ) (r : Reading) (ih : (q : Place) → balanced 
   byte_reads Visible p h = spells p h
   byte_reads Refused p h = lost bs h
 
-deeply : (bs : List ℕ) (p : Place) → balanced bs p ≡ true → Deeply p (readBytes bs)
-unfolding balanced isAfter readBytes
+deeply : (bs : List ℕ) (p : Place) → balanced bs p ≡ true → Deeply p (read_bytes bs)
+unfolding balanced is_after read_bytes
 deeply [] before h = wrong h
 deeply [] (inside n) h = wrong h
 deeply [] after h = nothing-deep refl
 deeply [] faulty h = wrong h
-deeply (b ∷ bs) p h = byte_reads b bs (readBytes bs) (λ q e. deeply bs q e) (class_of b) p h
+deeply (b ∷ bs) p h = byte_reads b bs (read_bytes bs) (λ q e. deeply bs q e) (class_of b) p h
 
-pub reads : (bs : List ℕ) (p : Place) → balanced bs p ≡ true → Reads p (readBytes bs)
+pub reads : (bs : List ℕ) (p : Place) → balanced bs p ≡ true → Reads p (read_bytes bs)
 reads bs p h = go (deeply bs p h)
   where
     go : {p : Place} {r : Reading} → Deeply p r → Reads p r
@@ -155,9 +155,9 @@ reads bs p h = go (deeply bs p h)
     go (nothing-deep e) = nothing e
 
 -- a balanced line has its one form
-pub one_form : (bs : List ℕ) → balanced bs before ≡ true → (f : Trees Run) × (single (treesOf bs) ≡ some (form f))
+pub one_form : (bs : List ℕ) → balanced bs before ≡ true → (f : Trees Run) × (single (trees_of bs) ≡ some (form f))
 unfolding single
-one_form bs h = rw (trees-read bs) (go (readBytes bs) (reads bs before h))
+one_form bs h = rw (trees-read bs) (go (read_bytes bs) (reads bs before h))
   where
     go : (r : Reading) → Reads before r → (f : Trees Run) × (single (first (ended r.begun r.stack)) ≡ some (form f))
     go r (one f e) = (f, rw e)
@@ -165,7 +165,7 @@ one_form bs h = rw (trees-read bs) (go (readBytes bs) (reads bs before h))
 -- at most 32 deep
 pub form-depth : (l : Line) (t : Tree Run) → form_of l ≡ some t → Shallow 32 t
 unfolding form_of single
-form-depth l t h = bind-some h λ bs _ h. bind-some h λ ts hts h. given-some hts λ hb e. go (readBytes bs) (deeply bs before hb) (rw (← e, trees-read bs) at h)
+form-depth l t h = bind-some h λ bs _ h. bind-some h λ ts hts h. given-some hts λ hb e. go (read_bytes bs) (deeply bs before hb) (rw (← e, trees-read bs) at h)
   where
     go : (r : Reading) → Deeply before r → single (first (ended r.begun r.stack)) ≡ some t → Shallow 32 t
     go r (one-deep {f = f} d e) h = let q : some (form f) ≡ some t = rw e at h in rw (← some_inj q) (Depth.form d)

@@ -14,22 +14,22 @@ use lib.Dec.{eqb}
 use lib.ListN.{get_or, length, length-append, length-replicate, replicate, take, get_or-append}
 use lib.Seq.{get_or-take, length-take-le}
 use Rattle.leaf_integers.specs.Integers.{inside, is_zero}
-use Rattle.law.specs.Code.{BodyCode, Frame, noFrame}
-use Rattle.law.specs.Elaborate.{elabBody}
+use Rattle.law.specs.Code.{BodyCode, Frame, no_frame}
+use Rattle.law.specs.Elaborate.{elab_body}
 use Rattle.law.specs.Environment.{PlacedBody}
-use Rattle.law.specs.Machine.{Answer, Outcome, Proc, Procs, State, Store, caught, handled, lentCells, proc, procedureAt, store_cells}
-use Rattle.law.specs.Store.{cellOk, cellsOk, faultOf, storeFault}
+use Rattle.law.specs.Machine.{Answer, Outcome, Proc, Procs, State, Store, caught, handled, lent_cells, proc, procedure_at, store_cells}
+use Rattle.law.specs.Store.{cell_ok, cells_ok, fault_of, store_fault}
 use Rattle.law.specs.Types.{Types}
 use Rattle.law.specs.Verdict.{Read, accepted}
-use Rattle.law.specs.Whole.{filled, fresh, runAll, runBody, verdictOf}
-use Rattle.law_theorems.proofs.Inversion.{some_inj, both_some, and-true, and_both}
+use Rattle.law.specs.Whole.{filled, fresh, run_all, run_body, verdict_of}
+use Rattle.law_theorems.proofs.Inversion.{some_inj, both_some, and-true, and-both}
 use Rattle.law_theorems.proofs.TextsAgree.{Paired, body-frame, empty, more, judged-agree}
 use Rattle.law_theorems.proofs.Programs.{calling-all, no-procs}
-use Rattle.law_theorems.proofs.ValuesInRange.{none-some, okBy, Sound}
+use Rattle.law_theorems.proofs.ValuesInRange.{none-some, ok_by, Sound}
 use Rattle.law_theorems.specs.ValuesInRange.{InInt, Test, any, Formed}
-use Rattle.law_theorems.proofs.StoreInRange.{Moved, normally, outOfSteps, byException, Fine, fine, Safely, runs-s, answer-s}
+use Rattle.law_theorems.proofs.StoreInRange.{Moved, normally, out_of_steps, by_exception, Fine, fine, Safely, runs-s, answer-s}
 use Rattle.law_theorems.proofs.LinesKeep.{store-tests-length, tests-length, text-keeps, text-stand}
-use Rattle.law_theorems.specs.LinesKeep.{tests, storeTests, AllFormed, Callee, Framed, body}
+use Rattle.law_theorems.specs.LinesKeep.{tests, store_tests, AllFormed, Callee, Framed, body}
 use Rattle.law_theorems.specs.ScriptCalls.{CallingBody}
 use Rattle.law_theorems.proofs.ScriptCalls.{body-calling-also}
 
@@ -43,8 +43,8 @@ pub frames-last : (ps : Procs) (qs : List Frame) (q : Frame) (f : Proc) → Fram
 frames-last [] [] q f no_frames e = frame e no_frames
 frames-last (g ∷ ps) (r ∷ qs) q f (frame d h) e = frame d (frames-last ps qs q f h e)
 
-pub frame-at : (ps : Procs) (qs : List Frame) → Frames ps qs → (p : ℕ) → (procedureAt ps p).frame ≡ get_or qs p noFrame
-unfolding procedureAt
+pub frame-at : (ps : Procs) (qs : List Frame) → Frames ps qs → (p : ℕ) → (procedure_at ps p).frame ≡ get_or qs p no_frame
+unfolding procedure_at
 frame-at [] [] no_frames p = refl
 frame-at (g ∷ ps) (q ∷ qs) (frame e h) zero = sym e
 frame-at (g ∷ ps) (q ∷ qs) (frame e h) (suc p) = frame-at ps qs h p
@@ -54,55 +54,55 @@ frame-at (g ∷ ps) (q ∷ qs) (frame e h) (suc p) = frame-at ps qs h p
 module _ {xs : List Test} where
   caught-s : {f : State → Answer} → Safely xs f → {o : Outcome} (st : State) → Moved o → Sound xs st.store → Fine xs (caught o st f)
   caught-s h st normally g = fine normally g
-  caught-s h st outOfSteps g = fine outOfSteps g
-  caught-s h st byException g = h.at st g
+  caught-s h st out_of_steps g = fine out_of_steps g
+  caught-s h st by_exception g = h.at st g
 
   pub handled-s : (b : Bool) {f g : State → Answer} → Safely xs f → Safely xs g → Safely xs (λ st. handled b (f st) g)
   handled-s true {f} hf hg = record { at = λ st g. let a = hf.at st g in caught-s hg (f st).state a.moved a.sound }
   handled-s false hf hg = hf
 
   -- a body whose calls have the parameters that the procedures have
-  pub body-s : (b : PlacedBody) (c : BodyCode) → elabBody b.types b.vars b.frame b.body ≡ some c → Formed b.types b.vars xs → (ps : Procs)
-      → CallingBody (λ p ts. Framed b.types xs ts (procedureAt ps p).frame) b.body → ((i : ℕ) → Safely xs (procedureAt ps i).run) → Safely xs (runBody c ps)
-  unfolding elabBody runBody
+  pub body-s : (b : PlacedBody) (c : BodyCode) → elab_body b.types b.vars b.frame b.body ≡ some c → Formed b.types b.vars xs → (ps : Procs)
+      → CallingBody (λ p ts. Framed b.types xs ts (procedure_at ps p).frame) b.body → ((i : ℕ) → Safely xs (procedure_at ps i).run) → Safely xs (run_body c ps)
+  unfolding elab_body run_body
   body-s b c h 𝓕 ps k hp = both_some h λ x y hx hy e.
       rw (← some_inj e) (handled-s b.body.handles (runs-s b.types b.vars xs 𝓕 ps hp b.body.stmts x hx k.stmts) (runs-s b.types b.vars xs 𝓕 ps hp b.body.handler y hy k.handler))
 
-  formed-s : (b : PlacedBody) (c : BodyCode) → elabBody b.types b.vars b.frame b.body ≡ some c → Formed b.types b.vars xs → (ps : Procs) (qs : List Frame) → Frames ps qs
-      → CallingBody (Callee b.types xs qs) b.body → ((i : ℕ) → Safely xs (procedureAt ps i).run) → Safely xs (runBody c ps)
+  formed-s : (b : PlacedBody) (c : BodyCode) → elab_body b.types b.vars b.frame b.body ≡ some c → Formed b.types b.vars xs → (ps : Procs) (qs : List Frame) → Frames ps qs
+      → CallingBody (Callee b.types xs qs) b.body → ((i : ℕ) → Safely xs (procedure_at ps i).run) → Safely xs (run_body c ps)
   formed-s b c h 𝓕 ps qs f k hp = body-s b c h 𝓕 ps
       (body-calling-also (λ p ts c. rw (frame-at ps qs f p) c.framed) k) hp
 
-  pub all-s : {bs : List PlacedBody} {cs : List BodyCode} → Paired bs cs → (ps : Procs) (qs : List Frame) → Frames ps qs → AllFormed xs qs bs → ((i : ℕ) → Safely xs (procedureAt ps i).run) → Safely xs (runAll cs ps)
-  unfolding runAll
+  pub all-s : {bs : List PlacedBody} {cs : List BodyCode} → Paired bs cs → (ps : Procs) (qs : List Frame) → Frames ps qs → AllFormed xs qs bs → ((i : ℕ) → Safely xs (procedure_at ps i).run) → Safely xs (run_all cs ps)
+  unfolding run_all
   all-s empty ps qs f a hp = answer-s normally
   all-s (more {b} {c} h empty) ps qs f (body 𝓕 k a) hp = formed-s b c h 𝓕 ps qs f k hp
-  all-s (more {b} {c} h (more h' p)) ps qs f (body 𝓕 k a) hp = all-s (more h' p) (ps ++ (proc c.frame (runBody c ps) ∷ [])) (qs ++ (b.frame ∷ [])) (frames-last ps qs b.frame _ f (body-frame b c h)) a
+  all-s (more {b} {c} h (more h' p)) ps qs f (body 𝓕 k a) hp = all-s (more h' p) (ps ++ (proc c.frame (run_body c ps) ∷ [])) (qs ++ (b.frame ∷ [])) (frames-last ps qs b.frame _ f (body-frame b c h)) a
       (calling-all (λ (g : Proc). Safely xs g.run) (answer-s normally) ps _ (formed-s b c h 𝓕 ps qs f k hp) hp)
 
 -- ---- rows 10 and 11 are what the machines' theorem asks of a store, and what it says of one
 
-cells-each : (Γ : Types) (ts : List ℕ) (vs : List ℤ) (ms : List ℕ) → length vs ≡ length ts → length ms ≡ length ts → cellsOk Γ ts vs ms ≡ true
-    → (i : ℕ) → okBy (get_or (tests Γ ts) i any) (get_or vs i (pos 0)) (get_or ms i 0) ≡ true
-unfolding cellsOk tests is_zero
+cells-each : (Γ : Types) (ts : List ℕ) (vs : List ℤ) (ms : List ℕ) → length vs ≡ length ts → length ms ≡ length ts → cells_ok Γ ts vs ms ≡ true
+    → (i : ℕ) → ok_by (get_or (tests Γ ts) i any) (get_or vs i (pos 0)) (get_or ms i 0) ≡ true
+unfolding cells_ok tests is_zero
 cells-each Γ [] [] [] lv lm h i = refl
 cells-each Γ [] [] (m ∷ ms) lv lm h i = absurd (omega arith)
 cells-each Γ [] (v ∷ vs) ms lv lm h i = absurd (omega arith)
 cells-each Γ (t ∷ ts) [] ms lv lm h i = absurd (omega arith)
 cells-each Γ (t ∷ ts) (v ∷ vs) [] lv lm h i = absurd (omega arith)
-cells-each Γ (t ∷ ts) (v ∷ vs) (m ∷ ms) lv lm h zero = (and-true (cellOk Γ t v m) _ h).0
-cells-each Γ (t ∷ ts) (v ∷ vs) (m ∷ ms) lv lm h (suc i) = cells-each Γ ts vs ms (omega arith) (omega arith) (and-true (cellOk Γ t v m) _ h).1 i
+cells-each Γ (t ∷ ts) (v ∷ vs) (m ∷ ms) lv lm h zero = (and-true (cell_ok Γ t v m) _ h).0
+cells-each Γ (t ∷ ts) (v ∷ vs) (m ∷ ms) lv lm h (suc i) = cells-each Γ ts vs ms (omega arith) (omega arith) (and-true (cell_ok Γ t v m) _ h).1 i
 
 pub each-cells : (Γ : Types) (ts : List ℕ) (vs : List ℤ) (ms : List ℕ)
-    → ((i : ℕ) → i < length ts → okBy (get_or (tests Γ ts) i any) (get_or vs i (pos 0)) (get_or ms i 0) ≡ true) → cellsOk Γ ts vs ms ≡ true
-unfolding cellsOk tests is_zero
+    → ((i : ℕ) → i < length ts → ok_by (get_or (tests Γ ts) i any) (get_or vs i (pos 0)) (get_or ms i 0) ≡ true) → cells_ok Γ ts vs ms ≡ true
+unfolding cells_ok tests is_zero
 each-cells Γ [] vs ms h = refl
 each-cells Γ (t ∷ ts) [] ms h = refl
 each-cells Γ (t ∷ ts) (v ∷ vs) [] h = refl
-each-cells Γ (t ∷ ts) (v ∷ vs) (m ∷ ms) h = and_both (cellOk Γ t v m) _ (h 0 (omega arith)) (each-cells Γ ts vs ms (λ i l. h (suc i) (omega arith)))
+each-cells Γ (t ∷ ts) (v ∷ vs) (m ∷ ms) h = and-both (cell_ok Γ t v m) _ (h 0 (omega arith)) (each-cells Γ ts vs ms (λ i l. h (suc i) (omega arith)))
 
-fault-none : {P : Type 0} (b c : Bool) → faultOf b c ≡ O.none → (b ≡ true → c ≡ true → P) → P
-unfolding faultOf
+fault-none : {P : Type 0} (b c : Bool) → fault_of b c ≡ O.none → (b ≡ true → c ≡ true → P) → P
+unfolding fault_of
 fault-none false c h k = absurd (none-some (sym h))
 fault-none true false h k = absurd (none-some (sym h))
 fault-none true true h k = k refl refl
@@ -115,10 +115,10 @@ zero-int = record { ok = refl }
 pub record Passes (Γ : Types) (ts : List ℕ) (vs : List ℤ) (ms : List ℕ) : Type 0 where
   pub values : length vs ≡ length ts
   pub marks : length ms ≡ length ts
-  pub each : (i : ℕ) → okBy (get_or (tests Γ ts) i any) (get_or vs i (pos 0)) (get_or ms i 0) ≡ true
+  pub each : (i : ℕ) → ok_by (get_or (tests Γ ts) i any) (get_or vs i (pos 0)) (get_or ms i 0) ≡ true
 
-pub store-passes : (Γ : Types) (ts : List ℕ) (vs : List ℤ) (ms : List ℕ) → storeFault Γ ts vs ms ≡ O.none → Passes Γ ts vs ms
-unfolding storeFault
+pub store-passes : (Γ : Types) (ts : List ℕ) (vs : List ℤ) (ms : List ℕ) → store_fault Γ ts vs ms ≡ O.none → Passes Γ ts vs ms
+unfolding store_fault
 store-passes Γ ts vs ms h = fault-none _ _ h λ l c.
     let q = and-true (eqb (length vs) (length ts)) (eqb (length ms) (length ts)) l in
     let lv : length vs ≡ length ts = eqb-true _ _ (q.0) in let lm : length ms ≡ length ts = eqb-true _ _ (q.1) in
@@ -142,7 +142,7 @@ pub filled-length : {A : Type 0} (d : A) (xs : List A) → length (filled d xs) 
 filled-length d xs = rw (length-append, length-replicate)
 
 -- what is past the end of lent lists passes any test
-past-ok : (x : Test) (vs : List ℤ) (ms : List ℕ) (i : ℕ) → length vs ≤ i → length ms ≤ i → okBy x (get_or vs i (pos 0)) (get_or ms i 0) ≡ true
+past-ok : (x : Test) (vs : List ℤ) (ms : List ℕ) (i : ℕ) → length vs ≤ i → length ms ≤ i → ok_by x (get_or vs i (pos 0)) (get_or ms i 0) ≡ true
 unfolding is_zero
 past-ok x [] [] i lv lm = refl
 past-ok x [] (m ∷ ms) zero lv lm = absurd (omega arith)
@@ -153,14 +153,14 @@ past-ok x (v ∷ vs) (m ∷ ms) (suc i) lv lm = past-ok x vs ms i (omega arith) 
 
 -- so tests may be added past what is lent
 ok-more : (xs ys : List Test) (vs : List ℤ) (ms : List ℕ) → length vs ≡ length xs → length ms ≡ length xs → (i : ℕ)
-    → okBy (get_or xs i any) (get_or vs i (pos 0)) (get_or ms i 0) ≡ true → okBy (get_or (xs ++ ys) i any) (get_or vs i (pos 0)) (get_or ms i 0) ≡ true
+    → ok_by (get_or xs i any) (get_or vs i (pos 0)) (get_or ms i 0) ≡ true → ok_by (get_or (xs ++ ys) i any) (get_or vs i (pos 0)) (get_or ms i 0) ≡ true
 ok-more xs ys vs ms lv lm i h = go (dec_lt i (length xs))
   where
-    go : Dec (i < length xs) → okBy (get_or (xs ++ ys) i any) (get_or vs i (pos 0)) (get_or ms i 0) ≡ true
+    go : Dec (i < length xs) → ok_by (get_or (xs ++ ys) i any) (get_or vs i (pos 0)) (get_or ms i 0) ≡ true
     go (yes l) = rw (get_or-append xs ys any i l) h
     go (no n) = past-ok (get_or (xs ++ ys) i any) vs ms i (omega arith) (omega arith)
 
-pub store-sound : (Γ : Types) (ts ps : List ℕ) → length ts ≤ lentCells → lentCells + length ps ≤ store_cells → (vs : List ℤ) (ms : List ℕ) → storeFault Γ ts vs ms ≡ O.none → Sound (storeTests Γ ts ps) (fresh vs ms)
+pub store-sound : (Γ : Types) (ts ps : List ℕ) → length ts ≤ lent_cells → lent_cells + length ps ≤ store_cells → (vs : List ℤ) (ms : List ℕ) → store_fault Γ ts vs ms ≡ O.none → Sound (store_tests Γ ts ps) (fresh vs ms)
 store-sound Γ ts ps lt lp vs ms h =
     let p = store-passes Γ ts vs ms h in let n = tests-length Γ ts in
     record {
@@ -171,8 +171,8 @@ store-sound Γ ts ps lt lp vs ms h =
     }
 
 -- as many cells of a sound store as there are types pass
-pub sound-store : (Γ : Types) (ts ps : List ℕ) (n : ℕ) (m : Store) → n ≡ length ts → Sound (storeTests Γ ts ps) m → storeFault Γ ts (take n m.values) (take n m.marks) ≡ O.none
-unfolding storeFault faultOf
+pub sound-store : (Γ : Types) (ts ps : List ℕ) (n : ℕ) (m : Store) → n ≡ length ts → Sound (store_tests Γ ts ps) m → store_fault Γ ts (take n m.values) (take n m.marks) ≡ O.none
+unfolding store_fault fault_of
 sound-store Γ ts ps n m e s =
     let l = store-tests-length Γ ts ps in let k = tests-length Γ ts in
     let lv : length (take n m.values) ≡ length ts = length-take-le n m.values (omega (arith, e, s.enough)) ∙ e in
@@ -182,16 +182,16 @@ sound-store Γ ts ps n m e s =
       lm,
       eq-eqb (length ts) (length ts) refl,
       each-cells Γ ts (take n m.values) (take n m.marks)
-          (λ i l. rw (get_or-take n m.values i (pos 0) (omega (arith, e)), get_or-take n m.marks i 0 (omega (arith, e)), ← get_or-append (tests Γ ts) (replicate (lentCells - length ts) any ++ tests Γ ps) any i (omega arith)) (s.each i)),
+          (λ i l. rw (get_or-take n m.values i (pos 0) (omega (arith, e)), get_or-take n m.marks i 0 (omega (arith, e)), ← get_or-append (tests Γ ts) (replicate (lent_cells - length ts) any ++ tests Γ ps) any i (omega arith)) (s.each i)),
     )
 
 -- ---- an accepted text
 
-abbrev pub testsOf : Read → List Test
-testsOf r = storeTests r.known.env.types r.known.cells r.known.env.parameters
+abbrev pub tests_of : Read → List Test
+tests_of r = store_tests r.known.env.types r.known.cells r.known.env.parameters
 
-pub text-safely : (text : List ℕ) (work : ℕ) (r : Read) → verdictOf text work ≡ accepted r → Safely (testsOf r) (runAll r.codes [])
+pub text-safely : (text : List ℕ) (work : ℕ) (r : Read) → verdict_of text work ≡ accepted r → Safely (tests_of r) (run_all r.codes [])
 text-safely text work r accept =
     let k = text-keeps text work r accept in
     judged-agree text work r accept λ es _ p.
-    all-s p [] [] no_frames (k.bodies (testsOf r) (text-stand r.known k)) (no-procs (λ (f : Proc). Safely (testsOf r) f.run) (answer-s normally))
+    all-s p [] [] no_frames (k.bodies (tests_of r) (text-stand r.known k)) (no-procs (λ (f : Proc). Safely (tests_of r) f.run) (answer-s normally))

@@ -15,13 +15,13 @@ use lib.ListN.{get_or, length}
 use Rattle.leaf_integers.specs.Integers.{inside}
 use Rattle.leaf_integers.proofs.Order.{le-or-lt}
 use Rattle.law.specs.Base.{Name, pick}
-use Rattle.law.specs.Calculate.{Result, ◌>>=◌, fails, is, nat_of, rangeError, stuck, tested}
-use Rattle.law.specs.Chair.{evalCode, placeCode}
+use Rattle.law.specs.Calculate.{Result, ◌>>=◌, fails, is, nat_of, range_error, stuck, tested}
+use Rattle.law.specs.Chair.{eval_code, place_code}
 use Rattle.law.specs.Code.{cell}
-use Rattle.law.specs.Elaborate.{Located, elabTarget}
+use Rattle.law.specs.Elaborate.{Located, elab_target}
 use Rattle.law.specs.Machine.{Store, sole}
 use Rattle.law.specs.Script.{Target, at, dot, var}
-use Rattle.law.specs.Types.{Field, TypeSort, Types, Var, Vars, array?, arrayType, cells_of, facts, field_of, infoAt, isArray, ordinalType, recordType, setType, size_of, undeclared, variable}
+use Rattle.law.specs.Types.{Field, TypeSort, Types, Var, Vars, array?, array_type, cells_of, facts, field_of, info_at, is_array, ordinal_type, record_type, set_type, size_of, undeclared, variable}
 use Rattle.law_theorems.proofs.Inversion.{and-true, bind-some, both_some, given-some, none-some, some_inj}
 use Rattle.law_theorems.proofs.ValuesInRange.{wrong}
 use Rattle.law_theorems.specs.Components.{Aside, above, below, same}
@@ -56,26 +56,26 @@ no-stuck : {A P : Type 0} {a : A} → stuck ≡ is a → P
 no-stuck {a} h = absurd (let z : ◌≡◌ {A = ℕ} 0 1 = cc in omega arith)
 
 -- an array has no fields
-array-fields : (s : TypeSort) → isArray (facts s).shape ≡ true → (facts s).fields ≡ []
-array-fields (ordinalType h lo hi) e = wrong e
-array-fields (setType b lo hi) e = wrong e
-array-fields (arrayType i e lo hi cs) p = refl
-array-fields (recordType fs cs) e = wrong e
+array-fields : (s : TypeSort) → is_array (facts s).shape ≡ true → (facts s).fields ≡ []
+array-fields (ordinal_type h lo hi) e = wrong e
+array-fields (set_type b lo hi) e = wrong e
+array-fields (array_type i e lo hi cs) p = refl
+array-fields (record_type fs cs) e = wrong e
 
 module _ (Γ : Types) (Δ : Vars) (xs : List Test) (𝓕 : Formed Γ Δ xs) where
   -- a part of type t at the offset o of a value of type u
   pub data Part (t : ℕ) : ℕ → ℕ → Type 0 where
     whole : Part t t 0
-    element : {u o : ℕ} (z : ℤ) (p : ℕ) → array? Γ u ≡ true → inside (infoAt Γ u).low (infoAt Γ u).high z ≡ true → Part t (infoAt Γ u).element o
-        → p ≡ nat_of (z -ℤ (infoAt Γ u).low) * size_of Γ (infoAt Γ u).element + o → Part t u p
-    field : {u o : ℕ} (n : Name) (f : Field) (p : ℕ) → field_of (infoAt Γ u).fields n ≡ some f → Part t f.type o → p ≡ f.offset + o → Part t u p
+    element : {u o : ℕ} (z : ℤ) (p : ℕ) → array? Γ u ≡ true → inside (info_at Γ u).low (info_at Γ u).high z ≡ true → Part t (info_at Γ u).element o
+        → p ≡ nat_of (z -ℤ (info_at Γ u).low) * size_of Γ (info_at Γ u).element + o → Part t u p
+    field : {u o : ℕ} (n : Name) (f : Field) (p : ℕ) → field_of (info_at Γ u).fields n ≡ some f → Part t f.type o → p ≡ f.offset + o → Part t u p
 
   part-size : {t u o : ℕ} → Part t u o → o + size_of Γ t ≤ size_of Γ u
   part-size whole = omega arith
   part-size (element {u} z p a i q e) = let l = (𝓕.elements u a z i).short in let m = part-size q in omega arith
   part-size (field {u} n f p h q e) = let l = (𝓕.fields u n f h).short in let m = part-size q in omega arith
 
-  no_both : {P : Type 0} (u : ℕ) (n : Name) (f : Field) → array? Γ u ≡ true → field_of (infoAt Γ u).fields n ≡ some f → P
+  no_both : {P : Type 0} (u : ℕ) (n : Name) (f : Field) → array? Γ u ≡ true → field_of (info_at Γ u).fields n ≡ some f → P
   unfolding field_of
   no_both u n f a h = none-some (rw (array-fields (get_or Γ u undeclared) a) at h)
 
@@ -90,16 +90,16 @@ module _ (Γ : Types) (Δ : Vars) (xs : List Test) (𝓕 : Formed Γ Δ xs) wher
   parts-lap {w = w} (element z p a i r e) (field n f q h s d) = no_both w n f a h
   parts-lap {w = w} (field n f q h s d) (element z p a i r e) = no_both w n f a h
   parts-lap {t = t} {u = u} {w = w} (element {o = o} z p a i r e) (element {o = v} y q b j s d) =
-      go (nat_of (z -ℤ (infoAt Γ w).low)) (nat_of (y -ℤ (infoAt Γ w).low)) e d (parts-lap r s)
+      go (nat_of (z -ℤ (info_at Γ w).low)) (nat_of (y -ℤ (info_at Γ w).low)) e d (parts-lap r s)
     where
-      go : (m n : ℕ) → p ≡ m * size_of Γ (infoAt Γ w).element + o → q ≡ n * size_of Γ (infoAt Γ w).element + v → Lap o (size_of Γ t) v (size_of Γ u) → Lap p (size_of Γ t) q (size_of Γ u)
+      go : (m n : ℕ) → p ≡ m * size_of Γ (info_at Γ w).element + o → q ≡ n * size_of Γ (info_at Γ w).element + v → Lap o (size_of Γ t) v (size_of Γ u) → Lap p (size_of Γ t) q (size_of Γ u)
       go m n e d c = by (le-or-lt m n) (le-or-lt n m)
         where
           by : (m ≤ n) ⊎ (n < m) → (n ≤ m) ⊎ (m < n) → Lap p (size_of Γ t) q (size_of Γ u)
-          by (inr l) k = over (rows (size_of Γ u) (size_of Γ (infoAt Γ w).element) v o n m q p (part-size s) d e l)
-          by (inl l) (inr k) = under (rows (size_of Γ t) (size_of Γ (infoAt Γ w).element) o v m n p q (part-size r) e d k)
-          by (inl l) (inl k) = let x : m ≡ n = omega arith in lap-more (m * size_of Γ (infoAt Γ w).element) p q e (rw x d) c
-  parts-lap {t = t} {u = u} {w = w} (field {o = o} n f p h r e) (field {o = v} m g q k s d) = go (𝓕.fieldsApart w n m f g h k) (λ y. parts-lap r (rw (← y) at s))
+          by (inr l) k = over (rows (size_of Γ u) (size_of Γ (info_at Γ w).element) v o n m q p (part-size s) d e l)
+          by (inl l) (inr k) = under (rows (size_of Γ t) (size_of Γ (info_at Γ w).element) o v m n p q (part-size r) e d k)
+          by (inl l) (inl k) = let x : m ≡ n = omega arith in lap-more (m * size_of Γ (info_at Γ w).element) p q e (rw x d) c
+  parts-lap {t = t} {u = u} {w = w} (field {o = o} n f p h r e) (field {o = v} m g q k s d) = go (𝓕.fields_apart w n m f g h k) (λ y. parts-lap r (rw (← y) at s))
     where
       go : Parted Γ f.offset f.type g.offset g.type → (f.type ≡ g.type → Lap o (size_of Γ t) v (size_of Γ u)) → Lap p (size_of Γ t) q (size_of Γ u)
       go (one x y) c = lap-more f.offset p q e (rw x d) (c y)
@@ -107,13 +107,13 @@ module _ (Γ : Types) (Δ : Vars) (xs : List Test) (𝓕 : Formed Γ Δ xs) wher
       go (behind l) c = let x = part-size s in over (omega arith)
 
   -- a part of a part
-  into-element : {t u o : ℕ} → Part t u o → (z : ℤ) → array? Γ t ≡ true → inside (infoAt Γ t).low (infoAt Γ t).high z ≡ true
-      → Part (infoAt Γ t).element u (o + nat_of (z -ℤ (infoAt Γ t).low) * size_of Γ (infoAt Γ t).element)
-  into-element {t} whole z a i = element z (0 + nat_of (z -ℤ (infoAt Γ t).low) * size_of Γ (infoAt Γ t).element) a i whole (omega arith)
-  into-element {t} (element y p b j q e) z a i = element y (p + nat_of (z -ℤ (infoAt Γ t).low) * size_of Γ (infoAt Γ t).element) b j (into-element q z a i) (omega arith)
-  into-element {t} (field n f p h q e) z a i = field n f (p + nat_of (z -ℤ (infoAt Γ t).low) * size_of Γ (infoAt Γ t).element) h (into-element q z a i) (omega arith)
+  into-element : {t u o : ℕ} → Part t u o → (z : ℤ) → array? Γ t ≡ true → inside (info_at Γ t).low (info_at Γ t).high z ≡ true
+      → Part (info_at Γ t).element u (o + nat_of (z -ℤ (info_at Γ t).low) * size_of Γ (info_at Γ t).element)
+  into-element {t} whole z a i = element z (0 + nat_of (z -ℤ (info_at Γ t).low) * size_of Γ (info_at Γ t).element) a i whole (omega arith)
+  into-element {t} (element y p b j q e) z a i = element y (p + nat_of (z -ℤ (info_at Γ t).low) * size_of Γ (info_at Γ t).element) b j (into-element q z a i) (omega arith)
+  into-element {t} (field n f p h q e) z a i = field n f (p + nat_of (z -ℤ (info_at Γ t).low) * size_of Γ (info_at Γ t).element) h (into-element q z a i) (omega arith)
 
-  into-field : {t u o : ℕ} → Part t u o → (n : Name) (f : Field) → field_of (infoAt Γ t).fields n ≡ some f → Part f.type u (o + f.offset)
+  into-field : {t u o : ℕ} → Part t u o → (n : Name) (f : Field) → field_of (info_at Γ t).fields n ≡ some f → Part f.type u (o + f.offset)
   into-field whole n f h = field n f (0 + f.offset) h whole (omega arith)
   into-field (element y p b j q e) n f h = element y (p + f.offset) b j (into-field q n f h) (omega arith)
   into-field (field m g p k q e) n f h = field m g (p + f.offset) k (into-field q n f h) (omega arith)
@@ -127,18 +127,18 @@ module _ (Γ : Types) (Δ : Vars) (xs : List Test) (𝓕 : Formed Γ Δ xs) wher
     pub part : Part t variable-is.type offset
     pub place : a ≡ variable-is.base + offset
 
-  lie-element : {t b : ℕ} → Lying t b → (z : ℤ) → array? Γ t ≡ true → inside (infoAt Γ t).low (infoAt Γ t).high z ≡ true
-      → Lying (infoAt Γ t).element (b + nat_of (z -ℤ (infoAt Γ t).low) * size_of Γ (infoAt Γ t).element)
+  lie-element : {t b : ℕ} → Lying t b → (z : ℤ) → array? Γ t ≡ true → inside (info_at Γ t).low (info_at Γ t).high z ≡ true
+      → Lying (info_at Γ t).element (b + nat_of (z -ℤ (info_at Γ t).low) * size_of Γ (info_at Γ t).element)
   lie-element {t} L z a i = record {
     number = L.number;
     variable-is = L.variable-is;
     known = L.known;
-    offset = L.offset + nat_of (z -ℤ (infoAt Γ t).low) * size_of Γ (infoAt Γ t).element;
+    offset = L.offset + nat_of (z -ℤ (info_at Γ t).low) * size_of Γ (info_at Γ t).element;
     part = into-element L.part z a i;
     place = let e = L.place in omega arith;
   }
 
-  lie-field : {t b : ℕ} → Lying t b → (n : Name) (f : Field) → field_of (infoAt Γ t).fields n ≡ some f → Lying f.type (b + f.offset)
+  lie-field : {t b : ℕ} → Lying t b → (n : Name) (f : Field) → field_of (info_at Γ t).fields n ≡ some f → Lying f.type (b + f.offset)
   lie-field L n f h = record {
     number = L.number;
     variable-is = L.variable-is;
@@ -149,13 +149,13 @@ module _ (Γ : Types) (Δ : Vars) (xs : List Test) (𝓕 : Formed Γ Δ xs) wher
   }
 
   in_array : (t a : ℕ) → array? Γ t ≡ true → (v : Result ℕ) → ((b : ℕ) → v ≡ is b → Lying t b) → (w : Result (List ℤ))
-      → (v >>= λ b. w >>= λ x. tested rangeError (infoAt Γ t).low (infoAt Γ t).high (sole x) >>= λ z. is (b + nat_of (z -ℤ (infoAt Γ t).low) * size_of Γ (infoAt Γ t).element)) ≡ is a
-      → Lying (infoAt Γ t).element a
+      → (v >>= λ b. w >>= λ x. tested range_error (info_at Γ t).low (info_at Γ t).high (sole x) >>= λ z. is (b + nat_of (z -ℤ (info_at Γ t).low) * size_of Γ (info_at Γ t).element)) ≡ is a
+      → Lying (info_at Γ t).element a
   unfolding tested pick
-  in_array t a p (is b) k (is x) h = go (inside (infoAt Γ t).low (infoAt Γ t).high (sole x)) refl h
+  in_array t a p (is b) k (is x) h = go (inside (info_at Γ t).low (info_at Γ t).high (sole x)) refl h
     where
-      go : (q : Bool) → inside (infoAt Γ t).low (infoAt Γ t).high (sole x) ≡ q
-          → (pick q (is (sole x)) (fails rangeError) >>= λ z. is (b + nat_of (z -ℤ (infoAt Γ t).low) * size_of Γ (infoAt Γ t).element)) ≡ is a → Lying (infoAt Γ t).element a
+      go : (q : Bool) → inside (info_at Γ t).low (info_at Γ t).high (sole x) ≡ q
+          → (pick q (is (sole x)) (fails range_error) >>= λ z. is (b + nat_of (z -ℤ (info_at Γ t).low) * size_of Γ (info_at Γ t).element)) ≡ is a → Lying (info_at Γ t).element a
       go true i h = rw (← is-inj h) (lie-element (k b refl) (sole x) p i)
       go false i h = no-fails h
   in_array t a p (is b) k (fails z) h = no-fails h
@@ -163,24 +163,24 @@ module _ (Γ : Types) (Δ : Vars) (xs : List Test) (𝓕 : Formed Γ Δ xs) wher
   in_array t a p (fails z) k w h = no-fails h
   in_array t a p stuck k w h = no-stuck h
 
-  in-record : (t a : ℕ) (n : Name) (f : Field) → field_of (infoAt Γ t).fields n ≡ some f → (v : Result ℕ) → ((b : ℕ) → v ≡ is b → Lying t b) → (v >>= λ b. is (b + f.offset)) ≡ is a → Lying f.type a
+  in-record : (t a : ℕ) (n : Name) (f : Field) → field_of (info_at Γ t).fields n ≡ some f → (v : Result ℕ) → ((b : ℕ) → v ≡ is b → Lying t b) → (v >>= λ b. is (b + f.offset)) ≡ is a → Lying f.type a
   in-record t a n f p (is b) k h = rw (← is-inj h) (lie-field (k b refl) n f p)
   in-record t a n f p (fails z) k h = no-fails h
   in-record t a n f p stuck k h = no-stuck h
 
-  pub target-lies : (g : Target) (w : Located) → elabTarget Γ Δ g ≡ some w → (m : Store) (a : ℕ) → placeCode w.place m ≡ is a → Lying w.type a
-  unfolding elabTarget placeCode
+  pub target-lies : (g : Target) (w : Located) → elab_target Γ Δ g ≡ some w → (m : Store) (a : ℕ) → place_code w.place m ≡ is a → Lying w.type a
+  unfolding elab_target place_code
   target-lies (var i) w h m a k = bind-some h λ v hv e.
       let x : is v.base ≡ is a = rw (← some_inj e) at k in let y = is-inj x in
       rw (← some_inj e) (record { number = i; variable-is = v; known = hv; offset = 0; part = whole; place = omega arith })
   target-lies (at g e) w h m a k = both_some h λ u x hu hx d. given-some d λ p v.
-      rw (← v) (in_array u.type a (and-true (array? Γ u.type) _ p).0 (placeCode u.place m) (λ b y. target-lies g u hu m b y) (evalCode x.code m) (rw (← v) at k))
+      rw (← v) (in_array u.type a (and-true (array? Γ u.type) _ p).0 (place_code u.place m) (λ b y. target-lies g u hu m b y) (eval_code x.code m) (rw (← v) at k))
   target-lies (dot g n) w h m a k = bind-some h λ u hu d. bind-some d λ f hf v.
-      rw (← some_inj v) (in-record u.type a n f hf (placeCode u.place m) (λ b y. target-lies g u hu m b y) (rw (← some_inj v) at k))
+      rw (← some_inj v) (in-record u.type a n f hf (place_code u.place m) (λ b y. target-lies g u hu m b y) (rw (← some_inj v) at k))
 
   -- of a whole variable
-  pub variable-lies : (i : ℕ) (v : Var) → variable Δ i ≡ some v → (m : Store) (a : ℕ) → placeCode (cell v.base) m ≡ is a → Lying v.type a
-  unfolding placeCode
+  pub variable-lies : (i : ℕ) (v : Var) → variable Δ i ≡ some v → (m : Store) (a : ℕ) → place_code (cell v.base) m ≡ is a → Lying v.type a
+  unfolding place_code
   variable-lies i v h m a k =
       let y : v.base ≡ a = is-inj k in
       record { number = i; variable-is = v; known = h; offset = 0; part = whole; place = omega arith }

@@ -1,4 +1,4 @@
--- Demands 2 and 3 for whole texts: the statements are in specs/Demands.antt, the hypotheses that `verdictOf` and `storeFault` find no fault.
+-- Demands 2 and 3 for whole texts: the statements are in specs/Demands.antt, the hypotheses that `verdict_of` and `store_fault` find no fault.
 use mathlib.Core.Path.{◌≡◌, ap, ◌∙◌, sym, subst, fun_ext}
 use mathlib.Core.List.{List}
 use mathlib.Core.Option.{none}
@@ -7,28 +7,28 @@ use lib.IntN.{ℤ}
 use lib.ListN.{length}
 use Rattle.law.specs.Machine.{spent, state}
 use Rattle.law.specs.Verdict.{Read, accepted}
-use Rattle.law.specs.Whole.{Report, fresh, lent, onStore, ran, report, run_of, verdictOf}
+use Rattle.law.specs.Whole.{Report, fresh, lent, on_store, ran, report, run_of, verdict_of}
 use Rattle.law.specs.Demands as Demands
-use Rattle.law.specs.Demands.{faultIn}
+use Rattle.law.specs.Demands.{fault_in}
 use Rattle.law_theorems.proofs.TextsAgree as Texts
 use Rattle.law_theorems.proofs.StoreInRange.{Fine}
 use Rattle.law_theorems.proofs.LinesKeep.{text-keeps}
-use Rattle.law_theorems.proofs.BodiesInRange.{store-passes, store-sound, sound-store, testsOf, text-safely}
+use Rattle.law_theorems.proofs.BodiesInRange.{store-passes, store-sound, sound-store, tests_of, text-safely}
 use Rattle.law_theorems.proofs.Reports.{ended, moved_on, at-most, all-spent, next-taken, same-report, spent-report, goes_on}
 
 -- an accepted text with a working list of that length, whose tables and code are r; an accepted store
-module _ (text : List ℕ) (work : ℕ) (r : Read) (accept : verdictOf text work ≡ accepted r)
-    (vs : List ℤ) (ms : List ℕ) (sane : faultIn r vs ms ≡ none) where
+module _ (text : List ℕ) (work : ℕ) (r : Read) (accept : verdict_of text work ≡ accepted r)
+    (vs : List ℤ) (ms : List ℕ) (sane : fault_in r vs ms ≡ none) where
   abbrev run : ℕ → Report
   run budget = Demands.run text work vs ms budget
 
   -- ---- both machines. The run is that of the text's code on the lent store
 
   pub run_is : (budget : ℕ) → run budget ≡ report (length vs) budget (ended r.codes (fresh vs ms) budget)
-  unfolding run_of onStore lent
+  unfolding run_of on_store lent
   run_is budget = rw (accept, Texts.unless-on, sane)
 
-  pub ends-fine : (budget : ℕ) → Fine (testsOf r) (ended r.codes (fresh vs ms) budget)
+  pub ends-fine : (budget : ℕ) → Fine (tests_of r) (ended r.codes (fresh vs ms) budget)
   ends-fine budget =
       let k = text-keeps text work r accept in
       (text-safely text work r accept).at (state (fresh vs ms) budget) (store-sound r.known.env.types r.known.cells r.known.env.parameters k.lent k.stored vs ms sane)

@@ -9,7 +9,7 @@ use lib.IntN.{ℤ}
 use lib.ListN.{drop, get_or, length, replicate, get_or-replicate, length-append, length-drop, length-replicate, get_or-append}
 use Rattle.law.specs.Machine.{Answer, Outcome, State}
 use Rattle.law.specs.Verdict.{Read, Verdict, accepted, refused}
-use Rattle.law.specs.Whole.{Ending, Report, lent, mark_of, onStore, ran, refusal, report, reported, run_of, unless, workAfter}
+use Rattle.law.specs.Whole.{Ending, Report, lent, mark_of, on_store, ran, refusal, report, reported, run_of, unless, work_after}
 use Rattle.law.specs.Demands.{Accepted, Demanded, OfAccepted, WorkCleared}
 use Rattle.law_theorems.proofs.Demand3 as Demand3
 use Rattle.law_theorems.proofs.TextsAgree as Texts
@@ -35,7 +35,7 @@ cleared-further (suc k) (y ∷ w) zero x h = absurd (not-suc-le-zero h)
 cleared-further (suc k) (y ∷ w) (suc i) x h = rw (suc-min-suc k (length w)) (cleared-further k w i x (le_of_suc-le-suc h))
 
 pub work-cleared : (w : List ℕ) → WorkCleared w
-unfolding workAfter
+unfolding work_after
 work-cleared w = record { as_long = cleared-long 16384 w; zeros = cleared-zeros 16384 w; further = λ i x h. cleared-further 16384 w i x h }
 
 -- ---- refusals
@@ -86,7 +86,7 @@ module _ (text : List ℕ) (work : ℕ) (vs : List ℤ) (ms : List ℕ) where
       }
 
   pub demands-hold : Demanded text work vs ms
-  unfolding run_of mark_of onStore
+  unfolding run_of mark_of on_store
   demands-hold = record {
     run-refused = λ budget n l e. unless-kept _ vs ms _ n l (λ r d. lent-kept _ _ vs ms budget n l d) e;
     marking-refused = λ budget n l e. unless-kept _ vs ms _ n l (λ r d. lent-kept _ _ vs ms budget n l d) e;

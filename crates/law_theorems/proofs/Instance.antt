@@ -5,25 +5,25 @@ use Prim.Native.Nat.{ℕ, suc}
 use lib.IntN.{ℤ, pos}
 use lib.ListN.{get_or, length, replicate}
 use Rattle.leaf_bytes.specs.Bytes.{bytes}
-use Rattle.law.specs.Environment.{nothingDeclared}
+use Rattle.law.specs.Environment.{nothing_declared}
 use Rattle.law.specs.Demands.{Accepted, OfAccepted}
-use Rattle.law.specs.Machine.{Store, defined, lentCells, normal, undefined}
+use Rattle.law.specs.Machine.{Store, defined, lent_cells, normal, undefined}
 use Rattle.law.specs.Parameters.{OfParameters, whole}
 use Rattle.law.proofs.Open.{everything}
 use Rattle.law.specs.Verdict.{Read, Verdict, accepted, has, refused}
-use Rattle.law.specs.Whole.{Report, ran, run_of, verdictOf}
+use Rattle.law.specs.Whole.{Report, ran, run_of, verdict_of}
 use Rattle.law_theorems.proofs.DemandsHold.{demands-hold}
 use Rattle.law_theorems.proofs.ParametersHold.{parameters-hold}
 
 -- what an accepted text gave, and of any other text nothing
 unfoldable pub read_of : Verdict Read → Read
 read_of (accepted r) = r
-read_of (refused n l) = has nothingDeclared []
+read_of (refused n l) = has nothing_declared []
 
 -- a text with a working list of 16,384 numbers and a store of undefined cells
 module _ (text : List ℕ) where
   unfoldable pub read : Read
-  read = read_of (verdictOf text 16384)
+  read = read_of (verdict_of text 16384)
 
   unfoldable pub values : List ℤ
   values = replicate (length read.known.cells) (pos 0)
@@ -102,7 +102,7 @@ abbrev store_at : ℕ → Store
 store_at budget = (whole ramps 16384 (values ramps) (marks ramps) (read ramps) budget).state.store
 
 abbrev alive : ℕ → List ℕ
-alive budget = get_or (store_at budget).marks lentCells 9 ∷ get_or (store_at budget).marks (suc lentCells) 9 ∷ get_or (store_at budget).marks (suc (suc lentCells)) 9 ∷ []
+alive budget = get_or (store_at budget).marks lent_cells 9 ∷ get_or (store_at budget).marks (suc lent_cells) 9 ∷ get_or (store_at budget).marks (suc (suc lent_cells)) 9 ∷ []
 
 pub ramps-alive : alive 4 ≡ defined ∷ defined ∷ defined ∷ []
 unfolding ramps read values marks read_of everything

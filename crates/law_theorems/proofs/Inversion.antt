@@ -40,5 +40,5 @@ module _ {A : Type 0} where
 pub and-true : (a b : Bool) → (a && b) ≡ true → (a ≡ true) × (b ≡ true)
 and-true a b h = (and-eq-true_iff a b).0 h
 
-pub and_both : (a b : Bool) → a ≡ true → b ≡ true → (a && b) ≡ true
-and_both a b h k = (and-eq-true_iff a b).1 (h, k)
+pub and-both : (a b : Bool) → a ≡ true → b ≡ true → (a && b) ≡ true
+and-both a b h k = (and-eq-true_iff a b).1 (h, k)

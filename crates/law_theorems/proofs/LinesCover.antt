@@ -11,17 +11,17 @@ use lib.Dec.{leb}
 use lib.ListN.{get_or, length, replicate, length-append, length-replicate, get_or-append, get_or-eq_default}
 use lib.Seq.{get_or-append-add}
 use Rattle.law.specs.Base.{Name}
-use Rattle.law.specs.Ceilings.{lineBounded, typeBounded}
+use Rattle.law.specs.Ceilings.{line_bounded, type_bounded}
 use Rattle.law.specs.Code.{BodyCode}
-use Rattle.law.specs.Environment.{Declared, NameSort, aProc, a_type, aValue, aVar, builtIn, copies, declNames, declareLine, enumNames, extendTypes, fieldCells, layFields, nothingDeclared, typeSortOf, valueCount}
+use Rattle.law.specs.Environment.{Declared, NameSort, a_proc, a_type, a_value, a_var, built_in, copies, decl_names, declare_line, enum_names, extend_types, field_cells, lay_fields, nothing_declared, type_sort_of, value_count}
 use Rattle.law.specs.Lines.{Line, lines_of}
 use Rattle.law.specs.Names.{entry_of}
-use Rattle.law.specs.Rules.{keepsRules}
-use Rattle.law.specs.Script.{Const, Decl, Entry, alias, array_of, enum, newType, newVar, range, recordOf, setOf}
-use Rattle.law.specs.Syntax.{LineForm, mainLine, procLine, typeLine, varLine}
-use Rattle.law.specs.Types.{TypeInfo, TypeSort, facts, Types, Var, Vars, cells_of, infoAt, isArray, isRecord, size_of, undeclared, variable}
-use Rattle.law.specs.Verdict.{Fitting, Read, accepted, has, judge, judgeLines, strictly}
-use Rattle.law.specs.Whole.{verdictOf}
+use Rattle.law.specs.Rules.{keeps_rules}
+use Rattle.law.specs.Script.{Const, Decl, Entry, alias, array_of, enum, new_type, new_var, range, record_of, set_of}
+use Rattle.law.specs.Syntax.{LineForm, main_line, proc_line, type_line, var_line}
+use Rattle.law.specs.Types.{TypeInfo, TypeSort, facts, Types, Var, Vars, cells_of, info_at, is_array, is_record, size_of, undeclared, variable}
+use Rattle.law.specs.Verdict.{Fitting, Read, accepted, has, judge, judge_lines, strictly}
+use Rattle.law.specs.Whole.{verdict_of}
 use Rattle.law_theorems.proofs.TextsAgree.{accepted-inj, onward-is, opening-is, line-good}
 use Rattle.law_theorems.proofs.Inversion.{some_inj, bind-some, given-some, and-true}
 use Rattle.law_theorems.proofs.ValuesInRange.{wrong, none-some}
@@ -38,13 +38,13 @@ all-below t n [] h a = tt
 all-below t n (f ∷ fs) h a = let k : f.1 < t = a.0 in (omega arith, all-below t n fs h a.1)
 
 module _ {Γ Γ' : Types} (x : Extends Γ Γ') where
-  cells_same : (fs : List (Name × ℕ)) → All (λ u. u < length Γ) fs → fieldCells Γ' fs ≡ fieldCells Γ fs
-  unfolding fieldCells
+  cells_same : (fs : List (Name × ℕ)) → All (λ u. u < length Γ) fs → field_cells Γ' fs ≡ field_cells Γ fs
+  unfolding field_cells
   cells_same [] a = refl
   cells_same (f ∷ fs) a = rw (same-cells x f.1 a.0, cells_same fs a.1) refl
 
-  fields-same : (fs : List (Name × ℕ)) (n : ℕ) → All (λ u. u < length Γ) fs → layFields Γ' n fs ≡ layFields Γ n fs
-  unfolding layFields
+  fields-same : (fs : List (Name × ℕ)) (n : ℕ) → All (λ u. u < length Γ) fs → lay_fields Γ' n fs ≡ lay_fields Γ n fs
+  unfolding lay_fields
   fields-same [] n a = refl
   fields-same (f ∷ fs) n a = rw (same-cells x f.1 a.0, fields-same fs (n + size_of Γ f.1) a.1) refl
 
@@ -64,33 +64,33 @@ module _ {Γ Γ' : Types} (x : Extends Γ Γ') where
   }
 
 built-none : (Γ : Types) (t : ℕ) → Built Γ t (facts undeclared)
-unfolding fieldCells layFields
+unfolding field_cells lay_fields
 built-none Γ t = record { array = λ p. wrong p; fielded = λ p. record { parts = []; cells_are = refl; fields-are = refl; earlier = tt } }
 
 -- one entry more
 built-last : (Γ : Types) (i : TypeSort) → Extends Γ (Γ ++ (i ∷ [])) → BuiltTypes Γ → Built Γ (length Γ) (facts i) → BuiltTypes (Γ ++ (i ∷ []))
 built-last Γ i x B b t = go (dec_lt t (length Γ)) (ℕ_discrete t (length Γ))
   where
-    go : Dec (t < length Γ) → Dec (t ≡ length Γ) → Built (Γ ++ (i ∷ [])) t (infoAt (Γ ++ (i ∷ [])) t)
-    go (yes l) d = rw (old Γ i t l) (built-more x t (infoAt Γ t) (omega arith) (B t))
+    go : Dec (t < length Γ) → Dec (t ≡ length Γ) → Built (Γ ++ (i ∷ [])) t (info_at (Γ ++ (i ∷ [])) t)
+    go (yes l) d = rw (old Γ i t l) (built-more x t (info_at Γ t) (omega arith) (B t))
     go (no nl) (yes q) = rw (q, new Γ i) (built-more x (length Γ) (facts i) (omega arith) b)
     go (no nl) (no nq) =
-        let e : infoAt (Γ ++ (i ∷ [])) t ≡ facts undeclared = ap facts (get_or-eq_default (Γ ++ (i ∷ [])) undeclared (rw length-append (omega arith))) in
+        let e : info_at (Γ ++ (i ∷ [])) t ≡ facts undeclared = ap facts (get_or-eq_default (Γ ++ (i ∷ [])) undeclared (rw length-append (omega arith))) in
         rw e (built-none (Γ ++ (i ∷ [])) t)
 
-built-start : BuiltTypes builtIn
+built-start : BuiltTypes built_in
 built-start zero = record { array = λ p. wrong p; fielded = λ p. wrong p }
 built-start (suc zero) = record { array = λ p. wrong p; fielded = λ p. wrong p }
-built-start (suc (suc t)) = built-none builtIn (suc (suc t))
+built-start (suc (suc t)) = built-none built_in (suc (suc t))
 
-built-declared : (Γ : Types) (d : Decl) → Valid Γ d → Extends Γ (extendTypes Γ d) → BuiltTypes Γ → BuiltTypes (extendTypes Γ d)
-unfolding typeSortOf extendTypes
+built-declared : (Γ : Types) (d : Decl) → Valid Γ d → Extends Γ (extend_types Γ d) → BuiltTypes Γ → BuiltTypes (extend_types Γ d)
+unfolding type_sort_of extend_types
 built-declared Γ (alias t) v x B = B
 built-declared Γ (enum w ws) v x B = built-last Γ _ x B (record { array = λ p. wrong p; fielded = λ p. wrong p })
 built-declared Γ (range a b) v x B = built-last Γ _ x B (record { array = λ p. wrong p; fielded = λ p. wrong p })
-built-declared Γ (array_of i e) v x B = built-last Γ _ x B (record { array = λ p. record { count = valueCount Γ i; cells_are = refl; earlier = v.0 }; fielded = λ p. wrong p })
-built-declared Γ (recordOf fs) v x B = built-last Γ _ x B (record { array = λ p. wrong p; fielded = λ p. record { parts = fs; cells_are = refl; fields-are = refl; earlier = v } })
-built-declared Γ (setOf b) v x B = built-last Γ _ x B (record { array = λ p. wrong p; fielded = λ p. wrong p })
+built-declared Γ (array_of i e) v x B = built-last Γ _ x B (record { array = λ p. record { count = value_count Γ i; cells_are = refl; earlier = v.0 }; fielded = λ p. wrong p })
+built-declared Γ (record_of fs) v x B = built-last Γ _ x B (record { array = λ p. wrong p; fielded = λ p. record { parts = fs; cells_are = refl; fields-are = refl; earlier = v } })
+built-declared Γ (set_of b) v x B = built-last Γ _ x B (record { array = λ p. wrong p; fielded = λ p. wrong p })
 
 -- ---- cells: the names, the newest first, own the first so many cells; os holds each cell's variable
 
@@ -125,19 +125,19 @@ owns-vars {Γ} {Δ} {os} u xs h (owns-var {i} {n} v e b m f o) =
     owns-var v (var-kept Δ u v i e) b m (λ j l. get_or-append os xs [] (n + j) (omega (arith, m)) ∙ f j l) (owns-vars u xs (omega (arith, m)) o)
 
 -- the names of a `type` line
-owns-enum : {Γ : Types} {Δ : Vars} {os : List Name} {ns : List (Name × NameSort)} {n : ℕ} (t i : ℕ) (ws : List Name) → Owns Γ Δ os ns n → Owns Γ Δ os (enumNames t i ws ++ ns) n
-unfolding enumNames
+owns-enum : {Γ : Types} {Δ : Vars} {os : List Name} {ns : List (Name × NameSort)} {n : ℕ} (t i : ℕ) (ws : List Name) → Owns Γ Δ os ns n → Owns Γ Δ os (enum_names t i ws ++ ns) n
+unfolding enum_names
 owns-enum t i [] o = o
 owns-enum t i (w ∷ ws) o = owns-value (owns-enum t (suc i) ws o)
 
-owns-decl : {Γ : Types} {Δ : Vars} {os : List Name} {ns : List (Name × NameSort)} {n : ℕ} (Γ₀ : Types) (w : Name) (d : Decl) → Owns Γ Δ os ns n → Owns Γ Δ os (declNames Γ₀ w d ++ ns) n
-unfolding declNames
+owns-decl : {Γ : Types} {Δ : Vars} {os : List Name} {ns : List (Name × NameSort)} {n : ℕ} (Γ₀ : Types) (w : Name) (d : Decl) → Owns Γ Δ os ns n → Owns Γ Δ os (decl_names Γ₀ w d ++ ns) n
+unfolding decl_names
 owns-decl Γ₀ w (alias t) o = owns-type o
 owns-decl Γ₀ w (enum v vs) o = owns-type (owns-enum (length Γ₀) 0 (v ∷ vs) o)
 owns-decl Γ₀ w (range a b) o = owns-type o
 owns-decl Γ₀ w (array_of i e) o = owns-type o
-owns-decl Γ₀ w (recordOf fs) o = owns-type o
-owns-decl Γ₀ w (setOf b) o = owns-type o
+owns-decl Γ₀ w (record_of fs) o = owns-type o
+owns-decl Γ₀ w (set_of b) o = owns-type o
 
 replicate-get : {A : Type 0} (n j : ℕ) (w d : A) → j < n → get_or (replicate n w) j d ≡ w
 replicate-get zero j w d h = absurd (omega arith)
@@ -146,11 +146,11 @@ replicate-get (suc n) (suc j) w d h = replicate-get n j w d (omega arith)
 
 -- ---- what the lines keep
 
-pub covered_start : Covered nothingDeclared
+pub covered_start : Covered nothing_declared
 covered_start = record { built = built-start; owned = owns_none; as_many = refl }
 
-type-covers : (k : Declared) → Keeps k → Covered k → (w : Name) (d : Decl) → Valid k.env.types d → (s n : ℕ) → Covered (declareLine k (newType w d) s n)
-unfolding declareLine
+type-covers : (k : Declared) → Keeps k → Covered k → (w : Name) (d : Decl) → Valid k.env.types d → (s n : ℕ) → Covered (declare_line k (new_type w d) s n)
+unfolding declare_line
 type-covers k h c w d v s n =
     let x = declared-more k.env.types d in
     record {
@@ -159,8 +159,8 @@ type-covers k h c w d v s n =
       as_many = c.as_many;
     }
 
-var-covers : (k : Declared) → Covered k → (w : Name) (t s n : ℕ) → Covered (declareLine k (newVar w t) s n)
-unfolding declareLine
+var-covers : (k : Declared) → Covered k → (w : Name) (t s n : ℕ) → Covered (declare_line k (new_var w t) s n)
+unfolding declare_line
 var-covers k c w t s n =
     let a = c.as_many in
     let z = size_of k.env.types t in
@@ -173,18 +173,18 @@ var-covers k c w t s n =
     }
 
 -- any line
-pub line-covers : (k : Declared) → Keeps k → Covered k → (f : LineForm) (e : Entry) → entry_of k.env f ≡ some e → keepsRules k.env.types e ≡ true → lineBounded k e ≡ true
-    → (s n : ℕ) → Covered (declareLine k e s n)
-unfolding entry_of keepsRules lineBounded declareLine
-line-covers k h c (typeLine w t) e p q b s n = bind-some p λ d hd v.
-    rw (← some_inj v) (type-covers k h c w d (decl-valid k.env h.table h.names w t d hd (rw (← some_inj v) at q) (and-true (leb (suc k.typeLines) 64) (typeBounded k.env.types d) (rw (← some_inj v) at b)).1) s n)
-line-covers k h c (varLine w t) e p q b s n = bind-some p λ m hm v. given-some v λ _ r. rw (← r) (var-covers k c w m s n)
-line-covers k h c (procLine w ps b) e p q o s n = bind-some p λ fs hfs p. bind-some p λ x hx v. given-some v λ _ r. rw (← r) (record { built = c.built; owned = owns-proc c.owned; as_many = c.as_many })
-line-covers k h c (mainLine b) e p q o s n = bind-some p λ x hx v. rw (← some_inj v) (record { built = c.built; owned = c.owned; as_many = c.as_many })
+pub line-covers : (k : Declared) → Keeps k → Covered k → (f : LineForm) (e : Entry) → entry_of k.env f ≡ some e → keeps_rules k.env.types e ≡ true → line_bounded k e ≡ true
+    → (s n : ℕ) → Covered (declare_line k e s n)
+unfolding entry_of keeps_rules line_bounded declare_line
+line-covers k h c (type_line w t) e p q b s n = bind-some p λ d hd v.
+    rw (← some_inj v) (type-covers k h c w d (decl-valid k.env h.table h.names w t d hd (rw (← some_inj v) at q) (and-true (leb (suc k.type_lines) 64) (type_bounded k.env.types d) (rw (← some_inj v) at b)).1) s n)
+line-covers k h c (var_line w t) e p q b s n = bind-some p λ m hm v. given-some v λ _ r. rw (← r) (var-covers k c w m s n)
+line-covers k h c (proc_line w ps b) e p q o s n = bind-some p λ fs hfs p. bind-some p λ x hx v. given-some v λ _ r. rw (← r) (record { built = c.built; owned = owns-proc c.owned; as_many = c.as_many })
+line-covers k h c (main_line b) e p q o s n = bind-some p λ x hx v. rw (← some_inj v) (record { built = c.built; owned = c.owned; as_many = c.as_many })
 
 -- all lines, whatever fits
-pub lines-cover : (fitting : Fitting) (n : ℕ) (ls : List Line) (k : Declared) (cs : List BodyCode) (r : Read) → judgeLines fitting n ls (has k cs) ≡ accepted r → Keeps k → Covered k → Covered r.known
-unfolding judgeLines
+pub lines-cover : (fitting : Fitting) (n : ℕ) (ls : List Line) (k : Declared) (cs : List BodyCode) (r : Read) → judge_lines fitting n ls (has k cs) ≡ accepted r → Keeps k → Covered k → Covered r.known
+unfolding judge_lines
 lines-cover fitting n [] k cs r h p c = onward-is n h λ _ _ e. rw (← accepted-inj e) c
 lines-cover fitting n (l ∷ ls) k cs r h p c = onward-is n h λ q hq h'. line-good fitting k l q hq λ f e s m he hk _ hb hg _.
     lines-cover fitting (suc n) ls q.0 (cs ++ q.1) r h' (rw (← hg) (line-keeps k p f e he hk hb s m)) (rw (← hg) (line-covers k p c f e he hk hb s m))
@@ -192,9 +192,9 @@ lines-cover fitting n (l ∷ ls) k cs r h p c = onward-is n h λ q hq h'. line-g
 -- a text that a run or the marking machine takes
 pub judged-covered : (fitting : Fitting) (text : List ℕ) (work : ℕ) (r : Read) → judge fitting text work ≡ accepted r → Covered r.known
 unfolding judge
-judged-covered fitting text work r h = opening-is _ _ _ _ _ h λ h' _. lines-cover fitting 1 (lines_of text) nothingDeclared [] r h' keeps-start covered_start
+judged-covered fitting text work r h = opening-is _ _ _ _ _ h λ h' _. lines-cover fitting 1 (lines_of text) nothing_declared [] r h' keeps-start covered_start
 
 -- an accepted text
-pub text-covered : (text : List ℕ) (work : ℕ) (r : Read) → verdictOf text work ≡ accepted r → Covered r.known
-unfolding verdictOf
+pub text-covered : (text : List ℕ) (work : ℕ) (r : Read) → verdict_of text work ≡ accepted r → Covered r.known
+unfolding verdict_of
 text-covered text work r h = judged-covered strictly text work r h

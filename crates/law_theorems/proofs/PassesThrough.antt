@@ -7,13 +7,13 @@ use native.Mathlib.Nat.{suc-add, zero-add}
 use native.Mathlib.Omega.{arith}
 use lib.IntN.{ℤ, suc_ℤ}
 use Rattle.leaf_integers.specs.Integers.{inside, is_zero}
-use Rattle.law.specs.Calculate.{Result, fails, is, isTrue, stuck}
-use Rattle.law.specs.Chair.{condition, evalCode, matches, placeCode, runAct, runActs, runArguments, runCases}
-use Rattle.law.specs.Code.{Act, Acts, BodyCode, Cases, Code, Frame, ◌also◌, assignOrdinal, assignCell, copyCells, load, branchOn, callTo, case_of, elseCase, forLoop, no_case, noAct, oneCase, raiseWith, sequence, stop, whileLoop}
-use Rattle.law.specs.Machine.{Answer, Outcome, Proc, Procs, State, Store, and_then, answer, branch, caught, continued, Plan, countUp, ended, entered, forRounds, noRound, opened, outside, planned, rounds, handled, normal, passOn, proc, procedureAt, raiseNumber, raised, raising, returned, returning, setControl, sole, spent, state, step, stepIf, sticks, stored, storeOrdinal, storeWhole, whileRounds, withResult}
-use Rattle.law.specs.Whole.{runAll, runBody}
-use Rattle.law.specs.Rest.{Rest, before, forFrom, handledBy, in_body, leaving, procsOf, resume, statement, statements, whileFrom}
-use Rattle.law_theorems.proofs.MoreBudget.{Ends, Stable, answer-f, more, moreA, run-f, runs-f, set-f}
+use Rattle.law.specs.Calculate.{Result, fails, is, is_true, stuck}
+use Rattle.law.specs.Chair.{condition, eval_code, matches, place_code, run_act, run_acts, run_arguments, run_cases}
+use Rattle.law.specs.Code.{Act, Acts, BodyCode, Cases, Code, Frame, ◌also◌, assign_ordinal, assign_cell, copy_cells, load, branch_on, call_to, case_of, else_case, for_loop, no_case, no_act, one_case, raise_with, sequence, stop, while_loop}
+use Rattle.law.specs.Machine.{Answer, Outcome, Proc, Procs, State, Store, and_then, answer, branch, caught, continued, Plan, count_up, ended, entered, for_rounds, no_round, opened, outside, planned, rounds, handled, normal, pass_on, proc, procedure_at, raise_number, raised, raising, returned, returning, set_control, sole, spent, state, step, step_if, sticks, stored, store_ordinal, store_whole, while_rounds, with_result}
+use Rattle.law.specs.Whole.{run_all, run_body}
+use Rattle.law.specs.Rest.{Rest, before, for_from, handled_by, in_body, leaving, procs_of, resume, statement, statements, while_from}
+use Rattle.law_theorems.proofs.MoreBudget.{Ends, Stable, answer-f, more, more_a, run-f, runs-f, set-f}
 use Rattle.law_theorems.proofs.SpentOnly as Spent
 use Rattle.law_theorems.proofs.SpentOnly.{Falls, answer-d, run-d}
 use Rattle.law_theorems.proofs.Programs.{body-f, body-d, calling-all, no-procs}
@@ -55,7 +55,7 @@ module _ (bs : List BodyCode) where
 
   -- r is the statement or loop whose step is due
   due-p : (r : Rest) (f : State → Answer) → ((s : State) → resume bs r s ≡ step s f) → (n : ℕ) (m : Store) → ((l : ℕ) → n ≡ suc l → Pauses f (state m l))
-      → (stepIf n (state m n) f).outcome ≡ spent → Goes (λ k. stepIf (n + k) (state m (n + k)) f) (stepIf n (state m n) f).state.store
+      → (step_if n (state m n) f).outcome ≡ spent → Goes (λ k. step_if (n + k) (state m (n + k)) f) (step_if n (state m n) f).state.store
   due-p r f own zero m h e = record { rest = r; goes = λ k. rw (zero-add k) (sym (own (state m k))) }
   due-p r f own (suc n) m h e = let g = (h n refl).at e in record { rest = g.rest; goes = λ k. rw suc-add (g.goes k) }
 
@@ -63,7 +63,7 @@ module _ (bs : List BodyCode) where
   step-p r f own h s = record { at = λ e. due-p r f own s.left s.store (λ l _. h (state s.store l)) e }
 
   onto-p : (q : Rest) (g : State → Answer) → (λ t. resume bs q t) ≡ g → (F : ℕ → Answer) (o : Outcome) (t : State)
-      → (o ≡ spent → Goes F t.store) → (Ends o → (k : ℕ) → F k ≡ moreA k (answer o t)) → (o ≡ normal → Pauses g t)
+      → (o ≡ spent → Goes F t.store) → (Ends o → (k : ℕ) → F k ≡ more_a k (answer o t)) → (o ≡ normal → Pauses g t)
       → (continued o t g).outcome ≡ spent → Goes (λ k. and_then (F k) g) (continued o t g).state.store
   unfolding resume
   onto-p q g own F normal t hf hs hg e = let w = (hg refl).at e in record { rest = w.rest; goes = λ k. rw (hs tt k) (w.goes k) }
@@ -77,32 +77,32 @@ module _ (bs : List BodyCode) where
     at = λ e. onto-p q g own (λ k. f (more k s)) (f s).outcome (f s).state (λ d. hf.at d) (λ d k. (st k).at s d) hg e;
   }
 
-  after-p : {A : Type 0} (n : ℕ) (v : Store → Result A) (f : A → State → Answer) (s : State) → ((z : A) → Pauses (f z) s) → Pauses (λ t. withResult n t (v t.store) (λ z. f z t)) s
+  after-p : {A : Type 0} (n : ℕ) (v : Store → Result A) (f : A → State → Answer) (s : State) → ((z : A) → Pauses (f z) s) → Pauses (λ t. with_result n t (v t.store) (λ z. f z t)) s
   after-p {A} n v f s h = record { at = λ e. go (v s.store) e }
     where
-      go : (w : Result A) → (withResult n s w (λ z. f z s)).outcome ≡ spent → Goes (λ k. withResult n (more k s) w (λ z. f z (more k s))) (withResult n s w (λ z. f z s)).state.store
+      go : (w : Result A) → (with_result n s w (λ z. f z s)).outcome ≡ spent → Goes (λ k. with_result n (more k s) w (λ z. f z (more k s))) (with_result n s w (λ z. f z s)).state.store
       go (is z) e = (h z).at e
       go (fails z) e = not-raised e
       go stuck e = not_stuck e
 
   check-p : (n : ℕ) (c : Code) (f : Bool → State → Answer) (s : State) → ((b : Bool) → Pauses (f b) s) → Pauses (λ t. condition n c t (λ b. f b t)) s
   unfolding condition
-  check-p n c f s h = after-p n (evalCode c) (λ z. f (isTrue (sole z))) s (λ z. h (isTrue (sole z)))
+  check-p n c f s h = after-p n (eval_code c) (λ z. f (is_true (sole z))) s (λ z. h (is_true (sole z)))
 
-  keep-p : (n a : ℕ) (lo hi z : ℤ) (s : State) → Pauses (storeOrdinal n a lo hi z) s
-  unfolding storeOrdinal
+  keep-p : (n a : ℕ) (lo hi z : ℤ) (s : State) → Pauses (store_ordinal n a lo hi z) s
+  unfolding store_ordinal
   keep-p n a lo hi z s = branch-p (inside lo hi z) s (record { at = λ e. not-normal e }) (raising-p _ n s)
 
-  copy-p : (n a : ℕ) (zs : List ℤ) (s : State) → Pauses (storeWhole n a zs) s
-  unfolding storeWhole
+  copy-p : (n a : ℕ) (zs : List ℤ) (s : State) → Pauses (store_whole n a zs) s
+  unfolding store_whole
   copy-p n a zs s = record { at = λ e. not-normal e }
 
-  passes-p : (n : ℕ) (s : State) → Pauses (passOn n) s
-  unfolding passOn
+  passes-p : (n : ℕ) (s : State) → Pauses (pass_on n) s
+  unfolding pass_on
   passes-p n s = record { at = λ e. (branch-p (is_zero s.store.latest) s (raising-p _ n s) (record { at = λ d. not-raised d })).at e }
 
-  raises-p : (n : ℕ) (z : ℤ) (s : State) → Pauses (raiseNumber n z) s
-  unfolding raiseNumber
+  raises-p : (n : ℕ) (z : ℤ) (s : State) → Pauses (raise_number n z) s
+  unfolding raise_number
   raises-p n z s = branch-p (is_zero z) s (passes-p n s) (raising-p z n s)
 
   -- ---- loops
@@ -115,7 +115,7 @@ module _ (bs : List BodyCode) where
 
   module _ (n : ℕ) (c : Code) (body : State → Answer) (low : Sinks body) where
     abbrev loop : State → Answer
-    loop s = whileRounds s.left (condition n c) body s
+    loop s = while_rounds s.left (condition n c) body s
 
     abbrev round : (State → Answer) → State → Answer
     round next t = step t (λ s. and_then (body s) next)
@@ -145,8 +145,8 @@ module _ (bs : List BodyCode) where
     none_left f m zero h = refl
     none_left f m (suc l) h = absurd (omega arith)
 
-    rounds-same : (d e : ℕ) (s : State) → s.left ≤ d → s.left ≤ e → whileRounds d (condition n c) body s ≡ whileRounds e (condition n c) body s
-    unfolding whileRounds
+    rounds-same : (d e : ℕ) (s : State) → s.left ≤ d → s.left ≤ e → while_rounds d (condition n c) body s ≡ while_rounds e (condition n c) body s
+    unfolding while_rounds
     rounds-same zero zero s h g = refl
     rounds-same zero (suc e) s h g = tested-same (answer spent) _ s (none_left _ s.store s.left h)
     rounds-same (suc d) zero s h g = sym (tested-same (answer spent) _ s (none_left _ s.store s.left g))
@@ -155,22 +155,22 @@ module _ (bs : List BodyCode) where
 
     -- a loop is its test, then a round and the loop again
     loop-is : (m : Store) (l : ℕ) → loop (state m l) ≡ condition n c (state m l) (λ b. branch b (round loop) (answer normal) (state m l))
-    unfolding whileRounds
+    unfolding while_rounds
     loop-is m zero = tested-same (answer spent) _ (state m zero) refl
     loop-is m (suc l) = tested-same _ _ (state m (suc l)) (round_same _ _ m (suc l) (λ t h. rounds-same l t.left t (omega arith) (omega arith)))
 
     -- with nothing left, a test changes no store
     kept_store : (m : Store) → (loop (state m zero)).outcome ≡ spent → (loop (state m zero)).state.store ≡ m
-    unfolding whileRounds condition
-    kept_store m = go (evalCode c m)
+    unfolding while_rounds condition
+    kept_store m = go (eval_code c m)
       where
         chosen : (b : Bool) → (branch b (answer spent) (answer normal) (state m zero)).state.store ≡ m
         chosen true = refl
         chosen false = refl
 
-        go : (w : Result (List ℤ)) → (withResult n (state m zero) w (λ x. branch (isTrue (sole x)) (answer spent) (answer normal) (state m zero))).outcome ≡ spent
-            → (withResult n (state m zero) w (λ x. branch (isTrue (sole x)) (answer spent) (answer normal) (state m zero))).state.store ≡ m
-        go (is x) e = chosen (isTrue (sole x))
+        go : (w : Result (List ℤ)) → (with_result n (state m zero) w (λ x. branch (is_true (sole x)) (answer spent) (answer normal) (state m zero))).outcome ≡ spent
+            → (with_result n (state m zero) w (λ x. branch (is_true (sole x)) (answer spent) (answer normal) (state m zero))).state.store ≡ m
+        go (is x) e = chosen (is_true (sole x))
         go (fails z) e = not-raised e
         go stuck e = not_stuck e
 
@@ -216,82 +216,82 @@ module _ (bs : List BodyCode) where
 
   -- ---- the machine
 
-  module _ (hp : (p : ℕ) (s : State) → Pauses (procedureAt (procsOf bs) p).run s) (hs : (p k : ℕ) → Stable k (procedureAt (procsOf bs) p).run)
-      (hd : (p b : ℕ) → Falls b (procedureAt (procsOf bs) p).run) where
+  module _ (hp : (p : ℕ) (s : State) → Pauses (procedure_at (procs_of bs) p).run s) (hs : (p k : ℕ) → Stable k (procedure_at (procs_of bs) p).run)
+      (hd : (p b : ℕ) → Falls b (procedure_at (procs_of bs) p).run) where
     abbrev ps : Procs
-    ps = procsOf bs
+    ps = procs_of bs
 
-    stays : (a : Act) → Stays (runAct ps a)
+    stays : (a : Act) → Stays (run_act ps a)
     stays a k = run-f k ps (λ p. hs p k) a
 
-    sinks : (a : Act) → Sinks (runAct ps a)
+    sinks : (a : Act) → Sinks (run_act ps a)
     sinks a s = ((run-d ps hd a s.left).at s (omega arith)).less
 
-    set_p : (a : ℕ) (z : ℤ) (b : Act) → ((s : State) → Pauses (runAct ps b) s) → (s : State) → Pauses (λ t. runAct ps b (setControl a z t)) s
-    set_p a z b h s = record { at = λ e. (h (setControl a z s)).at e }
+    set_p : (a : ℕ) (z : ℤ) (b : Act) → ((s : State) → Pauses (run_act ps b) s) → (s : State) → Pauses (λ t. run_act ps b (set_control a z t)) s
+    set_p a z b h s = record { at = λ e. (h (set_control a z s)).at e }
 
-    turns-p : (j a : ℕ) (b : Act) → ((s : State) → Pauses (runAct ps b) s) → (z : ℤ) (s : State) → Pauses (forRounds j a (runAct ps b) z) s
-    unfolding forRounds resume
+    turns-p : (j a : ℕ) (b : Act) → ((s : State) → Pauses (run_act ps b) s) → (z : ℤ) (s : State) → Pauses (for_rounds j a (run_act ps b) z) s
+    unfolding for_rounds resume
     turns-p zero a b h z s = ended-p a s
-    turns-p (suc j) a b h z s = step-p (forFrom (suc j) a b z) _ (λ t. refl) (λ t. then-p (forFrom j a b (suc_ℤ z)) (λ u. runAct ps b (setControl a z u)) _ refl
+    turns-p (suc j) a b h z s = step-p (for_from (suc j) a b z) _ (λ t. refl) (λ t. then-p (for_from j a b (suc_ℤ z)) (λ u. run_act ps b (set_control a z u)) _ refl
         (λ k. set-f k a z (stays b k)) t (set_p a z b h t) (λ _. turns-p j a b h (suc_ℤ z) _)) s
 
-    opened-p : (q : Plan) (n a : ℕ) (x : ℤ) (b : Act) → ((s : State) → Pauses (runAct ps b) s) → (s : State) → Pauses (opened q n a x (runAct ps b)) s
+    opened-p : (q : Plan) (n a : ℕ) (x : ℤ) (b : Act) → ((s : State) → Pauses (run_act ps b) s) → (s : State) → Pauses (opened q n a x (run_act ps b)) s
     unfolding opened
-    opened-p noRound n a x b h s = ended-p a s
+    opened-p no_round n a x b h s = ended-p a s
     opened-p outside n a x b h s = raising-p _ n s
     opened-p (rounds j) n a x b h s = turns-p j a b h x s
 
-    counting-p : (n a : ℕ) (lo hi x y : ℤ) (b : Act) → ((s : State) → Pauses (runAct ps b) s) → (s : State) → Pauses (countUp n a lo hi x y (runAct ps b)) s
-    unfolding countUp
+    counting-p : (n a : ℕ) (lo hi x y : ℤ) (b : Act) → ((s : State) → Pauses (run_act ps b) s) → (s : State) → Pauses (count_up n a lo hi x y (run_act ps b)) s
+    unfolding count_up
     counting-p n a lo hi x y b h s = opened-p (planned lo hi x y) n a x b h s
 
     mutual
-      unfolding runAct resume
+      unfolding run_act resume
 
-      run-p : (a : Act) (s : State) → Pauses (runAct ps a) s
-      run-p (assignOrdinal n p lo hi c) = step-p (statement (assignOrdinal n p lo hi c)) _ (λ t. refl) λ s. after-p n (evalCode c) _ s λ zs. after-p n (placeCode p) _ s λ a. keep-p n a lo hi (sole zs) s
-      run-p (assignCell n p c) = step-p (statement (assignCell n p c)) _ (λ t. refl) λ s. after-p n (evalCode c) _ s λ zs. after-p n (placeCode p) _ s λ a. copy-p n a zs s
-      run-p (copyCells n p q k) = step-p (statement (copyCells n p q k)) _ (λ t. refl) λ s. after-p n (evalCode (load q k)) _ s λ zs. after-p n (placeCode p) _ s λ a. copy-p n a zs s
+      run-p : (a : Act) (s : State) → Pauses (run_act ps a) s
+      run-p (assign_ordinal n p lo hi c) = step-p (statement (assign_ordinal n p lo hi c)) _ (λ t. refl) λ s. after-p n (eval_code c) _ s λ zs. after-p n (place_code p) _ s λ a. keep-p n a lo hi (sole zs) s
+      run-p (assign_cell n p c) = step-p (statement (assign_cell n p c)) _ (λ t. refl) λ s. after-p n (eval_code c) _ s λ zs. after-p n (place_code p) _ s λ a. copy-p n a zs s
+      run-p (copy_cells n p q k) = step-p (statement (copy_cells n p q k)) _ (λ t. refl) λ s. after-p n (eval_code (load q k)) _ s λ zs. after-p n (place_code p) _ s λ a. copy-p n a zs s
       run-p (sequence n ss) = step-p (statement (sequence n ss)) _ (λ t. refl) λ s. runs-p ss s
-      run-p (branchOn n c a b) = step-p (statement (branchOn n c a b)) _ (λ t. refl) λ s. check-p n c _ s λ q. branch-p q s (run-p a s) (run-p b s)
-      run-p (whileLoop n c a) = step-p (statement (whileLoop n c a)) _ (λ t. refl) λ s. loop-p n c (runAct ps a) (sinks a) (whileFrom n c a) refl (stays a) (λ t. run-p a t) s.left s (omega arith)
-      run-p (forLoop n a lo hi x y b) = step-p (statement (forLoop n a lo hi x y b)) _ (λ t. refl) λ s.
-          after-p n (evalCode x) _ s λ u. after-p n (evalCode y) _ s λ v. counting-p n a lo hi (sole u) (sole v) b (λ t. run-p b t) s
-      run-p (case_of n c cs) = step-p (statement (case_of n c cs)) _ (λ t. refl) λ s. after-p n (evalCode c) _ s λ x. picks-p cs n (sole x) s
-      run-p (callTo n p cs) = step-p (statement (callTo n p cs)) _ (λ t. refl) λ s. after-p n (runArguments (procedureAt ps p).frame.wants cs) _ s λ zs. entered-p (procedureAt ps p) zs (hp p) s
-      run-p (raiseWith n c) = step-p (statement (raiseWith n c)) _ (λ t. refl) λ s. after-p n (evalCode c) _ s λ x. raises-p n (sole x) s
-      run-p noAct = λ s. answer-p s
+      run-p (branch_on n c a b) = step-p (statement (branch_on n c a b)) _ (λ t. refl) λ s. check-p n c _ s λ q. branch-p q s (run-p a s) (run-p b s)
+      run-p (while_loop n c a) = step-p (statement (while_loop n c a)) _ (λ t. refl) λ s. loop-p n c (run_act ps a) (sinks a) (while_from n c a) refl (stays a) (λ t. run-p a t) s.left s (omega arith)
+      run-p (for_loop n a lo hi x y b) = step-p (statement (for_loop n a lo hi x y b)) _ (λ t. refl) λ s.
+          after-p n (eval_code x) _ s λ u. after-p n (eval_code y) _ s λ v. counting-p n a lo hi (sole u) (sole v) b (λ t. run-p b t) s
+      run-p (case_of n c cs) = step-p (statement (case_of n c cs)) _ (λ t. refl) λ s. after-p n (eval_code c) _ s λ x. picks-p cs n (sole x) s
+      run-p (call_to n p cs) = step-p (statement (call_to n p cs)) _ (λ t. refl) λ s. after-p n (run_arguments (procedure_at ps p).frame.wants cs) _ s λ zs. entered-p (procedure_at ps p) zs (hp p) s
+      run-p (raise_with n c) = step-p (statement (raise_with n c)) _ (λ t. refl) λ s. after-p n (eval_code c) _ s λ x. raises-p n (sole x) s
+      run-p no_act = λ s. answer-p s
 
-      runs-p : (ss : Acts) (s : State) → Pauses (runActs ps ss) s
+      runs-p : (ss : Acts) (s : State) → Pauses (run_acts ps ss) s
       runs-p stop s = answer-p s
-      runs-p (a also ss) s = then-p (statements ss) (runAct ps a) (λ t. runActs ps ss t) refl (stays a) s (run-p a s) (λ _. runs-p ss _)
+      runs-p (a also ss) s = then-p (statements ss) (run_act ps a) (λ t. run_acts ps ss t) refl (stays a) s (run-p a s) (λ _. runs-p ss _)
 
-      picks-p : (cs : Cases) (n : ℕ) (z : ℤ) (s : State) → Pauses (runCases ps n z cs) s
-      picks-p (elseCase a) n z s = run-p a s
+      picks-p : (cs : Cases) (n : ℕ) (z : ℤ) (s : State) → Pauses (run_cases ps n z cs) s
+      picks-p (else_case a) n z s = run-p a s
       picks-p no_case n z s = raising-p _ n s
-      picks-p (oneCase ls a cs) n z s = branch-p (matches z ls) s (run-p a s) (picks-p cs n z s)
+      picks-p (one_case ls a cs) n z s = branch-p (matches z ls) s (run-p a s) (picks-p cs n z s)
 
     -- ---- a body
 
-    caught-p : (h : Acts) (F : ℕ → Answer) (o : Outcome) (t : State) → (o ≡ spent → Goes F t.store) → (Ends o → (k : ℕ) → F k ≡ moreA k (answer o t))
-        → (caught o t (runActs ps h)).outcome ≡ spent → Goes (λ k. handled true (F k) (runActs ps h)) (caught o t (runActs ps h)).state.store
+    caught-p : (h : Acts) (F : ℕ → Answer) (o : Outcome) (t : State) → (o ≡ spent → Goes F t.store) → (Ends o → (k : ℕ) → F k ≡ more_a k (answer o t))
+        → (caught o t (run_acts ps h)).outcome ≡ spent → Goes (λ k. handled true (F k) (run_acts ps h)) (caught o t (run_acts ps h)).state.store
     unfolding resume
     caught-p h F normal t hf hs e = not-normal e
-    caught-p h F spent t hf hs e = let w = hf refl in record { rest = handledBy w.rest h; goes = λ k. rw (w.goes k) }
+    caught-p h F spent t hf hs e = let w = hf refl in record { rest = handled_by w.rest h; goes = λ k. rw (w.goes k) }
     caught-p h F sticks t hf hs e = not_stuck e
     caught-p h F (raised z n) t hf hs e = let w = (runs-p h t).at e in record { rest = w.rest; goes = λ k. rw (hs tt k) (w.goes k) }
 
-    handled-p : (q : Bool) (ss h : Acts) (s : State) → Pauses (λ t. handled q (runActs ps ss t) (runActs ps h)) s
+    handled-p : (q : Bool) (ss h : Acts) (s : State) → Pauses (λ t. handled q (run_acts ps ss t) (run_acts ps h)) s
     handled-p false ss h s = runs-p ss s
     handled-p true ss h s = record {
       at = λ e.
-          let a = runActs ps ss s in
-          caught-p h (λ k. runActs ps ss (more k s)) a.outcome a.state (λ d. (runs-p ss s).at d) (λ d k. (runs-f k ps (λ p. hs p k) ss).at s d) e;
+          let a = run_acts ps ss s in
+          caught-p h (λ k. run_acts ps ss (more k s)) a.outcome a.state (λ d. (runs-p ss s).at d) (λ d k. (runs-f k ps (λ p. hs p k) ss).at s d) e;
     }
 
-    pub body-p : (b : BodyCode) (s : State) → Pauses (runBody b ps) s
-    unfolding runBody
+    pub body-p : (b : BodyCode) (s : State) → Pauses (run_body b ps) s
+    unfolding run_body
     body-p b s = handled-p b.handles b.acts b.handler s
 
 -- ---- scripts
@@ -303,19 +303,19 @@ elsewhere : (bs cs : List BodyCode) {f : State → Answer} {s : State} → Pause
 unfolding resume
 elsewhere bs cs h = record { at = λ e. let g = h.at e in record { rest = in_body bs g.rest; goes = λ k. g.goes k } }
 
-all-p : (bs : List BodyCode) → ((p : ℕ) (s : State) → Pauses bs (procedureAt (procsOf bs) p).run s) → ((p : ℕ) → Kept (procedureAt (procsOf bs) p).run)
-    → (cs : List BodyCode) (s : State) → Pauses [] (runAll cs (procsOf bs)) s
-unfolding runAll procsOf
+all-p : (bs : List BodyCode) → ((p : ℕ) (s : State) → Pauses bs (procedure_at (procs_of bs) p).run s) → ((p : ℕ) → Kept (procedure_at (procs_of bs) p).run)
+    → (cs : List BodyCode) (s : State) → Pauses [] (run_all cs (procs_of bs)) s
+unfolding run_all procs_of
 all-p bs hp hk [] s = answer-p [] s
 all-p bs hp hk (b ∷ []) s = elsewhere bs [] (body-p bs hp (λ p. (hk p).0) (λ p. (hk p).1) b s)
 all-p bs hp hk (b ∷ (c ∷ cs)) s =
     all-p (b ∷ bs)
-    (calling-all (λ (f : Proc). (t : State) → Pauses (b ∷ bs) f.run t) (answer-p (b ∷ bs)) (procsOf bs) (proc b.frame (runBody b (procsOf bs)))
+    (calling-all (λ (f : Proc). (t : State) → Pauses (b ∷ bs) f.run t) (answer-p (b ∷ bs)) (procs_of bs) (proc b.frame (run_body b (procs_of bs)))
     (λ t. elsewhere bs (b ∷ bs) (body-p bs hp (λ p. (hk p).0) (λ p. (hk p).1) b t)) (λ p t. elsewhere bs (b ∷ bs) (hp p t)))
-    (calling-all (λ (f : Proc). Kept f.run) ((λ k. answer-f k normal), λ k. answer-d λ _. Spent.normally) (procsOf bs) (proc b.frame (runBody b (procsOf bs)))
-    ((λ k. body-f k b (procsOf bs) (λ p. (hk p).0 k)), body-d b (procsOf bs) (λ p. (hk p).1)) hk)
+    (calling-all (λ (f : Proc). Kept f.run) ((λ k. answer-f k normal), λ k. answer-d λ _. Spent.normally) (procs_of bs) (proc b.frame (run_body b (procs_of bs)))
+    ((λ k. body-f k b (procs_of bs) (λ p. (hk p).0 k)), body-d b (procs_of bs) (λ p. (hk p).1)) hk)
     (c ∷ cs) s
 
-pub program-p : (cs : List BodyCode) (s : State) → Pauses [] (runAll cs []) s
-unfolding procsOf
+pub program-p : (cs : List BodyCode) (s : State) → Pauses [] (run_all cs []) s
+unfolding procs_of
 program-p cs s = all-p [] (no-procs (λ (f : Proc). (t : State) → Pauses [] f.run t) (answer-p [])) (no-procs (λ (f : Proc). Kept f.run) ((λ k. answer-f k normal), λ k. answer-d λ _. Spent.normally)) cs s

@@ -5,14 +5,14 @@ use Prim.Native.Nat.{ℕ, zero, suc, ◌+◌, ◌-◌, ◌≤◌}
 use native.Mathlib.Omega.{arith}
 use Rattle.law.specs.Code.{BodyCode}
 use Rattle.law.specs.Machine.{Answer, Outcome, Store, answer, normal, raised, spent, state, sticks}
-use Rattle.law.specs.Whole.{ran, report, runAll}
+use Rattle.law.specs.Whole.{ran, report, run_all}
 use Rattle.law_theorems.proofs.SpentOnly as Spent
 use Rattle.law_theorems.proofs.MoreBudget.{Ends}
 use Rattle.law_theorems.proofs.SpentOnly.{Ended}
 use Rattle.law_theorems.proofs.Programs.{program-f, program-d}
 use Rattle.law_theorems.proofs.StepDue.{program-l}
 use Rattle.law_theorems.proofs.PassesThrough.{Goes, program-p}
-use Rattle.law_theorems.proofs.StoreInRange.{Moved, normally, outOfSteps, byException}
+use Rattle.law_theorems.proofs.StoreInRange.{Moved, normally, out_of_steps, by_exception}
 
 ran-outcome : {o p : Outcome} {n m : ℕ} → ran o n ≡ ran p m → o ≡ p
 ran-outcome {o} {p} {n} {m} h = cc
@@ -22,8 +22,8 @@ ran-steps {o} {p} {n} {m} h = cc
 
 not_stuck : {o : Outcome} → Moved o → o ≡ sticks → ⊥
 not_stuck normally e = let z : ◌≡◌ {A = ℕ} 0 1 = cc in omega arith
-not_stuck outOfSteps e = let z : ◌≡◌ {A = ℕ} 0 1 = cc in omega arith
-not_stuck byException e = let z : ◌≡◌ {A = ℕ} 0 1 = cc in omega arith
+not_stuck out_of_steps e = let z : ◌≡◌ {A = ℕ} 0 1 = cc in omega arith
+not_stuck by_exception e = let z : ◌≡◌ {A = ℕ} 0 1 = cc in omega arith
 
 nothing_left : {n : ℕ} {o : Outcome} → Ended n o → o ≡ spent → n ≡ 0
 nothing_left Spent.normally e = absurd (let z : ◌≡◌ {A = ℕ} 0 1 = cc in omega arith)
@@ -39,7 +39,7 @@ not-spent (raised z n) h = tt
 
 module _ (cs : List BodyCode) (m : Store) where
   abbrev pub ended : ℕ → Answer
-  ended budget = runAll cs [] (state m budget)
+  ended budget = run_all cs [] (state m budget)
 
   used : (budget : ℕ) → Spent.Used budget (ended budget)
   used budget = (program-d cs budget).at (state m budget) (omega arith)

@@ -6,10 +6,10 @@ use mathlib.Core.Option.{Option, none, some}
 use Prim.Native.Nat.{ℕ, zero, suc, ◌+◌, ◌≤◌}
 use native.Mathlib.Omega.{arith}
 use Rattle.law.specs.Base.{Name, ◌>>=◌}
-use Rattle.law.specs.Forms.{ArmHead, Item, LineHead, Verb, armsFirst, first?, headed, isArm, isElse, isMain, isProc, is_type, isVar, one, pairsOf, parameters, two, vAssign, vBegin, vCall, vCase, vFor, vIf, vRaise, vWhile}
-use Rattle.law_theorems.specs.FormsByDepth.{Reader, arms, body, caseForm, else_of, ending, expr, forForm, handlerOf, ifForm, lineBy, lineForm, oneArm, stmt, stmtForm, stmts}
+use Rattle.law.specs.Forms.{ArmHead, Item, LineHead, Verb, arms_first, first?, headed, is_arm, is_else, is_main, is_proc, is_type, is_var, one, pairs_of, parameters, two, v_assign, v_begin, v_call, v_case, v_for, v_if, v_raise, v_while}
+use Rattle.law_theorems.specs.FormsByDepth.{Reader, arms, body, case_form, else_of, ending, expr, for_form, handler_of, if_form, line_by, line_form, one_arm, stmt, stmt_form, stmts}
 use Rattle.law.specs.Syntax as S
-use Rattle.law.specs.Trees.{Trees, end, form, list, nodes, nodesIn, word, ◌then◌}
+use Rattle.law.specs.Trees.{Trees, end, form, list, nodes, nodes_in, word, ◌then◌}
 use Rattle.law.specs.Words.{Word}
 use Rattle.law_theorems.proofs.Weights.{by-handler}
 use Rattle.law_theorems.proofs.Inversion.{none-some, some_inj, bind-some, given-some}
@@ -23,7 +23,7 @@ mutual
   pub data Counted (l : ℕ) : S.Stmt → Type 0 where
     assign : {n : ℕ} {g : S.Target} {e : S.Expr} → Number l n → DeepT 31 g → DeepE 32 e → Counted l (S.assign n g e)
     begin : {n : ℕ} {ss : S.Stmts} → Number l n → CountedAll l ss → Counted l (S.begin n ss)
-    ifElse : {n : ℕ} {e : S.Expr} {a b : S.Stmt} → Number l n → DeepE 32 e → Counted l a → Counted l b → Counted l (S.ifElse n e a b)
+    if_else : {n : ℕ} {e : S.Expr} {a b : S.Stmt} → Number l n → DeepE 32 e → Counted l a → Counted l b → Counted l (S.if_else n e a b)
     while : {n : ℕ} {e : S.Expr} {a : S.Stmt} → Number l n → DeepE 32 e → Counted l a → Counted l (S.while n e a)
     for : {n : ℕ} {w : Name} {a b : S.Expr} {s : S.Stmt} → Number l n → DeepE 32 a → DeepE 32 b → Counted l s → Counted l (S.for n w a b s)
     case : {n : ℕ} {e : S.Expr} {bs : S.Arms} → Number l n → DeepE 32 e → CountedArms l bs → Counted l (S.case n e bs)
@@ -36,8 +36,8 @@ mutual
     ◌next◌ : {s : S.Stmt} {ss : S.Stmts} → Counted l s → CountedAll l ss → CountedAll l (S.◌next◌ s ss)
 
   pub data CountedArms (l : ℕ) : S.Arms → Type 0 where
-    elseArm : {s : S.Stmt} → Counted l s → CountedArms l (S.elseArm s)
-    noElse : CountedArms l S.noElse
+    else_arm : {s : S.Stmt} → Counted l s → CountedArms l (S.else_arm s)
+    no_else : CountedArms l S.no_else
     arm : {cs : List S.Constant} {s : S.Stmt} {bs : S.Arms} → Counted l s → CountedArms l bs → CountedArms l (S.arm cs s bs)
 
 infixr 40 ◌next◌
@@ -46,10 +46,10 @@ pub record CountedBody (l : ℕ) (b : S.Body) : Type 0 where
   pub handler : CountedAll l b.handler
 
 pub data CountedLine (l : ℕ) : S.LineForm → Type 0 where
-  typeLine : {w : Name} {t : S.TypeForm} → CountedLine l (S.typeLine w t)
-  varLine : {w : Name} {t : S.TypeName} → CountedLine l (S.varLine w t)
-  procLine : {w : Name} {ps : List (Name × S.TypeName)} {b : S.Body} → CountedBody l b → CountedLine l (S.procLine w ps b)
-  mainLine : {b : S.Body} → CountedBody l b → CountedLine l (S.mainLine b)
+  type_line : {w : Name} {t : S.TypeForm} → CountedLine l (S.type_line w t)
+  var_line : {w : Name} {t : S.TypeName} → CountedLine l (S.var_line w t)
+  proc_line : {w : Name} {ps : List (Name × S.TypeName)} {b : S.Body} → CountedBody l b → CountedLine l (S.proc_line w ps b)
+  main_line : {b : S.Body} → CountedBody l b → CountedLine l (S.main_line b)
 
 -- ---- the brackets and words of parts
 
@@ -57,7 +57,7 @@ unfoldable weigh : List Item → ℕ
 weigh [] = 0
 weigh (t ∷ ts) = nodes t + weigh ts
 
-weigh-list : (ts : Trees Word) → weigh (list ts) ≡ nodesIn ts
+weigh-list : (ts : Trees Word) → weigh (list ts) ≡ nodes_in ts
 unfolding weigh list nodes
 weigh-list end = refl
 weigh-list (t then ts) = rw (weigh-list ts)
@@ -117,30 +117,30 @@ module _ (r : Reader) (hr : (n : ℕ) (t : Item) (p : S.Stmt × ℕ) → r n t �
       let i = hr n t a ha in let j = stmts-count a.1 ts b hb in
       rw (← some_inj e) (record { up = omega (arith, i.up, j.up); most = omega (arith, i.most, j.most); each = λ l k s. i.each l (omega (arith, j.up)) (first s) next j.each l k (rest s) })
 
-  arm-counts : (n : ℕ) (ts : List Item) (p : List S.Constant × (S.Stmt × ℕ)) → oneArm r n ts ≡ some p → Counts (Flats ts) Counted n (weigh ts) p.1
-  unfolding oneArm
+  arm-counts : (n : ℕ) (ts : List Item) (p : List S.Constant × (S.Stmt × ℕ)) → one_arm r n ts ≡ some p → Counts (Flats ts) Counted n (weigh ts) p.1
+  unfolding one_arm
   arm-counts n ts p h = bind-some h λ q hq h'. bind-some h' λ cs hcs h''. bind-some h'' λ a ha e.
       let i = hr n q.1 a ha in let w = weigh-ending ts hq in
       rw (← some_inj e) (record { up = i.up; most = omega (arith, i.most); each = λ l k s. i.each l k (ending-shallow s hq) })
 
   arms-count : (n : ℕ) (ts : List Item) (p : S.Arms × ℕ) → arms r n ts ≡ some p → Counts (Flats ts) CountedArms n (weigh ts) p
   unfolding arms weigh
-  arms-count n [] p h = rw (← some_inj h) (record { up = omega arith; most = omega arith; each = λ l _ _. noElse })
+  arms-count n [] p h = rw (← some_inj h) (record { up = omega arith; most = omega arith; each = λ l _ _. no_else })
   arms-count n (t ∷ ts) p h = bind-some h λ q hq h'. bind-some h' λ a ha h''. by-head a ts q hq h'' (λ m b hb. arms-count m ts b hb)
     where
       by-head : (a : ArmHead) (ts : List Item) (q : Name × List Item) → headed t ≡ some q
           → elim a [
-            | isArm ↦ oneArm r n q.1 >>= λ a. arms r a.1.1 ts >>= λ bs. some (S.arm a.0 a.1.0 bs.0, bs.1)
-            | isElse ↦ elim ts [ [] ↦ one q.1 >>= r n >>= λ a. some (S.elseArm a.0, a.1) | u ∷ us ↦ none ]
+            | is_arm ↦ one_arm r n q.1 >>= λ a. arms r a.1.1 ts >>= λ bs. some (S.arm a.0 a.1.0 bs.0, bs.1)
+            | is_else ↦ elim ts [ [] ↦ one q.1 >>= r n >>= λ a. some (S.else_arm a.0, a.1) | u ∷ us ↦ none ]
           ] ≡ some p
           → ((m : ℕ) (b : S.Arms × ℕ) → arms r m ts ≡ some b → Counts (Flats ts) CountedArms m (weigh ts) b) → Counts (Flats (t ∷ ts)) CountedArms n (nodes t + weigh ts) p
-      by-head isArm ts q hq h k = bind-some h λ a ha h'. bind-some h' λ b hb e.
+      by-head is_arm ts q hq h k = bind-some h λ a ha h'. bind-some h' λ b hb e.
           let i = arm-counts n q.1 a ha in let j = k a.1.1 b hb in let w = weigh-headed t hq in
           rw (← some_inj e) (record { up = omega (arith, i.up, j.up); most = omega (arith, i.most, j.most); each = λ l g s. arm (i.each l (omega (arith, j.up)) (headed-shallow (first s) hq)) (j.each l g (rest s)) })
-      by-head isElse [] q hq h k = bind-some h λ a ha e. bind-some ha λ u hu ha'.
+      by-head is_else [] q hq h k = bind-some h λ a ha e. bind-some ha λ u hu ha'.
           let i = hr n u a ha' in let w = weigh-headed t hq in let v = weigh-one q.1 hu in
-          rw (← some_inj e) (record { up = i.up; most = omega (arith, i.most); each = λ l g s. elseArm (i.each l g (one-shallow (headed-shallow (first s) hq) hu)) })
-      by-head isElse (u ∷ us) q hq h k = none-some h
+          rw (← some_inj e) (record { up = i.up; most = omega (arith, i.most); each = λ l g s. else_arm (i.each l g (one-shallow (headed-shallow (first s) hq) hu)) })
+      by-head is_else (u ∷ us) q hq h k = none-some h
 
   else-counts : (n : ℕ) (ts : List Item) (p : S.Stmt × ℕ) → else_of r n ts ≡ some p → Counts (Flats ts) Counted n (weigh ts) p
   unfolding else_of weigh
@@ -156,51 +156,51 @@ module _ (r : Reader) (hr : (n : ℕ) (t : Item) (p : S.Stmt × ℕ) → r n t �
     leaf : {ts : List Item} (w : ℕ) (s : S.Stmt) → ((l : ℕ) → n ≤ l → Flats ts → Counted l s) → Counts (Flats ts) Counted n w (s, n)
     leaf w s k = record { up = omega arith; most = omega arith; each = k }
 
-    if-counts : (ts : List Item) (p : S.Stmt × ℕ) → ifForm r n ts ≡ some p → Counts (Flats ts) Counted n (weigh ts) p
-    unfolding ifForm weigh
+    if-counts : (ts : List Item) (p : S.Stmt × ℕ) → if_form r n ts ≡ some p → Counts (Flats ts) Counted n (weigh ts) p
+    unfolding if_form weigh
     if-counts [] p h = none-some h
     if-counts (t ∷ []) p h = none-some h
     if-counts (t ∷ (u ∷ ts)) p h = bind-some h λ x hx h. bind-some h λ a ha h. bind-some h λ b hb e.
         let i = hr n u a ha in let j = else-counts a.1 ts b hb in
-        rw (← some_inj e) (record { up = omega (arith, i.up, j.up); most = omega (arith, i.most, j.most); each = λ l k s. ifElse (record { from = f; to = omega (arith, i.up, j.up) }) (deep t x hx (first s)) (i.each l (omega (arith, j.up)) (first (rest s))) (j.each l k (rest (rest s))) })
+        rw (← some_inj e) (record { up = omega (arith, i.up, j.up); most = omega (arith, i.most, j.most); each = λ l k s. if_else (record { from = f; to = omega (arith, i.up, j.up) }) (deep t x hx (first s)) (i.each l (omega (arith, j.up)) (first (rest s))) (j.each l k (rest (rest s))) })
 
-    for-counts : (ts : List Item) (p : S.Stmt × ℕ) → forForm r n ts ≡ some p → Counts (Flats ts) Counted n (weigh ts) p
-    unfolding forForm weigh
+    for-counts : (ts : List Item) (p : S.Stmt × ℕ) → for_form r n ts ≡ some p → Counts (Flats ts) Counted n (weigh ts) p
+    unfolding for_form weigh
     for-counts [] p h = none-some h
     for-counts (v ∷ []) p h = none-some h
     for-counts (v ∷ (t ∷ ts)) p h = bind-some h λ w hw h. bind-some h λ a ha h. bind-some h λ q hq h. bind-some h λ b hb h. bind-some h λ c hc e.
         let i = hr n q.1 c hc in let g = weigh-two ts hq in
         rw (← some_inj e) (record { up = i.up; most = omega (arith, i.most); each = λ l k s. let o = two-shallow (rest (rest s)) hq in for (record { from = f; to = omega (arith, i.up) }) (deep t a ha (first (rest s))) (deep q.0 b hb o.0) (i.each l k o.1) })
 
-    first-arms : (l : ℕ) (bs cs : S.Arms) → armsFirst bs ≡ some cs → CountedArms l bs → CountedArms l cs
-    unfolding armsFirst
-    first-arms l (S.elseArm s) cs h k = none-some h
-    first-arms l S.noElse cs h k = none-some h
+    first-arms : (l : ℕ) (bs cs : S.Arms) → arms_first bs ≡ some cs → CountedArms l bs → CountedArms l cs
+    unfolding arms_first
+    first-arms l (S.else_arm s) cs h k = none-some h
+    first-arms l S.no_else cs h k = none-some h
     first-arms l (S.arm c s bs) cs h k = rw (← some_inj h) k
 
-    case-counts : (ts : List Item) (p : S.Stmt × ℕ) → caseForm r n ts ≡ some p → Counts (Flats ts) Counted n (weigh ts) p
-    unfolding caseForm weigh
+    case-counts : (ts : List Item) (p : S.Stmt × ℕ) → case_form r n ts ≡ some p → Counts (Flats ts) Counted n (weigh ts) p
+    unfolding case_form weigh
     case-counts [] p h = none-some h
     case-counts (t ∷ ts) p h = bind-some h λ x hx h. bind-some h λ a ha h. bind-some h λ b hb e.
         let i = arms-count n ts a ha in
         rw (← some_inj e) (record { up = i.up; most = omega (arith, i.most); each = λ l k s. case (record { from = f; to = omega (arith, i.up) }) (deep t x hx (first s)) (first-arms l a.0 b hb (i.each l k (rest s))) })
 
-    form-counts : (v : Verb) (ts : List Item) (p : S.Stmt × ℕ) → stmtForm r v n ts ≡ some p → Counts (Flats ts) Counted n (weigh ts) p
-    unfolding stmtForm
-    form-counts vAssign ts p h = bind-some h λ q hq h. bind-some h λ g hg h. bind-some h λ x hx e. rw (← some_inj e) (leaf _ _ (λ l k s. let o = two-shallow s hq in assign (record { from = f; to = k }) (target-deep 33 31 q.0 o.0 g hg) (deep q.1 x hx o.1)))
-    form-counts vBegin ts p h = bind-some h λ a ha e.
+    form-counts : (v : Verb) (ts : List Item) (p : S.Stmt × ℕ) → stmt_form r v n ts ≡ some p → Counts (Flats ts) Counted n (weigh ts) p
+    unfolding stmt_form
+    form-counts v_assign ts p h = bind-some h λ q hq h. bind-some h λ g hg h. bind-some h λ x hx e. rw (← some_inj e) (leaf _ _ (λ l k s. let o = two-shallow s hq in assign (record { from = f; to = k }) (target-deep 33 31 q.0 o.0 g hg) (deep q.1 x hx o.1)))
+    form-counts v_begin ts p h = bind-some h λ a ha e.
         let i = stmts-count n ts a ha in
         rw (← some_inj e) (record { up = i.up; most = i.most; each = λ l k s. begin (record { from = f; to = omega (arith, i.up) }) (i.each l k s) })
-    form-counts vIf ts p h = if-counts ts p h
-    form-counts vWhile ts p h = bind-some h λ q hq h. bind-some h λ x hx h. bind-some h λ a ha e.
+    form-counts v_if ts p h = if-counts ts p h
+    form-counts v_while ts p h = bind-some h λ q hq h. bind-some h λ x hx h. bind-some h λ a ha e.
         let i = hr n q.1 a ha in let g = weigh-two ts hq in
         rw (← some_inj e) (record { up = i.up; most = omega (arith, i.most); each = λ l k s. let o = two-shallow s hq in while (record { from = f; to = omega (arith, i.up) }) (deep q.0 x hx o.0) (i.each l k o.1) })
-    form-counts vFor ts p h = for-counts ts p h
-    form-counts vCase ts p h = case-counts ts p h
-    form-counts vCall [] p h = none-some h
-    form-counts vCall (t ∷ ts) p h = bind-some h λ w hw h. bind-some h λ es hes e.
+    form-counts v_for ts p h = for-counts ts p h
+    form-counts v_case ts p h = case-counts ts p h
+    form-counts v_call [] p h = none-some h
+    form-counts v_call (t ∷ ts) p h = bind-some h λ w hw h. bind-some h λ es hes e.
         rw (← some_inj e) (leaf _ _ (λ l k s. call (record { from = f; to = k }) (exprs-deep 33 32 (rest s) hes)))
-    form-counts vRaise ts p h = bind-some h λ x hx e. bind-some hx λ t ht hx. rw (← some_inj e) (leaf _ _ (λ l k s. raise (record { from = f; to = k }) (deep t x hx (one-shallow s ht))))
+    form-counts v_raise ts p h = bind-some h λ x hx e. bind-some hx λ t ht hx. rw (← some_inj e) (leaf _ _ (λ l k s. raise (record { from = f; to = k }) (deep t x hx (one-shallow s ht))))
 
 stmt-counts : (d n : ℕ) (t : Item) (p : S.Stmt × ℕ) → stmt d n t ≡ some p → Counts (Flat t) Counted n (nodes t) p
 unfolding stmt
@@ -211,16 +211,16 @@ stmt-counts (suc d) n t p h = bind-some h λ q hq h. bind-some h λ v hv h.
 
 -- ---- bodies and lines
 
-weigh-handler : {hs : List Item} (t : Item) → handlerOf t ≡ some hs → weigh hs ≤ nodes t
-unfolding handlerOf
+weigh-handler : {hs : List Item} (t : Item) → handler_of t ≡ some hs → weigh hs ≤ nodes t
+unfolding handler_of
 weigh-handler t h = bind-some h λ q hq g. given-some g λ _ e. let w = weigh-headed t hq in rw (← e) (omega arith)
 
 body-counts : (n : ℕ) (ts : List Item) (p : S.Body × ℕ) → body n ts ≡ some p → Counts (Flats ts) CountedBody n (weigh ts) p
 unfolding body weigh
 body-counts n [] p h = rw (← some_inj h) (record { up = omega arith; most = omega arith; each = λ l _ _. record { stmts = done; handler = done } })
-body-counts n (t ∷ ts) p h = by-handler (handlerOf t) refl ts h (λ m q hq. body-counts m ts q hq)
+body-counts n (t ∷ ts) p h = by-handler (handler_of t) refl ts h (λ m q hq. body-counts m ts q hq)
   where
-    by-handler : (o : Option (List Item)) → handlerOf t ≡ o → (ts : List Item) → body n (t ∷ ts) ≡ some p
+    by-handler : (o : Option (List Item)) → handler_of t ≡ o → (ts : List Item) → body n (t ∷ ts) ≡ some p
         → ((m : ℕ) (q : S.Body × ℕ) → body m ts ≡ some q → Counts (Flats ts) CountedBody m (weigh ts) q) → Counts (Flats (t ∷ ts)) CountedBody n (nodes t + weigh ts) p
     by-handler (some hs) e [] h k = bind-some (rw (e, body) at h) λ a ha v.
         let i = stmts-count (stmt 33) (stmt-counts 33) n hs a ha in let w = weigh-handler t e in
@@ -238,27 +238,27 @@ body-counts n (t ∷ ts) p h = by-handler (handlerOf t) refl ts h (λ m q hq. bo
 after_list : (ts : List Item) {q : List (Name × S.TypeName) × List Item} → parameters ts ≡ some q → weigh q.1 ≤ weigh ts
 unfolding parameters weigh
 after_list [] h = rw (← some_inj h) (omega arith)
-after_list (t ∷ ts) h = by-handler (pairsOf t) h (λ ps _ h. bind-some h λ fs hfs h. rw (← some_inj h) (omega arith)) (λ h. rw (← some_inj h) (omega arith))
+after_list (t ∷ ts) h = by-handler (pairs_of t) h (λ ps _ h. bind-some h λ fs hfs h. rw (← some_inj h) (omega arith)) (λ h. rw (← some_inj h) (omega arith))
 
 list-shallow : {ts : List Item} → Flats ts → {q : List (Name × S.TypeName) × List Item} → parameters ts ≡ some q → Flats q.1
 unfolding parameters
 list-shallow no-parts h = rw (← some_inj h) no-parts
-list-shallow (more {t} s ss) h = by-handler (pairsOf t) h (λ ps _ h. bind-some h λ fs hfs h. rw (← some_inj h) ss) (λ h. rw (← some_inj h) (more s ss))
+list-shallow (more {t} s ss) h = by-handler (pairs_of t) h (λ ps _ h. bind-some h λ fs hfs h. rw (← some_inj h) ss) (λ h. rw (← some_inj h) (more s ss))
 
-by-counts : (d : LineHead) (n : ℕ) (ts : List Item) (p : S.LineForm × ℕ) → lineBy d n ts ≡ some p → Counts (Flats ts) CountedLine n (weigh ts) p
-unfolding lineBy weigh
-by-counts is_type n ts p h = bind-some h λ q hq h. bind-some h λ w hw h. bind-some h λ t ht e. rw (← some_inj e) (record { up = omega arith; most = omega arith; each = λ l _ _. typeLine })
-by-counts isVar n ts p h = bind-some h λ q hq h. bind-some h λ w hw h. bind-some h λ t ht e. rw (← some_inj e) (record { up = omega arith; most = omega arith; each = λ l _ _. varLine })
-by-counts isProc n [] p h = none-some h
-by-counts isProc n (t ∷ ts) p h = bind-some h λ w hw h. bind-some h λ q hq h. bind-some h λ b hb e.
+by-counts : (d : LineHead) (n : ℕ) (ts : List Item) (p : S.LineForm × ℕ) → line_by d n ts ≡ some p → Counts (Flats ts) CountedLine n (weigh ts) p
+unfolding line_by weigh
+by-counts is_type n ts p h = bind-some h λ q hq h. bind-some h λ w hw h. bind-some h λ t ht e. rw (← some_inj e) (record { up = omega arith; most = omega arith; each = λ l _ _. type_line })
+by-counts is_var n ts p h = bind-some h λ q hq h. bind-some h λ w hw h. bind-some h λ t ht e. rw (← some_inj e) (record { up = omega arith; most = omega arith; each = λ l _ _. var_line })
+by-counts is_proc n [] p h = none-some h
+by-counts is_proc n (t ∷ ts) p h = bind-some h λ w hw h. bind-some h λ q hq h. bind-some h λ b hb e.
     let i = body-counts n q.1 b hb in let m = after_list ts hq in
-    rw (← some_inj e) (record { up = i.up; most = omega (arith, i.most); each = λ l k s. procLine (i.each l k (list-shallow (rest s) hq)) })
-by-counts isMain n ts p h = bind-some h λ b hb e.
+    rw (← some_inj e) (record { up = i.up; most = omega (arith, i.most); each = λ l k s. proc_line (i.each l k (list-shallow (rest s) hq)) })
+by-counts is_main n ts p h = bind-some h λ b hb e.
     let i = body-counts n ts b hb in
-    rw (← some_inj e) (record { up = i.up; most = i.most; each = λ l k s. mainLine (i.each l k s) })
+    rw (← some_inj e) (record { up = i.up; most = i.most; each = λ l k s. main_line (i.each l k s) })
 
-pub line-counts : (n : ℕ) (t : Item) (p : S.LineForm × ℕ) → lineForm n t ≡ some p → Counts (Flat t) CountedLine n (nodes t) p
-unfolding lineForm
+pub line-counts : (n : ℕ) (t : Item) (p : S.LineForm × ℕ) → line_form n t ≡ some p → Counts (Flat t) CountedLine n (nodes t) p
+unfolding line_form
 line-counts n t p h = bind-some h λ q hq h. bind-some h λ d hd h.
     let i = by-counts d n q.1 p h in let w = weigh-headed t hq in
     record { up = i.up; most = omega (arith, i.most); each = λ l k s. i.each l k (headed-shallow s hq) }

@@ -8,12 +8,12 @@ use native.Mathlib.Nat.{suc-add}
 use native.Mathlib.Omega.{arith}
 use lib.IntN.{ℤ, suc_ℤ}
 use Rattle.leaf_integers.specs.Integers.{inside, is_zero}
-use Rattle.law.specs.Calculate.{Result, fails, is, isTrue, stuck, systemError}
-use Rattle.law.specs.Chair.{condition, evalCode, matches, placeCode, runAct, runActs, runArguments, runCases}
-use Rattle.law.specs.Code.{Act, Acts, BodyCode, Cases, Code, Frame, ◌also◌, assignOrdinal, assignCell, copyCells, load, branchOn, callTo, case_of, elseCase, forLoop, no_case, noAct, oneCase, raiseWith, sequence, stop, whileLoop}
-use Rattle.law.specs.Machine.{Answer, Outcome, Proc, Procs, State, Store, and_then, answer, branch, caught, continued, Plan, countUp, ended, entered, forRounds, noRound, opened, outside, planned, rounds, handled, normal, passOn, procedureAt, raiseNumber, raised, raising, returning, setControl, sole, spent, state, step, stepIf, sticks, stored, storeOrdinal, storeWhole, whileRounds, withResult}
-use Rattle.law.specs.Whole.{runAll, runBody}
-use Rattle.law_theorems.proofs.MoreBudget.{more, moreA, returning-f}
+use Rattle.law.specs.Calculate.{Result, fails, is, is_true, stuck, system_error}
+use Rattle.law.specs.Chair.{condition, eval_code, matches, place_code, run_act, run_acts, run_arguments, run_cases}
+use Rattle.law.specs.Code.{Act, Acts, BodyCode, Cases, Code, Frame, ◌also◌, assign_ordinal, assign_cell, copy_cells, load, branch_on, call_to, case_of, else_case, for_loop, no_case, no_act, one_case, raise_with, sequence, stop, while_loop}
+use Rattle.law.specs.Machine.{Answer, Outcome, Proc, Procs, State, Store, and_then, answer, branch, caught, continued, Plan, count_up, ended, entered, for_rounds, no_round, opened, outside, planned, rounds, handled, normal, pass_on, procedure_at, raise_number, raised, raising, returning, set_control, sole, spent, state, step, step_if, sticks, stored, store_ordinal, store_whole, while_rounds, with_result}
+use Rattle.law.specs.Whole.{run_all, run_body}
+use Rattle.law_theorems.proofs.MoreBudget.{more, more_a, returning-f}
 use Rattle.law_theorems.proofs.Programs.{all-bodies, no-procs}
 
 -- what is left never grows
@@ -24,16 +24,16 @@ pub record Sinks (f : State → Answer) : Type 0 where
 pub record Lower (b : ℕ) (f g : State → Answer) : Type 0 where
   pub less-f : Sinks f
   pub less-g : Sinks g
-  pub at : (s : State) → s.left ≤ b → 1 ≤ (g (more 1 s)).state.left → g (more 1 s) ≡ moreA 1 (f s)
+  pub at : (s : State) → s.left ≤ b → 1 ≤ (g (more 1 s)).state.left → g (more 1 s) ≡ more_a 1 (f s)
 
 lower : {b c : ℕ} {f g : State → Answer} → c ≤ b → Lower b f g → Lower c f g
 lower {b} {c} l h = record { less-f = h.less-f; less-g = h.less-g; at = λ s k e. h.at s (omega arith) e }
 
-due-less : {f : State → Answer} → Sinks f → (n : ℕ) (m : Store) → (stepIf n (state m n) f).state.left ≤ n
+due-less : {f : State → Answer} → Sinks f → (n : ℕ) (m : Store) → (step_if n (state m n) f).state.left ≤ n
 due-less h zero m = omega arith
 due-less h (suc n) m = let l = h.by (state m n) in omega arith
 
-due-l : {b : ℕ} {f g : State → Answer} → Lower b f g → (n : ℕ) (s : State) → n ≤ suc b → 1 ≤ (stepIf (n + 1) (more 1 s) g).state.left → stepIf (n + 1) (more 1 s) g ≡ moreA 1 (stepIf n s f)
+due-l : {b : ℕ} {f g : State → Answer} → Lower b f g → (n : ℕ) (s : State) → n ≤ suc b → 1 ≤ (step_if (n + 1) (more 1 s) g).state.left → step_if (n + 1) (more 1 s) g ≡ more_a 1 (step_if n s f)
 due-l h zero s l e = absurd (let k = h.less-g.by (state s.store 0) in omega arith)
 due-l h (suc n) s l e = rw suc-add (h.at (state s.store n) (omega arith) (rw suc-add at e))
 
@@ -49,7 +49,7 @@ onto-less h spent s = omega arith
 onto-less h sticks s = omega arith
 onto-less h (raised z n) s = omega arith
 
-onto-l : {b : ℕ} {f g : State → Answer} → Lower b f g → (o : Outcome) (s : State) → s.left ≤ b → 1 ≤ (continued o (more 1 s) g).state.left → continued o (more 1 s) g ≡ moreA 1 (continued o s f)
+onto-l : {b : ℕ} {f g : State → Answer} → Lower b f g → (o : Outcome) (s : State) → s.left ≤ b → 1 ≤ (continued o (more 1 s) g).state.left → continued o (more 1 s) g ≡ more_a 1 (continued o s f)
 onto-l h normal s l e = h.at s l e
 onto-l h spent s l e = refl
 onto-l h sticks s l e = refl
@@ -77,85 +77,85 @@ raising-l : {b : ℕ} (z : ℤ) (n : ℕ) → Lower b (raising z n) (raising z n
 raising-l z n = record { less-f = record { by = λ s. omega arith }; less-g = record { by = λ s. omega arith }; at = λ s l e. refl }
 
 after-l : {A : Type 0} {b : ℕ} (n : ℕ) (v : Store → Result A) {f g : A → State → Answer} → ((a : A) → Lower b (f a) (g a))
-    → Lower b (λ s. withResult n s (v s.store) (λ a. f a s)) (λ s. withResult n s (v s.store) (λ a. g a s))
+    → Lower b (λ s. with_result n s (v s.store) (λ a. f a s)) (λ s. with_result n s (v s.store) (λ a. g a s))
 after-l {A} {b} n v {f} {g} h = record { less-f = record { by = λ s. low-f s (v s.store) }; less-g = record { by = λ s. low-g s (v s.store) }; at = λ s l e. go s l (v s.store) e }
   where
-    low-f : (s : State) (w : Result A) → (withResult n s w (λ a. f a s)).state.left ≤ s.left
+    low-f : (s : State) (w : Result A) → (with_result n s w (λ a. f a s)).state.left ≤ s.left
     low-f s (is a) = (h a).less-f.by s
     low-f s (fails z) = omega arith
     low-f s stuck = omega arith
 
-    low-g : (s : State) (w : Result A) → (withResult n s w (λ a. g a s)).state.left ≤ s.left
+    low-g : (s : State) (w : Result A) → (with_result n s w (λ a. g a s)).state.left ≤ s.left
     low-g s (is a) = (h a).less-g.by s
     low-g s (fails z) = omega arith
     low-g s stuck = omega arith
 
-    go : (s : State) → s.left ≤ b → (w : Result A) → 1 ≤ (withResult n (more 1 s) w (λ a. g a (more 1 s))).state.left → withResult n (more 1 s) w (λ a. g a (more 1 s)) ≡ moreA 1 (withResult n s w (λ a. f a s))
+    go : (s : State) → s.left ≤ b → (w : Result A) → 1 ≤ (with_result n (more 1 s) w (λ a. g a (more 1 s))).state.left → with_result n (more 1 s) w (λ a. g a (more 1 s)) ≡ more_a 1 (with_result n s w (λ a. f a s))
     go s l (is a) e = (h a).at s l e
     go s l (fails z) e = refl
     go s l stuck e = refl
 
 check-l : {b : ℕ} (n : ℕ) (c : Code) {f g : Bool → State → Answer} → ((q : Bool) → Lower b (f q) (g q)) → Lower b (λ s. condition n c s (λ q. f q s)) (λ s. condition n c s (λ q. g q s))
 unfolding condition
-check-l n c h = after-l n (evalCode c) λ x. h (isTrue (sole x))
+check-l n c h = after-l n (eval_code c) λ x. h (is_true (sole x))
 
 -- with nothing left, a step is due and the answer is spent
 spent-l : {f : State → Answer} → Sinks f → Lower 0 (answer spent) (λ s. step s f)
 spent-l {f} h = record { less-f = record { by = λ s. omega arith }; less-g = record { by = λ s. due-less h s.left s.store }; at = λ s l e. go s.left s l e }
   where
-    go : (n : ℕ) (s : State) → n ≤ 0 → 1 ≤ (stepIf (n + 1) (more 1 s) f).state.left → stepIf (n + 1) (more 1 s) f ≡ moreA 1 (answer spent s)
+    go : (n : ℕ) (s : State) → n ≤ 0 → 1 ≤ (step_if (n + 1) (more 1 s) f).state.left → step_if (n + 1) (more 1 s) f ≡ more_a 1 (answer spent s)
     go zero s l e = absurd (let k = h.by (state s.store 0) in omega arith)
     go (suc n) s l e = absurd (omega arith)
 
-rounds-l : (n : ℕ) (c : Code) {body : State → Answer} → ((b : ℕ) → Lower b body body) → (b : ℕ) → Lower b (whileRounds b (condition n c) body) (whileRounds (suc b) (condition n c) body)
-unfolding whileRounds
+rounds-l : (n : ℕ) (c : Code) {body : State → Answer} → ((b : ℕ) → Lower b body body) → (b : ℕ) → Lower b (while_rounds b (condition n c) body) (while_rounds (suc b) (condition n c) body)
+unfolding while_rounds
 rounds-l n c {body} h zero = check-l n c λ q. branch-l q (spent-l (then-l (h 0) (none-l n c)).less-f) answer-l
   where
     none-l : (n : ℕ) (c : Code) → Lower 0 (λ s. condition n c s λ b. branch b (answer spent) (answer normal) s) (λ s. condition n c s λ b. branch b (answer spent) (answer normal) s)
     none-l n c = check-l n c λ q. branch-l q answer-l answer-l
 rounds-l n c h (suc b) = check-l n c λ q. branch-l q (step-l (then-l (h b) (rounds-l n c h b))) answer-l
 
-rounds-one : (n : ℕ) (c : Code) {body : State → Answer} → ((b : ℕ) → Lower b body body) → (b d : ℕ) → d ≡ suc b → Lower b (whileRounds b (condition n c) body) (whileRounds d (condition n c) body)
+rounds-one : (n : ℕ) (c : Code) {body : State → Answer} → ((b : ℕ) → Lower b body body) → (b d : ℕ) → d ≡ suc b → Lower b (while_rounds b (condition n c) body) (while_rounds d (condition n c) body)
 rounds-one n c h b d e = rw e (rounds-l n c h b)
 
-set-l : (a : ℕ) (z : ℤ) {b : ℕ} {body : State → Answer} → Lower b body body → Lower b (λ s. body (setControl a z s)) (λ s. body (setControl a z s))
-set-l a z h = record { less-f = record { by = λ s. h.less-f.by (setControl a z s) }; less-g = record { by = λ s. h.less-g.by (setControl a z s) }; at = λ s l e. h.at (setControl a z s) l e }
+set-l : (a : ℕ) (z : ℤ) {b : ℕ} {body : State → Answer} → Lower b body body → Lower b (λ s. body (set_control a z s)) (λ s. body (set_control a z s))
+set-l a z h = record { less-f = record { by = λ s. h.less-f.by (set_control a z s) }; less-g = record { by = λ s. h.less-g.by (set_control a z s) }; at = λ s l e. h.at (set_control a z s) l e }
 
 ended-l : (b a : ℕ) → Lower b (ended a) (ended a)
 ended-l b a = record { less-f = record { by = λ s. omega arith }; less-g = record { by = λ s. omega arith }; at = λ s l e. refl }
 
-turns-l : (j a : ℕ) {body : State → Answer} → ((b : ℕ) → Lower b body body) → (z : ℤ) (b : ℕ) → Lower b (forRounds j a body z) (forRounds j a body z)
-unfolding forRounds
+turns-l : (j a : ℕ) {body : State → Answer} → ((b : ℕ) → Lower b body body) → (z : ℤ) (b : ℕ) → Lower b (for_rounds j a body z) (for_rounds j a body z)
+unfolding for_rounds
 turns-l zero a h z b = ended-l b a
 turns-l (suc j) a h z b = step-any (λ b. then-l (set-l a z (h b)) (turns-l j a h (suc_ℤ z) b)) b
 
 opened-l : (q : Plan) (n a : ℕ) (x : ℤ) {body : State → Answer} → ((b : ℕ) → Lower b body body) → (b : ℕ) → Lower b (opened q n a x body) (opened q n a x body)
 unfolding opened
-opened-l noRound n a x h b = ended-l b a
+opened-l no_round n a x h b = ended-l b a
 opened-l outside n a x h b = raising-l _ n
 opened-l (rounds j) n a x h b = turns-l j a h x b
 
-counting-l : (n a : ℕ) (lo hi x y : ℤ) {body : State → Answer} → ((b : ℕ) → Lower b body body) → (b : ℕ) → Lower b (countUp n a lo hi x y body) (countUp n a lo hi x y body)
-unfolding countUp
+counting-l : (n a : ℕ) (lo hi x y : ℤ) {body : State → Answer} → ((b : ℕ) → Lower b body body) → (b : ℕ) → Lower b (count_up n a lo hi x y body) (count_up n a lo hi x y body)
+unfolding count_up
 counting-l n a lo hi x y h b = opened-l (planned lo hi x y) n a x h b
 
-keep-l : (b n a : ℕ) (lo hi z : ℤ) → Lower b (storeOrdinal n a lo hi z) (storeOrdinal n a lo hi z)
-unfolding storeOrdinal
+keep-l : (b n a : ℕ) (lo hi z : ℤ) → Lower b (store_ordinal n a lo hi z) (store_ordinal n a lo hi z)
+unfolding store_ordinal
 keep-l b n a lo hi z = branch-l (inside lo hi z) (record { less-f = record { by = λ s. omega arith }; less-g = record { by = λ s. omega arith }; at = λ s l e. refl }) (raising-l _ n)
 
-copy-l : (b n a : ℕ) (zs : List ℤ) → Lower b (storeWhole n a zs) (storeWhole n a zs)
-unfolding storeWhole
+copy-l : (b n a : ℕ) (zs : List ℤ) → Lower b (store_whole n a zs) (store_whole n a zs)
+unfolding store_whole
 copy-l b n a zs = record { less-f = record { by = λ s. omega arith }; less-g = record { by = λ s. omega arith }; at = λ s l e. refl }
 
-passes-l : (b n : ℕ) → Lower b (passOn n) (passOn n)
-unfolding passOn
+passes-l : (b n : ℕ) → Lower b (pass_on n) (pass_on n)
+unfolding pass_on
 passes-l b n = record { less-f = record { by = λ s. (h s).less-f.by s }; less-g = record { by = λ s. (h s).less-g.by s }; at = λ s. (h s).at s }
   where
-    h : (s : State) → Lower b (branch (is_zero s.store.latest) (raising systemError n) (answer (raised s.store.latest s.store.place))) (branch (is_zero s.store.latest) (raising systemError n) (answer (raised s.store.latest s.store.place)))
-    h s = branch-l (is_zero s.store.latest) (raising-l systemError n) answer-l
+    h : (s : State) → Lower b (branch (is_zero s.store.latest) (raising system_error n) (answer (raised s.store.latest s.store.place))) (branch (is_zero s.store.latest) (raising system_error n) (answer (raised s.store.latest s.store.place)))
+    h s = branch-l (is_zero s.store.latest) (raising-l system_error n) answer-l
 
-raises-l : (b n : ℕ) (z : ℤ) → Lower b (raiseNumber n z) (raiseNumber n z)
-unfolding raiseNumber
+raises-l : (b n : ℕ) (z : ℤ) → Lower b (raise_number n z) (raise_number n z)
+unfolding raise_number
 raises-l b n z = branch-l (is_zero z) (passes-l b n) (raising-l z n)
 
 abbrev L : (State → Answer) → Type 0
@@ -184,35 +184,35 @@ entered-l f zs h = record {
         let t = state (stored f.frame.base zs s.store) s.left in
         let k = h.less-f.by t in omega (arith, returning-left f.frame (f.run t).outcome (f.run t).state)
 
-module _ (ps : Procs) (hp : (p : ℕ) → L (procedureAt ps p).run) where
+module _ (ps : Procs) (hp : (p : ℕ) → L (procedure_at ps p).run) where
   mutual
-    unfolding runAct
+    unfolding run_act
 
-    run-l : (a : Act) (b : ℕ) → Lower b (runAct ps a) (runAct ps a)
-    run-l (assignOrdinal n p lo hi c) b = step-any (λ b. after-l n (evalCode c) λ zs. after-l n (placeCode p) λ a. keep-l b n a lo hi (sole zs)) b
-    run-l (assignCell n p c) b = step-any (λ b. after-l n (evalCode c) λ zs. after-l n (placeCode p) λ a. copy-l b n a zs) b
-    run-l (copyCells n p q k) b = step-any (λ b. after-l n (evalCode (load q k)) λ zs. after-l n (placeCode p) λ a. copy-l b n a zs) b
+    run-l : (a : Act) (b : ℕ) → Lower b (run_act ps a) (run_act ps a)
+    run-l (assign_ordinal n p lo hi c) b = step-any (λ b. after-l n (eval_code c) λ zs. after-l n (place_code p) λ a. keep-l b n a lo hi (sole zs)) b
+    run-l (assign_cell n p c) b = step-any (λ b. after-l n (eval_code c) λ zs. after-l n (place_code p) λ a. copy-l b n a zs) b
+    run-l (copy_cells n p q k) b = step-any (λ b. after-l n (eval_code (load q k)) λ zs. after-l n (place_code p) λ a. copy-l b n a zs) b
     run-l (sequence n bs) b = step-any (λ b. runs-l bs b) b
-    run-l (branchOn n c a e) b = step-any (λ b. check-l n c λ q. branch-l q (run-l a b) (run-l e b)) b
-    run-l (whileLoop n c a) b = step-any (λ b. record {
+    run-l (branch_on n c a e) b = step-any (λ b. check-l n c λ q. branch-l q (run-l a b) (run-l e b)) b
+    run-l (while_loop n c a) b = step-any (λ b. record {
       less-f = record { by = λ s. (rounds-l n c (λ k. run-l a k) s.left).less-f.by s };
       less-g = record { by = λ s. (rounds-l n c (λ k. run-l a k) s.left).less-f.by s };
       at = λ s l e. (rounds-one n c (λ k. run-l a k) s.left (s.left + 1) (omega arith)).at s (omega arith) e;
     }) b
-    run-l (forLoop n a lo hi x y e) b = step-any (λ b. after-l n (evalCode x) λ u. after-l n (evalCode y) λ v. counting-l n a lo hi (sole u) (sole v) (λ k. run-l e k) b) b
-    run-l (case_of n c bs) b = step-any (λ b. after-l n (evalCode c) λ x. picks-l bs n (sole x) b) b
-    run-l (callTo n p cs) b = step-any (λ b. after-l n (runArguments (procedureAt ps p).frame.wants cs) λ zs. entered-l (procedureAt ps p) zs (hp p b)) b
-    run-l (raiseWith n c) b = step-any (λ b. after-l n (evalCode c) λ x. raises-l b n (sole x)) b
-    run-l noAct b = answer-l
+    run-l (for_loop n a lo hi x y e) b = step-any (λ b. after-l n (eval_code x) λ u. after-l n (eval_code y) λ v. counting-l n a lo hi (sole u) (sole v) (λ k. run-l e k) b) b
+    run-l (case_of n c bs) b = step-any (λ b. after-l n (eval_code c) λ x. picks-l bs n (sole x) b) b
+    run-l (call_to n p cs) b = step-any (λ b. after-l n (run_arguments (procedure_at ps p).frame.wants cs) λ zs. entered-l (procedure_at ps p) zs (hp p b)) b
+    run-l (raise_with n c) b = step-any (λ b. after-l n (eval_code c) λ x. raises-l b n (sole x)) b
+    run-l no_act b = answer-l
 
-    runs-l : (bs : Acts) (b : ℕ) → Lower b (runActs ps bs) (runActs ps bs)
+    runs-l : (bs : Acts) (b : ℕ) → Lower b (run_acts ps bs) (run_acts ps bs)
     runs-l stop b = answer-l
     runs-l (a also bs) b = then-l (run-l a b) (runs-l bs b)
 
-    picks-l : (bs : Cases) (n : ℕ) (z : ℤ) (b : ℕ) → Lower b (runCases ps n z bs) (runCases ps n z bs)
-    picks-l (elseCase a) n z b = run-l a b
+    picks-l : (bs : Cases) (n : ℕ) (z : ℤ) (b : ℕ) → Lower b (run_cases ps n z bs) (run_cases ps n z bs)
+    picks-l (else_case a) n z b = run-l a b
     picks-l no_case n z b = raising-l _ n
-    picks-l (oneCase ls a bs) n z b = branch-l (matches z ls) (run-l a b) (picks-l bs n z b)
+    picks-l (one_case ls a bs) n z b = branch-l (matches z ls) (run-l a b) (picks-l bs n z b)
 
 -- ---- bodies and scripts
 
@@ -222,7 +222,7 @@ caught-less h spent s = omega arith
 caught-less h sticks s = omega arith
 caught-less h (raised z n) s = h.by s
 
-caught-l : {b : ℕ} {f : State → Answer} → Lower b f f → (o : Outcome) (s : State) → s.left ≤ b → 1 ≤ (caught o (more 1 s) f).state.left → caught o (more 1 s) f ≡ moreA 1 (caught o s f)
+caught-l : {b : ℕ} {f : State → Answer} → Lower b f f → (o : Outcome) (s : State) → s.left ≤ b → 1 ≤ (caught o (more 1 s) f).state.left → caught o (more 1 s) f ≡ more_a 1 (caught o s f)
 caught-l h normal s l e = refl
 caught-l h spent s l e = refl
 caught-l h sticks s l e = refl
@@ -243,9 +243,9 @@ handled-l true {b} {f} {g} hf hg = record {
     less : (s : State) → (handled true (f s) g).state.left ≤ s.left
     less s = let k = hf.less-f.by s in let l = caught-less hg.less-f (f s).outcome (f s).state in omega arith
 
-body-l : (b : BodyCode) (ps : Procs) → ((i : ℕ) → L (procedureAt ps i).run) → L (runBody b ps)
-unfolding runBody
+body-l : (b : BodyCode) (ps : Procs) → ((i : ℕ) → L (procedure_at ps i).run) → L (run_body b ps)
+unfolding run_body
 body-l b ps h k = handled-l b.handles (runs-l ps h b.acts k) (runs-l ps h b.handler k)
 
-pub program-l : (bs : List BodyCode) (b : ℕ) → Lower b (runAll bs []) (runAll bs [])
+pub program-l : (bs : List BodyCode) (b : ℕ) → Lower b (run_all bs []) (run_all bs [])
 program-l bs = all-bodies L (λ b. answer-l) body-l bs [] (no-procs (λ f. L f.run) (λ b. answer-l))

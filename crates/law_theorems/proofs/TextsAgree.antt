@@ -6,19 +6,19 @@ use mathlib.Core.Option.{Option, none, some}
 use Prim.Native.Nat.{ℕ, suc, ◌+◌}
 use native.Mathlib.Omega.{arith}
 use lib.IntN.{ℤ}
-use Rattle.law.specs.Ceilings.{lineBounded}
-use Rattle.law.specs.Code.{BodyCode, noFrame}
-use Rattle.law.specs.Elaborate.{elabBody}
-use Rattle.law.specs.Environment.{Declared, PlacedBody, declareLine, frame_of, nothingDeclared, withBody, within}
+use Rattle.law.specs.Ceilings.{line_bounded}
+use Rattle.law.specs.Code.{BodyCode, no_frame}
+use Rattle.law.specs.Elaborate.{elab_body}
+use Rattle.law.specs.Environment.{Declared, PlacedBody, declare_line, frame_of, nothing_declared, with_body, within}
 use Rattle.law.specs.Lines.{Line, lines_of}
 use Rattle.law.specs.Machine.{Procs, proc}
 use Rattle.law.specs.Names.{entry_of}
-use Rattle.law.specs.Rules.{keepsRules}
-use Rattle.law.specs.Script.{Entry, newMain, newProc, newType, newVar}
+use Rattle.law.specs.Rules.{keeps_rules}
+use Rattle.law.specs.Script.{Entry, new_main, new_proc, new_type, new_var}
 use Rattle.law.specs.Syntax.{LineForm}
 use Rattle.law.specs.Trees.{nodes}
-use Rattle.law.specs.Verdict.{Fitting, Judged, Read, Verdict, ◌>>=◌, accepted, bad, good, has, judge, judgeLine, judgeLines, loosely, must, onward, opening, orBad, refused, strictly}
-use Rattle.law.specs.Whole.{Report, markAll, markBody, mark_of, runAll, runBody, run_of, unless, verdictOf}
+use Rattle.law.specs.Verdict.{Fitting, Judged, Read, Verdict, ◌>>=◌, accepted, bad, good, has, judge, judge_line, judge_lines, loosely, must, onward, opening, or_bad, refused, strictly}
+use Rattle.law.specs.Whole.{Report, mark_all, mark_body, mark_of, run_all, run_body, run_of, unless, verdict_of}
 use Rattle.law_theorems.proofs.Inversion.{some_inj, both_some, bind-some, and-true}
 use Rattle.law_theorems.proofs.BodiesAgree.{sim-b}
 
@@ -37,14 +37,14 @@ pub accepted-inj : {A : Type 0} {a b : A} → accepted a ≡ accepted b → a �
 accepted-inj {a} {b} h = cc
 
 -- a stage that gave something, and what came after
-pub stage : {A B P : Type 0} (n : ℕ) {o : Option A} {f : A → Judged B} {b : B} → (orBad n o >>= f) ≡ good b → ((a : A) → o ≡ some a → f a ≡ good b → P) → P
-unfolding orBad ◌>>=◌
+pub stage : {A B P : Type 0} (n : ℕ) {o : Option A} {f : A → Judged B} {b : B} → (or_bad n o >>= f) ≡ good b → ((a : A) → o ≡ some a → f a ≡ good b → P) → P
+unfolding or_bad ◌>>=◌
 stage n {o = some a} h k = k a refl h
 stage n {o = none} h k = bad-good h
 
 -- and the same forwards
-pub stage-on : {A B : Type 0} (n : ℕ) (a : A) (f : A → Judged B) → (orBad n (some a) >>= f) ≡ f a
-unfolding orBad ◌>>=◌
+pub stage-on : {A B : Type 0} (n : ℕ) (a : A) (f : A → Judged B) → (or_bad n (some a) >>= f) ≡ f a
+unfolding or_bad ◌>>=◌
 stage-on n a f = refl
 
 pub must-on : {B : Type 0} (n : ℕ) (f : Unit {0} → Judged B) → (must n true >>= f) ≡ f tt
@@ -85,9 +85,9 @@ opening-is true true none f ls h k = k h (λ g. refl)
 
 pub data Paired : List PlacedBody → List BodyCode → Type 0 where
   empty : Paired [] []
-  more : {b : PlacedBody} {c : BodyCode} {bs : List PlacedBody} {cs : List BodyCode} → elabBody b.types b.vars b.frame b.body ≡ some c → Paired bs cs → Paired (b ∷ bs) (c ∷ cs)
+  more : {b : PlacedBody} {c : BodyCode} {bs : List PlacedBody} {cs : List BodyCode} → elab_body b.types b.vars b.frame b.body ≡ some c → Paired bs cs → Paired (b ∷ bs) (c ∷ cs)
 
-paired-last : {bs : List PlacedBody} {cs : List BodyCode} (b : PlacedBody) (c : BodyCode) → elabBody b.types b.vars b.frame b.body ≡ some c → Paired bs cs → Paired (bs ++ (b ∷ [])) (cs ++ (c ∷ []))
+paired-last : {bs : List PlacedBody} {cs : List BodyCode} (b : PlacedBody) (c : BodyCode) → elab_body b.types b.vars b.frame b.body ≡ some c → Paired bs cs → Paired (bs ++ (b ∷ [])) (cs ++ (c ∷ []))
 paired-last b c h empty = more h empty
 paired-last b c h (more e p) = more e (paired-last b c h p)
 
@@ -95,32 +95,32 @@ paired_same : {bs : List PlacedBody} {cs : List BodyCode} → Paired bs cs → P
 paired_same {bs} {cs} p = rw (append-nil cs) p
 
 -- a line that fits: the bodies after it have the code after it
-entry-paired : (k : Declared) (e : Entry) (s n : ℕ) (cs ds : List BodyCode) → strictly k.env e ≡ some ds → Paired k.bodies cs → Paired (declareLine k e s n).bodies (cs ++ ds)
-unfolding strictly declareLine
-entry-paired k (newType w d) s n cs ds h p = rw (← some_inj h) (paired_same p)
-entry-paired k (newVar w t) s n cs ds h p = rw (← some_inj h) (paired_same p)
-entry-paired k (newProc w ps b) s n cs ds h p = bind-some h λ c hc e. rw (← some_inj e) (paired-last (withBody (within k.env ps) (frame_of k.env ps) b) c hc p)
-entry-paired k (newMain b) s n cs ds h p = bind-some h λ c hc e. rw (← some_inj e) (paired-last (withBody k.env noFrame b) c hc p)
+entry-paired : (k : Declared) (e : Entry) (s n : ℕ) (cs ds : List BodyCode) → strictly k.env e ≡ some ds → Paired k.bodies cs → Paired (declare_line k e s n).bodies (cs ++ ds)
+unfolding strictly declare_line
+entry-paired k (new_type w d) s n cs ds h p = rw (← some_inj h) (paired_same p)
+entry-paired k (new_var w t) s n cs ds h p = rw (← some_inj h) (paired_same p)
+entry-paired k (new_proc w ps b) s n cs ds h p = bind-some h λ c hc e. rw (← some_inj e) (paired-last (with_body (within k.env ps) (frame_of k.env ps) b) c hc p)
+entry-paired k (new_main b) s n cs ds h p = bind-some h λ c hc e. rw (← some_inj e) (paired-last (with_body k.env no_frame b) c hc p)
 
 -- ---- a line, judged strictly, is judged loosely too, with the same tables
 
 -- what a line that was judged good went through; another judge of kinds who admits it gives the same tables
-pub line-good : {P : Type 0} (fitting : Fitting) (k : Declared) (l : Line) (p : Declared × List BodyCode) → judgeLine fitting k l ≡ good p
-    → ((f : LineForm) (e : Entry) (s n : ℕ) → entry_of k.env f ≡ some e → keepsRules k.env.types e ≡ true → fitting k.env e ≡ some p.1
-    → lineBounded k e ≡ true → declareLine k e s n ≡ p.0
-    → ((other : Fitting) (ds : List BodyCode) → other k.env e ≡ some ds → judgeLine other k l ≡ good (p.0, ds)) → P) → P
-unfolding judgeLine
+pub line-good : {P : Type 0} (fitting : Fitting) (k : Declared) (l : Line) (p : Declared × List BodyCode) → judge_line fitting k l ≡ good p
+    → ((f : LineForm) (e : Entry) (s n : ℕ) → entry_of k.env f ≡ some e → keeps_rules k.env.types e ≡ true → fitting k.env e ≡ some p.1
+    → line_bounded k e ≡ true → declare_line k e s n ≡ p.0
+    → ((other : Fitting) (ds : List BodyCode) → other k.env e ≡ some ds → judge_line other k l ≡ good (p.0, ds)) → P) → P
+unfolding judge_line
 line-good fitting k l p h c =
     stage 4 h λ t h₄ h. stage 5 h λ v h₅ h. musted 6 (not k.ended) h λ h₆ _ h. stage 6 h λ f f₆ h. stage 7 h λ e h₇ h.
-    musted 8 (keepsRules k.env.types e) h λ h₈ _ h. stage 8 h λ cs f₈ h. musted 9 _ h λ h₉ _ h.
+    musted 8 (keeps_rules k.env.types e) h λ h₈ _ h. stage 8 h λ cs f₈ h. musted 9 _ h λ h₉ _ h.
     c f.0 e f.1 (k.nodes + nodes t) h₇ h₈ (f₈ ∙ ap (λ (q : Declared × List BodyCode). some q.1) (good-inj h)) (and-true _ _ h₉).0 (ap (λ (q : Declared × List BodyCode). q.0) (good-inj h))
     (λ other ds g. rw (h₄, stage-on, h₅, stage-on, h₆, must-on, f₆, stage-on, h₇, stage-on, h₈, must-on, g, stage-on, h₉, must-on, ← good-inj h))
 
 -- ---- lines
 
-pub lines-agree : {P : Type 0} (n : ℕ) (ls : List Line) (k : Declared) (cs ds : List BodyCode) (r : Read) → judgeLines strictly n ls (has k cs) ≡ accepted r → Paired k.bodies cs
-    → ((es : List BodyCode) → judgeLines loosely n ls (has k ds) ≡ accepted (has r.known es) → Paired r.known.bodies r.codes → P) → P
-unfolding judgeLines loosely
+pub lines-agree : {P : Type 0} (n : ℕ) (ls : List Line) (k : Declared) (cs ds : List BodyCode) (r : Read) → judge_lines strictly n ls (has k cs) ≡ accepted r → Paired k.bodies cs
+    → ((es : List BodyCode) → judge_lines loosely n ls (has k ds) ≡ accepted (has r.known es) → Paired r.known.bodies r.codes → P) → P
+unfolding judge_lines loosely
 lines-agree n [] k cs ds r h p c = onward-is n h λ _ hm e.
     c ds (rw (hm, onward-on, ← accepted-inj e)) (rw (← accepted-inj e) p)
 lines-agree n (l ∷ ls) k cs ds r h p c = onward-is n h λ q hq h'.
@@ -131,30 +131,30 @@ lines-agree n (l ∷ ls) k cs ds r h p c = onward-is n h λ q hq h'.
 -- ---- the machines
 
 -- a body's code has its parameters
-pub body-frame : (b : PlacedBody) (c : BodyCode) → elabBody b.types b.vars b.frame b.body ≡ some c → b.frame ≡ c.frame
-unfolding elabBody
+pub body-frame : (b : PlacedBody) (c : BodyCode) → elab_body b.types b.vars b.frame b.body ≡ some c → b.frame ≡ c.frame
+unfolding elab_body
 body-frame b c h = both_some h λ x y hx hy e. rw (← some_inj e)
 
-pub body-agrees : (b : PlacedBody) (c : BodyCode) → elabBody b.types b.vars b.frame b.body ≡ some c → markBody b ≡ runBody c
-unfolding elabBody markBody runBody
+pub body-agrees : (b : PlacedBody) (c : BodyCode) → elab_body b.types b.vars b.frame b.body ≡ some c → mark_body b ≡ run_body c
+unfolding elab_body mark_body run_body
 body-agrees b c h = both_some h λ x y hx hy e.
     rw (← some_inj e) (fun_ext λ ps. fun_ext λ s. rw (sim-b b.types b.vars ps b.body.stmts x hx, sim-b b.types b.vars ps b.body.handler y hy))
 
-pub all-agree : {bs : List PlacedBody} {cs : List BodyCode} → Paired bs cs → (ps : Procs) → markAll bs ps ≡ runAll cs ps
-unfolding markAll runAll
+pub all-agree : {bs : List PlacedBody} {cs : List BodyCode} → Paired bs cs → (ps : Procs) → mark_all bs ps ≡ run_all cs ps
+unfolding mark_all run_all
 all-agree empty ps = refl
 all-agree (more {b} {c} h empty) ps = rw (body-agrees b c h)
-all-agree (more {b} {c} h (more {b = b'} {c = c'} h' p)) ps = rw (body-agrees b c h, body-frame b c h) (all-agree (more h' p) (ps ++ (proc c.frame (runBody c ps) ∷ [])))
+all-agree (more {b} {c} h (more {b = b'} {c = c'} h' p)) ps = rw (body-agrees b c h, body-frame b c h) (all-agree (more h' p) (ps ++ (proc c.frame (run_body c ps) ∷ [])))
 
 -- ---- the text: for every store and budget, marking and run give one answer, with its steps and both lists
 
-pub judged-agree : {P : Type 0} (text : List ℕ) (work : ℕ) (r : Read) → verdictOf text work ≡ accepted r
+pub judged-agree : {P : Type 0} (text : List ℕ) (work : ℕ) (r : Read) → verdict_of text work ≡ accepted r
     → ((es : List BodyCode) → judge loosely text work ≡ accepted (has r.known es) → Paired r.known.bodies r.codes → P) → P
-unfolding verdictOf judge
+unfolding verdict_of judge
 judged-agree text work r h c = opening-is _ _ _ _ _ h λ h' any.
-    lines-agree 1 (lines_of text) nothingDeclared [] [] r h' empty λ es hl p. c es (any _ ∙ hl) p
+    lines-agree 1 (lines_of text) nothing_declared [] [] r h' empty λ es hl p. c es (any _ ∙ hl) p
 
-pub agreement : (text : List ℕ) (work : ℕ) (r : Read) → verdictOf text work ≡ accepted r
+pub agreement : (text : List ℕ) (work : ℕ) (r : Read) → verdict_of text work ≡ accepted r
     → (vs : List ℤ) (ms : List ℕ) (budget : ℕ) → mark_of text work vs ms budget ≡ run_of text work vs ms budget
 unfolding mark_of run_of
 agreement text work r h vs ms budget = judged-agree text work r h λ es hl p. rw (hl, h, unless-on, unless-on, all-agree p [])

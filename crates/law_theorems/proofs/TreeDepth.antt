@@ -5,10 +5,10 @@ use mathlib.Core.Option.{some}
 use Prim.Native.Nat.{ℕ, suc}
 use Rattle.law.specs.Base.{Name}
 use Rattle.law.specs.Forms.{Item, first?, headed, one, two}
-use Rattle.law_theorems.specs.FormsByDepth.{ending, handlerOf}
+use Rattle.law_theorems.specs.FormsByDepth.{ending, handler_of}
 use Rattle.law.specs.Trees as T
 use Rattle.law.specs.Trees.{Run, Tree, Trees, list}
-use Rattle.law.specs.Words.{Word, worded, wordedAll}
+use Rattle.law.specs.Words.{Word, worded, worded_all}
 use Rattle.law_theorems.proofs.Inversion.{none-some, some_inj, bind-some, given-some}
 
 -- at most d brackets deep
@@ -51,7 +51,7 @@ mutual
   worded-shallow word v h = bind-some h λ w _ e. rw (← some_inj e) word
   worded-shallow (form ts) v h = bind-some h λ vs hvs e. rw (← some_inj e) (form (worded-all-shallow ts vs hvs))
 
-  worded-all-shallow : {d : ℕ} {ts : Trees Run} → ShallowAll d ts → (vs : Trees Word) → wordedAll ts ≡ some vs → ShallowAll d vs
+  worded-all-shallow : {d : ℕ} {ts : Trees Run} → ShallowAll d ts → (vs : Trees Word) → worded_all ts ≡ some vs → ShallowAll d vs
   worded-all-shallow end vs h = rw (← some_inj h) end
   worded-all-shallow (t then ts) vs h = bind-some h λ v hv h. bind-some h λ us hus e. rw (← some_inj e) (worded-shallow t v hv then worded-all-shallow ts us hus)
 
@@ -96,6 +96,6 @@ module _ {d : ℕ} where
       wider none = none
       wider (more t ts) = more (deeper t) (wider ts)
 
-  pub handler-shallow : {t : Item} → Shallow (suc d) t → {hs : List Item} → handlerOf t ≡ some hs → Shallows (suc d) hs
-  unfolding handlerOf
+  pub handler-shallow : {t : Item} → Shallow (suc d) t → {hs : List Item} → handler_of t ≡ some hs → Shallows (suc d) hs
+  unfolding handler_of
   handler-shallow s h = bind-some h λ p hp g. given-some g λ _ e. rw (← e) (headed-shallow s hp)

@@ -26,22 +26,22 @@ use Rattle.leaf_powers.proofs.Powers.{power-value}
 use Rattle.leaf_sets.specs.Sets as Sets
 use Rattle.leaf_sets.specs.declared.Member.{Member}
 use Rattle.leaf_sets.specs.declared.Member.TheVariants.{Ordinal, Empty}
-use Rattle.leaf_sets.specs.Sets.{liesIn, members_of, patternOf}
+use Rattle.leaf_sets.specs.Sets.{lies_in, members_of, pattern_of}
 use Rattle.leaf_sets.proofs.Digits.{members-length}
 use Rattle.leaf_sets.proofs.Base.{empty-lies, union-lies, difference-lies, intersection-lies, with-lies, least-lies, greatest-lies}
 use Rattle.law.specs.Base.{Name, given, pick}
-use Rattle.law.specs.Calculate.{Result, is, fails, ◌>>=◌, nat_of, numericError, rangeError, undefinedError, exceptionOf, integer, truth, tested, isTrue, setValue, joined, memberIn, compute, compute1}
-use Rattle.law.specs.Chair.{evalCode, gatherCodes, placeCode}
+use Rattle.law.specs.Calculate.{Result, is, fails, ◌>>=◌, nat_of, numeric_error, range_error, undefined_error, exception_of, integer, truth, tested, is_true, set_value, joined, member_in, compute, compute1}
+use Rattle.law.specs.Chair.{eval_code, gather_codes, place_code}
 use Rattle.law.specs.Code.{Codes}
-use Rattle.law.specs.Elaborate.{Elaborated, Located, elabExpr, elabMembers, elabTarget}
-use Rattle.law.specs.Machine.{Store, defined, isDefined, oneCell, overwritten, readCell, readCells, shortCircuited, sole, stored}
-use Rattle.law.specs.Operators.{Fun, Op, Operation, Rule, Rule1, abs, andBoth, at_least, at_most, bothIntegers as ints?, card, divide, equal, functionRule, greater, intDiv, intMod, intPower, less, member, minus, modulo, negate, notOf, odd, operatorRule, orBoth, ord, plus, power, pred, rule, sameSets as sets?, setmax, setmin, sqr, predIn, succIn, succ, times, unequal}
-use Rattle.law.specs.Script.{Expr, Exprs, Target, ◌and◌, at, binary, const, dot, end_of, errorNumber, members, nil, read, shortCircuit, unary, var}
-use Rattle.law.specs.Store.{cellFits}
-use Rattle.law.specs.Types.{Field, Shape, Types, Var, Vars, array?, arrayShape, base_of, cellsBy, cells_of, field_of, hostBy, hostOf, infoAt, isOrdinal, is_set, ordinal?, ordinalShape, recordShape, setShape, set?, size_of, variable}
+use Rattle.law.specs.Elaborate.{Elaborated, Located, elab_expr, elab_members, elab_target}
+use Rattle.law.specs.Machine.{Store, defined, is_defined, one_cell, overwritten, read_cell, read_cells, short_circuited, sole, stored}
+use Rattle.law.specs.Operators.{Fun, Op, Operation, Rule, Rule1, abs, and_both, at_least, at_most, both_integers as ints?, card, divide, equal, function_rule, greater, int_div, int_mod, int_power, less, member, minus, modulo, negate, not_of, odd, operator_rule, or_both, ord, plus, power, pred, rule, same_sets as sets?, setmax, setmin, sqr, pred_in, succ_in, succ, times, unequal}
+use Rattle.law.specs.Script.{Expr, Exprs, Target, ◌and◌, at, binary, const, dot, end_of, error_number, members, nil, read, short_circuit, unary, var}
+use Rattle.law.specs.Store.{cell_fits}
+use Rattle.law.specs.Types.{Field, Shape, Types, Var, Vars, array?, array_shape, base_of, cells_by, cells_of, field_of, host_by, host_of, info_at, is_ordinal, is_set, ordinal?, ordinal_shape, record_shape, set_shape, set?, size_of, variable}
 use borrow.Author.Tests.{le-leb}
-use Rattle.leaf_integers.proofs.Order.{leZ-trans}
-use Rattle.law_theorems.proofs.Inversion.{and_both, and-true, some_inj, both_some, bind-some, given-some, either-some}
+use Rattle.leaf_integers.proofs.Order.{le_z-trans}
+use Rattle.law_theorems.proofs.Inversion.{and-both, and-true, some_inj, both_some, bind-some, given-some, either-some}
 use Rattle.law_theorems.specs.ValuesInRange.{At, Formed, Here, InInt, Test, any}
 
 pub none-some : {A : Type 0} {a : A} → O.none ≡ some a → ⊥
@@ -51,24 +51,24 @@ pub wrong {ℓ} : {X : Type ℓ} → false ≡ true → X
 wrong h = absurd (let z : ◌≡◌ {A = ℕ} 0 1 = cc in omega arith)
 
 -- a set is no ordinal
-pub no-ordinal : (s : Shape) → is_set s ≡ true → isOrdinal s ≡ false
-no-ordinal ordinalShape h = wrong h
-no-ordinal setShape h = refl
-no-ordinal arrayShape h = refl
-no-ordinal recordShape h = refl
+pub no-ordinal : (s : Shape) → is_set s ≡ true → is_ordinal s ≡ false
+no-ordinal ordinal_shape h = wrong h
+no-ordinal set_shape h = refl
+no-ordinal array_shape h = refl
+no-ordinal record_shape h = refl
 
 -- ---- a value with a property, or an exception: never stuck
 
 -- the numbers of the exceptions are
-e-numeric : InInt numericError
+e-numeric : InInt numeric_error
 unfolding inside
 e-numeric = record { ok = refl }
 
-pub e-range : InInt rangeError
+pub e-range : InInt range_error
 unfolding inside
 e-range = record { ok = refl }
 
-e-undefined : InInt undefinedError
+e-undefined : InInt undefined_error
 unfolding inside
 e-undefined = record { ok = refl }
 
@@ -110,8 +110,8 @@ tested-g : {e : ℤ} → InInt e → (lo hi z : ℤ) → Good (λ x. inside lo h
 unfolding tested
 tested-g i lo hi z = pick-g (inside lo hi z) (λ h. value h) (failure i)
 
-e-fault : (f : Fault) → InInt (exceptionOf f)
-unfolding exceptionOf
+e-fault : (f : Fault) → InInt (exception_of f)
+unfolding exception_of
 e-fault Overflow = e-numeric
 e-fault Divisor = e-numeric
 e-fault Exponent = e-numeric
@@ -126,23 +126,23 @@ num-g (Failed f) k = failure (e-fault f)
 exact-g : (z : ℤ) → Good InInt (integer (exact z))
 exact-g z = num-g (exact z) λ v e. record { ok = (exact-value z v e).0 }
 
-pow-g : (a b : ℤ) → Good InInt (compute intPower a b)
+pow-g : (a b : ℤ) → Good InInt (compute int_power a b)
 unfolding compute
 pow-g a b = num-g (Powers.power a b) λ v e. record { ok = (power-value a b v e).0 }
 
-div-g : (a b : ℤ) → Good InInt (compute intDiv a b)
+div-g : (a b : ℤ) → Good InInt (compute int_div a b)
 unfolding compute
 div-g a b = num-g (quotient a b) λ v e. record { ok = (quotient-value a b v e).0 }
 
-mod-g : (a b : ℤ) → InInt b → Good InInt (compute intMod a b)
+mod-g : (a b : ℤ) → InInt b → Good InInt (compute int_mod a b)
 unfolding compute
 mod-g a b i = num-g (modulus a b) λ v e. record { ok = modulus-range a b v i.ok e }
 
-next-g : (lo hi a : ℤ) → Good (λ z. inside lo hi z ≡ true) (compute1 (succIn lo hi) a)
+next-g : (lo hi a : ℤ) → Good (λ z. inside lo hi z ≡ true) (compute1 (succ_in lo hi) a)
 unfolding compute1 next
 next-g lo hi a = num-g (next lo hi a) λ v e. (ranged-value Bound lo hi (a +ℤ pos 1) v e).0
 
-previous-g : (lo hi a : ℤ) → Good (λ z. inside lo hi z ≡ true) (compute1 (predIn lo hi) a)
+previous-g : (lo hi a : ℤ) → Good (λ z. inside lo hi z ≡ true) (compute1 (pred_in lo hi) a)
 unfolding compute1 previous
 previous-g lo hi a = num-g (previous lo hi a) λ v e. (ranged-value Bound lo hi (a -ℤ pos 1) v e).0
 
@@ -151,14 +151,14 @@ unfolding inside
 int-pos n l = record { ok = le-leb n 2147483647 l }
 
 -- a member that is asked for
-member-g : (lo hi : ℤ) (m : Member) → ((x : ℕ) → m ≡ Ordinal x → (le_z lo (pos x) && le_z (pos x) hi) ≡ true) → Good (λ z. inside lo hi z ≡ true) (memberIn m)
-unfolding memberIn inside
+member-g : (lo hi : ℤ) (m : Member) → ((x : ℕ) → m ≡ Ordinal x → (le_z lo (pos x) && le_z (pos x) hi) ≡ true) → Good (λ z. inside lo hi z ≡ true) (member_in m)
+unfolding member_in inside
 member-g lo hi (Ordinal x) k = value (k x refl)
 member-g lo hi Empty k = failure e-range
 
 -- a set of a base with a member of the base more
-joined-lies : (lo hi z s : ℤ) → inside lo hi z ≡ true → liesIn lo hi s ≡ true → liesIn lo hi (joined z s) ≡ true
-unfolding joined setValue inside
+joined-lies : (lo hi z s : ℤ) → inside lo hi z ≡ true → lies_in lo hi s ≡ true → lies_in lo hi (joined z s) ≡ true
+unfolding joined set_value inside
 joined-lies lo hi z s i h = with-lies lo hi s h z i
 
 -- ---- lists of cells: ys stands in xs from a on
@@ -172,21 +172,21 @@ at-trans {a} {b} h g = record {
 pub here-trans : {Γ : Types} {tests : List Test} {ys zs : List ℕ} {a b : ℕ} → Here Γ tests a ys → At ys b zs → Here Γ tests (a + b) zs
 here-trans {Γ} {a} {b} h g = record {
   short = omega (arith, h.short, g.short);
-  each = λ j l z. rw add_assoc (h.each (b + j) (omega (arith, g.short)) z ∙ ap (λ (t : ℕ). cellFits Γ t z) (g.each j l));
+  each = λ j l z. rw add_assoc (h.each (b + j) (omega (arith, g.short)) z ∙ ap (λ (t : ℕ). cell_fits Γ t z) (g.each j l));
 }
 
 -- a cell as row 11 wants it
-abbrev pub okBy : Test → ℤ → ℕ → Bool
-okBy f v m = cond (isDefined m) (eqb m defined && f v) (is_zero v)
+abbrev pub ok_by : Test → ℤ → ℕ → Bool
+ok_by f v m = cond (is_defined m) (eqb m defined && f v) (is_zero v)
 
 pub record Sound (tests : List Test) (m : Store) : Type 0 where
   pub long : length m.values ≡ length m.marks
   pub enough : length tests ≤ length m.values
-  pub each : (i : ℕ) → okBy (get_or tests i any) (get_or m.values i (pos 0)) (get_or m.marks i 0) ≡ true
+  pub each : (i : ℕ) → ok_by (get_or tests i any) (get_or m.values i (pos 0)) (get_or m.marks i 0) ≡ true
   pub number : InInt m.latest
 
 -- a cell is written with what it may hold; past the end nothing is
-pub put_one : (tests : List Test) (m : Store) (i : ℕ) (z : ℤ) (k : ℕ) → okBy (get_or tests i any) z k ≡ true → Sound tests m → Sound tests (overwritten i (z ∷ []) (k ∷ []) m)
+pub put_one : (tests : List Test) (m : Store) (i : ℕ) (z : ℤ) (k : ℕ) → ok_by (get_or tests i any) z k ≡ true → Sound tests m → Sound tests (overwritten i (z ∷ []) (k ∷ []) m)
 put_one tests m i z k h s = record {
   long = length-set m.values i z ∙ s.long ∙ sym (length-set m.marks i k);
   enough = rw (length-set m.values i z) s.enough;
@@ -194,69 +194,69 @@ put_one tests m i z k h s = record {
   number = s.number;
 }
   where
-    here : (j : ℕ) → Dec (j ≡ i) → Dec (i < length m.values) → okBy (get_or tests j any) (get_or (set m.values i z) j (pos 0)) (get_or (set m.marks i k) j 0) ≡ true
+    here : (j : ℕ) → Dec (j ≡ i) → Dec (i < length m.values) → ok_by (get_or tests j any) (get_or (set m.values i z) j (pos 0)) (get_or (set m.marks i k) j 0) ≡ true
     here j (no ne) d = rw (get_or-set_other m.values i j z (pos 0) ne, get_or-set_other m.marks i j k 0 ne) (s.each j)
     here j (yes e) (yes l) = rw (e, get_or-set_same m.values i z (pos 0) l, get_or-set_same m.marks i k 0 (rw (← s.long) l)) h
     here j (yes e) (no nl) = rw (set_out m.values i z (omega arith), set_out m.marks i k (omega (arith, s.long))) (s.each j)
 
 -- what the sorts say
-pub ord-layout : (s : Shape) (t : ℕ) (cs : List ℕ) → isOrdinal s ≡ true → cellsBy s t cs ≡ t ∷ []
-ord-layout ordinalShape t cs h = refl
-ord-layout setShape t cs h = refl
-ord-layout arrayShape t cs h = cc
-ord-layout recordShape t cs h = cc
+pub ord-layout : (s : Shape) (t : ℕ) (cs : List ℕ) → is_ordinal s ≡ true → cells_by s t cs ≡ t ∷ []
+ord-layout ordinal_shape t cs h = refl
+ord-layout set_shape t cs h = refl
+ord-layout array_shape t cs h = cc
+ord-layout record_shape t cs h = cc
 
-pub set-layout : (s : Shape) (t : ℕ) (cs : List ℕ) → is_set s ≡ true → cellsBy s t cs ≡ t ∷ []
-set-layout ordinalShape t cs h = refl
-set-layout setShape t cs h = refl
-set-layout arrayShape t cs h = cc
-set-layout recordShape t cs h = cc
+pub set-layout : (s : Shape) (t : ℕ) (cs : List ℕ) → is_set s ≡ true → cells_by s t cs ≡ t ∷ []
+set-layout ordinal_shape t cs h = refl
+set-layout set_shape t cs h = refl
+set-layout array_shape t cs h = cc
+set-layout record_shape t cs h = cc
 
-pub own-host : (s : Shape) (t h : ℕ) → isOrdinal s ≡ false → hostBy s t h ≡ t
-own-host ordinalShape t h e = cc
-own-host setShape t h e = refl
-own-host arrayShape t h e = refl
-own-host recordShape t h e = refl
+pub own-host : (s : Shape) (t h : ℕ) → is_ordinal s ≡ false → host_by s t h ≡ t
+own-host ordinal_shape t h e = cc
+own-host set_shape t h e = refl
+own-host array_shape t h e = refl
+own-host record_shape t h e = refl
 
 module _ (Γ : Types) (Δ : Vars) (tests : List Test) (𝓕 : Formed Γ Δ tests) where
   -- cells zs of the types ts
   pub record Fits (ts : List ℕ) (zs : List ℤ) : Type 0 where
     pub long : length zs ≡ length ts
-    pub each : (j : ℕ) → j < length ts → cellFits Γ (get_or ts j 0) (get_or zs j (pos 0)) ≡ true
+    pub each : (j : ℕ) → j < length ts → cell_fits Γ (get_or ts j 0) (get_or zs j (pos 0)) ≡ true
 
   -- a value of kind k has k's cells. One that is no ordinal has cells of k's types; an ordinal's value is tested where it is stored
   pub record Value-of (k : ℕ) (zs : List ℤ) : Type 0 where
     pub long : length zs ≡ size_of Γ k
     pub fits : ordinal? Γ k ≡ false → Fits (cells_of Γ k) zs
-    pub ranged : ordinal? Γ k ≡ true → inside (infoAt Γ k).low (infoAt Γ k).high (sole zs) ≡ true
+    pub ranged : ordinal? Γ k ≡ true → inside (info_at Γ k).low (info_at Γ k).high (sole zs) ≡ true
 
   -- a defined cell
   ok-defined : (b : Bool) (x y : Bool) → cond b x y ≡ true → b ≡ true → x ≡ true
   ok-defined true x y h e = h
   ok-defined false x y h e = cc
 
-  fetch-g : {m : Store} → Sound tests m → (a : ℕ) → Good (λ z. get_or tests a any z ≡ true) (readCell a m)
-  unfolding readCell
+  fetch-g : {m : Store} → Sound tests m → (a : ℕ) → Good (λ z. get_or tests a any z ≡ true) (read_cell a m)
+  unfolding read_cell
   fetch-g {m} s a = pick-g _ (λ h. value (and-true (eqb (get_or m.marks a 0) defined) _ (ok-defined _ _ (is_zero (get_or m.values a (pos 0))) (s.each a) h)).1) (failure e-undefined)
 
   here-tail : {t : ℕ} {ts : List ℕ} {a : ℕ} → Here Γ tests a (t ∷ ts) → Here Γ tests (suc a) ts
   here-tail {a} h = record { short = omega (arith, h.short); each = λ j l z. rw (suc-add a j, ← add-suc a j) (h.each (suc j) (omega arith) z) }
 
-  here-head : {t : ℕ} {ts : List ℕ} {a : ℕ} → Here Γ tests a (t ∷ ts) → (z : ℤ) → get_or tests a any z ≡ cellFits Γ t z
+  here-head : {t : ℕ} {ts : List ℕ} {a : ℕ} → Here Γ tests a (t ∷ ts) → (z : ℤ) → get_or tests a any z ≡ cell_fits Γ t z
   here-head {a} h z = rw add-zero at (h.each 0 (omega arith) z)
 
   pub fits-none : Fits [] []
   fits-none = record { long = refl; each = λ j l. absurd (omega arith) }
 
-  pub fits-cons : {t : ℕ} {ts : List ℕ} {z : ℤ} {zs : List ℤ} → cellFits Γ t z ≡ true → Fits ts zs → Fits (t ∷ ts) (z ∷ zs)
+  pub fits-cons : {t : ℕ} {ts : List ℕ} {z : ℤ} {zs : List ℤ} → cell_fits Γ t z ≡ true → Fits ts zs → Fits (t ∷ ts) (z ∷ zs)
   fits-cons {t} {ts} {z} {zs} h g = record { long = ap suc g.long; each = go }
     where
-      go : (j : ℕ) → j < suc (length ts) → cellFits Γ (get_or (t ∷ ts) j 0) (get_or (z ∷ zs) j (pos 0)) ≡ true
+      go : (j : ℕ) → j < suc (length ts) → cell_fits Γ (get_or (t ∷ ts) j 0) (get_or (z ∷ zs) j (pos 0)) ≡ true
       go zero l = h
       go (suc j) l = g.each j (omega arith)
 
-  loads-g : {m : Store} → Sound tests m → (a : ℕ) (ts : List ℕ) → Here Γ tests a ts → Good (λ zs. Fits ts zs) (readCells a (length ts) m)
-  unfolding readCells
+  loads-g : {m : Store} → Sound tests m → (a : ℕ) (ts : List ℕ) → Here Γ tests a ts → Good (λ zs. Fits ts zs) (read_cells a (length ts) m)
+  unfolding read_cells
   loads-g s a [] h = value fits-none
   loads-g s a (t ∷ ts) h = bind-g (fetch-g s a) λ z p. bind-g (loads-g s (suc a) ts (here-tail h)) λ zs q. value (fits-cons (sym (here-head h z) ∙ p) q)
 
@@ -283,7 +283,7 @@ module _ (Γ : Types) (Δ : Vars) (tests : List Test) (𝓕 : Formed Γ Δ tests
   clash b p q = absurd (let z : ◌≡◌ {A = ℕ} 0 1 = cc in omega arith)
 
   -- an ordinal's value
-  value-ordinal : {k : ℕ} {zs : List ℤ} → length zs ≡ 1 → ordinal? Γ k ≡ true → inside (infoAt Γ k).low (infoAt Γ k).high (sole zs) ≡ true → Value-of k zs
+  value-ordinal : {k : ℕ} {zs : List ℤ} → length zs ≡ 1 → ordinal? Γ k ≡ true → inside (info_at Γ k).low (info_at Γ k).high (sole zs) ≡ true → Value-of k zs
   value-ordinal {k} l h p = record { long = rw (ord-layout _ k _ h) l; fits = λ n. clash (ordinal? Γ k) h n; ranged = λ _. p }
 
   value-int : {z : ℤ} → InInt z → Value-of 0 (z ∷ [])
@@ -295,21 +295,21 @@ module _ (Γ : Types) (Δ : Vars) (tests : List Test) (𝓕 : Formed Γ Δ tests
   pub int-value : {zs : List ℤ} → Value-of 0 zs → InInt (sole zs)
   int-value v = record { ok = rw (𝓕.integers.1, 𝓕.integers.2) at (v.ranged 𝓕.integers.0) }
 
-  one-g : {P : ℤ → Type 0} {Q : List ℤ → Type 0} {v : Result ℤ} → ((z : ℤ) → P z → Q (z ∷ [])) → Good P v → Good Q (oneCell v)
+  one-g : {P : ℤ → Type 0} {Q : List ℤ → Type 0} {v : Result ℤ} → ((z : ℤ) → P z → Q (z ∷ [])) → Good P v → Good Q (one_cell v)
   one-g k g = bind-g g λ z p. value (k z p)
 
   -- a set's value
   set-no-ordinal : (k : ℕ) → set? Γ k ≡ true → ordinal? Γ k ≡ false
-  set-no-ordinal k h = no-ordinal (infoAt Γ k).shape h
+  set-no-ordinal k h = no-ordinal (info_at Γ k).shape h
 
   abbrev SetOf : ℕ → ℤ → Type 0
-  SetOf k z = liesIn (infoAt Γ k).low (infoAt Γ k).high z ≡ true
+  SetOf k z = lies_in (info_at Γ k).low (info_at Γ k).high z ≡ true
 
   value_set : {k : ℕ} → set? Γ k ≡ true → (z : ℤ) → SetOf k z → Value-of k (z ∷ [])
   value_set {k} h z p = record { long = rw (set-layout _ k _ h); fits = λ n. rw (set-layout _ k _ h) (fits-cons (rw n p) fits-none); ranged = λ o. clash (ordinal? Γ k) o (set-no-ordinal k h) }
 
-  pub set_value : {k : ℕ} → set? Γ k ≡ true → {zs : List ℤ} → Value-of k zs → SetOf k (sole zs)
-  set_value {k} h {zs} v =
+  pub set-value : {k : ℕ} → set? Γ k ≡ true → {zs : List ℤ} → Value-of k zs → SetOf k (sole zs)
+  set-value {k} h {zs} v =
       let f : Fits (k ∷ []) zs = rw (set-layout _ k _ h) at (v.fits (set-no-ordinal k h)) in
       rw (set-no-ordinal k h) at (f.each 0 (omega arith))
 
@@ -317,7 +317,7 @@ module _ (Γ : Types) (Δ : Vars) (tests : List Test) (𝓕 : Formed Γ Δ tests
 
   module _ (l r : ℕ) (u v : List ℤ) (hu : Value-of l u) (hv : Value-of r v) where
     abbrev Gives : Rule → Type 0
-    Gives q = Good (Value-of q.kind) (oneCell (compute q.operation (sole u) (sole v)))
+    Gives q = Good (Value-of q.kind) (one_cell (compute q.operation (sole u) (sole v)))
 
     bool-rule : (c : Operation) (t : Bool) {q : Rule} → Good InBool (compute c (sole u) (sole v)) → given t (rule c 1) ≡ some q → Gives q
     bool-rule c t g h = given-if t h λ p e. rw (← e) (one-g (λ z i. value-bool i) g)
@@ -329,7 +329,7 @@ module _ (Γ : Types) (Δ : Vars) (tests : List Test) (𝓕 : Formed Γ Δ tests
     set-rule : (c : Operation) {q : Rule} → (SetOf l (sole u) → SetOf l (sole v) → Good (SetOf l) (compute c (sole u) (sole v))) → given (sets? Γ l r) (rule c l) ≡ some q → Gives q
     set-rule c g h = given-if (sets? Γ l r) h λ p e.
         let s : set? Γ l ≡ true = (and-true (eqb l r) (set? Γ l) p).1 in
-        rw (← e) (one-g (λ z i. value_set s z i) (g (set_value s hu) (set_value s (rw (← eqb-true l r ((and-true (eqb l r) (set? Γ l) p).0)) at hv))))
+        rw (← e) (one-g (λ z i. value_set s z i) (g (set-value s hu) (set-value s (rw (← eqb-true l r ((and-true (eqb l r) (set? Γ l) p).0)) at hv))))
 
     abbrev B : Bool → Type 0
     B b = Good InBool (is (truth b))
@@ -337,8 +337,8 @@ module _ (Γ : Types) (Δ : Vars) (tests : List Test) (𝓕 : Formed Γ Δ tests
     truth-g : (b : Bool) → B b
     truth-g b = value (truth-in b)
 
-    bin-good : (op : Op) {q : Rule} → operatorRule Γ op l r ≡ some q → Gives q
-    unfolding operatorRule compute setValue
+    bin-good : (op : Op) {q : Rule} → operator_rule Γ op l r ≡ some q → Gives q
+    unfolding operator_rule compute set_value
     bin-good plus h = either-some h (int-rule _ (λ _. exact-g _)) (set-rule _ (λ a b. value (union-lies _ _ (sole u) a (sole v) b)))
     bin-good minus h = either-some h (int-rule _ (λ _. exact-g _)) (set-rule _ (λ a b. value (difference-lies _ _ (sole u) a (sole v))))
     bin-good times h = either-some h (int-rule _ (λ _. exact-g _)) (set-rule _ (λ a b. value (intersection-lies _ _ (sole u) a (sole v))))
@@ -352,31 +352,31 @@ module _ (Γ : Types) (Δ : Vars) (tests : List Test) (𝓕 : Formed Γ Δ tests
     bin-good greater h = bool-rule _ _ (truth-g _) h
     bin-good at_least h = either-some h (bool-rule _ _ (truth-g _)) (bool-rule _ _ (truth-g _))
     bin-good member h = bool-rule _ _ (truth-g _) h
-    bin-good andBoth h = bool-rule _ _ (truth-g _) h
-    bin-good orBoth h = bool-rule _ _ (truth-g _) h
+    bin-good and_both h = bool-rule _ _ (truth-g _) h
+    bin-good or_both h = bool-rule _ _ (truth-g _) h
 
   -- ---- and of the functions
 
   pub inside-wide : (a b c d z : ℤ) → le_z a c ≡ true → le_z d b ≡ true → inside c d z ≡ true → inside a b z ≡ true
   unfolding inside
-  inside-wide a b c d z p q h = and_both (le_z a z) (le_z z b)
-      (leZ-trans a c z p (and-true (le_z c z) (le_z z d) h).0) (leZ-trans z d b (and-true (le_z c z) (le_z z d) h).1 q)
+  inside-wide a b c d z p q h = and-both (le_z a z) (le_z z b)
+      (le_z-trans a c z p (and-true (le_z c z) (le_z z d) h).0) (le_z-trans z d b (and-true (le_z c z) (le_z z d) h).1 q)
 
   card-in : (a : ℤ) → InInt (pos (length (members_of a)))
   unfolding members_of
-  card-in a = int-pos (length (Sets.members (patternOf a))) (omega (arith, members-length (patternOf a)))
+  card-in a = int-pos (length (Sets.members (pattern_of a))) (omega (arith, members-length (pattern_of a)))
 
   -- a member of a set of type k is a value of its base's host
-  member-value : (k : ℕ) → set? Γ k ≡ true → (z : ℤ) → inside (infoAt Γ k).low (infoAt Γ k).high z ≡ true → Value-of (base_of Γ k) (z ∷ [])
+  member-value : (k : ℕ) → set? Γ k ≡ true → (z : ℤ) → inside (info_at Γ k).low (info_at Γ k).high z ≡ true → Value-of (base_of Γ k) (z ∷ [])
   member-value k h z i =
       let o = 𝓕.bases k h in
-      let w = 𝓕.wider (infoAt Γ k).element o in
-      value-ordinal refl (𝓕.hosts (infoAt Γ k).element o) (inside-wide _ _ _ _ z w.0 w.1 (rw ((𝓕.bounds k h).0, (𝓕.bounds k h).1) at i))
+      let w = 𝓕.wider (info_at Γ k).element o in
+      value-ordinal refl (𝓕.hosts (info_at Γ k).element o) (inside-wide _ _ _ _ z w.0 w.1 (rw ((𝓕.bounds k h).0, (𝓕.bounds k h).1) at i))
 
-  fun-good : (f : Fun) (k : ℕ) {q : Rule1} → functionRule Γ f k ≡ some q → (u : List ℤ) → Value-of k u → Good (Value-of q.kind) (oneCell (compute1 q.operation (sole u)))
-  unfolding functionRule compute1
+  fun-good : (f : Fun) (k : ℕ) {q : Rule1} → function_rule Γ f k ≡ some q → (u : List ℤ) → Value-of k u → Good (Value-of q.kind) (one_cell (compute1 q.operation (sole u)))
+  unfolding function_rule compute1
   fun-good negate k h u v = given-if _ h λ p e. rw (← e) (one-g (λ z i. value-int i) (exact-g _))
-  fun-good notOf k h u v = given-if _ h λ p e. rw (← e) (value (value-bool (truth-in _)))
+  fun-good not_of k h u v = given-if _ h λ p e. rw (← e) (value (value-bool (truth-in _)))
   fun-good abs k h u v = given-if _ h λ p e. rw (← e) (one-g (λ z i. value-int i) (exact-g _))
   fun-good sqr k h u v = given-if _ h λ p e. rw (← e) (one-g (λ z i. value-int i) (exact-g _))
   fun-good odd k h u v = given-if _ h λ p e. rw (← e) (value (value-bool (truth-in _)))
@@ -384,18 +384,18 @@ module _ (Γ : Types) (Δ : Vars) (tests : List Test) (𝓕 : Formed Γ Δ tests
   fun-good pred k h u v = given-if _ h λ p e. rw (← e) (one-g (λ z i. value-ordinal refl p i) (previous-g _ _ _))
   fun-good succ k h u v = given-if _ h λ p e. rw (← e) (one-g (λ z i. value-ordinal refl p i) (next-g _ _ _))
   fun-good card k h u v = given-if _ h λ p e. rw (← e) (value (value-int (card-in (sole u))))
-  fun-good setmin k h u v = given-if _ h λ p e. rw (← e) (bind-g (member-g _ _ _ (λ x f. least-lies _ _ (sole u) x (set_value p v) f)) λ z i. value (member-value k p z i))
-  fun-good setmax k h u v = given-if _ h λ p e. rw (← e) (bind-g (member-g _ _ _ (λ x f. greatest-lies _ _ (sole u) x (set_value p v) f)) λ z i. value (member-value k p z i))
+  fun-good setmin k h u v = given-if _ h λ p e. rw (← e) (bind-g (member-g _ _ _ (λ x f. least-lies _ _ (sole u) x (set-value p v) f)) λ z i. value (member-value k p z i))
+  fun-good setmax k h u v = given-if _ h λ p e. rw (← e) (bind-g (member-g _ _ _ (λ x f. greatest-lies _ _ (sole u) x (set-value p v) f)) λ z i. value (member-value k p z i))
 
   -- ---- values of expressions, places of targets
 
   -- what a target of type t holds, as a value of t's host
-  value-host : (b : Bool) (t : ℕ) → ordinal? Γ t ≡ b → (zs : List ℤ) → Fits (cells_of Γ t) zs → Value-of (hostOf Γ t) zs
+  value-host : (b : Bool) (t : ℕ) → ordinal? Γ t ≡ b → (zs : List ℤ) → Fits (cells_of Γ t) zs → Value-of (host_of Γ t) zs
   value-host true t e zs f =
       let g : Fits (t ∷ []) zs = rw (ord-layout _ t _ e) at f in
-      let i : inside (infoAt Γ t).low (infoAt Γ t).high (sole zs) ≡ true = rw e at (g.each 0 (omega arith)) in
+      let i : inside (info_at Γ t).low (info_at Γ t).high (sole zs) ≡ true = rw e at (g.each 0 (omega arith)) in
       value-ordinal g.long (𝓕.hosts t e) (inside-wide _ _ _ _ (sole zs) (𝓕.wider t e).0 (𝓕.wider t e).1 i)
-  value-host false t e zs f = record { long = rw (own-host _ t _ e) f.long; fits = λ n. rw (own-host _ t _ e) f; ranged = λ o. clash (ordinal? Γ (hostOf Γ t)) o (rw (own-host _ t _ e) e) }
+  value-host false t e zs f = record { long = rw (own-host _ t _ e) f.long; fits = λ n. rw (own-host _ t _ e) f; ranged = λ o. clash (ordinal? Γ (host_of Γ t)) o (rw (own-host _ t _ e) e) }
 
   false-in : Value-of 1 (pos 0 ∷ [])
   unfolding truth
@@ -405,7 +405,7 @@ module _ (Γ : Types) (Δ : Vars) (tests : List Test) (𝓕 : Formed Γ Δ tests
   unfolding truth
   true-in = value-bool (truth-in true)
 
-  shortly-g : (q b : Bool) {v : Result (List ℤ)} → Good (Value-of 1) v → Good (Value-of 1) (shortCircuited q b v)
+  shortly-g : (q b : Bool) {v : Result (List ℤ)} → Good (Value-of 1) v → Good (Value-of 1) (short_circuited q b v)
   shortly-g true true g = g
   shortly-g true false g = value false-in
   shortly-g false true g = value true-in
@@ -414,32 +414,32 @@ module _ (Γ : Types) (Δ : Vars) (tests : List Test) (𝓕 : Formed Γ Δ tests
   -- the ends of an ordinal type, whose first is not above its last, are values of its host
   pub ends-in : (a b c d : ℤ) → le_z a c ≡ true → le_z d b ≡ true → le_z c d ≡ true → (inside a b c ≡ true) × (inside a b d ≡ true)
   unfolding inside
-  ends-in a b c d p q r = (and_both (le_z a c) (le_z c b) p (leZ-trans c d b r q), and_both (le_z a d) (le_z d b) (leZ-trans a c d p r) q)
+  ends-in a b c d p q r = (and-both (le_z a c) (le_z c b) p (le_z-trans c d b r q), and-both (le_z a d) (le_z d b) (le_z-trans a c d p r) q)
 
-  bound-value : (q : Bool) (t : ℕ) → ordinal? Γ t ≡ true → Value-of (hostOf Γ t) (pick q (infoAt Γ t).high (infoAt Γ t).low ∷ [])
+  bound-value : (q : Bool) (t : ℕ) → ordinal? Γ t ≡ true → Value-of (host_of Γ t) (pick q (info_at Γ t).high (info_at Γ t).low ∷ [])
   unfolding pick
-  bound-value true t o = value-ordinal refl (𝓕.hosts t o) (ends-in (infoAt Γ (hostOf Γ t)).low (infoAt Γ (hostOf Γ t)).high (infoAt Γ t).low (infoAt Γ t).high (𝓕.wider t o).0 (𝓕.wider t o).1 (𝓕.filled t o)).1
-  bound-value false t o = value-ordinal refl (𝓕.hosts t o) (ends-in (infoAt Γ (hostOf Γ t)).low (infoAt Γ (hostOf Γ t)).high (infoAt Γ t).low (infoAt Γ t).high (𝓕.wider t o).0 (𝓕.wider t o).1 (𝓕.filled t o)).0
+  bound-value true t o = value-ordinal refl (𝓕.hosts t o) (ends-in (info_at Γ (host_of Γ t)).low (info_at Γ (host_of Γ t)).high (info_at Γ t).low (info_at Γ t).high (𝓕.wider t o).0 (𝓕.wider t o).1 (𝓕.filled t o)).1
+  bound-value false t o = value-ordinal refl (𝓕.hosts t o) (ends-in (info_at Γ (host_of Γ t)).low (info_at Γ (host_of Γ t)).high (info_at Γ t).low (info_at Γ t).high (𝓕.wider t o).0 (𝓕.wider t o).1 (𝓕.filled t o)).0
 
   mutual
-    unfolding elabExpr evalCode
+    unfolding elab_expr eval_code
 
-    pub good-e : (e : Expr) (r : Elaborated) → elabExpr Γ Δ e ≡ some r → {m : Store} → Sound tests m → Good (Value-of r.kind) (evalCode r.code m)
+    pub good-e : (e : Expr) (r : Elaborated) → elab_expr Γ Δ e ≡ some r → {m : Store} → Sound tests m → Good (Value-of r.kind) (eval_code r.code m)
     good-e (const c) r h s = given-some h λ p v. rw (← v) (value (value-ordinal refl (and-true (ordinal? Γ c.kind) _ p).0 (and-true (ordinal? Γ c.kind) _ p).1))
     good-e (read g) r h {m} s = bind-some h λ w hw e.
         rw (← some_inj e) (bind-g (good-t g w hw s) λ a p. weaken (λ zs f. value-host _ w.type refl zs f) (loads-g s a (cells_of Γ w.type) p))
-    good-e errorNumber r h s = rw (← some_inj h) (value (value-int s.number))
+    good-e error_number r h s = rw (← some_inj h) (value (value-int s.number))
     good-e (members t es) r h s = bind-some h λ cs hcs e. given-some e λ p v.
         rw (← v) (bind-g (good-m es (base_of Γ t) cs hcs _ _ (𝓕.lowest t p) s) λ z q. value (value_set p z q))
     good-e (end_of q t) r h s = given-some h λ p v. rw (← v) (value (bound-value q t p))
     good-e (binary op a b) r h s = both_some h λ x y hx hy e. bind-some e λ q hq e'.
         rw (← some_inj e') (bind-g (good-e a x hx s) λ u i. bind-g (good-e b y hy s) λ v j. bin-good x.kind y.kind u v i j op hq)
-    good-e (shortCircuit q a b) r h s = both_some h λ x y hx hy e. given-some e λ p v.
-        rw (← v) (bind-g (good-e a x hx s) λ u _. shortly-g q (isTrue (sole u)) (rw (eqb-true 1 y.kind ((and-true (eqb 1 x.kind) (eqb 1 y.kind) p).1)) (good-e b y hy s)))
+    good-e (short_circuit q a b) r h s = both_some h λ x y hx hy e. given-some e λ p v.
+        rw (← v) (bind-g (good-e a x hx s) λ u _. shortly-g q (is_true (sole u)) (rw (eqb-true 1 y.kind ((and-true (eqb 1 x.kind) (eqb 1 y.kind) p).1)) (good-e b y hy s)))
     good-e (unary f a) r h s = bind-some h λ x hx e. bind-some e λ q hq e'.
         rw (← some_inj e') (bind-g (good-e a x hx s) λ u i. fun-good f x.kind hq u i)
 
-    pub good-t : (g : Target) (w : Located) → elabTarget Γ Δ g ≡ some w → {m : Store} → Sound tests m → Good (λ a. Here Γ tests a (cells_of Γ w.type)) (placeCode w.place m)
+    pub good-t : (g : Target) (w : Located) → elab_target Γ Δ g ≡ some w → {m : Store} → Sound tests m → Good (λ a. Here Γ tests a (cells_of Γ w.type)) (place_code w.place m)
     good-t (var i) w h s = bind-some h λ v hv e. rw (← some_inj e) (value (𝓕.vars i v hv))
     good-t (at g e) w h s = both_some h λ u x hu hx e'. given-some e' λ p v.
         rw (← v) (bind-g (good-t g u hu s) λ a h₁. bind-g (good-e e x hx s) λ y _. bind-g (tested-g e-range _ _ (sole y)) λ z h₂.
@@ -447,7 +447,7 @@ module _ (Γ : Types) (Δ : Vars) (tests : List Test) (𝓕 : Formed Γ Δ tests
     good-t (dot g n) w h s = bind-some h λ u hu e. bind-some e λ f hf e'.
         rw (← some_inj e') (bind-g (good-t g u hu s) λ a h₁. value (here-trans h₁ (𝓕.fields u.type n f hf)))
 
-    pub good-m : (es : Exprs) (k : ℕ) (cs : Codes) → elabMembers Γ Δ k es ≡ some cs → (lo hi : ℤ) → le_z (pos 0) lo ≡ true → {m : Store} → Sound tests m → Good (λ z. liesIn lo hi z ≡ true) (gatherCodes lo hi cs m)
+    pub good-m : (es : Exprs) (k : ℕ) (cs : Codes) → elab_members Γ Δ k es ≡ some cs → (lo hi : ℤ) → le_z (pos 0) lo ≡ true → {m : Store} → Sound tests m → Good (λ z. lies_in lo hi z ≡ true) (gather_codes lo hi cs m)
     good-m nil k cs h lo hi l s = rw (← some_inj h) (value (empty-lies lo hi))
     good-m (e and es) k cs h lo hi l s = both_some h λ x cs' hx hcs e'. given-some e' λ p v.
         rw (← v) (bind-g (good-e e x hx s) λ y _. bind-g (tested-g e-range _ _ (sole y)) λ z i. bind-g (good-m es k cs' hcs lo hi l s) λ zs j. value (joined-lies lo hi z zs i j))

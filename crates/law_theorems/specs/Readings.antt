@@ -23,21 +23,21 @@ abbrev pub wrapped : List (Trees Run) → List (Trees Run)
 wrapped k = push (form (first k)) (later k)
 
 -- one byte more, on the left
-unfoldable pub withByte : Class → ℕ → Reading → Reading
-withByte Feed b r = reading [] []
-withByte Space b r = reading [] (ended r.begun r.stack)
-withByte Open b r = reading [] (wrapped (ended r.begun r.stack))
-withByte Close b r = reading [] (end ∷ ended r.begun r.stack)
-withByte Visible b r = reading (b ∷ r.begun) r.stack
-withByte Refused b r = reading [] []
+unfoldable pub with_byte : Class → ℕ → Reading → Reading
+with_byte Feed b r = reading [] []
+with_byte Space b r = reading [] (ended r.begun r.stack)
+with_byte Open b r = reading [] (wrapped (ended r.begun r.stack))
+with_byte Close b r = reading [] (end ∷ ended r.begun r.stack)
+with_byte Visible b r = reading (b ∷ r.begun) r.stack
+with_byte Refused b r = reading [] []
 
-unfoldable pub readBytes : List ℕ → Reading
-readBytes [] = reading [] []
-readBytes (b ∷ bs) = withByte (class_of b) b (readBytes bs)
+unfoldable pub read_bytes : List ℕ → Reading
+read_bytes [] = reading [] []
+read_bytes (b ∷ bs) = with_byte (class_of b) b (read_bytes bs)
 
 -- the trees after the word that goes on at an offset; all from the offset on
 unfoldable pub rest_at : List ℕ → ℕ → List (Trees Run)
-rest_at s p = (readBytes (drop p s)).stack
+rest_at s p = (read_bytes (drop p s)).stack
 
-unfoldable pub stackAt : List ℕ → ℕ → List (Trees Run)
-stackAt s p = ended (readBytes (drop p s)).begun (rest_at s p)
+unfoldable pub stack_at : List ℕ → ℕ → List (Trees Run)
+stack_at s p = ended (read_bytes (drop p s)).begun (rest_at s p)

@@ -7,7 +7,7 @@ module _ (P : ℕ → List ℕ → Type 0) where
     pub data Calling : X.Stmt → Type 0 where
       assign : {n : ℕ} {g : X.Target} {e : X.Expr} → Calling (X.assign n g e)
       begin : {n : ℕ} {ss : X.Stmts} → CallingAll ss → Calling (X.begin n ss)
-      ifElse : {n : ℕ} {e : X.Expr} {a b : X.Stmt} → Calling a → Calling b → Calling (X.ifElse n e a b)
+      if_else : {n : ℕ} {e : X.Expr} {a b : X.Stmt} → Calling a → Calling b → Calling (X.if_else n e a b)
       while : {n : ℕ} {e : X.Expr} {a : X.Stmt} → Calling a → Calling (X.while n e a)
       for : {n i : ℕ} {a b : X.Expr} {s : X.Stmt} → Calling s → Calling (X.for n i a b s)
       case : {n : ℕ} {e : X.Expr} {bs : X.Arms} → CallingArms bs → Calling (X.case n e bs)
@@ -20,8 +20,8 @@ module _ (P : ℕ → List ℕ → Type 0) where
       ◌next◌ : {s : X.Stmt} {ss : X.Stmts} → Calling s → CallingAll ss → CallingAll (X.◌next◌ s ss)
 
     pub data CallingArms : X.Arms → Type 0 where
-      elseArm : {s : X.Stmt} → Calling s → CallingArms (X.elseArm s)
-      noElse : CallingArms X.noElse
+      else_arm : {s : X.Stmt} → Calling s → CallingArms (X.else_arm s)
+      no_else : CallingArms X.no_else
       arm : {cs : List X.Const} {s : X.Stmt} {bs : X.Arms} → Calling s → CallingArms bs → CallingArms (X.arm cs s bs)
 
   infixr 40 ◌next◌

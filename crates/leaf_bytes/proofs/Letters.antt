@@ -6,7 +6,7 @@ use native.Mathlib.Omega.{arith}
 use borrow.Author.Tests.{ne_eqb, le-leb, lt-leb}
 use lib.Dec.{leb}
 use Rattle.leaf_bytes.specs.declared.bytes.Class.TheVariants.{Feed, Space, Open, Close, Visible, Refused}
-use Rattle.leaf_bytes.specs.Bytes.{class_of, small, isLetter, isDigit, isAlnum, digitOf}
+use Rattle.leaf_bytes.specs.Bytes.{class_of, small, is_letter, is_digit, is_alnum, digit_of}
 
 module _ (b : ℕ) where
   pub class-feed : b ≡ 10 → Feed ≡ class_of b
@@ -58,53 +58,53 @@ module _ (b : ℕ) where
 pub ruleset small-laws = (small_low, small-high, small-capital)
 
 module _ (b c : ℕ) (e : c ≡ small b) where
-  pub letter-low : c < 97 → false ≡ isLetter b
-  unfolding isLetter
+  pub letter-low : c < 97 → false ≡ is_letter b
+  unfolding is_letter
   letter-low h = rw (← e, lt-leb 97 c h)
 
-  pub letter-within : 97 ≤ c → leb c 122 ≡ isLetter b
-  unfolding isLetter
+  pub letter-within : 97 ≤ c → leb c 122 ≡ is_letter b
+  unfolding is_letter
   letter-within h = rw (← e, le-leb 97 c h)
 
 pub ruleset letter-laws = (letter-low, letter-within)
 
-module _ (b : ℕ) (t : Bool) (e : t ≡ isLetter b) where
-  pub alnum-letter : t ≡ true → true ≡ isAlnum b
-  unfolding isAlnum
+module _ (b : ℕ) (t : Bool) (e : t ≡ is_letter b) where
+  pub alnum-letter : t ≡ true → true ≡ is_alnum b
+  unfolding is_alnum
   alnum-letter f = rw (← e, f)
 
   module _ (f : t ≡ false) where
-    pub alnum-low : b < 48 → false ≡ isAlnum b
-    unfolding isAlnum isDigit
+    pub alnum-low : b < 48 → false ≡ is_alnum b
+    unfolding is_alnum is_digit
     alnum-low h = rw (← e, f, lt-leb 48 b h)
 
-    pub alnum-within : 48 ≤ b → leb b 57 ≡ isAlnum b
-    unfolding isAlnum isDigit
+    pub alnum-within : 48 ≤ b → leb b 57 ≡ is_alnum b
+    unfolding is_alnum is_digit
     alnum-within h = rw (← e, f, le-leb 48 b h)
 
 pub ruleset alnum-laws = (alnum-letter, alnum-low, alnum-within)
 
 module _ (b : ℕ) where
-  pub digit_low : b < 48 → 16 ≡ digitOf b
-  unfolding digitOf isDigit small
+  pub digit_low : b < 48 → 16 ≡ digit_of b
+  unfolding digit_of is_digit small
   digit_low h = simp (lt-leb 48 b h, lt-leb 65 b (omega arith), lt-leb 97 b (omega arith))
 
-  pub digit-decimal : 48 ≤ b → b ≤ 57 → b - 48 ≡ digitOf b
-  unfolding digitOf isDigit
+  pub digit-decimal : 48 ≤ b → b ≤ 57 → b - 48 ≡ digit_of b
+  unfolding digit_of is_digit
   digit-decimal h g = rw (le-leb 48 b h, le-leb b 57 g)
 
   module _ (c : ℕ) (h : 48 ≤ b) (g : 57 < b) (e : c ≡ small b) where
-    digit-range : digitOf b ≡ cond (leb 97 c && leb c 102) (c - 87) 16
-    unfolding digitOf isDigit
+    digit-range : digit_of b ≡ cond (leb 97 c && leb c 102) (c - 87) 16
+    unfolding digit_of is_digit
     digit-range = rw (le-leb 48 b h, lt-leb b 57 g, e)
 
-    pub digit-before : c < 97 → 16 ≡ digitOf b
+    pub digit-before : c < 97 → 16 ≡ digit_of b
     digit-before l = rw (digit-range, lt-leb 97 c l)
 
-    pub digit-after : 97 ≤ c → 102 < c → 16 ≡ digitOf b
+    pub digit-after : 97 ≤ c → 102 < c → 16 ≡ digit_of b
     digit-after l m = rw (digit-range, le-leb 97 c l, lt-leb c 102 m)
 
-    pub digit-letter : 97 ≤ c → c ≤ 102 → c - 87 ≡ digitOf b
+    pub digit-letter : 97 ≤ c → c ≤ 102 → c - 87 ≡ digit_of b
     digit-letter l m = rw (digit-range, le-leb 97 c l, le-leb c 102 m)
 
 pub ruleset digit-laws = (digit_low, digit-decimal, digit-before, digit-after, digit-letter)

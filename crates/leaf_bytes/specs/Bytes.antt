@@ -28,15 +28,15 @@ class_of b =
 unfoldable pub small : ℕ → ℕ
 small b = cond (leb 65 b && leb b 90) (b + 32) b
 
-unfoldable pub isLetter : ℕ → Bool
-isLetter b = leb 97 (small b) && leb (small b) 122
+unfoldable pub is_letter : ℕ → Bool
+is_letter b = leb 97 (small b) && leb (small b) 122
 
-unfoldable pub isDigit : ℕ → Bool
-isDigit b = leb 48 b && leb b 57
+unfoldable pub is_digit : ℕ → Bool
+is_digit b = leb 48 b && leb b 57
 
-unfoldable pub isAlnum : ℕ → Bool
-isAlnum b = isLetter b || isDigit b
+unfoldable pub is_alnum : ℕ → Bool
+is_alnum b = is_letter b || is_digit b
 
 -- the value of a hexadecimal digit, in either case; 16 of any other byte
-unfoldable pub digitOf : ℕ → ℕ
-digitOf b = cond (isDigit b) (b - 48) (cond (leb 97 (small b) && leb (small b) 102) (small b - 87) 16)
+unfoldable pub digit_of : ℕ → ℕ
+digit_of b = cond (is_digit b) (b - 48) (cond (leb 97 (small b) && leb (small b) 102) (small b - 87) 16)

@@ -1,6 +1,6 @@
 // The classes of a byte; letters and digits.
 ghost use Rattle.std.specs.Prelude.{◌≡◌};
-ghost use Rattle.leaf_bytes.specs.Bytes.{class_of, small, isLetter, isAlnum, digitOf};
+ghost use Rattle.leaf_bytes.specs.Bytes.{class_of, small, is_letter, is_alnum, digit_of};
 
 // The class of a byte of the text.
 #[derive(Drop)]
@@ -42,7 +42,7 @@ pub fn small_of(b: u8) -> u8
 
 // Whether b is a letter.
 pub(crate) fn is_letter(b: u8) -> bool
-    ensures { result ≡ isLetter b }
+    ensures { result ≡ is_letter b }
 {
     let c = small_of(b);
     if c < 97 {
@@ -53,7 +53,7 @@ pub(crate) fn is_letter(b: u8) -> bool
 
 // Whether b is a letter or a decimal digit.
 pub(crate) fn is_alnum(b: u8) -> bool
-    ensures { result ≡ isAlnum b }
+    ensures { result ≡ is_alnum b }
 {
     if is_letter(b) {
         return true;
@@ -66,7 +66,7 @@ pub(crate) fn is_alnum(b: u8) -> bool
 
 // The value of b as a hexadecimal digit, 16 if it is none.
 pub fn digit_of(b: u8) -> u64
-    ensures { result ≡ digitOf b }
+    ensures { result ≡ digit_of b }
 {
     if b < 48 {
         return 16;

@@ -1,6 +1,6 @@
 // The shape of a name.
 ghost use Rattle.std.specs.Prelude.{◌≡◌, ◌<◌, length, drop};
-ghost use Rattle.leaf_bytes.specs.Names.{isName, goesOn, partOk};
+ghost use Rattle.leaf_bytes.specs.Names.{is_name, goes_on, part_ok};
 
 use crate::bytes::{is_alnum, is_letter};
 
@@ -8,7 +8,7 @@ use crate::bytes::{is_alnum, is_letter};
 // `goes_on` counts i up to the length.
 fn part_ok(w: &[u8], i: usize) -> bool
     requires { i < length w.now }
-    ensures { result ≡ partOk (drop i w.now) }
+    ensures { result ≡ part_ok (drop i w.now) }
 {
     if is_alnum(w[i]) {
         return true;
@@ -25,7 +25,7 @@ fn part_ok(w: &[u8], i: usize) -> bool
 // Whether every byte from the second on may stand in a name. `is_name` has seen that there is a first.
 fn goes_on(w: &[u8]) -> bool
     requires { 0 < length w.now }
-    ensures { result ≡ goesOn (drop 1 w.now) }
+    ensures { result ≡ goes_on (drop 1 w.now) }
 {
     let mut i = 1;
     while i < w.len() {
@@ -43,7 +43,7 @@ const LONGEST: usize = 31;
 
 // Whether w has the shape of a name; a reserved word has it too.
 pub fn is_name(w: &[u8]) -> bool
-    ensures { result ≡ isName w.now }
+    ensures { result ≡ is_name w.now }
 {
     if w.len() == 0 {
         return false;

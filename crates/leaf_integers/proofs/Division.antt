@@ -12,11 +12,11 @@ use lib.Signed.{mag, mag_rem, lt_z, le_z, quot_z, rem_z}
 use mir.Syntax.{w64}
 use mir.Val.{SFits, of_z}
 use mir.Facts.{to_z-of_z}
-use Rattle.leaf_integers.specs.Integers.{least, most, inside, exact, is_zero, quotient, modℕ, modulus, isOdd}
+use Rattle.leaf_integers.specs.Integers.{least, most, inside, exact, is_zero, quotient, modℕ, modulus, is_odd}
 use Rattle.leaf_integers.specs.declared.Fault.TheVariants.{Divisor}
 use Rattle.leaf_integers.specs.declared.Num.{Num}
 use Rattle.leaf_integers.specs.declared.Num.TheVariants.{Value, Failed}
-use Rattle.leaf_integers.proofs.Order.{leZ-trans, le_down, add_low}
+use Rattle.leaf_integers.proofs.Order.{le_z-trans, le_down, add_low}
 use Rattle.leaf_integers.proofs.Ranges.{inside_both, inside_is, pick_yes, pick_no, pick-value, same-value, is-zero, not-zero, exact-value}
 use Rattle.leaf_integers.proofs.Machine.{wire, fits-mag, same_bits, zero_bits}
 
@@ -126,8 +126,8 @@ modulus-value i j v h =
 pub modulus-range : (i j v : ℤ) → inside least most j ≡ true → modulus i j ≡ Value v → inside least most v ≡ true
 modulus-range i j v k h =
     let w = inside_is (pos 0) (j -ℤ pos 1) v (modulus-value i j v h) in
-    inside_both least most v (leZ-trans least (pos 0) v refl w.0)
-    (leZ-trans v (j -ℤ pos 1) most w.1 (leZ-trans (j -ℤ pos 1) j most (add_low j (negsuc 0) refl) (inside_is least most j k).1))
+    inside_both least most v (le_z-trans least (pos 0) v refl w.0)
+    (le_z-trans v (j -ℤ pos 1) most w.1 (le_z-trans (j -ℤ pos 1) j most (add_low j (negsuc 0) refl) (inside_is least most j k).1))
 
 -- ---- the machine's remainder, brought into 0 to n
 
@@ -208,8 +208,8 @@ digit zero h = (refl, refl)
 digit (suc zero) h = (refl, refl)
 digit (suc (suc r)) h = absurd (omega arith)
 
-odd-test : (x : ℤ) → not (eqb (of_z w64 (rem_z x (pos 2))) 0) ≡ isOdd x
-unfolding isOdd
+odd-test : (x : ℤ) → not (eqb (of_z w64 (rem_z x (pos 2))) 0) ≡ is_odd x
+unfolding is_odd
 odd-test (pos a) = (digit (a % 2) (mod-lt a (lit< tt))).0
 odd-test (negsuc a) = (digit (suc a % 2) (mod-lt (suc a) (lit< tt))).1
 
@@ -217,7 +217,7 @@ module _ (x : ℤ) (p : SFits w64 x) where
   pub odd-safe : (0 < 2) × SFits w64 (quot_z (wire x) (pos 2))
   odd-safe = (zero-lt-suc 1, rw (to_z-of_z p) (quot_fits x (pos 2) p (pos-ne-negsuc 2 0)))
 
-  pub odd_is : not (eqb (of_z w64 (rem_z (wire x) (pos 2))) 0) ≡ isOdd x
+  pub odd_is : not (eqb (of_z w64 (rem_z (wire x) (pos 2))) 0) ≡ is_odd x
   odd_is = rw (to_z-of_z p) (odd-test x)
 
 pub ruleset div-laws = (div-none, div-opposite, div_is)

@@ -20,8 +20,8 @@ le-or-lt a b = of (dec_le a b)
     of (no n) = inr (lt_of_not-le n)
 
 -- b - a is not negative exactly where a is at most b
-sub-nonNeg : (a b : ℕ) → non_neg (sub_ℕ b a) ≡ leb a b
-sub-nonNeg a b = of (ltb b a) (leb a b) refl refl
+sub-non_neg : (a b : ℕ) → non_neg (sub_ℕ b a) ≡ leb a b
+sub-non_neg a b = of (ltb b a) (leb a b) refl refl
   where
     of : (t u : Bool) → ltb b a ≡ t → leb a b ≡ u → non_neg (cond t (negsuc (a - suc b)) (pos (b - a))) ≡ u
     of true true p q = absurd (omega (arith, ltb-true b a p, leb-true a b q))
@@ -29,13 +29,13 @@ sub-nonNeg a b = of (ltb b a) (leb a b) refl refl
     of false true p q = refl
     of false false p q = absurd (omega (arith, ltb-false b a p, leb-false a b q))
 
-pub leZ-diff : (x y : ℤ) → le_z x y ≡ non_neg (y -ℤ x)
-leZ-diff (pos zero) (pos b) = leb-zero b
-leZ-diff (pos (suc a)) (pos b) = sym (sub-nonNeg (suc a) b)
-leZ-diff (pos zero) (negsuc b) = sym (sub-nonNeg (suc b) zero ∙ leb-suc-zero b)
-leZ-diff (pos (suc a)) (negsuc b) = refl
-leZ-diff (negsuc a) (pos b) = refl
-leZ-diff (negsuc a) (negsuc b) = sym (sub-nonNeg (suc b) (suc a) ∙ leb-suc-suc b a)
+pub le_z-diff : (x y : ℤ) → le_z x y ≡ non_neg (y -ℤ x)
+le_z-diff (pos zero) (pos b) = leb-zero b
+le_z-diff (pos (suc a)) (pos b) = sym (sub-non_neg (suc a) b)
+le_z-diff (pos zero) (negsuc b) = sym (sub-non_neg (suc b) zero ∙ leb-suc-zero b)
+le_z-diff (pos (suc a)) (negsuc b) = refl
+le_z-diff (negsuc a) (pos b) = refl
+le_z-diff (negsuc a) (negsuc b) = sym (sub-non_neg (suc b) (suc a) ∙ leb-suc-suc b a)
 
 -- the strict order is the other one, turned and negated
 ltb-not : (a b : ℕ) → ltb a b ≡ not (leb b a)
@@ -53,23 +53,23 @@ lt_not_le (pos a) (negsuc b) = refl
 lt_not_le (negsuc a) (pos b) = refl
 lt_not_le (negsuc a) (negsuc b) = ltb-not b a
 
-pub leZ-refl : (x : ℤ) → le_z x x ≡ true
-leZ-refl x = leZ-diff x x ∙ ap non_neg (+ℤ_invr x)
+pub le_z-refl : (x : ℤ) → le_z x x ≡ true
+le_z-refl x = le_z-diff x x ∙ ap non_neg (+ℤ_invr x)
 
-nonNeg-add : (u v : ℤ) → non_neg u ≡ true → non_neg v ≡ true → non_neg (u +ℤ v) ≡ true
-nonNeg-add (pos a) (pos b) h k = refl
-nonNeg-add (pos a) (negsuc b) h k = absurd (false≢true k)
-nonNeg-add (negsuc a) v h k = absurd (false≢true h)
+non_neg-add : (u v : ℤ) → non_neg u ≡ true → non_neg v ≡ true → non_neg (u +ℤ v) ≡ true
+non_neg-add (pos a) (pos b) h k = refl
+non_neg-add (pos a) (negsuc b) h k = absurd (false≢true k)
+non_neg-add (negsuc a) v h k = absurd (false≢true h)
 
-pub leZ-trans : (x y z : ℤ) → le_z x y ≡ true → le_z y z ≡ true → le_z x z ≡ true
-leZ-trans x y z h k =
-    leZ-diff x z ∙ ap non_neg (sym (ap (λ u. u -ℤ x) (-ℤ-+ℤ_cancel z y)) ∙ +ℤ_assoc (z -ℤ y) y (neg_ℤ x))
-    ∙ nonNeg-add (z -ℤ y) (y -ℤ x) (sym (leZ-diff y z) ∙ k) (sym (leZ-diff x y) ∙ h)
+pub le_z-trans : (x y z : ℤ) → le_z x y ≡ true → le_z y z ≡ true → le_z x z ≡ true
+le_z-trans x y z h k =
+    le_z-diff x z ∙ ap non_neg (sym (ap (λ u. u -ℤ x) (-ℤ-+ℤ_cancel z y)) ∙ +ℤ_assoc (z -ℤ y) y (neg_ℤ x))
+    ∙ non_neg-add (z -ℤ y) (y -ℤ x) (sym (le_z-diff y z) ∙ k) (sym (le_z-diff x y) ∙ h)
 
 -- ---- the same number added to both sides
 
 pub le-shift : (x y z : ℤ) → le_z (x +ℤ z) (y +ℤ z) ≡ le_z x y
-le-shift x y z = leZ-diff (x +ℤ z) (y +ℤ z) ∙ ap non_neg same ∙ sym (leZ-diff x y)
+le-shift x y z = le_z-diff (x +ℤ z) (y +ℤ z) ∙ ap non_neg same ∙ sym (le_z-diff x y)
   where
     same : (y +ℤ z) -ℤ (x +ℤ z) ≡ y -ℤ x
     same =

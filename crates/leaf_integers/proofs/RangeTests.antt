@@ -9,7 +9,7 @@ use mir.Facts.{to_z-of_z}
 use Rattle.leaf_integers.specs.Integers.{least, most, inside, exact, next, previous}
 use Rattle.leaf_integers.specs.declared.Fault.TheVariants.{Overflow, Bound}
 use Rattle.leaf_integers.specs.declared.Num.TheVariants.{Value, Failed}
-use Rattle.leaf_integers.proofs.Order.{leZ-trans, lt_not, not-lt, le_not, not-le, up_le, le_down, add_low, add-high}
+use Rattle.leaf_integers.proofs.Order.{le_z-trans, lt_not, not-lt, le_not, not-le, up_le, le_down, add_low, add-high}
 use Rattle.leaf_integers.proofs.Ranges.{inside-below, inside-above, inside-from, inside_both, ranged-in, ranged-out, ranged-value, exact-inside, exact-outside}
 use Rattle.leaf_integers.proofs.Machine.{wire, low, high, fits-between, fits-bounds}
 
@@ -49,8 +49,8 @@ module _ (x lo hi : ℤ) (p : SFits w64 x) (q : SFits w64 lo) (s : SFits w64 hi)
 
     up_fits : SFits w64 (x +ℤ pos 1)
     up_fits =
-        fits-between (x +ℤ pos 1) (leZ-trans low x (x +ℤ pos 1) (fits-bounds x p).0 (add-high x (pos 1) refl))
-        (leZ-trans (x +ℤ pos 1) hi high below (fits-bounds hi s).1)
+        fits-between (x +ℤ pos 1) (le_z-trans low x (x +ℤ pos 1) (fits-bounds x p).0 (add-high x (pos 1) refl))
+        (le_z-trans (x +ℤ pos 1) hi high below (fits-bounds hi s).1)
 
     pub succ-fits : SFits w64 (wire x +ℤ pos 1)
     succ-fits = rw (to_z-of_z p) up_fits
@@ -79,8 +79,8 @@ module _ (x lo hi : ℤ) (p : SFits w64 x) (q : SFits w64 lo) (s : SFits w64 hi)
 
     down_fits : SFits w64 (x -ℤ pos 1)
     down_fits =
-        fits-between (x -ℤ pos 1) (leZ-trans low lo (x -ℤ pos 1) (fits-bounds lo q).0 above)
-        (leZ-trans (x -ℤ pos 1) x high (add_low x (negsuc 0) refl) (fits-bounds x p).1)
+        fits-between (x -ℤ pos 1) (le_z-trans low lo (x -ℤ pos 1) (fits-bounds lo q).0 above)
+        (le_z-trans (x -ℤ pos 1) x high (add_low x (negsuc 0) refl) (fits-bounds x p).1)
 
     pub pred_fits : SFits w64 (wire x -ℤ pos 1)
     pred_fits = rw (to_z-of_z p) down_fits

@@ -16,7 +16,7 @@ use Rattle.leaf_integers.specs.Integers.{exact}
 use Rattle.leaf_integers.specs.declared.Fault.TheVariants.{Overflow}
 use Rattle.leaf_integers.specs.declared.Num.{Num}
 use Rattle.leaf_integers.specs.declared.Num.TheVariants.{Failed}
-use Rattle.leaf_integers.proofs.Order.{leZ-trans, lt-moved, moved-lt, add_low, add-high, lt-le, not-lt}
+use Rattle.leaf_integers.proofs.Order.{le_z-trans, lt-moved, moved-lt, add_low, add-high, lt-le, not-lt}
 use Rattle.leaf_integers.proofs.Ranges.{exact-out}
 use Rattle.leaf_integers.proofs.Machine.{wire, low, high, fits-mag, fits-between, fits-bounds, fits-abs}
 
@@ -48,7 +48,7 @@ low-out x y h = below-low (x +ℤ y) (sym (lt-moved x y low) ∙ h)
 
 low_fits : (x y : ℤ) → SFits w64 x → le_z y (pos 0) ≡ true → lt_z x (low -ℤ y) ≡ false → SFits w64 (x +ℤ y)
 low_fits x y p s h =
-    fits-between (x +ℤ y) (not-lt (x +ℤ y) low (sym (lt-moved x y low) ∙ h)) (leZ-trans (x +ℤ y) x high (add_low x y s) (fits-bounds x p).1)
+    fits-between (x +ℤ y) (not-lt (x +ℤ y) low (sym (lt-moved x y low) ∙ h)) (le_z-trans (x +ℤ y) x high (add_low x y s) (fits-bounds x p).1)
 
 -- ---- y at or above 0
 
@@ -62,7 +62,7 @@ high-out x y h = above-high (x +ℤ y) (sym (moved-lt x y high) ∙ h)
 
 high_fits : (x y : ℤ) → SFits w64 x → le_z (pos 0) y ≡ true → lt_z (high -ℤ y) x ≡ false → SFits w64 (x +ℤ y)
 high_fits x y p s h =
-    fits-between (x +ℤ y) (leZ-trans low x (x +ℤ y) (fits-bounds x p).0 (add-high x y s)) (not-lt high (x +ℤ y) (sym (moved-lt x y high) ∙ h))
+    fits-between (x +ℤ y) (le_z-trans low x (x +ℤ y) (fits-bounds x p).0 (add-high x y s)) (not-lt high (x +ℤ y) (sym (moved-lt x y high) ∙ h))
 
 -- ---- the opposite number
 

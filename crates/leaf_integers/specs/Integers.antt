@@ -47,8 +47,8 @@ modℕ (negsuc a) n = n - suc (a % n)
 unfoldable pub modulus : ℤ → ℤ → Num
 modulus i j = pick (le_z j (pos 0)) (Failed Divisor) (Value (pos (modℕ i (nat_abs j))))
 
-unfoldable pub isOdd : ℤ → Bool
-isOdd z = eqb (nat_abs z % 2) 1
+unfoldable pub is_odd : ℤ → Bool
+is_odd z = eqb (nat_abs z % 2) 1
 
 -- `succ` and `pred` in a host type of the ordinals lo to hi
 unfoldable pub next : ℤ → ℤ → ℤ → Num

@@ -1,6 +1,6 @@
 // Exact integers of document 01, "Arithmetic": each function gives the exact result for every two i64, or says why there is none.
 ghost use Rattle.std.specs.Prelude.{◌≡◌, ℤ, pos, neg_ℤ, nat_abs, ◌+ℤ◌, ◌-ℤ◌, ◌*ℤ◌};
-ghost use Rattle.leaf_integers.specs.Integers.{pick, is_zero, inside, exact, quotient, modulus, isOdd, next, previous};
+ghost use Rattle.leaf_integers.specs.Integers.{pick, is_zero, inside, exact, quotient, modulus, is_odd, next, previous};
 ghost use Rattle.leaf_integers.specs.declared.Fault.TheVariants.{Overflow};
 ghost use Rattle.leaf_integers.specs.declared.Num.TheVariants.{Value, Failed};
 
@@ -148,7 +148,7 @@ pub fn modulo(x: i64, y: i64) -> Num
 
 // Whether x is odd.
 pub fn odd(x: i64) -> bool
-    ensures { result ≡ isOdd x }
+    ensures { result ≡ is_odd x }
 {
     x % 2 != 0
 }

@@ -1,4 +1,4 @@
--- Powers: that `powZ` is the repeated product, that `power` is its exact result, and the laws of `halved` and `raise`. A half
+-- Powers: that `pow_z` is the repeated product, that `power` is its exact result, and the laws of `halved` and `raise`. A half
 -- power, or its square, that is out of range means that the whole power is. Assumes nothing.
 use mathlib.Core.Path.{◌≡◌, refl, sym, ap, subst, ◌∙◌}
 use mathlib.Core.Bool.{Bool, true, false, ◌&&◌, ◌||◌, and-false}
@@ -16,7 +16,7 @@ use mir.Syntax.{w64}
 use mir.Val.{SFits, Fits, of_z}
 use mir.Facts.{to_z-of_z, Fits-nat_abs}
 use Rattle.leaf_integers.specs.Integers.{least, most, inside, exact, is_zero}
-use Rattle.leaf_powers.specs.Powers.{signed, powZ, small, power}
+use Rattle.leaf_powers.specs.Powers.{signed, pow_z, small, power}
 use Rattle.leaf_integers.specs.declared.Fault.{Fault}
 use Rattle.leaf_integers.specs.declared.Fault.TheVariants.{Overflow, Exponent}
 use Rattle.leaf_integers.specs.declared.Num.{Num}
@@ -26,10 +26,10 @@ use Rattle.leaf_integers.proofs.Ranges.{Narrow, pick_yes, pick_no, pick-value, v
 use Rattle.leaf_integers.proofs.Machine.{wire, fits-mag, zero_bits}
 use Rattle.leaf_integers.proofs.Products.{abs_neg, abs-below, large-out, size-other}
 
--- ---- `powZ` is the repeated product
+-- ---- `pow_z` is the repeated product
 
-pub power-none : (x : ℤ) → powZ x 0 ≡ pos 1
-unfolding powZ signed
+pub power-none : (x : ℤ) → pow_z x 0 ≡ pos 1
+unfolding pow_z signed
 power-none (pos a) = ap pos (pow-zero a)
 power-none (negsuc a) = ap pos (pow-zero (suc a))
 
@@ -37,8 +37,8 @@ power-none (negsuc a) = ap pos (pow-zero (suc a))
 bit : (n : ℕ) → (n % 2 ≡ 0) ⊎ (n % 2 ≡ 1)
 bit n = ⊎_elim (λ l. inl (omega arith)) (λ g. inr (omega arith)) (le-or-lt (n % 2) 0)
 
-pub power-more : (x : ℤ) (n : ℕ) → powZ x (suc n) ≡ powZ x n *ℤ x
-unfolding powZ signed
+pub power-more : (x : ℤ) (n : ℕ) → pow_z x (suc n) ≡ pow_z x n *ℤ x
+unfolding pow_z signed
 power-more (pos a) n = ap pos (pow-suc a n)
 power-more (negsuc a) n = rw (pow-suc (suc a) n) (⊎_elim (λ e. up e (omega arith)) (λ e. down e (omega arith) (suc a ^ n)) (bit n))
   where
@@ -68,13 +68,13 @@ unfolding signed
 abs-signed zero p = refl
 abs-signed (suc d) p = abs_neg p
 
-square : (x : ℤ) (h : ℕ) → powZ x h *ℤ powZ x h ≡ pos (nat_abs x ^ h * nat_abs x ^ h)
-unfolding powZ
+square : (x : ℤ) (h : ℕ) → pow_z x h *ℤ pow_z x h ≡ pos (nat_abs x ^ h * nat_abs x ^ h)
+unfolding pow_z
 square (pos a) h = refl
 square (negsuc a) h = signed-square (h % 2) (suc a ^ h)
 
-pub abs-pow : (x : ℤ) (n : ℕ) → nat_abs (powZ x n) ≡ nat_abs x ^ n
-unfolding powZ
+pub abs-pow : (x : ℤ) (n : ℕ) → nat_abs (pow_z x n) ≡ nat_abs x ^ n
+unfolding pow_z
 abs-pow (pos a) n = refl
 abs-pow (negsuc a) n = abs-signed (n % 2) (suc a ^ n)
 
@@ -92,22 +92,22 @@ base m h l = ⊎_elim (λ s. absurd (clash (m ^ h) (le_trans (pow-le-pow_left s 
 -- ---- `power` is the exact result
 
 -- an exponent past 31 leaves the integers unless the base is -1, 0 or 1
-pub powers-exact : (x : ℤ) (n : ℕ) → small (leb n 31 || leb (nat_abs x) 1) x n ≡ exact (powZ x n)
+pub powers-exact : (x : ℤ) (n : ℕ) → small (leb n 31 || leb (nat_abs x) 1) x n ≡ exact (pow_z x n)
 unfolding small
 powers-exact x n = of (leb n 31) (leb (nat_abs x) 1) refl refl
   where
-    of : (s t : Bool) → leb n 31 ≡ s → leb (nat_abs x) 1 ≡ t → small (s || t) x n ≡ exact (powZ x n)
+    of : (s t : Bool) → leb n 31 ≡ s → leb (nat_abs x) 1 ≡ t → small (s || t) x n ≡ exact (pow_z x n)
     of true t e f = refl
     of false true e f = refl
     of false false e f =
         let l : 2 ^ 32 ≤ 2 ^ n = pow-le-pow_right (omega arith) (leb-false n 31 e) in
-        sym (large-out (powZ x n) (omega (arith, l, pow-le-pow_left (leb-false (nat_abs x) 1 f) n, abs-pow x n)))
+        sym (large-out (pow_z x n) (omega (arith, l, pow-le-pow_left (leb-false (nat_abs x) 1 f) n, abs-pow x n)))
 
 not_zeros : (x : ℤ) (n : ℕ) → (x ≡ pos 0 → n ≡ 0 → ⊥) → (is_zero x && is_zero (pos n)) ≡ false
 not_zeros x zero h = ap (λ (t : Bool). t && is_zero (pos 0)) (not-zero x (λ e. h e refl))
 not_zeros x (suc n) h = ap (◌&&◌ (is_zero x)) (not-zero (pos (suc n)) (λ e. absurd (omega (arith, ap nat_abs e)))) ∙ and-false (is_zero x)
 
-pub power-is : (x : ℤ) (n : ℕ) → (x ≡ pos 0 → n ≡ 0 → ⊥) → power x (pos n) ≡ exact (powZ x n)
+pub power-is : (x : ℤ) (n : ℕ) → (x ≡ pos 0 → n ≡ 0 → ⊥) → power x (pos n) ≡ exact (pow_z x n)
 unfolding power
 power-is x n h =
     pick_no (is_zero x && is_zero (pos n)) (Failed Exponent) (small (leb n 31 || leb (nat_abs x) 1) x n) (not_zeros x n h)
@@ -125,10 +125,10 @@ power-negative x (pos n) h = absurd (not-suc-le-zero (ltb-true n 0 h))
 power-negative x (negsuc n) h = refl
 
 -- a value is in range, and is the power
-pub power-value : (x n v : ℤ) → power x n ≡ Value v → (inside least most v ≡ true) × (powZ x (nat_abs n) ≡ v)
+pub power-value : (x n v : ℤ) → power x n ≡ Value v → (inside least most v ≡ true) × (pow_z x (nat_abs n) ≡ v)
 unfolding power
 power-value x (pos n) v h =
-    exact-value (powZ x n) v
+    exact-value (pow_z x n) v
     (sym (powers-exact x n) ∙ (pick-value (is_zero x && is_zero (pos n)) (small (leb n 31 || leb (nat_abs x) 1) x n) Exponent v h).1)
 power-value x (negsuc n) v h = absurd (value-fault (sym h))
 
@@ -148,73 +148,73 @@ pow-odd m n e =
     ap (λ (k : ℕ). m ^ k) (odd-split n e ∙ add-one (n / 2 + n / 2)) ∙ pow-suc m (n / 2 + n / 2)
     ∙ ap (λ (k : ℕ). k * m) (pow-add m (n / 2) (n / 2))
 
-even : (x : ℤ) (n : ℕ) → n % 2 ≡ 0 → powZ x n ≡ powZ x (n / 2) *ℤ powZ x (n / 2)
-unfolding powZ signed
+even : (x : ℤ) (n : ℕ) → n % 2 ≡ 0 → pow_z x n ≡ pow_z x (n / 2) *ℤ pow_z x (n / 2)
+unfolding pow_z signed
 even (pos a) n e = ap pos (pow_even a n e)
 even (negsuc a) n e = rw (e, square (negsuc a) (n / 2)) (ap pos (pow_even (suc a) n e))
 
-odd : (x : ℤ) (n : ℕ) → n % 2 ≡ 1 → powZ x n ≡ powZ x (n / 2) *ℤ powZ x (n / 2) *ℤ x
-unfolding powZ signed
+odd : (x : ℤ) (n : ℕ) → n % 2 ≡ 1 → pow_z x n ≡ pow_z x (n / 2) *ℤ pow_z x (n / 2) *ℤ x
+unfolding pow_z signed
 odd (pos a) n e = ap pos (pow-odd a n e)
 odd (negsuc a) n e = rw (e, square (negsuc a) (n / 2)) (ap (λ (k : ℕ). neg_ℤ (pos k)) (pow-odd (suc a) n e))
 
-fault-half : (x : ℤ) (n : ℕ) → 2147483648 ≤ mag (powZ x (n / 2)) → exact (powZ x n) ≡ Failed Overflow
+fault-half : (x : ℤ) (n : ℕ) → 2147483648 ≤ mag (pow_z x (n / 2)) → exact (pow_z x n) ≡ Failed Overflow
 fault-half x n e =
     let m = nat_abs x in let h = n / 2 in
-    let q : 2147483648 ≤ m ^ h = le_trans e (le_trans (abs-below (powZ x h)) (le_of_eq (abs-pow x h))) in
+    let q : 2147483648 ≤ m ^ h = le_trans e (le_trans (abs-below (pow_z x h)) (le_of_eq (abs-pow x h))) in
     let two : 2 ≤ m = base m h (le_trans (omega arith) q) in
     let up : m ^ (h + h) ≤ m ^ n = pow-le-pow_right (omega arith) (omega arith) in
     let sq : 2147483648 * 2147483648 ≤ m ^ h * m ^ h = mul-le-mul q q in
-    large-out (powZ x n) (rw (abs-pow x n) (omega (arith, pow-add m h h)))
+    large-out (pow_z x n) (rw (abs-pow x n) (omega (arith, pow-add m h h)))
 
-fault-square : (x : ℤ) (n : ℕ) → 2147483648 ≤ mag (powZ x (n / 2) *ℤ powZ x (n / 2)) → exact (powZ x n) ≡ Failed Overflow
-fault-square x n e = ⊎_elim (λ z. exact-out (powZ x n) (rw (even x n z) e)) odd-case (bit n)
+fault-square : (x : ℤ) (n : ℕ) → 2147483648 ≤ mag (pow_z x (n / 2) *ℤ pow_z x (n / 2)) → exact (pow_z x n) ≡ Failed Overflow
+fault-square x n e = ⊎_elim (λ z. exact-out (pow_z x n) (rw (even x n z) e)) odd-case (bit n)
   where
-    odd-case : n % 2 ≡ 1 → exact (powZ x n) ≡ Failed Overflow
+    odd-case : n % 2 ≡ 1 → exact (pow_z x n) ≡ Failed Overflow
     odd-case o =
         let m = nat_abs x in let h = n / 2 in
         let q : 2147483648 ≤ m ^ h * m ^ h = rw (square x h) at e in
         let two : 2 ≤ m = base m (h + h) (omega (arith, pow-add m h h)) in
         let up : 2147483648 * 2 ≤ m ^ h * m ^ h * m = mul-le-mul q two in
-        large-out (powZ x n) (rw (abs-pow x n, pow-odd m n o) (omega arith))
+        large-out (pow_z x n) (rw (abs-pow x n, pow-odd m n o) (omega arith))
 
 narrow-fits : (z : ℤ) → Narrow z → SFits w64 z
 narrow-fits z h = fits-mag z (omega arith)
 
 -- ---- the laws of `halved`, with each number as its local holds it
 
-pub halved_none : (x : ℤ) (n : ℕ) → n ≡ 0 → Value (pos 1) ≡ exact (powZ x n)
+pub halved_none : (x : ℤ) (n : ℕ) → n ≡ 0 → Value (pos 1) ≡ exact (pow_z x n)
 halved_none x n e = rw (e, power-none x) (sym (exact-in (pos 1) (omega arith)))
 
 -- r is what the call at half the exponent gave
-module _ (x : ℤ) (n : ℕ) (p : SFits w64 x) (r : Num) (hr : r ≡ exact (powZ (wire x) (n / 2))) where
-  half_is : r ≡ exact (powZ x (n / 2))
+module _ (x : ℤ) (n : ℕ) (p : SFits w64 x) (r : Num) (hr : r ≡ exact (pow_z (wire x) (n / 2))) where
+  half_is : r ≡ exact (pow_z x (n / 2))
   half_is = rw (to_z-of_z p) at hr
 
-  pub half-fault : (f : Fault) → r ≡ Failed f → Failed Overflow ≡ exact (powZ x n)
-  half-fault f e = sym (fault-half x n (exact-fault (powZ x (n / 2)) f (sym half_is ∙ e)).0)
+  pub half-fault : (f : Fault) → r ≡ Failed f → Failed Overflow ≡ exact (pow_z x n)
+  half-fault f e = sym (fault-half x n (exact-fault (pow_z x (n / 2)) f (sym half_is ∙ e)).0)
 
   -- q is what its square gave
   module _ (v : ℤ) (rv : r ≡ Value v) (q : Num) (hq : q ≡ exact (wire v *ℤ wire v)) where
-    square-of : q ≡ exact (powZ x (n / 2) *ℤ powZ x (n / 2))
+    square-of : q ≡ exact (pow_z x (n / 2) *ℤ pow_z x (n / 2))
     square-of =
-        let w = exact-narrow (powZ x (n / 2)) v (sym half_is ∙ rv) in
+        let w = exact-narrow (pow_z x (n / 2)) v (sym half_is ∙ rv) in
         hq ∙ ap (λ (z : ℤ). exact (z *ℤ z)) (to_z-of_z (narrow-fits v w.0) ∙ sym w.1)
 
-    pub square-fault : (f : Fault) → q ≡ Failed f → Failed Overflow ≡ exact (powZ x n)
-    square-fault f e = sym (fault-square x n (exact-fault (powZ x (n / 2) *ℤ powZ x (n / 2)) f (sym square-of ∙ e)).0)
+    pub square-fault : (f : Fault) → q ≡ Failed f → Failed Overflow ≡ exact (pow_z x n)
+    square-fault f e = sym (fault-square x n (exact-fault (pow_z x (n / 2) *ℤ pow_z x (n / 2)) f (sym square-of ∙ e)).0)
 
     module _ (s : ℤ) (qs : q ≡ Value s) where
-      squared : Narrow s × (powZ x (n / 2) *ℤ powZ x (n / 2) ≡ s)
-      squared = exact-narrow (powZ x (n / 2) *ℤ powZ x (n / 2)) s (sym square-of ∙ qs)
+      squared : Narrow s × (pow_z x (n / 2) *ℤ pow_z x (n / 2) ≡ s)
+      squared = exact-narrow (pow_z x (n / 2) *ℤ pow_z x (n / 2)) s (sym square-of ∙ qs)
 
-      pub even-done : n % 2 ≡ 0 → Value (wire s) ≡ exact (powZ x n)
+      pub even-done : n % 2 ≡ 0 → Value (wire s) ≡ exact (pow_z x n)
       even-done z = ap Value (to_z-of_z (narrow-fits s squared.0)) ∙ sym qs ∙ square-of ∙ ap exact (sym (even x n z))
 
-      pub odd-done : (u : Num) → (n % 2 ≡ 0 → ⊥) → u ≡ exact (wire s *ℤ wire x) → u ≡ exact (powZ x n)
+      pub odd-done : (u : Num) → (n % 2 ≡ 0 → ⊥) → u ≡ exact (wire s *ℤ wire x) → u ≡ exact (pow_z x n)
       odd-done u z e =
           e ∙ ap (λ (k : ℤ). exact (k *ℤ wire x)) (to_z-of_z (narrow-fits s squared.0) ∙ sym squared.1)
-          ∙ ap (λ (k : ℤ). exact (powZ x (n / 2) *ℤ powZ x (n / 2) *ℤ k)) (to_z-of_z p)
+          ∙ ap (λ (k : ℤ). exact (pow_z x (n / 2) *ℤ pow_z x (n / 2) *ℤ k)) (to_z-of_z p)
           ∙ ap exact (sym (odd x n (⊎_elim (λ o. absurd (z o)) (λ o. o) (bit n))))
 
 -- ---- the laws of `raise`
@@ -229,7 +229,7 @@ module _ (x n : ℤ) (p : SFits w64 x) (q : SFits w64 n) where
   pub raise-first : of_z w64 n ≡ 0 → (of_z w64 x ≡ 0 → ⊥) → Value (pos 1) ≡ power x n
   raise-first e f = rw (zero_bits n q e) (halved_none x 0 refl ∙ sym (power-is x 0 (λ z w. f (ap (of_z w64) z))))
 
-  pub raise-is : (r : Num) → lt_z (wire n) (pos 0) ≡ false → (of_z w64 n ≡ 0 → ⊥) → r ≡ exact (powZ (wire x) (nat_abs (wire n))) → r ≡ power x n
+  pub raise-is : (r : Num) → lt_z (wire n) (pos 0) ≡ false → (of_z w64 n ≡ 0 → ⊥) → r ≡ exact (pow_z (wire x) (nat_abs (wire n))) → r ≡ power x n
   raise-is r h f e =
       let k = size-other n (rw (to_z-of_z q) at h) in
       rw (to_z-of_z p, to_z-of_z q) at e ∙ sym (power-is x (nat_abs n) (λ z w. f (ap (of_z w64) (k ∙ ap pos w)))) ∙ ap (power x) (sym k)

@@ -3,7 +3,7 @@ use mathlib.Core.Path.{◌≡◌, refl}
 use mathlib.Core.List.{List, [], ◌∷◌}
 use lib.IntN.{pos, negsuc}
 use Rattle.leaf_integers.specs.Integers.{inside, pick, ranged, exact, is_zero, quotient, modℕ, modulus}
-use Rattle.leaf_powers.specs.Powers.{signed, powZ, small, power}
+use Rattle.leaf_powers.specs.Powers.{signed, pow_z, small, power}
 use Rattle.leaf_integers.specs.declared.Fault.TheVariants.{Overflow, Divisor, Exponent}
 use Rattle.leaf_integers.specs.declared.Num.{Num}
 use Rattle.leaf_integers.specs.declared.Num.TheVariants.{Value, Failed}
@@ -32,5 +32,5 @@ Hold [] = Unit {0}
 Hold (c ∷ cs) = (c.given ≡ c.wanted) × Hold cs
 
 starred : Hold cases
-unfolding cases Hold quotient modulus modℕ power small powZ signed exact ranged inside is_zero pick
+unfolding cases Hold quotient modulus modℕ power small pow_z signed exact ranged inside is_zero pick
 starred = (refl, (refl, (refl, (refl, (refl, (refl, (refl, (refl, (refl, (refl, (refl, tt)))))))))))

@@ -11,14 +11,14 @@ signed zero m = pos m
 signed (suc d) m = neg_ℤ (pos m)
 
 -- the exact power: that of a negative number is negative where the exponent is odd
-unfoldable pub powZ : ℤ → ℕ → ℤ
-powZ (pos a) n = pos (a ^ n)
-powZ (negsuc a) n = signed (n % 2) (suc a ^ n)
+unfoldable pub pow_z : ℤ → ℕ → ℤ
+pow_z (pos a) n = pos (a ^ n)
+pow_z (negsuc a) n = signed (n % 2) (suc a ^ n)
 
 -- the power, if it is an integer. An exponent past 31 leaves the integers unless the base is -1, 0 or 1
--- (`powers-exact` in proofs: this is `exact (powZ x n)`); said so, it computes for every exponent
+-- (`powers-exact` in proofs: this is `exact (pow_z x n)`); said so, it computes for every exponent
 unfoldable pub small : Bool → ℤ → ℕ → Num
-small true x n = exact (powZ x n)
+small true x n = exact (pow_z x n)
 small false x n = Failed Overflow
 
 -- `**`: a negative exponent is a fault, and so is 0 with an exponent of 0

@@ -1,14 +1,14 @@
 // Exact powers of document 01, "Arithmetic", worked by halving the exponent.
 ghost use Rattle.std.specs.Prelude.{◌≡◌};
 ghost use Rattle.leaf_integers.specs.Integers.{exact};
-ghost use Rattle.leaf_powers.specs.Powers.{powZ, power};
+ghost use Rattle.leaf_powers.specs.Powers.{pow_z, power};
 
 use leaf_integers::{Fault, Num, mul};
 
 // x to the power n, by half the exponent: the square of that power, and once more x where n is odd.
 // A half or a square that is past the integers means that the whole power is.
 pub fn halved(x: i64, n: u64) -> Num
-    ensures { result ≡ exact (powZ x n) }
+    ensures { result ≡ exact (pow_z x n) }
 {
     if n == 0 {
         return Num::Value(1);

@@ -10,7 +10,7 @@ use lib.Dec.{eqb, leb}
 use lib.ListN.{length, get_or, length-map, get_or-map}
 use Rattle.leaf_bytes.specs.Bytes.{bytes, small, same}
 use Rattle.leaf_bytes.proofs.Same.{same-equal, small_at}
-use Rattle.leaf_reserved.specs.Table.{reserved, operators, fixed, isFixed}
+use Rattle.leaf_reserved.specs.Table.{reserved, operators, fixed, is_fixed}
 use Rattle.leaf_reserved.specs.Slots.{slot_of, spot, guess}
 use Rattle.leaf_reserved.proofs.Arms.{Missed, count}
 
@@ -73,8 +73,8 @@ unfolding guess spot slot_of fixed reserved operators bytes
 guesses = refl
 
 -- so a word that is word k, case ignored, is guessed as k
-pub guess-is : (w : List ℕ) (k : ℕ) → k < 57 → isFixed w k ≡ true → guess (slot_of w) ≡ k
-unfolding isFixed
+pub guess-is : (w : List ℕ) (k : ℕ) → k < 57 → is_fixed w k ≡ true → guess (slot_of w) ≡ k
+unfolding is_fixed
 guess-is w k l t =
     ap guess (sym (slot_small w) ∙ ap slot_of (same-equal (map small w) (get_or fixed k []) t)) ∙ numbered guessed guesses k l
 

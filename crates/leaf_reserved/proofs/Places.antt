@@ -10,8 +10,8 @@ use borrow.Author.Tests.{eqb-true, eqb-false}
 use lib.Dec.{eqb}
 use lib.ListN.{length, get_or}
 use Rattle.leaf_bytes.specs.Bytes.{bytes, small, same}
-use Rattle.leaf_reserved.specs.Table.{reserved, operators, fixed, letter, letters, rows, position, isFixed, place_of}
-use Rattle.leaf_reserved.specs.Slots.{slot_of, guess, hasLetters}
+use Rattle.leaf_reserved.specs.Table.{reserved, operators, fixed, letter, letters, rows, position, is_fixed, place_of}
+use Rattle.leaf_reserved.specs.Slots.{slot_of, guess, has_letters}
 use Rattle.leaf_reserved.proofs.Arms.{count}
 use Rattle.leaf_reserved.proofs.Rows.{letters-short, row-letter, row-letters}
 use Rattle.leaf_reserved.proofs.Guesses.{guess-is, guess-most, numbered}
@@ -28,20 +28,20 @@ abbrev pub Spells : List ℕ → ℕ → ℕ → Type 0
 Spells w k i = (j : ℕ) → j < i → small (get_or w j 0) ≡ letter k j
 
 module _ (w : List ℕ) (k : ℕ) where
-  fixed-other : ((length w ≡ letters k) → ⊥) → false ≡ isFixed w k
-  unfolding isFixed letters
+  fixed-other : ((length w ≡ letters k) → ⊥) → false ≡ is_fixed w k
+  unfolding is_fixed letters
   fixed-other d = other_length w (get_or fixed k []) d
 
   module _ (row : List ℕ) (e : row ≡ get_or rows k []) where
-    pub fixed-length : (t : Bool) → 0 < length w → t ≡ hasLetters row (length w) → t ≡ false → false ≡ isFixed w k
+    pub fixed-length : (t : Bool) → 0 < length w → t ≡ has_letters row (length w) → t ≡ false → false ≡ is_fixed w k
     fixed-length t l f g = fixed-other (λ d. eqb-false _ _ (sym (row-letters k (length w) row l e) ∙ sym f ∙ g) (sym d))
 
-    pub fixed-byte : (i x : ℕ) → x ≡ small (get_or w i 0) → ((x ≡ get_or row i 0) → ⊥) → false ≡ isFixed w k
-    unfolding isFixed letter
+    pub fixed-byte : (i x : ℕ) → x ≡ small (get_or w i 0) → ((x ≡ get_or row i 0) → ⊥) → false ≡ is_fixed w k
+    unfolding is_fixed letter
     fixed-byte i x f d = other_byte w (get_or fixed k []) i (λ h. d (f ∙ h ∙ sym (ap (λ (r : List ℕ). get_or r i 0) e ∙ row-letter k i)))
 
-    pub fixed-all : (t : Bool) (i : ℕ) → 0 < length w → t ≡ hasLetters row (length w) → t ≡ true → length w ≤ i → Spells w k i → true ≡ isFixed w k
-    unfolding isFixed letters letter
+    pub fixed-all : (t : Bool) (i : ℕ) → 0 < length w → t ≡ has_letters row (length w) → t ≡ true → length w ≤ i → Spells w k i → true ≡ is_fixed w k
+    unfolding is_fixed letters letter
     fixed-all t i l f g m h =
         all-bytes w (get_or fixed k []) (sym (eqb-true _ _ (sym (row-letters k (length w) row l e) ∙ sym f ∙ g))) (λ j o. h j (omega arith))
 
@@ -76,8 +76,8 @@ place-empty (b ∷ w) e = absurd (omega arith)
 
 module _ (w : List ℕ) where
   -- no word of the table is w
-  place_none : ((j : ℕ) → j < 57 → isFixed w j ≡ false) → 57 ≡ place_of w
-  unfolding isFixed place_of
+  place_none : ((j : ℕ) → j < 57 → is_fixed w j ≡ false) → 57 ≡ place_of w
+  unfolding is_fixed place_of
   place_none off = sym fixed-count ∙ none_is (map small w) fixed (λ j h. off j (omega (arith, fixed-count)))
 
   -- it has more bytes than any word
@@ -86,8 +86,8 @@ module _ (w : List ℕ) where
 
   -- by the guess k
   module _ (h k : ℕ) (e : h ≡ slot_of w) (f : k ≡ guess h) where
-    other : (j : ℕ) → j < 57 → ((j ≡ k) → ⊥) → isFixed w j ≡ false
-    other j l d = fails (isFixed w j) (λ t. d (sym (f ∙ ap guess e ∙ guess-is w j l t)))
+    other : (j : ℕ) → j < 57 → ((j ≡ k) → ⊥) → is_fixed w j ≡ false
+    other j l d = fails (is_fixed w j) (λ t. d (sym (f ∙ ap guess e ∙ guess-is w j l t)))
 
     pub place-missed : k ≡ 57 → 57 ≡ place_of w
     place-missed g = place_none (λ j l. other j l (λ d. omega arith))
@@ -95,17 +95,17 @@ module _ (w : List ℕ) where
     pub place-room : ((k ≡ 57) → ⊥) → k < 57
     place-room d = omega (arith, guess-most h, fixed-count)
 
-    pub place_found : (t : Bool) → ((k ≡ 57) → ⊥) → t ≡ isFixed w k → t ≡ true → k ≡ place_of w
-    unfolding isFixed place_of
+    pub place_found : (t : Bool) → ((k ≡ 57) → ⊥) → t ≡ is_fixed w k → t ≡ true → k ≡ place_of w
+    unfolding is_fixed place_of
     place_found t d g i =
         first-is (map small w) fixed k (λ j l. other j (omega (arith, place-room d)) (λ o. omega arith))
         (subst (λ (n : ℕ). k < n) (sym fixed-count) (place-room d)) (sym g ∙ i)
 
-    pub place_other : (t : Bool) → ((k ≡ 57) → ⊥) → t ≡ isFixed w k → t ≡ false → 57 ≡ place_of w
+    pub place_other : (t : Bool) → ((k ≡ 57) → ⊥) → t ≡ is_fixed w k → t ≡ false → 57 ≡ place_of w
     place_other t d g i = place_none (λ j l. go j l (eqb j k) refl)
       where
-        go : (j : ℕ) → j < 57 → (b : Bool) → eqb j k ≡ b → isFixed w j ≡ false
-        go j l true b = subst (λ (n : ℕ). isFixed w n ≡ false) (sym (eqb-true j k b)) (sym g ∙ i)
+        go : (j : ℕ) → j < 57 → (b : Bool) → eqb j k ≡ b → is_fixed w j ≡ false
+        go j l true b = subst (λ (n : ℕ). is_fixed w n ≡ false) (sym (eqb-true j k b)) (sym g ∙ i)
         go j l false b = other j l (eqb-false j k b)
 
 pub ruleset place-laws = (place-empty, place-long, place-missed, place-room, place_found, place_other)

@@ -9,7 +9,7 @@ use lib.Dec.{leb, eqb, lit≤}
 use lib.ListN.{length, get_or, replicate}
 use Rattle.leaf_bytes.specs.Bytes.{bytes}
 use Rattle.leaf_reserved.specs.Table.{reserved, operators, fixed, letter, letters, rows}
-use Rattle.leaf_reserved.specs.Slots.{hasLetters}
+use Rattle.leaf_reserved.specs.Slots.{has_letters}
 use Rattle.leaf_reserved.proofs.Arms.{Missed, count, past-count}
 
 -- ---- each word, filled up with zeros
@@ -91,23 +91,23 @@ letter-some k i = goes_on (get_or fixed k []) i
 
 -- ---- `has_letters`
 module _ (row : List ℕ) (n : ℕ) where
-  pub has-none : get_or row (n - 1) 0 ≡ 0 → false ≡ hasLetters row n
-  unfolding hasLetters
+  pub has-none : get_or row (n - 1) 0 ≡ 0 → false ≡ has_letters row n
+  unfolding has_letters
   has-none e = rw (eq-eqb _ _ e)
 
-  pub has_all : n ≡ 12 → ((get_or row (n - 1) 0 ≡ 0) → ⊥) → true ≡ hasLetters row n
-  unfolding hasLetters
+  pub has_all : n ≡ 12 → ((get_or row (n - 1) 0 ≡ 0) → ⊥) → true ≡ has_letters row n
+  unfolding has_letters
   has_all e d = simp (ne_eqb _ _ d, eq-eqb _ _ e)
 
-  pub has_end : (t : Bool) → ((n ≡ 12) → ⊥) → ((get_or row (n - 1) 0 ≡ 0) → ⊥) → t ≡ eqb (get_or row n 0) 0 → t ≡ hasLetters row n
-  unfolding hasLetters
+  pub has_end : (t : Bool) → ((n ≡ 12) → ⊥) → ((get_or row (n - 1) 0 ≡ 0) → ⊥) → t ≡ eqb (get_or row n 0) 0 → t ≡ has_letters row n
+  unfolding has_letters
   has_end t m d e = e ∙ simp (ne_eqb _ _ d, ne_eqb _ _ m)
 
 pub ruleset has-laws = (has-none, has_all, has_end)
 
 -- ---- of a row of the table: it has n letters exactly where its word is n bytes long
-pub row-letters : (k n : ℕ) (row : List ℕ) → 0 < n → row ≡ get_or rows k [] → hasLetters row n ≡ eqb (letters k) n
-unfolding hasLetters
+pub row-letters : (k n : ℕ) (row : List ℕ) → 0 < n → row ≡ get_or rows k [] → has_letters row n ≡ eqb (letters k) n
+unfolding has_letters
 row-letters k n row l e =
     rw (e, row-letter k (n - 1), row-letter k n) (go (eqb (letter k (n - 1)) 0) (eqb n 12) (eqb (letter k n) 0) refl refl refl)
   where

@@ -16,5 +16,5 @@ unfoldable pub guess : ℕ → ℕ
 guess h = spot h (map (λ (w : List ℕ). slot_of w) fixed)
 
 -- a row of twelve bytes has n letters and then zeros
-unfoldable pub hasLetters : List ℕ → ℕ → Bool
-hasLetters row n = cond (eqb (get_or row (n - 1) 0) 0) false (eqb n 12 || eqb (get_or row n 0) 0)
+unfoldable pub has_letters : List ℕ → ℕ → Bool
+has_letters row n = cond (eqb (get_or row (n - 1) 0) 0) false (eqb n 12 || eqb (get_or row n 0) 0)

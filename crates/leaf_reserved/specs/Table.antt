@@ -36,8 +36,8 @@ position w [] = 0
 position w (v ∷ vs) = cond (same w v) 0 (suc (position w vs))
 
 -- a word is word k; its place, or how many there are. Case is ignored, which no operator has
-unfoldable pub isFixed : List ℕ → ℕ → Bool
-isFixed w k = same (map small w) (get_or fixed k [])
+unfoldable pub is_fixed : List ℕ → ℕ → Bool
+is_fixed w k = same (map small w) (get_or fixed k [])
 
 unfoldable pub place_of : List ℕ → ℕ
 place_of w = position (map small w) fixed

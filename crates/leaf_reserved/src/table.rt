@@ -1,7 +1,7 @@
 // The fixed table of reserved words and operators, and the place of a word in it.
 ghost use Rattle.std.specs.Prelude.{◌≡◌, [], ◌<◌, ◌≤◌, length, get_or};
-ghost use Rattle.leaf_reserved.specs.Table.{rows, isFixed, place_of};
-ghost use Rattle.leaf_reserved.specs.Slots.{hasLetters};
+ghost use Rattle.leaf_reserved.specs.Table.{rows, is_fixed, place_of};
+ghost use Rattle.leaf_reserved.specs.Slots.{has_letters};
 
 use crate::slots::{guess_at, slot_of};
 use leaf_bytes::bytes::small_of;
@@ -146,7 +146,7 @@ fn row_of(k: usize) -> [u8; 12]
 // Whether a row has n letters and then zeros. `is_fixed` passes the length of a word that a row has room for.
 fn has_letters(row: &[u8; 12], n: usize) -> bool
     requires { (0 < n) × (n ≤ 12) }
-    ensures { result ≡ hasLetters row.now n }
+    ensures { result ≡ has_letters row.now n }
 {
     if row[n - 1] == 0 {
         return false;
@@ -160,7 +160,7 @@ fn has_letters(row: &[u8; 12], n: usize) -> bool
 // Whether w is the word k of the table, case ignored. `place_of` has a k below 57 and a word that a row has room for.
 fn is_fixed(w: &[u8], k: usize) -> bool
     requires { (k < 57) × (0 < length w.now) × (length w.now ≤ 12) }
-    ensures { result ≡ isFixed w.now k }
+    ensures { result ≡ is_fixed w.now k }
 {
     let n = w.len();
     let row = row_of(k);

@@ -12,12 +12,12 @@ use lib.Signed.{le_z, lt_z}
 use mir.Syntax.{w64}
 use mir.Val.{SFits, to_z}
 use mir.Facts.{to_z-of_z, to_z_pos}
-use Rattle.leaf_sets.specs.Sets.{those, bit, members, least, greatest, all, allIn}
+use Rattle.leaf_sets.specs.Sets.{those, bit, members, least, greatest, all, all_in}
 use Rattle.leaf_sets.specs.declared.Member.TheVariants.{Ordinal}
 use Rattle.leaf_sets.proofs.Digits.{members-are}
 use Rattle.leaf_sets.proofs.Counts.{no_member, none_is, min-is, max-is}
 use Rattle.leaf_sets.proofs.Signed.{wire}
-use Rattle.leaf_sets.proofs.Base.{inBase}
+use Rattle.leaf_sets.proofs.Base.{in_base}
 
 -- ---- lists in order
 
@@ -77,38 +77,38 @@ last-read s = to_z_pos w64 (omega arith)
 
 module _ (lo hi : ℤ) where
   last-high : (x y : ℕ) (l : List ℕ) → Rising (suc x) l → le_z lo (pos x) ≡ true → Ordinal y ≡ greatest (x ∷ l)
-      → le_z (pos y) hi ≡ all (inBase lo hi) (x ∷ l)
+      → le_z (pos y) hi ≡ all (in_base lo hi) (x ∷ l)
   unfolding greatest all
   last-high x y [] r p e = let q : y ≡ x = cc in rw (p, q, and-true (le_z (pos x) hi))
   last-high x y (z ∷ l) r p e =
       let rest = last-high z y l r.1 (above lo x z p (omega (arith, r.0))) e in
       let next : le_z (pos y) hi ≡ true → le_z (pos z) hi ≡ true =
       λ t. ((and-eq-true_iff (le_z lo (pos z)) (le_z (pos z) hi)).0
-      ((and-eq-true_iff (inBase lo hi z) (all (inBase lo hi) l)).0 (sym rest ∙ t)).0).1 in
+      ((and-eq-true_iff (in_base lo hi z) (all (in_base lo hi) l)).0 (sym rest ∙ t)).0).1 in
       rw p (implied (le_z (pos y) hi) (le_z (pos x) hi) (λ t. under hi x z (next t) (omega (arith, r.0))) ∙ ap (λ (b : Bool). le_z (pos x) hi && b) rest)
 
-  first-low : (x : ℕ) (l : List ℕ) → Ordinal x ≡ least l → lt_z (pos x) lo ≡ true → false ≡ allIn lo hi l
-  unfolding least allIn all
+  first-low : (x : ℕ) (l : List ℕ) → Ordinal x ≡ least l → lt_z (pos x) lo ≡ true → false ≡ all_in lo hi l
+  unfolding least all_in all
   first-low x [] e t = absurd (no_member x (sym e))
   first-low x (y ∷ l) e t = let q : x ≡ y = cc in rw (low lo y (rw q at t))
 
-  ends : (x y : ℕ) (l : List ℕ) → Rising 0 l → Ordinal x ≡ least l → Ordinal y ≡ greatest l → lt_z (pos x) lo ≡ false → le_z (pos y) hi ≡ allIn lo hi l
-  unfolding least allIn
+  ends : (x y : ℕ) (l : List ℕ) → Rising 0 l → Ordinal x ≡ least l → Ordinal y ≡ greatest l → lt_z (pos x) lo ≡ false → le_z (pos y) hi ≡ all_in lo hi l
+  unfolding least all_in
   ends x y [] r e f t = absurd (no_member x (sym e))
   ends x y (z ∷ l) r e f t = let q : x ≡ z = cc in last-high z y l r.1 (not_low lo z (rw q at t)) f
 
   module _ (s : ℕ) (h : s < 2 ^ 32) where
-    pub base-none : s ≡ 0 → true ≡ allIn lo hi (members s)
-    unfolding allIn all
+    pub base-none : s ≡ 0 → true ≡ all_in lo hi (members s)
+    unfolding all_in all
     base-none e = rw (none_is s h e)
 
     module _ (n : (s ≡ 0) → ⊥) (fl : SFits w64 lo) where
       -- the tests speak of numbers read back from their bits
-      pub base-low : lt_z (to_z w64 (count_trailing_zeros 32 s)) (wire lo) ≡ true → false ≡ allIn lo hi (members s)
+      pub base-low : lt_z (to_z w64 (count_trailing_zeros 32 s)) (wire lo) ≡ true → false ≡ all_in lo hi (members s)
       base-low t = first-low (count_trailing_zeros 32 s) (members s) (min-is s h n) (rw (zeros-read s, to_z-of_z fl) at t)
 
       pub base-ends : SFits w64 hi → lt_z (to_z w64 (count_trailing_zeros 32 s)) (wire lo) ≡ false
-          → le_z (to_z w64 (31 - count_leading_zeros 32 s)) (wire hi) ≡ allIn lo hi (members s)
+          → le_z (to_z w64 (31 - count_leading_zeros 32 s)) (wire hi) ≡ all_in lo hi (members s)
       base-ends fh t =
           rw (last-read s, to_z-of_z fh)
           (ends (count_trailing_zeros 32 s) (31 - count_leading_zeros 32 s) (members s) (rw (members-are s) (those-rise (bit s) 0 32))

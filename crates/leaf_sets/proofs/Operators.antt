@@ -14,7 +14,7 @@ use mir.Syntax.{w64}
 use mir.Val.{SFits}
 use lib.Pow.{pow-lt}
 use lib.Bits.{bit_and, bit_or, bit_xor, differ, and_step, or_step, xor_step, and_shr, or_shr, xor_shr, and_lt, or_lt, xor_lt, and_comm, and_self}
-use Rattle.leaf_sets.specs.Sets.{those, bit, members, value_of, has, holds, with, unionOf, differenceOf, intersectionOf, all, within, equals}
+use Rattle.leaf_sets.specs.Sets.{those, bit, members, value_of, has, holds, with, union_of, difference_of, intersection_of, all, within, equals}
 use Rattle.leaf_sets.proofs.Signed.{wire, Outside, reach, ordinal-lt}
 use Rattle.leaf_sets.proofs.Those.{digit, has_all, all-has}
 use Rattle.leaf_sets.proofs.Digits.{digit-is, members-are, value-is, value-of, value-digit, has-is, has-none, has-lt}
@@ -80,16 +80,16 @@ module _ (s t : ℕ) (h : s < 2 ^ 32) (k : t < 2 ^ 32) where
   by_bits r g l e =
       value-of r (λ i. g (has i (members s)) (has i (members t))) l (λ j m. e j ∙ sym (ap₂ g (has-is s j m) (has-is t j m)))
 
-  pub union-is : bit_or s t ≡ value_of (unionOf (members s) (members t))
-  unfolding unionOf
+  pub union-is : bit_or s t ≡ value_of (union_of (members s) (members t))
+  unfolding union_of
   union-is = by_bits (bit_or s t) ◌||◌ (or_lt 32 s t h k) (or-bit s t)
 
-  pub difference-is : bit_xor s (bit_and s t) ≡ value_of (differenceOf (members s) (members t))
-  unfolding differenceOf
+  pub difference-is : bit_xor s (bit_and s t) ≡ value_of (difference_of (members s) (members t))
+  unfolding difference_of
   difference-is = by_bits (bit_xor s (bit_and s t)) (λ x y. x && not y) (xor_lt 32 s (bit_and s t) h (and_lt 32 s t h k)) (less-bit s t)
 
-  pub intersection-is : bit_and s t ≡ value_of (intersectionOf (members s) (members t))
-  unfolding intersectionOf
+  pub intersection-is : bit_and s t ≡ value_of (intersection_of (members s) (members t))
+  unfolding intersection_of
   intersection-is = by_bits (bit_and s t) ◌&&◌ (and_lt 32 s t h k) (and-bit s t)
 
 -- ---- `<=` and `=`

@@ -11,7 +11,7 @@ use lib.Signed.{lt_z, non_neg, quot_z, rem_z}
 use mir.Syntax.{w32, w64}
 use mir.Val.{SFits, Fits, to_z, of_z}
 use mir.Facts.{to_z-of_z, to_z_pos, Fits-of_lt}
-use Rattle.leaf_sets.specs.Sets.{patternOf}
+use Rattle.leaf_sets.specs.Sets.{pattern_of}
 
 -- z as it is read back from its bits
 abbrev pub wire : ℤ → ℤ
@@ -36,18 +36,18 @@ between (negsuc n) m e f = absurd (true≢false e)
 
 -- ---- what is left of z below 2 ^ 32
 
-pub pattern_lt : (z : ℤ) → patternOf z < 2 ^ 32
-unfolding patternOf
+pub pattern_lt : (z : ℤ) → pattern_of z < 2 ^ 32
+unfolding pattern_of
 pattern_lt (pos n) = mod-lt n (lit< tt)
 pattern_lt (negsuc n) = lit< tt
 
-nothing : (z : ℤ) → lt_z z (pos 0) ≡ true → 0 ≡ patternOf z
-unfolding patternOf
+nothing : (z : ℤ) → lt_z z (pos 0) ≡ true → 0 ≡ pattern_of z
+unfolding pattern_of
 nothing (pos n) e = absurd (not-suc-le-zero (ltb-true n 0 e))
 nothing (negsuc n) e = refl
 
-remainder : (z : ℤ) → lt_z z (pos 0) ≡ false → rem_z z (pos 4294967296) ≡ pos (patternOf z)
-unfolding patternOf
+remainder : (z : ℤ) → lt_z z (pos 0) ≡ false → rem_z z (pos 4294967296) ≡ pos (pattern_of z)
+unfolding pattern_of
 remainder (pos n) e = refl
 remainder (negsuc n) e = absurd (true≢false e)
 
@@ -58,7 +58,7 @@ quotient_fits (negsuc n) h e = absurd (true≢false e)
 -- ---- the same of what is read back
 
 module _ (z : ℤ) (h : SFits w64 z) where
-  pub pattern-none : lt_z (wire z) (pos 0) ≡ true → 0 ≡ patternOf z
+  pub pattern-none : lt_z (wire z) (pos 0) ≡ true → 0 ≡ pattern_of z
   pattern-none e = nothing z (rw (to_z-of_z h) at e)
 
   pub outside-negative : (m : ℕ) → lt_z (wire z) (pos 0) ≡ true → Outside m z
@@ -71,14 +71,14 @@ module _ (z : ℤ) (h : SFits w64 z) where
     pub pattern-divides : (0 < 4294967296) × SFits w64 (quot_z (wire z) (pos 4294967296))
     pattern-divides = (lit< tt, rw (to_z-of_z h) (quotient_fits z h (rw (to_z-of_z h) at e)))
 
-    pattern-read : wire (rem_z (wire z) (pos 4294967296)) ≡ pos (patternOf z)
+    pattern-read : wire (rem_z (wire z) (pos 4294967296)) ≡ pos (pattern_of z)
     pattern-read =
         rw (to_z-of_z h, remainder z (rw (to_z-of_z h) at e)) (to_z_pos w64 (omega (arith, pattern_lt z)))
 
     pub pattern-fits : T (non_neg (wire (rem_z (wire z) (pos 4294967296)))) × Fits w32 (nat_abs (wire (rem_z (wire z) (pos 4294967296))))
     pattern-fits = rw pattern-read (tt, Fits-of_lt (pattern_lt z))
 
-    pub pattern-is : nat_abs (wire (rem_z (wire z) (pos 4294967296))) ≡ patternOf z
+    pub pattern-is : nat_abs (wire (rem_z (wire z) (pos 4294967296))) ≡ pattern_of z
     pattern-is = ap nat_abs pattern-read
 
     -- z is in 0 to m: it is the number that it is cast to

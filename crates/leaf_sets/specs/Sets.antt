@@ -23,13 +23,13 @@ value_of [] = 0
 value_of (i ∷ l) = 2 ^ i + value_of l
 
 -- the pattern of a cell's value: of a set's value it is that value
-unfoldable pub patternOf : ℤ → ℕ
-patternOf (pos n) = n % 4294967296
-patternOf (negsuc n) = 0
+unfoldable pub pattern_of : ℤ → ℕ
+pattern_of (pos n) = n % 4294967296
+pattern_of (negsuc n) = 0
 
 -- the members of a cell's value
 unfoldable pub members_of : ℤ → List ℕ
-members_of z = members (patternOf z)
+members_of z = members (pattern_of z)
 
 -- i is in the list
 unfoldable pub has : ℕ → List ℕ → Bool
@@ -56,14 +56,14 @@ unfoldable pub with : ℤ → List ℕ → List ℕ
 with z a = those (λ i. has i a || holds z (i ∷ [])) 0 32
 
 -- `+`, `-` and `*` of two sets
-unfoldable pub unionOf : List ℕ → List ℕ → List ℕ
-unionOf a b = those (λ i. has i a || has i b) 0 32
+unfoldable pub union_of : List ℕ → List ℕ → List ℕ
+union_of a b = those (λ i. has i a || has i b) 0 32
 
-unfoldable pub differenceOf : List ℕ → List ℕ → List ℕ
-differenceOf a b = those (λ i. has i a && not (has i b)) 0 32
+unfoldable pub difference_of : List ℕ → List ℕ → List ℕ
+difference_of a b = those (λ i. has i a && not (has i b)) 0 32
 
-unfoldable pub intersectionOf : List ℕ → List ℕ → List ℕ
-intersectionOf a b = those (λ i. has i a && has i b) 0 32
+unfoldable pub intersection_of : List ℕ → List ℕ → List ℕ
+intersection_of a b = those (λ i. has i a && has i b) 0 32
 
 -- every one of the list passes the test
 unfoldable pub all : (ℕ → Bool) → List ℕ → Bool
@@ -79,10 +79,10 @@ unfoldable pub equals : List ℕ → List ℕ → Bool
 equals a b = within a b && within b a
 
 -- every member lies in lo to hi
-unfoldable pub allIn : ℤ → ℤ → List ℕ → Bool
-allIn lo hi l = all (λ i. le_z lo (pos i) && le_z (pos i) hi) l
+unfoldable pub all_in : ℤ → ℤ → List ℕ → Bool
+all_in lo hi l = all (λ i. le_z lo (pos i) && le_z (pos i) hi) l
 
 -- a cell's value that is a set of ordinals in lo to hi
-unfoldable pub liesIn : ℤ → ℤ → ℤ → Bool
-liesIn lo hi (pos n) = leb n 4294967295 && allIn lo hi (members n)
-liesIn lo hi (negsuc n) = false
+unfoldable pub lies_in : ℤ → ℤ → ℤ → Bool
+lies_in lo hi (pos n) = leb n 4294967295 && all_in lo hi (members n)
+lies_in lo hi (negsuc n) = false

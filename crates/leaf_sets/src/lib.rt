@@ -1,6 +1,6 @@
 // Sets of document 01: a 32-bit pattern, bit i standing for the ordinal i, tied to the list of its members.
 ghost use Rattle.std.specs.Prelude.{◌≡◌, length, pos};
-ghost use Rattle.leaf_sets.specs.Sets.{members, value_of, patternOf, least, greatest, holds, with, unionOf, differenceOf, intersectionOf, within, equals, allIn, liesIn};
+ghost use Rattle.leaf_sets.specs.Sets.{members, value_of, pattern_of, least, greatest, holds, with, union_of, difference_of, intersection_of, within, equals, all_in, lies_in};
 
 // The greatest ordinal that a set may have.
 const LAST: i64 = 31;
@@ -14,7 +14,7 @@ pub enum Member {
 
 // The pattern of a cell's value: its members among the ordinals 0 to 31.
 pub fn pattern(v: i64) -> u32
-    ensures { result ≡ patternOf v }
+    ensures { result ≡ pattern_of v }
 {
     if v < 0 {
         return 0;
@@ -84,21 +84,21 @@ pub fn insert(s: u32, i: i64) -> u32
 
 // The ordinals in s or in t.
 pub fn union(s: u32, t: u32) -> u32
-    ensures { result ≡ value_of (unionOf (members s) (members t)) }
+    ensures { result ≡ value_of (union_of (members s) (members t)) }
 {
     s | t
 }
 
 // The ordinals in s and not in t.
 pub fn difference(s: u32, t: u32) -> u32
-    ensures { result ≡ value_of (differenceOf (members s) (members t)) }
+    ensures { result ≡ value_of (difference_of (members s) (members t)) }
 {
     s ^ (s & t)
 }
 
 // The ordinals in s and in t.
 pub fn intersection(s: u32, t: u32) -> u32
-    ensures { result ≡ value_of (intersectionOf (members s) (members t)) }
+    ensures { result ≡ value_of (intersection_of (members s) (members t)) }
 {
     s & t
 }
@@ -119,7 +119,7 @@ pub fn included(s: u32, t: u32) -> bool
 
 // Whether every member of s lies in lo to hi: its least and its greatest do.
 fn within_base(s: u32, lo: i64, hi: i64) -> bool
-    ensures { result ≡ allIn lo hi (members s) }
+    ensures { result ≡ all_in lo hi (members s) }
 {
     if s == 0 {
         return true;
@@ -132,7 +132,7 @@ fn within_base(s: u32, lo: i64, hi: i64) -> bool
 
 // Whether a cell's value v is a set of ordinals in lo to hi, the base of its type.
 pub fn lies_in(v: i64, lo: i64, hi: i64) -> bool
-    ensures { result ≡ liesIn lo hi v }
+    ensures { result ≡ lies_in lo hi v }
 {
     if v < 0 {
         return false;

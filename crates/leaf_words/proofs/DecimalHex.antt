@@ -16,7 +16,7 @@ use Rattle.leaf_words.specs.declared.numbers.Numeral.{Numeral}
 use Rattle.leaf_words.specs.declared.numbers.Numeral.TheVariants.{Of, Neither}
 use Rattle.leaf_words.specs.declared.words.Word.{Word}
 use Rattle.leaf_words.specs.declared.words.Word.TheVariants.{Number, Unknown}
-use Rattle.leaf_words.specs.Numbers.{numeral, decimal, decimalOf, signed, hexadecimal, hexOf, number_of}
+use Rattle.leaf_words.specs.Numbers.{numeral, decimal, decimal_of, signed, hexadecimal, hex_of, number_of}
 use Rattle.leaf_words.proofs.Digits.{numeral-small}
 
 -- ---- `signed_of`
@@ -50,24 +50,24 @@ module _ (w : List ℕ) (n : Numeral) (e : n ≡ numeral 10 2147483647 w) where
     pub decimal-fits : SFits w64 (pos v)
     decimal-fits = record { sfits = omega (arith, decimal-small) }
 
-    pub decimal-number : Number (to_z w64 v) ≡ decimalOf w
-    unfolding decimalOf decimal
+    pub decimal-number : Number (to_z w64 v) ≡ decimal_of w
+    unfolding decimal_of decimal
     decimal-number = rw (narrow v (omega (arith, decimal-small)), ← e, f)
 
-  pub decimal-neither : n ≡ Neither → Unknown ≡ decimalOf w
-  unfolding decimalOf decimal
+  pub decimal-neither : n ≡ Neither → Unknown ≡ decimal_of w
+  unfolding decimal_of decimal
   decimal-neither f = rw (← e, f)
 
 pub ruleset decimal-laws = (decimal-fits, decimal-number, decimal-neither)
 
 -- ---- `hex_of`
 module _ (w : List ℕ) where
-  pub hex-none : length w ≡ 0 → Unknown ≡ hexOf w
-  unfolding hexOf
+  pub hex-none : length w ≡ 0 → Unknown ≡ hex_of w
+  unfolding hex_of
   hex-none e = rw e
 
-  pub hex-long : 8 < length w → Unknown ≡ hexOf w
-  unfolding hexOf
+  pub hex-long : 8 < length w → Unknown ≡ hex_of w
+  unfolding hex_of
   hex-long l = rw (le-leb 1 (length w) (omega arith), lt-leb (length w) 8 l)
 
   module _ (n : Numeral) (e : n ≡ numeral 16 4294967295 w) where
@@ -75,15 +75,15 @@ module _ (w : List ℕ) where
     hex-small v f = numeral-small 16 4294967295 v w n e f
 
     module _ (h : (length w ≡ 0) → ⊥) (l : length w ≤ 8) where
-      hex-is : hexOf w ≡ hexadecimal n
-      unfolding hexOf
+      hex-is : hex_of w ≡ hexadecimal n
+      unfolding hex_of
       hex-is = rw (le-leb 1 (length w) (omega arith), le-leb (length w) 8 l, e)
 
-      pub hex-number : (v : ℕ) (z : ℤ) → n ≡ Of v → z ≡ signed v → SFits w64 z → Number (to_z w64 (of_z w64 z)) ≡ hexOf w
+      pub hex-number : (v : ℕ) (z : ℤ) → n ≡ Of v → z ≡ signed v → SFits w64 z → Number (to_z w64 (of_z w64 z)) ≡ hex_of w
       unfolding hexadecimal
       hex-number v z f g s = rw (hex-is, f, to_z-of_z s, g)
 
-      pub hex-neither : n ≡ Neither → Unknown ≡ hexOf w
+      pub hex-neither : n ≡ Neither → Unknown ≡ hex_of w
       unfolding hexadecimal
       hex-neither f = rw (hex-is, f)
 
@@ -95,19 +95,19 @@ unfolding number_of
 number-none [] e = refl
 number-none (b ∷ w) e = absurd (omega arith)
 
-number_is : (w : List ℕ) → ((length w ≡ 0) → ⊥) → number_of w ≡ cond (eqb (get_or w 0 0) 35) (hexOf (drop 1 w)) (decimalOf w)
+number_is : (w : List ℕ) → ((length w ≡ 0) → ⊥) → number_of w ≡ cond (eqb (get_or w 0 0) 35) (hex_of (drop 1 w)) (decimal_of w)
 unfolding number_of
 number_is [] n = absurd (n refl)
 number_is (b ∷ w) n = refl
 
 module _ (w : List ℕ) (n : (length w ≡ 0) → ⊥) (r : Word) where
   -- all of w but its first byte, as `&w[1..]` has it
-  pub number-hex : get_or w 0 0 ≡ 35 → r ≡ hexOf (take (length w - 1) (drop 1 w)) → r ≡ number_of w
+  pub number-hex : get_or w 0 0 ≡ 35 → r ≡ hex_of (take (length w - 1) (drop 1 w)) → r ≡ number_of w
   number-hex e f =
       let l : length (drop 1 w) ≤ length w - 1 = omega (arith, length-drop 1 w) in
-      rw (number_is w n, eq-eqb (get_or w 0 0) 35 e) (f ∙ ap hexOf (take_all (length w - 1) (drop 1 w) l))
+      rw (number_is w n, eq-eqb (get_or w 0 0) 35 e) (f ∙ ap hex_of (take_all (length w - 1) (drop 1 w) l))
 
-  pub number-decimal : ((get_or w 0 0 ≡ 35) → ⊥) → r ≡ decimalOf w → r ≡ number_of w
+  pub number-decimal : ((get_or w 0 0 ≡ 35) → ⊥) → r ≡ decimal_of w → r ≡ number_of w
   number-decimal e f = rw (number_is w n, ne_eqb (get_or w 0 0) 35 e) f
 
 pub ruleset number-laws = (number-none, number-hex, number-decimal)

@@ -15,7 +15,7 @@ use mir.Syntax.{w64}
 use mir.Val.{Fits}
 use Rattle.leaf_words.specs.declared.numbers.Numeral.{Numeral}
 use Rattle.leaf_words.specs.declared.numbers.Numeral.TheVariants.{Of, Neither}
-use Rattle.leaf_bytes.specs.Bytes.{digitOf}
+use Rattle.leaf_bytes.specs.Bytes.{digit_of}
 use Rattle.leaf_words.specs.Numbers.{digits, at_most, numeral}
 
 -- one more digit makes the sum no smaller
@@ -32,8 +32,8 @@ pub passed : (base most sum : ℕ) (w : List ℕ) → 1 ≤ base → most < sum 
 unfolding digits at_most
 passed base most sum [] h l = rw (lt-leb sum most l)
 passed base most sum (b ∷ w) h l =
-    either most (ltb (digitOf b) base) (digits base (sum * base + digitOf b) w)
-    (passed base most (sum * base + digitOf b) w h (omega (arith, larger sum base (digitOf b) h)))
+    either most (ltb (digit_of b) base) (digits base (sum * base + digit_of b) w)
+    (passed base most (sum * base + digit_of b) w h (omega (arith, larger sum base (digit_of b) h)))
 
 -- ---- `numeral_of`: `all` is what the whole loop gives
 pub numeral-start : (w : List ℕ) (base most : ℕ) → numeral base most w ≡ at_most most (digits base 0 (drop 0 w))
@@ -45,7 +45,7 @@ module _ (w : List ℕ) (base most sum i : ℕ) (all : Numeral) (a : all ≡ at_
   unfolding digits at_most
   numeral-end l m = sym (a ∙ rw (drop_of_length-le w l, le-leb sum most m))
 
-  module _ (h : i < length w) (d : ℕ) (e : d ≡ digitOf (get_or w i 0)) where
+  module _ (h : i < length w) (d : ℕ) (e : d ≡ digit_of (get_or w i 0)) where
     digits_step : digits base sum (drop i w) ≡ cond (ltb d base) (digits base (sum * base + d) (drop (i + 1) w)) none
     unfolding digits
     digits_step = rw (add-one i, drop-cons w i 0 h, e)

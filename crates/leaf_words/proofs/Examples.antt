@@ -5,9 +5,9 @@ use Prim.Native.String.{String}
 use lib.IntN.{pos, negsuc}
 use Rattle.leaf_words.specs.declared.words.Word.{Word}
 use Rattle.leaf_words.specs.declared.words.Word.TheVariants.{Number, Name, Reserved, Operator, Unknown}
-use Rattle.leaf_bytes.specs.Bytes.{bytes, same, small, isLetter, isDigit, isAlnum, digitOf}
-use Rattle.leaf_bytes.specs.Names.{alnumFirst, partOk, goesOn, isName}
-use Rattle.leaf_words.specs.Numbers.{digits, at_most, numeral, decimal, decimalOf, signed, hexadecimal, hexOf, number_of}
+use Rattle.leaf_bytes.specs.Bytes.{bytes, same, small, is_letter, is_digit, is_alnum, digit_of}
+use Rattle.leaf_bytes.specs.Names.{alnum_first, part_ok, goes_on, is_name}
+use Rattle.leaf_words.specs.Numbers.{digits, at_most, numeral, decimal, decimal_of, signed, hexadecimal, hex_of, number_of}
 use Rattle.leaf_reserved.specs.Table.{reserved, operators, fixed, position, place_of}
 use Rattle.leaf_words.specs.Words.{named, placed, word_of}
 
@@ -30,5 +30,5 @@ examples =
     is "do" Name ∷ is "end" Name ∷ is "set" Name ∷ []
 
 pub examples-hold : map (λ (e : Example). word_of (bytes e.text)) examples ≡ map (λ (e : Example). e.word) examples
-unfolding examples bytes same small isLetter isDigit isAlnum digitOf alnumFirst partOk goesOn isName digits at_most numeral decimal decimalOf signed hexadecimal hexOf number_of reserved operators fixed position place_of named placed word_of
+unfolding examples bytes same small is_letter is_digit is_alnum digit_of alnum_first part_ok goes_on is_name digits at_most numeral decimal decimal_of signed hexadecimal hex_of number_of reserved operators fixed position place_of named placed word_of
 examples-hold = refl

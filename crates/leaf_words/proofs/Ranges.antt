@@ -12,8 +12,8 @@ use Rattle.leaf_words.specs.declared.numbers.Numeral.{Numeral}
 use Rattle.leaf_words.specs.declared.numbers.Numeral.TheVariants.{Of, Neither}
 use Rattle.leaf_words.specs.declared.words.Word.{Word}
 use Rattle.leaf_words.specs.declared.words.Word.TheVariants.{Number, Name, Reserved, Operator, Unknown}
-use Rattle.leaf_bytes.specs.Names.{isName}
-use Rattle.leaf_words.specs.Numbers.{numeral, decimal, decimalOf, signed, hexadecimal, hexOf, number_of}
+use Rattle.leaf_bytes.specs.Names.{is_name}
+use Rattle.leaf_words.specs.Numbers.{numeral, decimal, decimal_of, signed, hexadecimal, hex_of, number_of}
 use Rattle.leaf_reserved.specs.Table.{place_of}
 use Rattle.leaf_words.specs.Words.{named, placed, word_of}
 use Rattle.leaf_words.proofs.Digits.{numeral-small}
@@ -50,15 +50,15 @@ either : (t : Bool) (a b : Word) → Ranged a → Ranged b → Ranged (cond t a 
 either true a b p q = p
 either false a b p q = q
 
-hex-ranged : (w : List ℕ) → Ranged (hexOf w)
-unfolding hexOf
+hex-ranged : (w : List ℕ) → Ranged (hex_of w)
+unfolding hex_of
 hex-ranged w = either (leb 1 (length w) && leb (length w) 8) (hexadecimal (numeral 16 4294967295 w)) Unknown (hexadecimal-ranged (numeral 16 4294967295 w) w refl) tt
 
 pub number-ranged : (w : List ℕ) → Ranged (number_of w)
-unfolding number_of decimalOf
+unfolding number_of decimal_of
 number-ranged [] = tt
 number-ranged (b ∷ w) =
-    either (eqb b 35) (hexOf w) (decimalOf (b ∷ w)) (hex-ranged w) (decimal-ranged (numeral 10 2147483647 (b ∷ w)) (b ∷ w) refl)
+    either (eqb b 35) (hex_of w) (decimal_of (b ∷ w)) (hex-ranged w) (decimal-ranged (numeral 10 2147483647 (b ∷ w)) (b ∷ w) refl)
 
 named-ranged : (t : Bool) (w : List ℕ) → Ranged (named t w)
 unfolding named
@@ -73,4 +73,4 @@ placed-ranged false false k v e f r = r
 
 pub word-ranged : (w : List ℕ) → Ranged (word_of w)
 unfolding word_of
-word-ranged w = placed-ranged (ltb (place_of w) 46) (ltb (place_of w) 57) (place_of w) (named (isName w) w) refl refl (named-ranged (isName w) w)
+word-ranged w = placed-ranged (ltb (place_of w) 46) (ltb (place_of w) 57) (place_of w) (named (is_name w) w) refl refl (named-ranged (is_name w) w)

@@ -7,28 +7,28 @@ use lib.ListN.{get_or, replicate, get_or-replicate, get_or-map, get_or-append}
 use lib.Seq.{get_or-append-add}
 use Rattle.leaf_words.specs.declared.words.Word.{Word}
 use Rattle.leaf_words.specs.declared.words.Word.TheVariants.{Unknown}
-use Rattle.leaf_bytes.specs.Bytes.{bytes, small, isLetter, isDigit, isAlnum, digitOf}
-use Rattle.leaf_bytes.specs.Names.{alnumFirst, partOk, goesOn, isName}
-use Rattle.leaf_words.specs.Numbers.{digits, at_most, numeral, decimal, decimalOf, number_of}
+use Rattle.leaf_bytes.specs.Bytes.{bytes, small, is_letter, is_digit, is_alnum, digit_of}
+use Rattle.leaf_bytes.specs.Names.{alnum_first, part_ok, goes_on, is_name}
+use Rattle.leaf_words.specs.Numbers.{digits, at_most, numeral, decimal, decimal_of, number_of}
 use Rattle.leaf_reserved.specs.Table.{reserved, operators, fixed}
 
-shapes : map isName fixed ≡ replicate 46 true ++ replicate 11 false
-unfolding isName goesOn partOk alnumFirst isAlnum isDigit isLetter small fixed reserved operators bytes
+shapes : map is_name fixed ≡ replicate 46 true ++ replicate 11 false
+unfolding is_name goes_on part_ok alnum_first is_alnum is_digit is_letter small fixed reserved operators bytes
 shapes = refl
 
 numbers : map number_of fixed ≡ replicate 57 Unknown
-unfolding number_of decimalOf decimal numeral at_most digits digitOf isDigit small fixed reserved operators bytes
+unfolding number_of decimal_of decimal numeral at_most digits digit_of is_digit small fixed reserved operators bytes
 numbers = refl
 
-shape_at : (k : ℕ) → isName (get_or fixed k []) ≡ get_or (replicate 46 true ++ replicate 11 false) k false
-unfolding isName
-shape_at k = sym (get_or-map isName fixed k []) ∙ ap (λ (l : List Bool). get_or l k false) shapes
+shape_at : (k : ℕ) → is_name (get_or fixed k []) ≡ get_or (replicate 46 true ++ replicate 11 false) k false
+unfolding is_name
+shape_at k = sym (get_or-map is_name fixed k []) ∙ ap (λ (l : List Bool). get_or l k false) shapes
 
-pub reserved-name : (k : ℕ) → k < 46 → isName (get_or fixed k []) ≡ true
+pub reserved-name : (k : ℕ) → k < 46 → is_name (get_or fixed k []) ≡ true
 reserved-name k l = shape_at k ∙ get_or-append (replicate 46 true) (replicate 11 false) false k l ∙ get_or-replicate 46 k true false l
 
 -- operator k stands at place 46 + k
-pub operator-no-name : (k : ℕ) → k < 11 → isName (get_or fixed (46 + k) []) ≡ false
+pub operator-no-name : (k : ℕ) → k < 11 → is_name (get_or fixed (46 + k) []) ≡ false
 operator-no-name k l = shape_at (46 + k) ∙ get_or-append-add (replicate 46 true) (replicate 11 false) k false ∙ get_or-replicate 11 k false false l
 
 pub fixed-no-number : (k : ℕ) → k < 57 → number_of (get_or fixed k []) ≡ Unknown

@@ -6,17 +6,17 @@ use Prim.Native.Nat.{ℕ, ◌-◌, ◌<◌, ◌≤◌}
 use borrow.Author.Tests.{lt-ltb, le-ltb}
 use Rattle.leaf_words.specs.declared.words.Word.{Word}
 use Rattle.leaf_words.specs.declared.words.Word.TheVariants.{Name, Reserved, Operator}
-use Rattle.leaf_bytes.specs.Names.{isName}
+use Rattle.leaf_bytes.specs.Names.{is_name}
 use Rattle.leaf_words.specs.Numbers.{number_of}
 use Rattle.leaf_reserved.specs.Table.{place_of}
 use Rattle.leaf_words.specs.Words.{named, placed, word_of}
 
-module _ (w : List ℕ) (t : Bool) (e : t ≡ isName w) where
-  pub free-name : t ≡ true → Name ≡ named (isName w) w
+module _ (w : List ℕ) (t : Bool) (e : t ≡ is_name w) where
+  pub free-name : t ≡ true → Name ≡ named (is_name w) w
   unfolding named
   free-name f = rw (← e, f)
 
-  pub free-number : (r : Word) → t ≡ false → r ≡ number_of w → r ≡ named (isName w) w
+  pub free-number : (r : Word) → t ≡ false → r ≡ number_of w → r ≡ named (is_name w) w
   unfolding named
   free-number r f g = rw (← e, f) g
 
@@ -31,7 +31,7 @@ module _ (w : List ℕ) (k : ℕ) (e : k ≡ place_of w) where
   unfolding word_of placed
   word-operator l m = rw (← e, le-ltb k 46 l, lt-ltb k 57 m)
 
-  pub word-free : (r : Word) → 46 ≤ k → 57 ≤ k → r ≡ named (isName w) w → r ≡ word_of w
+  pub word-free : (r : Word) → 46 ≤ k → 57 ≤ k → r ≡ named (is_name w) w → r ≡ word_of w
   unfolding word_of placed
   word-free r l m f = rw (← e, le-ltb k 46 l, le-ltb k 57 m) f
 

@@ -1,6 +1,6 @@
 // What a number spells, in decimal and in hexadecimal.
 ghost use Rattle.std.specs.Prelude.{◌≡◌, ◌≤◌};
-ghost use Rattle.leaf_words.specs.Numbers.{numeral, signed, decimalOf, hexOf, number_of};
+ghost use Rattle.leaf_words.specs.Numbers.{numeral, signed, decimal_of, hex_of, number_of};
 
 use crate::words::Word;
 use leaf_bytes::bytes::digit_of;
@@ -50,7 +50,7 @@ fn signed_of(n: u64) -> i64
 
 // A decimal number, 0 to 2147483647.
 fn decimal_of(w: &[u8]) -> Word
-    ensures { result ≡ decimalOf w.now }
+    ensures { result ≡ decimal_of w.now }
 {
     let n = numeral_of(w, 10, GREATEST);
     match n {
@@ -61,7 +61,7 @@ fn decimal_of(w: &[u8]) -> Word
 
 // A hexadecimal number of 1 to 8 digits.
 fn hex_of(w: &[u8]) -> Word
-    ensures { result ≡ hexOf w.now }
+    ensures { result ≡ hex_of w.now }
 {
     if w.len() == 0 {
         return Word::Unknown;

@@ -1,6 +1,6 @@
 // The kinds of word.
 ghost use Rattle.std.specs.Prelude.{◌≡◌};
-ghost use Rattle.leaf_bytes.specs.Names.{isName};
+ghost use Rattle.leaf_bytes.specs.Names.{is_name};
 ghost use Rattle.leaf_words.specs.Words.{named, word_of};
 
 use crate::numbers::number_of;
@@ -19,7 +19,7 @@ pub enum Word {
 
 // What a word that is not in the table is: a name, a number, or of no kind.
 fn free_word(w: &[u8]) -> Word
-    ensures { result ≡ named (isName w.now) w.now }
+    ensures { result ≡ named (is_name w.now) w.now }
 {
     if is_name(w) {
         return Word::Name;

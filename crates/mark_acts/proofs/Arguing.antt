@@ -20,19 +20,19 @@ use Rattle.leaf_integers.proofs.Machine.{wire}
 use Rattle.leaf_integers.proofs.Order.{le-or-lt}
 use Rattle.law.specs.Base.{pick}
 use Rattle.law.specs.Calculate.{Result, is, fails, stuck, ◌>>=◌}
-use Rattle.law.specs.Environment.{Environment, wantOf}
+use Rattle.law.specs.Environment.{Environment, want_of}
 use Rattle.law.specs.Machine.{Store, sole}
-use Rattle.law.specs.Marking.{markArguments, markExpr, wanted}
-use Rattle.law.specs.Names.{exprsOf}
+use Rattle.law.specs.Marking.{mark_arguments, mark_expr, wanted}
+use Rattle.law.specs.Names.{exprs_of}
 use Rattle.law.specs.Script.{Expr, Exprs, nil, ◌and◌}
 use Rattle.law.specs.Syntax as Syntax
 use Rattle.law.specs.Trees.{Trees, end, ◌then◌, Run, first}
-use Rattle.law_theorems.specs.Readings.{stackAt}
-use Rattle.law.specs.Types.{hostOf}
+use Rattle.law_theorems.specs.Readings.{stack_at}
+use Rattle.law.specs.Types.{host_of}
 use Rattle.law_theorems.proofs.Inversion.{some_inj, bind-some}
 use Rattle.code_calc.specs.Words.{greatest, InRange, Holds}
 use Rattle.code_calc.proofs.Joining.{bind-id}
-use Rattle.text_heads.specs.Parts.{rest, exprIn, exprsIn}
+use Rattle.text_heads.specs.Parts.{rest, expr_in, exprs_in}
 use Rattle.text_parts.specs.declared.End.{End}
 use Rattle.text_parts.specs.declared.End.TheVariants as ending
 use Rattle.text_parts.specs.Parts.{Shuts}
@@ -52,13 +52,13 @@ use Rattle.mark_expressions.proofs.Inverting.{past-expr}
 use Rattle.mark_expressions.proofs.Gathering.{exprs-parts, exprs-end, value_there, broken-there, through, broken-through}
 use Rattle.mark_acts.specs.declared.arguments.Gathered.{Gathered}
 use Rattle.mark_acts.specs.declared.arguments.Gathered.TheVariants as gathered
-use Rattle.mark_acts.specs.Arguments.{Lists, argumentsOf, InWords, GatheredBy, Given, Passed, returns, TakesBack, Argues, Gathers, Passes}
+use Rattle.mark_acts.specs.Arguments.{Lists, arguments_of, InWords, GatheredBy, Given, Passed, returns, TakesBack, Argues, Gathers, Passes}
 
 -- ---- `argued`
 
 pub argued-is : (s l ts : List ℕ) (ws : List ℤ) (scope : Scope) (t at : ℕ) (x : Carried) (r : ℤ) → MarksExpr s l ts ws scope 33 at x → Takes l ts t x r → SFits w64 r → Argues s l ts ws scope t at (wire r)
 argued-is s l ts ws scope t at x r X T f = rw (to_z-of_z f) (record {
-  says = λ σ S e y he hy m H. T.says s scope σ S m (markExpr σ.types σ.vars y m) ((X.says σ S).says e y he hy m H);
+  says = λ σ S e y he hy m H. T.says s scope σ S m (mark_expr σ.types σ.vars y m) ((X.says σ S).says e y he hy m H);
 })
 
 pub ruleset argued-laws = (argued-is, sfits_of)
@@ -84,18 +84,18 @@ ranged-there z q h g = view-value z q (λ y. y) (subst (λ (v : Result ℤ). Mar
 pub record Left (σ : Environment) (us : List ℕ) (rs : Trees Run) (es : Exprs) (m : Store) (vs : List ℤ) (j : ℕ) : Type 0 where
   pub forms : Syntax.Exprs
   pub exprs : Exprs
-  pub read : exprsIn 33 rs ≡ some forms
-  pub known : exprsOf σ forms ≡ some exprs
+  pub read : exprs_in 33 rs ≡ some forms
+  pub known : exprs_of σ forms ≡ some exprs
   pub values : List ℤ
   pub count : length values ≡ j
   pub same : (i : ℕ) → i < j → get_or vs i (pos 0) ≡ get_or values i (pos 0)
   pub ranged : (i : ℕ) → i < length values → InRange (get_or values i (pos 0))
-  pub whole : argumentsOf σ us es m ≡ (argumentsOf σ (drop j us) exprs m >>= λ zs. is (values ++ zs))
+  pub whole : arguments_of σ us es m ≡ (arguments_of σ (drop j us) exprs m >>= λ zs. is (values ++ zs))
 
 pub record Sofar (s l ts : List ℕ) (ws : List ℤ) (scope : Scope) (x : Frame) (at next : ℕ) (vs₀ vs : List ℤ) (j : ℕ) : Type 0 where
   pub long : length vs ≡ length vs₀
-  pub left : length vs₀ ≡ 8 → (σ : Environment) → Known s l ts scope σ → (us : List ℕ) → Lists l x us → (xs : Syntax.Exprs) (es : Exprs) → exprsIn 33 (first (stackAt s at)) ≡ some xs → exprsOf σ xs ≡ some es
-      → (m : Store) → Holds ws m → Left σ us (first (stackAt s next)) es m vs j
+  pub left : length vs₀ ≡ 8 → (σ : Environment) → Known s l ts scope σ → (us : List ℕ) → Lists l x us → (xs : Syntax.Exprs) (es : Exprs) → exprs_in 33 (first (stack_at s at)) ≡ some xs → exprs_of σ xs ≡ some es
+      → (m : Store) → Holds ws m → Left σ us (first (stack_at s next)) es m vs j
 
 module _ (s l ts : List ℕ) (ws : List ℤ) (scope : Scope) (x : Frame) (at : ℕ) (vs₀ : List ℤ) where
   pub sofar-start : Sofar s l ts ws scope x at at vs₀ vs₀ 0
@@ -110,13 +110,13 @@ module _ (s l ts : List ℕ) (ws : List ℤ) (scope : Scope) (x : Frame) (at : �
       count = refl;
       same = λ i g. absurd (omega arith);
       ranged = λ i g. absurd (omega arith);
-      whole = result-same (argumentsOf σ us es m);
+      whole = result-same (arguments_of σ us es m);
     };
   }
 
   -- nothing is left
-  words_are : {σ : Environment} {us : List ℕ} {rs : Trees Run} {es : Exprs} {m : Store} {vs : List ℤ} {j : ℕ} (L : Left σ us rs es m vs j) → argumentsOf σ (drop j us) L.exprs m ≡ is []
-      → InWords vs j (argumentsOf σ us es m)
+  words_are : {σ : Environment} {us : List ℕ} {rs : Trees Run} {es : Exprs} {m : Store} {vs : List ℤ} {j : ℕ} (L : Left σ us rs es m vs j) → arguments_of σ (drop j us) L.exprs m ≡ is []
+      → InWords vs j (arguments_of σ us es m)
   words_are L e = record {
     values = L.values;
     gives = L.whole ∙ ap (λ (v : Result (List ℤ)). v >>= λ zs. is (L.values ++ zs)) e ∙ ap (λ (y : List ℤ). is y) (append-nil L.values);
@@ -125,8 +125,8 @@ module _ (s l ts : List ℕ) (ws : List ℤ) (scope : Scope) (x : Frame) (at : �
     ranged = L.ranged;
   }
 
-  no-parameter : (σ : Environment) (us : List ℕ) (es : Exprs) (m : Store) → us ≡ [] → argumentsOf σ us es m ≡ is []
-  unfolding markArguments
+  no-parameter : (σ : Environment) (us : List ℕ) (es : Exprs) (m : Store) → us ≡ [] → arguments_of σ us es m ≡ is []
+  unfolding mark_arguments
   no-parameter σ us nil m e = refl
   no-parameter σ us (y and ys) m e = rw e refl
 
@@ -136,23 +136,23 @@ module _ (s l ts : List ℕ) (ws : List ℤ) (scope : Scope) (x : Frame) (at : �
       long = F.long;
       says = λ eight σ S us U xs es i k m H.
           let b : length us ≤ j = omega (arith, U.count-is, U.few, N, g) in
-          subst (λ (y : ℕ). InWords vs y (argumentsOf σ us es m)) (omega (arith, h, g)) (words_are (F.left eight σ S us U xs es i k m H) (no-parameter σ (drop j us) _ m (drop_of_length-le us b)));
+          subst (λ (y : ℕ). InWords vs y (arguments_of σ us es m)) (omega (arith, h, g)) (words_are (F.left eight σ S us U xs es i k m H) (no-parameter σ (drop j us) _ m (drop_of_length-le us b)));
     }
 
     module _ (e : End) (E : Shuts s next e) where
       pub no_more : (q : ℕ) → e ≡ ending.Past q → Gathers s l ts ws scope x at vs₀ vs (gathered.All j)
-      unfolding exprsOf markArguments
+      unfolding exprs_of mark_arguments
       no_more q h = record {
         long = F.long;
         says = λ eight σ S us U xs es i k m H.
             let L = F.left eight σ S us U xs es i k m H in
-            let a = exprs-end 33 (first (stackAt s next)) L.forms (rw h at E.says).here L.read in
+            let a = exprs-end 33 (first (stack_at s next)) L.forms (rw h at E.says).here L.read in
             let b : nil ≡ L.exprs = some_inj (rw (← a) at L.known) in
-            words_are L (ap (λ (ys : Exprs). argumentsOf σ (drop j us) ys m) (sym b));
+            words_are L (ap (λ (ys : Exprs). arguments_of σ (drop j us) ys m) (sym b));
       }
 
       module _ (h : e ≡ ending.More) (t : ℕ) (T : t ≡ get_or l (x.types + j) 0) (z : ℤ) (A : Argues s l ts ws scope t next z) (fz : SFits w64 z) (g : j < n) where
-        not_end : first (stackAt s next) ≡ end → ⊥
+        not_end : first (stack_at s next) ≡ end → ⊥
         not_end = rw h at E.says
 
         -- the first of those that are left, and the others
@@ -161,25 +161,25 @@ module _ (s l ts : List ℕ) (ws : List ℤ) (scope : Scope) (x : Frame) (at : �
           forms : Syntax.Exprs
           expr : Expr
           exprs : Exprs
-          here : exprIn 33 (first (stackAt s next)) ≡ some form
-          read : exprsIn 33 (rest (first (stackAt s next))) ≡ some forms
-          known : exprsOf σ forms ≡ some exprs
-          means : MarkMeans z ((markExpr σ.types σ.vars expr m >>= wanted (hostOf σ.types t)) >>= λ u. taken σ.types t u)
-          whole : argumentsOf σ us es m ≡ (((markExpr σ.types σ.vars expr m >>= wanted (hostOf σ.types t)) >>= λ u. taken σ.types t u >>= λ y.
-              argumentsOf σ (drop (suc j) us) exprs m >>= λ ys. is (y ∷ ys)) >>= λ ys. is (values ++ ys))
+          here : expr_in 33 (first (stack_at s next)) ≡ some form
+          read : exprs_in 33 (rest (first (stack_at s next))) ≡ some forms
+          known : exprs_of σ forms ≡ some exprs
+          means : MarkMeans z ((mark_expr σ.types σ.vars expr m >>= wanted (host_of σ.types t)) >>= λ u. taken σ.types t u)
+          whole : arguments_of σ us es m ≡ (((mark_expr σ.types σ.vars expr m >>= wanted (host_of σ.types t)) >>= λ u. taken σ.types t u >>= λ y.
+              arguments_of σ (drop (suc j) us) exprs m >>= λ ys. is (y ∷ ys)) >>= λ ys. is (values ++ ys))
 
-        shape : (σ : Environment) (us : List ℕ) → Lists l x us → (y : Expr) (ys : Exprs) (m : Store) → argumentsOf σ (drop j us) (y and ys) m
-            ≡ ((markExpr σ.types σ.vars y m >>= wanted (hostOf σ.types t)) >>= λ u. taken σ.types t u >>= λ z. argumentsOf σ (drop (suc j) us) ys m >>= λ zs. is (z ∷ zs))
-        unfolding markArguments
+        shape : (σ : Environment) (us : List ℕ) → Lists l x us → (y : Expr) (ys : Exprs) (m : Store) → arguments_of σ (drop j us) (y and ys) m
+            ≡ ((mark_expr σ.types σ.vars y m >>= wanted (host_of σ.types t)) >>= λ u. taken σ.types t u >>= λ z. arguments_of σ (drop (suc j) us) ys m >>= λ zs. is (z ∷ zs))
+        unfolding mark_arguments
         shape σ us U y ys m =
             let b : j < length us = omega (arith, U.count-is, U.few, N, g) in
-            ap (λ (vs : List ℕ). argumentsOf σ vs (y and ys) m) (drop-cons us j 0 b)
-            ∙ ap (λ (k : ℕ). argumentsOf σ (k ∷ drop (suc j) us) (y and ys) m) (sym (T ∙ U.types_are j b))
+            ap (λ (vs : List ℕ). arguments_of σ vs (y and ys) m) (drop-cons us j 0 b)
+            ∙ ap (λ (k : ℕ). arguments_of σ (k ∷ drop (suc j) us) (y and ys) m) (sym (T ∙ U.types_are j b))
 
-        taken_next : (σ : Environment) → Known s l ts scope σ → (us : List ℕ) → Lists l x us → (es : Exprs) (m : Store) → Holds ws m → (L : Left σ us (first (stackAt s next)) es m vs j) → Next σ us es m L.values
-        unfolding exprsOf
+        taken_next : (σ : Environment) → Known s l ts scope σ → (us : List ℕ) → Lists l x us → (es : Exprs) (m : Store) → Holds ws m → (L : Left σ us (first (stack_at s next)) es m vs j) → Next σ us es m L.values
+        unfolding exprs_of
         taken_next σ S us U es m H L =
-            exprs-parts 33 (first (stackAt s next)) L.forms not_end L.read (λ y ys hy hys q.
+            exprs-parts 33 (first (stack_at s next)) L.forms not_end L.read (λ y ys hy hys q.
             bind-some (rw (← q) at L.known) (λ v hv i. bind-some i (λ ws hws p. record {
               form = y;
               forms = ys;
@@ -189,7 +189,7 @@ module _ (s l ts : List ℕ) (ws : List ℤ) (scope : Scope) (x : Frame) (at : �
               read = hys;
               known = hws;
               means = A.says σ S y v hy hv m H;
-              whole = L.whole ∙ ap (λ (v : Result (List ℤ)). v >>= λ zs. is (L.values ++ zs)) (ap (λ (ys : Exprs). argumentsOf σ (drop j us) ys m) (sym (some_inj p)) ∙ shape σ us U v ws m);
+              whole = L.whole ∙ ap (λ (v : Result (List ℤ)). v >>= λ zs. is (L.values ++ zs)) (ap (λ (ys : Exprs). arguments_of σ (drop j us) ys m) (sym (some_inj p)) ∙ shape σ us U v ws m);
             })))
 
         pub halted-there : lt_z greatest (wire z) ≡ true → Gathers s l ts ws scope x at vs₀ vs (gathered.Halted (wire z))
@@ -200,8 +200,8 @@ module _ (s l ts : List ℕ) (ws : List ℤ) (scope : Scope) (x : Frame) (at : �
               let O = taken_next σ S us U es m H L in
               let b : lt_z greatest z ≡ true = rw (to_z-of_z fz) at i in (
                 subst (λ (v : Result (List ℤ)). Broken z v) (sym O.whole)
-                    (broken-bind (λ ys. is (L.values ++ ys)) (broken-through (λ u. taken σ.types t u) (λ y. argumentsOf σ (drop (suc j) us) O.exprs m >>= λ ys. is (y ∷ ys))
-                    (markExpr σ.types σ.vars O.expr m >>= wanted (hostOf σ.types t)) z (broken-there z _ O.means b))),
+                    (broken-bind (λ ys. is (L.values ++ ys)) (broken-through (λ u. taken σ.types t u) (λ y. arguments_of σ (drop (suc j) us) O.exprs m >>= λ ys. is (y ∷ ys))
+                    (mark_expr σ.types σ.vars O.expr m >>= wanted (host_of σ.types t)) z (broken-there z _ O.means b))),
                 b,
               );
         })
@@ -243,10 +243,10 @@ module _ (s l ts : List ℕ) (ws : List ℤ) (scope : Scope) (x : Frame) (at : �
                   count = length-append L.values (z ∷ []) ∙ ap (λ (n : ℕ). n + 1) L.count;
                   same = snoc-same eight L.values L.count L.same;
                   ranged = snoc-ranged L.values (ranged-there z _ O.means b) L.ranged;
-                  whole = O.whole ∙ ap (λ (v : Result (List ℤ)). v >>= λ ys. is (L.values ++ ys)) (through (λ u. taken σ.types t u) (λ y. argumentsOf σ (drop (suc j) us) O.exprs m >>= λ ys. is (y ∷ ys))
-                      (markExpr σ.types σ.vars O.expr m >>= wanted (hostOf σ.types t)) z c)
-                      ∙ append-results (argumentsOf σ (drop (suc j) us) O.exprs m) z L.values
-                      ∙ ap (λ (k : ℕ). argumentsOf σ (drop k us) O.exprs m >>= λ ys. is ((L.values ++ (z ∷ [])) ++ ys)) n;
+                  whole = O.whole ∙ ap (λ (v : Result (List ℤ)). v >>= λ ys. is (L.values ++ ys)) (through (λ u. taken σ.types t u) (λ y. arguments_of σ (drop (suc j) us) O.exprs m >>= λ ys. is (y ∷ ys))
+                      (mark_expr σ.types σ.vars O.expr m >>= wanted (host_of σ.types t)) z c)
+                      ∙ append-results (arguments_of σ (drop (suc j) us) O.exprs m) z L.values
+                      ∙ ap (λ (k : ℕ). arguments_of σ (drop k us) O.exprs m >>= λ ys. is ((L.values ++ (z ∷ [])) ++ ys)) n;
                 };
           })
 
@@ -260,7 +260,7 @@ module _ (s l ts : List ℕ) (scope : Scope) (x : Frame) (at : ℕ) (ws vs₀ vs
   pub pass_all : (k : ℕ) (ws' : List ℤ) → g ≡ gathered.All k → Gives ws x.base k vs ws' → Passes s l ts scope x at ws ws' (pos 0)
   pass_all k ws' e W = record {
     says = λ σ S us U xs es i j m left T.
-        let Y : InWords vs k (argumentsOf σ us es m) = rw e at (G.says eight σ S us U xs es i j m T.holds) in
+        let Y : InWords vs k (arguments_of σ us es m) = rw e at (G.says eight σ S us U xs es i j m T.holds) in
         record {
           given = λ h. record { values = Y.values; gives = Y.gives; stands = given-stands ws left m x.base k vs Y.values ws' T Y.ranged Y.count Y.same W };
           halted = λ h. absurd (true≢false (sym h));
@@ -270,7 +270,7 @@ module _ (s l ts : List ℕ) (scope : Scope) (x : Frame) (at : ℕ) (ws vs₀ vs
   pub pass-halted : (w : ℤ) → g ≡ gathered.Halted w → SFits w64 w → Passes s l ts scope x at ws ws (wire w)
   pass-halted w e f = rw (to_z-of_z f) (record {
     says = λ σ S us U xs es i j m left T.
-        let Y : Broken w (argumentsOf σ us es m) × (lt_z greatest w ≡ true) = rw e at (G.says eight σ S us U xs es i j m T.holds) in
+        let Y : Broken w (arguments_of σ us es m) × (lt_z greatest w ≡ true) = rw e at (G.says eight σ S us U xs es i j m T.holds) in
         record { given = λ h. absurd (true≢false (sym Y.1 ∙ h)); halted = λ h. (Y.0, refl) };
   })
 

@@ -4,17 +4,17 @@ use Rattle.std.proofs.Math.Option.{some}
 use Rattle.std.specs.Int.Signed.{lt_z}
 use Rattle.law.specs.Base.{pick}
 use Rattle.law.specs.Calculate.{Result, is, ◌>>=◌}
-use Rattle.law.specs.Environment.{Environment, wantOf}
+use Rattle.law.specs.Environment.{Environment, want_of}
 use Rattle.law.specs.Machine.{Store, stored}
-use Rattle.law.specs.Marking.{markArguments, markExpr, wanted}
-use Rattle.law.specs.Names.{exprOf, exprsOf}
+use Rattle.law.specs.Marking.{mark_arguments, mark_expr, wanted}
+use Rattle.law.specs.Names.{expr_of, exprs_of}
 use Rattle.law.specs.Script.{Expr, Exprs}
 use Rattle.law.specs.Syntax as Syntax
 use Rattle.law.specs.Trees.{first}
-use Rattle.law_theorems.specs.Readings.{stackAt}
-use Rattle.law.specs.Types.{hostOf}
+use Rattle.law_theorems.specs.Readings.{stack_at}
+use Rattle.law.specs.Types.{host_of}
 use Rattle.code_calc.specs.Words.{greatest, InRange, Holds}
-use Rattle.text_heads.specs.Parts.{exprIn, exprsIn}
+use Rattle.text_heads.specs.Parts.{expr_in, exprs_in}
 use Rattle.mark_steps.specs.Stands.{Stands}
 use Rattle.mark_cells.specs.Cells.{Forgets}
 use Rattle.mark_values.specs.Values.{MarkMeans, Known}
@@ -32,8 +32,8 @@ pub record Lists (l : List ℕ) (x : Frame) (us : List ℕ) : Type 0 where
   pub few : length us ≤ 8
 
 -- the machine's arguments for parameters of the types us
-abbrev pub argumentsOf : Environment → List ℕ → Exprs → Store → Result (List ℤ)
-argumentsOf σ us es m = markArguments σ.types σ.vars (map (wantOf σ.types) us) us es m
+abbrev pub arguments_of : Environment → List ℕ → Exprs → Store → Result (List ℤ)
+arguments_of σ us es m = mark_arguments σ.types σ.vars (map (want_of σ.types) us) us es m
 
 -- v is the values whose words are the first k of vs
 pub record InWords (vs : List ℤ) (k : ℕ) (v : Result (List ℤ)) : Type 0 where
@@ -71,16 +71,16 @@ pub record TakesBack (x : Frame) (o : ℕ) (ws ws' : List ℤ) : Type 0 where
 module _ (s l ts : List ℕ) where
   -- the argument at an offset for a parameter of type t
   pub record Argues (ws : List ℤ) (scope : Scope) (t at : ℕ) (r : ℤ) : Type 0 where
-    pub says : (σ : Environment) → Known s l ts scope σ → (e : Syntax.Expr) (x : Expr) → exprIn 33 (first (stackAt s at)) ≡ some e → exprOf σ e ≡ some x
-        → (m : Store) → Holds ws m → MarkMeans r ((markExpr σ.types σ.vars x m >>= wanted (hostOf σ.types t)) >>= λ u. taken σ.types t u)
+    pub says : (σ : Environment) → Known s l ts scope σ → (e : Syntax.Expr) (x : Expr) → expr_in 33 (first (stack_at s at)) ≡ some e → expr_of σ e ≡ some x
+        → (m : Store) → Holds ws m → MarkMeans r ((mark_expr σ.types σ.vars x m >>= wanted (host_of σ.types t)) >>= λ u. taken σ.types t u)
 
   -- the arguments from an offset on for the parameters of x, in a list of eight words that was vs₀
   pub record Gathers (ws : List ℤ) (scope : Scope) (x : Frame) (at : ℕ) (vs₀ vs : List ℤ) (r : Gathered) : Type 0 where
     pub long : length vs ≡ length vs₀
-    pub says : length vs₀ ≡ 8 → (σ : Environment) → Known s l ts scope σ → (us : List ℕ) → Lists l x us → (xs : Syntax.Exprs) (es : Exprs) → exprsIn 33 (first (stackAt s at)) ≡ some xs → exprsOf σ xs ≡ some es
-        → (m : Store) → Holds ws m → GatheredBy vs (argumentsOf σ us es m) r
+    pub says : length vs₀ ≡ 8 → (σ : Environment) → Known s l ts scope σ → (us : List ℕ) → Lists l x us → (xs : Syntax.Exprs) (es : Exprs) → exprs_in 33 (first (stack_at s at)) ≡ some xs → exprs_of σ xs ≡ some es
+        → (m : Store) → Holds ws m → GatheredBy vs (arguments_of σ us es m) r
 
   -- and they are given to these
   pub record Passes (scope : Scope) (x : Frame) (at : ℕ) (ws ws' : List ℤ) (r : ℤ) : Type 0 where
-    pub says : (σ : Environment) → Known s l ts scope σ → (us : List ℕ) → Lists l x us → (xs : Syntax.Exprs) (es : Exprs) → exprsIn 33 (first (stackAt s at)) ≡ some xs → exprsOf σ xs ≡ some es
-        → (m : Store) (left : ℕ) → Stands ws left m → Passed m left x.base (argumentsOf σ us es m) ws ws' r
+    pub says : (σ : Environment) → Known s l ts scope σ → (us : List ℕ) → Lists l x us → (xs : Syntax.Exprs) (es : Exprs) → exprs_in 33 (first (stack_at s at)) ≡ some xs → exprs_of σ xs ≡ some es
+        → (m : Store) (left : ℕ) → Stands ws left m → Passed m left x.base (arguments_of σ us es m) ws ws' r

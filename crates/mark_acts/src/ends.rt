@@ -1,6 +1,6 @@
 // How a statement of the marking machine ends: as the runner's do (steps), or it sticks.
 ghost use Rattle.std.specs.Prelude.{◌≡◌};
-ghost use Rattle.mark_acts.specs.Ends.{stuckWord, Halts};
+ghost use Rattle.mark_acts.specs.Ends.{stuck_word, Halts};
 
 use code_calc::words::Store;
 use mark_steps::ends::{SPENT, failing};
@@ -11,7 +11,7 @@ pub const STICKS: u64 = 12884901888;
 
 // It sticks, as a word.
 pub fn sticking(left: u64) -> u64
-    ensures { result ≡ stuckWord left }
+    ensures { result ≡ stuck_word left }
 {
     STICKS + left % SPENT
 }

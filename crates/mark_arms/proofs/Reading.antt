@@ -26,10 +26,10 @@ use Rattle.rule_stages.specs.Stages.{fits, staged, named, ruled}
 use Rattle.law.specs.Syntax as Syntax
 use Rattle.law.specs.Syntax.{Constant, Stmt}
 use Rattle.law.specs.Trees.{Tree, word, form, Trees, end, ◌then◌, Run, first}
-use Rattle.law_theorems.specs.Readings.{stackAt}
+use Rattle.law_theorems.specs.Readings.{stack_at}
 use Rattle.law.specs.Words.{worded}
 use Rattle.law_theorems.proofs.Inversion.{none-some, some_inj, bind-some}
-use Rattle.rule_faults.specs.Got.{isClear, faultOf}
+use Rattle.rule_faults.specs.Got.{is_clear, fault_of}
 use Rattle.text_parts.specs.Parts.{Before, Shuts}
 use Rattle.text_parts.specs.declared.End.{End}
 use Rattle.text_parts.specs.declared.End.TheVariants as ending
@@ -38,34 +38,34 @@ use Rattle.text_heads.specs.declared.Atom.TheVariants as AT
 use Rattle.text_heads.specs.declared.ExprHead.{ExprHead}
 use Rattle.text_heads.specs.declared.ExprHead.TheVariants as EH
 use Rattle.text_heads.specs.Heads as heads
-use Rattle.text_heads.specs.Heads.{exprHeadOf, atomNumber}
-use Rattle.text_heads.specs.Parts.{part_of, rest, closed, constantIn, number_in, constant_by, stmtIn, armIn}
+use Rattle.text_heads.specs.Heads.{expr_head_of, atom_number}
+use Rattle.text_heads.specs.Parts.{part_of, rest, closed, constant_in, number_in, constant_by, stmt_in, arm_in}
 use Rattle.text_heads.proofs.Heads.{number_word}
 use Rattle.text_heads.proofs.Expressions.{constant-form, constant-empty, constant-headless, number-form}
-use Rattle.rule_atoms.specs.Contracts.{GivesConstant}
+use Rattle.rule_atoms.specs.Answering.{GivesConstant}
 use Rattle.rule_atoms.specs.declared.Valued.{Valued}
-use Rattle.rule_constants.specs.Plain.{plainFirst, plainTree}
+use Rattle.rule_constants.specs.Plain.{plain_first, plain_tree}
 use Rattle.rule_constants.proofs.Exprs.{number-inside, constant-plain}
 use Rattle.rule_labels.specs.Blocks.{Held}
 use Rattle.text_skips.specs.Skips.{Skips}
 use Rattle.mark_counts.proofs.Items.{bind-of}
 use Rattle.mark_arms.specs.declared.Spot.{Spot}
 use Rattle.mark_arms.specs.declared.Spot.TheVariants as spot
-use Rattle.mark_arms.specs.Arms.{many, labelsIn, lastIn, Marks, Spots, Labels, EndsAt}
+use Rattle.mark_arms.specs.Arms.{many, labels_in, last_in, Marks, Spots, Labels, EndsAt}
 use Rattle.table_scope.specs.declared.Scope.{Scope}
 
 -- ---- an arm's labels and statement
 
-pub arm-labels : (d n : ℕ) (us : Trees Run) (p : List Constant × (Stmt × ℕ)) → armIn d n us ≡ some p → labelsIn us ≡ some p.0
-unfolding armIn labelsIn
+pub arm-labels : (d n : ℕ) (us : Trees Run) (p : List Constant × (Stmt × ℕ)) → arm_in d n us ≡ some p → labels_in us ≡ some p.0
+unfolding arm_in labels_in
 arm-labels d n end p h = none-some h
 arm-labels d n (t then end) p h = none-some h
-arm-labels d n (t then (u then end)) p h = bind-some h λ c hc h'. bind-some h' λ a ha e. bind-of (worded t >>= constant) c _ hc ∙ bind-of (labelsIn (u then end)) [] _ refl ∙ ap (λ (q : List Constant × (Stmt × ℕ)). some q.0) (some_inj e)
+arm-labels d n (t then (u then end)) p h = bind-some h λ c hc h'. bind-some h' λ a ha e. bind-of (worded t >>= constant) c _ hc ∙ bind-of (labels_in (u then end)) [] _ refl ∙ ap (λ (q : List Constant × (Stmt × ℕ)). some q.0) (some_inj e)
 arm-labels d n (t then (u then (v then ts))) p h = bind-some h λ c hc h'. bind-some h' λ a ha e.
-    bind-of (worded t >>= constant) c _ hc ∙ bind-of (labelsIn (u then (v then ts))) a.0 _ (arm-labels d n (u then (v then ts)) a ha) ∙ ap (λ (q : List Constant × (Stmt × ℕ)). some q.0) (some_inj e)
+    bind-of (worded t >>= constant) c _ hc ∙ bind-of (labels_in (u then (v then ts))) a.0 _ (arm-labels d n (u then (v then ts)) a ha) ∙ ap (λ (q : List Constant × (Stmt × ℕ)). some q.0) (some_inj e)
 
-pub arm-last : (d n : ℕ) (us : Trees Run) (p : List Constant × (Stmt × ℕ)) → armIn d n us ≡ some p → lastIn d n us ≡ some p.1
-unfolding armIn lastIn
+pub arm-last : (d n : ℕ) (us : Trees Run) (p : List Constant × (Stmt × ℕ)) → arm_in d n us ≡ some p → last_in d n us ≡ some p.1
+unfolding arm_in last_in
 arm-last d n end p h = none-some h
 arm-last d n (t then end) p h = none-some h
 arm-last d n (t then (u then end)) p h = bind-some h λ c hc h'. bind-some h' λ a ha e. rw (← some_inj e) ha
@@ -88,9 +88,9 @@ number-in : (us : Trees Run) (z : ℤ) → number_in us ≡ some z → inside le
 unfolding number_in part_of ◌>>=◌
 number-in end z h = none-some h
 number-in (form vs then ts) z h = none-some (sym (number-form vs ts) ∙ h)
-number-in (word w then ts) z h = number-inside w z (go (heads.atomOf (word_of w)) (sym (number_word w ts) ∙ h))
+number-in (word w then ts) z h = number-inside w z (go (heads.atom_of (word_of w)) (sym (number_word w ts) ∙ h))
   where
-    go : (a : Atom) → atomNumber a ≡ some z → a ≡ AT.Number z
+    go : (a : Atom) → atom_number a ≡ some z → a ≡ AT.Number z
     go (AT.Number y) e = ap (λ (x : ℤ). AT.Number x) (some_inj e)
     go AT.Named e = none-some e
     go (AT.Truth b) e = none-some e
@@ -120,49 +120,49 @@ module _ (σ : Environment) where
   form-past (EH.One n) us c x h k f = none-some h
   form-past EH.Nothing us c x h k f = none-some h
 
-pub constant-past : {s l : List ℕ} {scope : Scope} {σ : Environment} → Held s l scope σ → (us : Trees Run) (c : Constant) (x : Const) → constantIn us ≡ some c → constant_of σ c ≡ some x
+pub constant-past : {s l : List ℕ} {scope : Scope} {σ : Environment} → Held s l scope σ → (us : Trees Run) (c : Constant) (x : Const) → constant_in us ≡ some c → constant_of σ c ≡ some x
     → plain x ≡ false → x ≡ const_of 0 (pos 2147483648)
-unfolding constantIn part_of ◌>>=◌ plainFirst plainTree
+unfolding constant_in part_of ◌>>=◌ plain_first plain_tree
 constant-past H end c x h k f = none-some h
 constant-past {σ = σ} H (word w then ts) c x h k f =
     absurd (true≢false (sym (constant-plain σ H.scene.table _ H.scene.fair (word w then ts) c x h k) ∙ f))
 constant-past H (form end then ts) c x h k f = none-some (sym (constant-empty ts) ∙ h)
 constant-past H (form (form us then vs) then ts) c x h k f = none-some (sym (constant-headless us vs ts) ∙ h)
-constant-past {σ = σ} H (form (word w then us) then ts) c x h k f = form-past σ (exprHeadOf (word_of w)) us c x (sym (constant-form w us ts) ∙ h) k f
+constant-past {σ = σ} H (form (word w then us) then ts) c x h k f = form-past σ (expr_head_of (word_of w)) us c x (sym (constant-form w us ts) ∙ h) k f
 
 -- ---- `label_at`
 
-clear-not : (b : Bool) (x : Const) → isClear (faultOf (ruled b (some x))) ≡ false → b ≡ false
+clear-not : (b : Bool) (x : Const) → is_clear (fault_of (ruled b (some x))) ≡ false → b ≡ false
 unfolding ruled
 clear-not true x h = absurd (true≢false h)
 clear-not false x h = refl
 
-clear-is : (b : Bool) (x : Const) → isClear (faultOf (ruled b (some x))) ≡ true → ruled b (some x) ≡ fits x
+clear-is : (b : Bool) (x : Const) → is_clear (fault_of (ruled b (some x))) ≡ true → ruled b (some x) ≡ fits x
 unfolding ruled
 clear-is true x h = refl
 clear-is false x h = absurd (true≢false (sym h))
 
-staged-is : (σ : Environment) (us : Trees Run) (c : Constant) (x : Const) → constantIn us ≡ some c → constant_of σ c ≡ some x
-    → staged (constantIn us) (constant_of σ) plain some ≡ ruled (plain x) (some x)
+staged-is : (σ : Environment) (us : Trees Run) (c : Constant) (x : Const) → constant_in us ≡ some c → constant_of σ c ≡ some x
+    → staged (constant_in us) (constant_of σ) plain some ≡ ruled (plain x) (some x)
 unfolding staged named
 staged-is σ us c x h k = rw (h, k) refl
 
 module _ (s l : List ℕ) (scope : Scope) (at : ℕ) (v : Valued) (G : GivesConstant s l scope at v) where
-  pub label-clear : (b : Bool) → b ≡ isClear v.fault → b ≡ true → SFits w64 v.value → Labels s l scope at (record { kind = v.kind; value = wire v.value })
+  pub label-clear : (b : Bool) → b ≡ is_clear v.fault → b ≡ true → SFits w64 v.value → Labels s l scope at (record { kind = v.kind; value = wire v.value })
   label-clear b g f e = record {
     says = λ σ H c x h k.
         let T = G.says H.ts H.top σ H.bs H.scene in
-        let q = staged-is σ (first (stackAt s at)) c x h k in
-        let w = T.value-is x (q ∙ clear-is (plain x) x (ap (λ S. isClear (faultOf S)) (sym q) ∙ ap isClear (sym T.fault-is) ∙ sym g ∙ f)) in
+        let q = staged-is σ (first (stack_at s at)) c x h k in
+        let w = T.value-is x (q ∙ clear-is (plain x) x (ap (λ S. is_clear (fault_of S)) (sym q) ∙ ap is_clear (sym T.fault-is) ∙ sym g ∙ f)) in
         (w.0, to_z-of_z e ∙ w.1);
   }
 
-  pub label-past : (b : Bool) → b ≡ isClear v.fault → b ≡ false → Labels s l scope at (record { kind = 0; value = pos 2147483648 })
+  pub label-past : (b : Bool) → b ≡ is_clear v.fault → b ≡ false → Labels s l scope at (record { kind = 0; value = pos 2147483648 })
   label-past b g f = record {
     says = λ σ H c x h k.
         let T = G.says H.ts H.top σ H.bs H.scene in
-        let q = staged-is σ (first (stackAt s at)) c x h k in
-        let w : x ≡ const_of 0 (pos 2147483648) = constant-past H (first (stackAt s at)) c x h k (clear-not (plain x) x (ap (λ S. isClear (faultOf S)) (sym q) ∙ ap isClear (sym T.fault-is) ∙ sym g ∙ f)) in
+        let q = staged-is σ (first (stack_at s at)) c x h k in
+        let w : x ≡ const_of 0 (pos 2147483648) = constant-past H (first (stack_at s at)) c x h k (clear-not (plain x) x (ap (λ S. is_clear (fault_of S)) (sym q) ∙ ap is_clear (sym T.fault-is) ∙ sym g ∙ f)) in
         (sym (ap (λ (y : Const). y.kind) w), sym (ap (λ (y : Const). y.value) w));
   }
 
@@ -176,9 +176,9 @@ module _ (s : List ℕ) (at : ℕ) (e : End) (E : Shuts s at e) where
 
   module _ (h : e ≡ ending.More) (q : ℕ) (K : Skips s at q) (f : End) (F : Shuts s q f) where
     here : (t : Tree Run) × Before s at t q
-    here = go (first (stackAt s at)) refl
+    here = go (first (stack_at s at)) refl
       where
-        go : (us : Trees Run) → first (stackAt s at) ≡ us → (t : Tree Run) × Before s at t q
+        go : (us : Trees Run) → first (stack_at s at) ≡ us → (t : Tree Run) × Before s at t q
         go end g = absurd ((rw h at E.says) g)
         go (t then us) g = (t, K.says t us g)
 
@@ -193,15 +193,15 @@ pub ruleset spot-laws = (spot-none, spot-last, spot-marked)
 -- ---- `last_part`
 
 pub record Passing (s : List ℕ) (at p : ℕ) : Type 0 where
-  pub says : (d n : ℕ) → lastIn d n (first (stackAt s at)) ≡ lastIn d n (first (stackAt s p))
+  pub says : (d n : ℕ) → last_in d n (first (stack_at s at)) ≡ last_in d n (first (stack_at s p))
 
-last_more : (d n : ℕ) (t : Tree Run) (us : Trees Run) → ((us ≡ end) → ⊥) → lastIn d n (t then us) ≡ lastIn d n us
-unfolding lastIn
+last_more : (d n : ℕ) (t : Tree Run) (us : Trees Run) → ((us ≡ end) → ⊥) → last_in d n (t then us) ≡ last_in d n us
+unfolding last_in
 last_more d n t end h = absurd (h refl)
 last_more d n t (u then us) h = refl
 
-last_one : (d n : ℕ) (us : Trees Run) → rest us ≡ end → lastIn d n us ≡ stmtIn d n us
-unfolding lastIn stmtIn part_of ◌>>=◌
+last_one : (d n : ℕ) (us : Trees Run) → rest us ≡ end → last_in d n us ≡ stmt_in d n us
+unfolding last_in stmt_in part_of ◌>>=◌
 last_one d n end h = refl
 last_one d n (t then end) h = refl
 last_one d n (t then (u then us)) h = absurd (let z : ◌≡◌ {A = ℕ} 0 1 = cc in omega arith)
@@ -214,13 +214,13 @@ module _ (s : List ℕ) (at p : ℕ) (x : Spot) (S : Spots s p x) where
   marked q e = rw e at S.says
 
   pub pass_on : (q : ℕ) → x ≡ spot.Marked q → Passing s at p → Passing s at q
-  pass_on q e P = let M = marked q e in record { says = λ d n. P.says d n ∙ ap (lastIn d n) M.before.here ∙ last_more d n M.part (first (stackAt s q)) M.more }
+  pass_on q e P = let M = marked q e in record { says = λ d n. P.says d n ∙ ap (last_in d n) M.before.here ∙ last_more d n M.part (first (stack_at s q)) M.more }
 
   pub pass-end : x ≡ spot.Last → Passing s at p → EndsAt s at p
-  pass-end e P = record { says = λ d n. P.says d n ∙ last_one d n (first (stackAt s p)) (rw e at S.says) }
+  pass-end e P = record { says = λ d n. P.says d n ∙ last_one d n (first (stack_at s p)) (rw e at S.says) }
 
-  pub part_falls : (q : ℕ) → x ≡ spot.Marked q → many (first (stackAt s q)) < many (first (stackAt s p))
+  pub part_falls : (q : ℕ) → x ≡ spot.Marked q → many (first (stack_at s q)) < many (first (stack_at s p))
   unfolding many
-  part_falls q e = let f : many (first (stackAt s p)) ≡ suc (many (first (stackAt s q))) = ap many (marked q e).before.here in omega arith
+  part_falls q e = let f : many (first (stack_at s p)) ≡ suc (many (first (stack_at s q))) = ap many (marked q e).before.here in omega arith
 
 pub ruleset pass-laws = (pass_on, pass-end)

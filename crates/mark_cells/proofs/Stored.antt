@@ -19,12 +19,12 @@ use Rattle.leaf_integers.specs.Integers.{inside}
 use Rattle.leaf_integers.proofs.Machine.{wire}
 use Rattle.leaf_integers.proofs.Order.{le-or-lt, le_not, not-le}
 use Rattle.law.specs.Base.{pick}
-use Rattle.law.specs.Calculate.{is, fails, rangeError, undefinedError}
-use Rattle.law.specs.Machine.{Store, State, state, answer, branch, normal, raising, forgotten, overwritten, stored, readCell, readCells, defined, undefined, isDefined, store_cells, storeOrdinal, storeWhole}
-use Rattle.code_calc.specs.Words.{greatest, storeWord, store_words, latestAt, latestIn, placeAt, InRange, Exceptional, Ranged, word_of, Means, Holds, allValues, cellsWord, undefinedWord, valueIn, markIn}
+use Rattle.law.specs.Calculate.{is, fails, range_error, undefined_error}
+use Rattle.law.specs.Machine.{Store, State, state, answer, branch, normal, raising, forgotten, overwritten, stored, read_cell, read_cells, defined, undefined, is_defined, store_cells, store_ordinal, store_whole}
+use Rattle.code_calc.specs.Words.{greatest, store_word, store_words, latest_at, latest_in, place_at, InRange, Exceptional, Ranged, word_of, Means, Holds, all_values, cells_word, undefined_word, value_in, mark_in}
 use Rattle.code_calc.proofs.Loading.{past_word}
 use Rattle.code_calc.proofs.Ranging.{range-value}
-use Rattle.mark_steps.specs.Ends.{faultIn, Raises}
+use Rattle.mark_steps.specs.Ends.{fault_in, Raises}
 use Rattle.mark_steps.specs.Stands.{Tidy, Stands, Ends}
 use Rattle.mark_cells.specs.Cells.{Addresses, Puts, Copies, Copying, CellsAre, Fills, Gives, Forgets, StoresOrdinal, StoresOne, StoresCells}
 use Rattle.mark_cells.proofs.Storing.{put-at, put_other, put-long, put-beside}
@@ -61,25 +61,25 @@ abbrev pub Written : List ℤ → ℕ → List ℤ → List ℤ → Type 0
 Written ws a us ws' = Fills ws a (λ j. get_or us j (pos 0)) (length us) ws'
 
 abbrev CellWord : ℤ → Type 0
-CellWord w = InRange w ⊎ (w ≡ undefinedWord)
+CellWord w = InRange w ⊎ (w ≡ undefined_word)
 
 abbrev pub AllRanged : List ℤ → Type 0
 AllRanged zs = (j : ℕ) → j < length zs → InRange (get_or zs j (pos 0))
 
-value-word : (z : ℤ) → InRange z → (valueIn z ≡ z) × (markIn z ≡ defined)
-unfolding valueIn markIn pick
+value-word : (z : ℤ) → InRange z → (value_in z ≡ z) × (mark_in z ≡ defined)
+unfolding value_in mark_in pick
 value-word z h = rw (range-value z h) (refl, refl)
 
 -- a cell with the value and the mark that its word says
-word-means : (w : ℤ) → CellWord w → Means w (pick (isDefined (markIn w)) (is (valueIn w)) (fails undefinedError))
-unfolding valueIn markIn pick word_of Ranged Exceptional inside
+word-means : (w : ℤ) → CellWord w → Means w (pick (is_defined (mark_in w)) (is (value_in w)) (fails undefined_error))
+unfolding value_in mark_in pick word_of Ranged Exceptional inside
 word-means w (inl h) = rw (range-value w h) (record { word = refl; ranged = h })
 word-means w (inr e) = rw e (record { word = refl; ranged = refl })
 
-word-tidy : (w : ℤ) → CellWord w → Tidy (markIn w) (valueIn w)
-unfolding valueIn markIn pick
+word-tidy : (w : ℤ) → CellWord w → Tidy (mark_in w) (value_in w)
+unfolding value_in mark_in pick
 word-tidy w (inl h) = inl (value-word w h).1
-word-tidy w (inr e) = inr (ap markIn e, ap valueIn e)
+word-tidy w (inr e) = inr (ap mark_in e, ap value_in e)
 
 -- where a cell stands to those that were stored
 data Side (a k i : ℕ) : Type 0 where
@@ -105,48 +105,48 @@ side a k i = first (le-or-lt a i)
 
 module _ (ws : List ℤ) (s : ℕ) (m : Store) (a : ℕ) (us ws' : List ℤ) (S : Stands ws s m) (R : (j : ℕ) → j < length us → CellWord (get_or us j (pos 0))) (W : Written ws a us ws') where
   after : Store
-  after = overwritten a (map valueIn us) (map markIn us) m
+  after = overwritten a (map value_in us) (map mark_in us) m
 
   -- a cell that is as it was, and one that was stored
   data Cell (i : ℕ) : Type 0 where
-    kept : storeWord ws' i ≡ storeWord ws i → get_or (Seq.sets m.marks a (map markIn us)) i 0 ≡ get_or m.marks i 0 → get_or (Seq.sets m.values a (map valueIn us)) i (pos 0) ≡ get_or m.values i (pos 0) → Cell i
-    new : (w : ℤ) → CellWord w → storeWord ws' i ≡ w → get_or (Seq.sets m.marks a (map markIn us)) i 0 ≡ markIn w → get_or (Seq.sets m.values a (map valueIn us)) i (pos 0) ≡ valueIn w → Cell i
+    kept : store_word ws' i ≡ store_word ws i → get_or (Seq.sets m.marks a (map mark_in us)) i 0 ≡ get_or m.marks i 0 → get_or (Seq.sets m.values a (map value_in us)) i (pos 0) ≡ get_or m.values i (pos 0) → Cell i
+    new : (w : ℤ) → CellWord w → store_word ws' i ≡ w → get_or (Seq.sets m.marks a (map mark_in us)) i 0 ≡ mark_in w → get_or (Seq.sets m.values a (map value_in us)) i (pos 0) ≡ value_in w → Cell i
 
   cell : (i : ℕ) → Side a (length us) i → Cell i
-  cell i (before h) = kept (W.below i h) (sets-before (map markIn us) m.marks a i 0 h) (sets-before (map valueIn us) m.values a i (pos 0) h)
+  cell i (before h) = kept (W.below i h) (sets-before (map mark_in us) m.marks a i 0 h) (sets-before (map value_in us) m.values a i (pos 0) h)
   cell i (beyond h) =
-      kept (W.above i h) (sets-after (map markIn us) m.marks a i 0 (omega (arith, length-map us markIn))) (sets-after (map valueIn us) m.values a i (pos 0) (omega (arith, length-map us valueIn)))
+      kept (W.above i h) (sets-after (map mark_in us) m.marks a i 0 (omega (arith, length-map us mark_in))) (sets-after (map value_in us) m.values a i (pos 0) (omega (arith, length-map us value_in)))
   cell i (outside h) =
-      kept (past_word ws' i h ∙ sym (past_word ws i h)) (sets-past (map markIn us) m.marks a i 0 (omega (arith, S.marks))) (sets-past (map valueIn us) m.values a i (pos 0) (omega (arith, S.values)))
+      kept (past_word ws' i h ∙ sym (past_word ws i h)) (sets-past (map mark_in us) m.marks a i 0 (omega (arith, S.marks))) (sets-past (map value_in us) m.values a i (pos 0) (omega (arith, S.values)))
   cell i (within j h g e) = new (get_or us j (pos 0)) (R j h)
-      (ap (storeWord ws') (sym e) ∙ W.here j h g)
-      (ap (λ (k : ℕ). get_or (Seq.sets m.marks a (map markIn us)) k 0) (sym e) ∙ sets-at (map markIn us) m.marks a j 0 (omega (arith, length-map us markIn)) (omega (arith, S.marks)) ∙ map_at markIn us j 0 (pos 0) h)
-      (ap (λ (k : ℕ). get_or (Seq.sets m.values a (map valueIn us)) k (pos 0)) (sym e)
-      ∙ sets-at (map valueIn us) m.values a j (pos 0) (omega (arith, length-map us valueIn)) (omega (arith, S.values)) ∙ map_at valueIn us j (pos 0) (pos 0) h)
+      (ap (store_word ws') (sym e) ∙ W.here j h g)
+      (ap (λ (k : ℕ). get_or (Seq.sets m.marks a (map mark_in us)) k 0) (sym e) ∙ sets-at (map mark_in us) m.marks a j 0 (omega (arith, length-map us mark_in)) (omega (arith, S.marks)) ∙ map_at mark_in us j 0 (pos 0) h)
+      (ap (λ (k : ℕ). get_or (Seq.sets m.values a (map value_in us)) k (pos 0)) (sym e)
+      ∙ sets-at (map value_in us) m.values a j (pos 0) (omega (arith, length-map us value_in)) (omega (arith, S.values)) ∙ map_at value_in us j (pos 0) (pos 0) h)
 
-  cell-read : (i k : ℕ) (v : ℤ) → get_or (Seq.sets m.marks a (map markIn us)) i 0 ≡ k → get_or (Seq.sets m.values a (map valueIn us)) i (pos 0) ≡ v
-      → readCell i after ≡ pick (isDefined k) (is v) (fails undefinedError)
-  unfolding readCell after
+  cell-read : (i k : ℕ) (v : ℤ) → get_or (Seq.sets m.marks a (map mark_in us)) i 0 ≡ k → get_or (Seq.sets m.values a (map value_in us)) i (pos 0) ≡ v
+      → read_cell i after ≡ pick (is_defined k) (is v) (fails undefined_error)
+  unfolding read_cell after
   cell-read i k v f g = rw (f, g)
 
-  cell-means : (i : ℕ) → Cell i → Means (storeWord ws' i) (readCell i after)
-  unfolding readCell
+  cell-means : (i : ℕ) → Cell i → Means (store_word ws' i) (read_cell i after)
+  unfolding read_cell
   cell-means i (kept e f g) =
-      let r : readCell i after ≡ readCell i m = cell-read i (get_or m.marks i 0) (get_or m.values i (pos 0)) f g in
+      let r : read_cell i after ≡ read_cell i m = cell-read i (get_or m.marks i 0) (get_or m.values i (pos 0)) f g in
       record { word = e ∙ (S.holds.cells i).word ∙ ap word_of (sym r); ranged = subst Ranged (sym r) (S.holds.cells i).ranged }
   cell-means i (new w c e f g) =
-      let r : readCell i after ≡ pick (isDefined (markIn w)) (is (valueIn w)) (fails undefinedError) = cell-read i (markIn w) (valueIn w) f g in
+      let r : read_cell i after ≡ pick (is_defined (mark_in w)) (is (value_in w)) (fails undefined_error) = cell-read i (mark_in w) (value_in w) f g in
       record { word = e ∙ (word-means w c).word ∙ ap word_of (sym r); ranged = subst Ranged (sym r) (word-means w c).ranged }
 
-  cell-tidy : (i : ℕ) → Cell i → Tidy (get_or (Seq.sets m.marks a (map markIn us)) i 0) (get_or (Seq.sets m.values a (map valueIn us)) i (pos 0))
+  cell-tidy : (i : ℕ) → Cell i → Tidy (get_or (Seq.sets m.marks a (map mark_in us)) i 0) (get_or (Seq.sets m.values a (map value_in us)) i (pos 0))
   cell-tidy i (kept e f g) = rw (f, g) (S.tidy i)
   cell-tidy i (new w c e f g) = rw (f, g) (word-tidy w c)
 
-  same-latest : latestIn ws' ≡ latestIn ws
-  unfolding latestIn
-  same-latest = W.beside latestAt (omega arith)
+  same-latest : latest_in ws' ≡ latest_in ws
+  unfolding latest_in
+  same-latest = W.beside latest_at (omega arith)
 
-  pub written_stands : Stands ws' s (overwritten a (map valueIn us) (map markIn us) m)
+  pub written_stands : Stands ws' s (overwritten a (map value_in us) (map mark_in us) m)
   unfolding after
   written_stands = record {
     long = W.long ∙ S.long;
@@ -156,26 +156,26 @@ module _ (ws : List ℤ) (s : ℕ) (m : Store) (a : ℕ) (us ws' : List ℤ) (S 
       last = S.holds.last ∙ sym same-latest;
       last-ranged = subst InRange (sym same-latest) S.holds.last-ranged;
     };
-    place = W.beside placeAt (omega arith) ∙ S.place;
+    place = W.beside place_at (omega arith) ∙ S.place;
     small = S.small;
-    values = length-sets m.values a (map valueIn us) ∙ S.values;
-    marks = length-sets m.marks a (map markIn us) ∙ S.marks;
+    values = length-sets m.values a (map value_in us) ∙ S.values;
+    marks = length-sets m.marks a (map mark_in us) ∙ S.marks;
     tidy = λ i. cell-tidy i (cell i (side a (length us) i));
   }
 
 -- values alone
-values_same : (zs : List ℤ) → AllRanged zs → map valueIn zs ≡ zs
+values_same : (zs : List ℤ) → AllRanged zs → map value_in zs ≡ zs
 values_same [] R = refl
 values_same (z ∷ zs) R = rw ((value-word z (R 0 (omega arith))).0, values_same zs (λ j h. R (suc j) (omega arith)))
 
-marks-same : (zs : List ℤ) → AllRanged zs → map markIn zs ≡ replicate (length zs) defined
+marks-same : (zs : List ℤ) → AllRanged zs → map mark_in zs ≡ replicate (length zs) defined
 marks-same [] R = refl
 marks-same (z ∷ zs) R = rw ((value-word z (R 0 (omega arith))).1, marks-same zs (λ j h. R (suc j) (omega arith)))
 
 pub stored-stands : (ws : List ℤ) (s : ℕ) (m : Store) (a : ℕ) (zs ws' : List ℤ) → Stands ws s m → AllRanged zs → Written ws a zs ws' → Stands ws' s (stored a zs m)
 stored-stands ws s m a zs ws' S R W =
     subst (λ (ms : List ℕ). Stands ws' s (overwritten a zs ms m)) (marks-same zs R)
-    (subst (λ (vs : List ℤ). Stands ws' s (overwritten a vs (map markIn zs) m)) (values_same zs R) (written_stands ws s m a zs ws' S (λ j h. inl (R j h)) W))
+    (subst (λ (vs : List ℤ). Stands ws' s (overwritten a vs (map mark_in zs) m)) (values_same zs R) (written_stands ws s m a zs ws' S (λ j h. inl (R j h)) W))
 
 -- ---- the parameters of a call: its arguments, and nothing
 pub given-stands : (ws : List ℤ) (s : ℕ) (m : Store) (a k : ℕ) (us zs ws' : List ℤ) → Stands ws s m → AllRanged zs → length zs ≡ k → ((j : ℕ) → j < k → get_or us j (pos 0) ≡ get_or zs j (pos 0)) → Gives ws a k us ws'
@@ -191,24 +191,24 @@ given-stands ws s m a k us zs ws' S R l e G = go (G.says S.long)
       beside = F.beside;
     })
 
-undefined-values : (k : ℕ) → map valueIn (replicate k undefinedWord) ≡ replicate k (pos 0)
-unfolding valueIn pick
+undefined-values : (k : ℕ) → map value_in (replicate k undefined_word) ≡ replicate k (pos 0)
+unfolding value_in pick
 undefined-values zero = refl
 undefined-values (suc k) = ap (λ (zs : List ℤ). pos 0 ∷ zs) (undefined-values k)
 
-undefined-marks : (k : ℕ) → map markIn (replicate k undefinedWord) ≡ replicate k undefined
-unfolding markIn pick
+undefined-marks : (k : ℕ) → map mark_in (replicate k undefined_word) ≡ replicate k undefined
+unfolding mark_in pick
 undefined-marks zero = refl
 undefined-marks (suc k) = ap (λ (ms : List ℕ). undefined ∷ ms) (undefined-marks k)
 
-module _ (ws : List ℤ) (a k : ℕ) (ws' : List ℤ) (F : Fills ws a (λ j. undefinedWord) k ws') where
-  count : length (replicate k undefinedWord) ≡ k
-  count = length-replicate k undefinedWord
+module _ (ws : List ℤ) (a k : ℕ) (ws' : List ℤ) (F : Fills ws a (λ j. undefined_word) k ws') where
+  count : length (replicate k undefined_word) ≡ k
+  count = length-replicate k undefined_word
 
-  undefined-at : (j : ℕ) → j < length (replicate k undefinedWord) → get_or (replicate k undefinedWord) j (pos 0) ≡ undefinedWord
-  undefined-at j h = get_or-replicate k j undefinedWord (pos 0) (omega (arith, h, count))
+  undefined-at : (j : ℕ) → j < length (replicate k undefined_word) → get_or (replicate k undefined_word) j (pos 0) ≡ undefined_word
+  undefined-at j h = get_or-replicate k j undefined_word (pos 0) (omega (arith, h, count))
 
-  undefined-written : Written ws a (replicate k undefinedWord) ws'
+  undefined-written : Written ws a (replicate k undefined_word) ws'
   undefined-written = record {
     here = λ j h g. F.here j (omega (arith, h, count)) g ∙ sym (undefined-at j h);
     below = F.below;
@@ -220,8 +220,8 @@ module _ (ws : List ℤ) (a k : ℕ) (ws' : List ℤ) (F : Fills ws a (λ j. und
   undefined-stands : (s : ℕ) (m : Store) → Stands ws s m → Stands ws' s (forgotten a k m)
   undefined-stands s m S =
       subst (λ (ms : List ℕ). Stands ws' s (overwritten a (replicate k (pos 0)) ms m)) (undefined-marks k)
-      (subst (λ (vs : List ℤ). Stands ws' s (overwritten a vs (map markIn (replicate k undefinedWord)) m)) (undefined-values k)
-      (written_stands ws s m a (replicate k undefinedWord) ws' S (λ j h. inr (undefined-at j h)) undefined-written))
+      (subst (λ (vs : List ℤ). Stands ws' s (overwritten a vs (map mark_in (replicate k undefined_word)) m)) (undefined-values k)
+      (written_stands ws s m a (replicate k undefined_word) ws' S (λ j h. inr (undefined-at j h)) undefined-written))
 
 pub forgotten-stands : (ws : List ℤ) (s : ℕ) (m : Store) (a k : ℕ) (ws' : List ℤ) → Stands ws s m → Forgets ws a k ws' → Stands ws' s (forgotten a k m)
 forgotten-stands ws s m a k ws' S G = undefined-stands ws a k ws' (G.says S.long) s m S
@@ -229,10 +229,10 @@ forgotten-stands ws s m a k ws' S G = undefined-stands ws a k ws' (G.says S.long
 -- ---- one cell; the place was capped, where no store has a cell
 module _ (ws : List ℤ) (a b : ℕ) (us ws' : List ℤ) (e : b ≡ min a 4294967295) where
   -- past every cell nothing is stored
-  none_written : ((i : ℕ) → storeWord ws' i ≡ storeWord ws i) → length ws' ≡ length ws → ((i : ℕ) → store_cells ≤ i → get_or ws' i (pos 0) ≡ get_or ws i (pos 0)) → store_cells ≤ a → Written ws a us ws'
+  none_written : ((i : ℕ) → store_word ws' i ≡ store_word ws i) → length ws' ≡ length ws → ((i : ℕ) → store_cells ≤ i → get_or ws' i (pos 0) ≡ get_or ws i (pos 0)) → store_cells ≤ a → Written ws a us ws'
   none_written h l b g = record { here = λ j i k. absurd (omega arith); below = λ i k. h i; above = λ i k. h i; long = l; beside = b }
 
-  unput : (z : ℤ) → Puts ws b z ws' → store_cells ≤ b → (i : ℕ) → (store_cells ≤ i) ⊎ (i < store_cells) → storeWord ws' i ≡ storeWord ws i
+  unput : (z : ℤ) → Puts ws b z ws' → store_cells ≤ b → (i : ℕ) → (store_cells ≤ i) ⊎ (i < store_cells) → store_word ws' i ≡ store_word ws i
   unput z P h i (inl g) = past_word ws' i g ∙ sym (past_word ws i g)
   unput z P h i (inr g) = put_other P i (λ k. absurd (omega (arith, k, g, h)))
 
@@ -245,9 +245,9 @@ module _ (ws : List ℤ) (a b : ℕ) (us ws' : List ℤ) (e : b ≡ min a 429496
     beside = put-beside P;
   }
     where
-      here : (j : ℕ) → j ≡ 0 → a + j < store_cells → storeWord ws' (a + j) ≡ get_or us j (pos 0)
+      here : (j : ℕ) → j ≡ 0 → a + j < store_cells → store_word ws' (a + j) ≡ get_or us j (pos 0)
       here j h k =
-          ap (storeWord ws') (omega (arith, h)) ∙ put-at P l (omega (arith, h, k)) ∙ sym (ap (λ (y : List ℤ). get_or y j (pos 0)) f ∙ ap (λ (i : ℕ). get_or (z ∷ []) i (pos 0)) h)
+          ap (store_word ws') (omega (arith, h)) ∙ put-at P l (omega (arith, h, k)) ∙ sym (ap (λ (y : List ℤ). get_or y j (pos 0)) f ∙ ap (λ (i : ℕ). get_or (z ∷ []) i (pos 0)) h)
 
   pub put_written : (z : ℤ) → length ws ≡ store_words → Puts ws b z ws' → us ≡ z ∷ [] → Written ws a us ws'
   put_written z l P f = go (le-or-lt a 4294967295)
@@ -256,11 +256,11 @@ module _ (ws : List ℤ) (a b : ℕ) (us ws' : List ℤ) (e : b ≡ min a 429496
       go (inl h) = one_written z l (subst (λ (x : ℕ). Puts ws x z ws') (omega (arith, e, h)) P) f
       go (inr h) = none_written (λ i. unput z P (omega (arith, e, h)) i (le-or-lt store_cells i)) (put-long P) (put-beside P) (omega arith)
 
-  uncopied : (s k : ℕ) → Copies ws s b 0 k ws' → store_cells ≤ b → (i : ℕ) → (store_cells ≤ i) ⊎ (i < store_cells) → storeWord ws' i ≡ storeWord ws i
+  uncopied : (s k : ℕ) → Copies ws s b 0 k ws' → store_cells ≤ b → (i : ℕ) → (store_cells ≤ i) ⊎ (i < store_cells) → store_word ws' i ≡ store_word ws i
   uncopied s k C h i (inl g) = past_word ws' i g ∙ sym (past_word ws i g)
   uncopied s k C h i (inr g) = C.below i (omega arith)
 
-  all-written : (s : ℕ) → ((j : ℕ) → j < length us → storeWord ws (s + j) ≡ get_or us j (pos 0)) → Copies ws s a 0 (length us) ws' → Written ws a us ws'
+  all-written : (s : ℕ) → ((j : ℕ) → j < length us → store_word ws (s + j) ≡ get_or us j (pos 0)) → Copies ws s a 0 (length us) ws' → Written ws a us ws'
   all-written s g C = record {
     here = λ j i k. C.here j (omega arith) i k ∙ g j i;
     below = λ i h. C.below i (omega arith);
@@ -269,7 +269,7 @@ module _ (ws : List ℤ) (a b : ℕ) (us ws' : List ℤ) (e : b ≡ min a 429496
     beside = C.beside;
   }
 
-  pub copy_written : (s : ℕ) → ((j : ℕ) → j < length us → storeWord ws (s + j) ≡ get_or us j (pos 0)) → Copies ws s b 0 (length us) ws' → Written ws a us ws'
+  pub copy_written : (s : ℕ) → ((j : ℕ) → j < length us → store_word ws (s + j) ≡ get_or us j (pos 0)) → Copies ws s b 0 (length us) ws' → Written ws a us ws'
   copy_written s g C = go (le-or-lt a 4294967295)
     where
       go : (a ≤ 4294967295) ⊎ (4294967295 < a) → Written ws a us ws'
@@ -292,21 +292,21 @@ module _ (n : ℕ) (lo hi w x : ℤ) (ws : List ℤ) (s : ℕ) (r : ℕ) (fl : S
   in_bounds = sym (I ∙ rw (to_z-of_z fl, to_z-of_z fh, to_z-of_z fx))
 
   pub ordinal-out : (ws' : List ℤ) → o ≡ false → Raises (negsuc 102) n ws s ws' r → StoresOrdinal n lo hi w x ws s ws' r
-  unfolding storeOrdinal InRange inside
+  unfolding store_ordinal InRange inside
   ordinal-out ws' y R = record {
     says = λ q a e. record {
-      says = λ m S. subst (λ (b : Bool). Ends (branch b (λ (t : State). answer normal (state (stored a (x ∷ []) t.store) t.left)) (raising rangeError n) (state m s)) ws' r) (sym (in_bounds ∙ y))
-          (raising-ends ws s m S rangeError n ws' r refl R);
+      says = λ m S. subst (λ (b : Bool). Ends (branch b (λ (t : State). answer normal (state (stored a (x ∷ []) t.store) t.left)) (raising range_error n) (state m s)) ws' r) (sym (in_bounds ∙ y))
+          (raising-ends ws s m S range_error n ws' r refl R);
     };
     fewer = raised-fewer (negsuc 102) n ws s ws' r R;
     plain = λ h. raised-low s r R.word;
   }
 
   pub ordinal-in : (b : ℕ) (ws' : List ℤ) → SFits w64 w → o ≡ true → Addresses (wire w) b → Puts ws b (wire x) ws' → r ≡ s → StoresOrdinal n lo hi w x ws s ws' r
-  unfolding storeOrdinal
+  unfolding store_ordinal
   ordinal-in b ws' fw y B W z = subst (λ (t : ℕ). StoresOrdinal n lo hi w x ws s ws' t) (sym z) (record {
     says = λ q a e. record {
-      says = λ m S. subst (λ (b : Bool). Ends (branch b (λ (t : State). answer normal (state (stored a (x ∷ []) t.store) t.left)) (raising rangeError n) (state m s)) ws' s) (sym (in_bounds ∙ y))
+      says = λ m S. subst (λ (b : Bool). Ends (branch b (λ (t : State). answer normal (state (stored a (x ∷ []) t.store) t.left)) (raising range_error n) (state m s)) ws' s) (sym (in_bounds ∙ y))
           (normal-ends ws' s (stored a (x ∷ []) m)
           (put-stands ws s m a b x ws' S q (B.says (min a 4294967295) (omega arith) (to_z-of_z fw ∙ e)) (rw (to_z-of_z fx) at W)));
     };
@@ -322,7 +322,7 @@ module _ (n : ℕ) (w : ℤ) (ws : List ℤ) (s : ℕ) (b : ℕ) (ws' : List ℤ
   spot a e = B.says (min a 4294967295) (omega arith) (to_z-of_z fw ∙ e)
 
   pub one-put : (x : ℤ) → SFits w64 x → Puts ws b (wire x) ws' → r ≡ s → StoresOne n w x ws s ws' r
-  unfolding storeWhole
+  unfolding store_whole
   one-put x fx W z = subst (λ (t : ℕ). StoresOne n w x ws s ws' t) (sym z) (record {
     says = λ q a e. record { says = λ m S. normal-ends ws' s (stored a (x ∷ []) m) (put-stands ws s m a b x ws' S q (spot a e) (rw (to_z-of_z fx) at W)) };
     fewer = left-most s;
@@ -330,7 +330,7 @@ module _ (n : ℕ) (w : ℤ) (ws : List ℤ) (s : ℕ) (b : ℕ) (ws' : List ℤ
   })
 
   pub cells-copied : (c k : ℕ) → Copying ws c b k ws' → r ≡ s → StoresCells n c k w ws s ws' r
-  unfolding storeWhole
+  unfolding store_whole
   cells-copied c k W z = subst (λ (t : ℕ). StoresCells n c k w ws s ws' t) (sym z) (record {
     says = λ zs C a e. record {
       says = λ m S. normal-ends ws' s (stored a zs m)
@@ -343,7 +343,7 @@ module _ (n : ℕ) (w : ℤ) (ws : List ℤ) (s : ℕ) (b : ℕ) (ws' : List ℤ
 -- ---- cells that are read: each is a value, or all fail
 pub record AllRead (ws : List ℤ) (m : Store) (a n : ℕ) : Type 0 where
   pub zs : List ℤ
-  pub gives : readCells a n m ≡ is zs
+  pub gives : read_cells a n m ≡ is zs
   pub cells : CellsAre ws a n zs
 
 and_left : (a b : Bool) → a && b ≡ true → a ≡ true
@@ -355,76 +355,76 @@ and_right true b h = h
 and_right false b h = absurd (subst T (sym h) tt)
 
 module _ (ws : List ℤ) (m : Store) (H : Holds ws m) where
-  low-cell : (a : ℕ) → le_z (storeWord ws a) greatest ≡ true → Value (readCell a m) (storeWord ws a)
-  low-cell a h = word_value (readCell a m) (storeWord ws a) (H.cells a) (le_not (storeWord ws a) greatest h)
+  low-cell : (a : ℕ) → le_z (store_word ws a) greatest ≡ true → Value (read_cell a m) (store_word ws a)
+  low-cell a h = word_value (read_cell a m) (store_word ws a) (H.cells a) (le_not (store_word ws a) greatest h)
 
   -- an undefined cell is the only fault
-  high-cell : (a : ℕ) → le_z (storeWord ws a) greatest ≡ false → readCell a m ≡ fails undefinedError
-  unfolding readCell pick
-  high-cell a h = go (isDefined (get_or m.marks a undefined)) refl
+  high-cell : (a : ℕ) → le_z (store_word ws a) greatest ≡ false → read_cell a m ≡ fails undefined_error
+  unfolding read_cell pick
+  high-cell a h = go (is_defined (get_or m.marks a undefined)) refl
     where
-      go : (b : Bool) → isDefined (get_or m.marks a undefined) ≡ b → readCell a m ≡ fails undefinedError
+      go : (b : Bool) → is_defined (get_or m.marks a undefined) ≡ b → read_cell a m ≡ fails undefined_error
       go true e =
-          let r : readCell a m ≡ is (get_or m.values a (pos 0)) = ap (λ (b : Bool). pick b (is (get_or m.values a (pos 0))) (fails undefinedError)) e in
-          absurd (value-not-fault (get_or m.values a (pos 0)) (storeWord ws a) (subst (Means (storeWord ws a)) r (H.cells a)) (not-le (storeWord ws a) greatest h))
-      go false e = ap (λ (b : Bool). pick b (is (get_or m.values a (pos 0))) (fails undefinedError)) e
+          let r : read_cell a m ≡ is (get_or m.values a (pos 0)) = ap (λ (b : Bool). pick b (is (get_or m.values a (pos 0))) (fails undefined_error)) e in
+          absurd (value-not-fault (get_or m.values a (pos 0)) (store_word ws a) (subst (Means (store_word ws a)) r (H.cells a)) (not-le (store_word ws a) greatest h))
+      go false e = ap (λ (b : Bool). pick b (is (get_or m.values a (pos 0))) (fails undefined_error)) e
 
-  pub cells-read : (n a : ℕ) → allValues ws a n ≡ true → AllRead ws m a n
-  unfolding allValues readCells
+  pub cells-read : (n a : ℕ) → all_values ws a n ≡ true → AllRead ws m a n
+  unfolding all_values read_cells
   cells-read zero a h = record { zs = []; gives = refl; cells = record { count = refl; here = λ j g. absurd (omega arith); ranged = λ j g. absurd (omega arith) } }
   cells-read (suc n) a h =
-      let f : le_z (storeWord ws a) greatest ≡ true = and_left (le_z (storeWord ws a) greatest) (allValues ws (a + 1) n) h in
-      let C : Value (readCell a m) (storeWord ws a) = low-cell a f in
-      let R : AllRead ws m (a + 1) n = cells-read n (a + 1) (and_right (le_z (storeWord ws a) greatest) (allValues ws (a + 1) n) h) in
-      let g : readCells (suc a) n m ≡ is R.zs = ap (λ (x : ℕ). readCells x n m) (omega arith) ∙ R.gives in
+      let f : le_z (store_word ws a) greatest ≡ true = and_left (le_z (store_word ws a) greatest) (all_values ws (a + 1) n) h in
+      let C : Value (read_cell a m) (store_word ws a) = low-cell a f in
+      let R : AllRead ws m (a + 1) n = cells-read n (a + 1) (and_right (le_z (store_word ws a) greatest) (all_values ws (a + 1) n) h) in
+      let g : read_cells (suc a) n m ≡ is R.zs = ap (λ (x : ℕ). read_cells x n m) (omega arith) ∙ R.gives in
       record {
-        zs = storeWord ws a ∷ R.zs;
+        zs = store_word ws a ∷ R.zs;
         gives = rw (C.gives, g);
         cells = record { count = ap suc R.cells.count; here = here a R.zs R.cells.here; ranged = ranged a R.zs C.ranged R.cells.ranged };
       }
     where
-      here : (a : ℕ) (zs : List ℤ) → ((j : ℕ) → j < length zs → storeWord ws (a + 1 + j) ≡ get_or zs j (pos 0)) → (j : ℕ) → j < length (storeWord ws a ∷ zs) → storeWord ws (a + j) ≡ get_or (storeWord ws a ∷ zs) j (pos 0)
-      here a zs f zero g = ap (storeWord ws) (omega arith)
-      here a zs f (suc j) g = ap (storeWord ws) (omega arith) ∙ f j (omega arith)
+      here : (a : ℕ) (zs : List ℤ) → ((j : ℕ) → j < length zs → store_word ws (a + 1 + j) ≡ get_or zs j (pos 0)) → (j : ℕ) → j < length (store_word ws a ∷ zs) → store_word ws (a + j) ≡ get_or (store_word ws a ∷ zs) j (pos 0)
+      here a zs f zero g = ap (store_word ws) (omega arith)
+      here a zs f (suc j) g = ap (store_word ws) (omega arith) ∙ f j (omega arith)
 
-      ranged : (a : ℕ) (zs : List ℤ) → InRange (storeWord ws a) → AllRanged zs → AllRanged (storeWord ws a ∷ zs)
+      ranged : (a : ℕ) (zs : List ℤ) → InRange (store_word ws a) → AllRanged zs → AllRanged (store_word ws a ∷ zs)
       ranged a zs f r zero g = f
       ranged a zs f r (suc j) g = r j (omega arith)
 
-  pub cells-fail : (n a : ℕ) → allValues ws a n ≡ false → readCells a n m ≡ fails undefinedError
-  unfolding allValues readCells
+  pub cells-fail : (n a : ℕ) → all_values ws a n ≡ false → read_cells a n m ≡ fails undefined_error
+  unfolding all_values read_cells
   cells-fail zero a h = absurd (subst T h tt)
-  cells-fail (suc n) a h = go (le_z (storeWord ws a) greatest) refl h (λ g. cells-fail n (a + 1) g)
+  cells-fail (suc n) a h = go (le_z (store_word ws a) greatest) refl h (λ g. cells-fail n (a + 1) g)
     where
-      go : (b : Bool) → le_z (storeWord ws a) greatest ≡ b → le_z (storeWord ws a) greatest && allValues ws (a + 1) n ≡ false
-          → (allValues ws (a + 1) n ≡ false → readCells (a + 1) n m ≡ fails undefinedError) → readCells a (suc n) m ≡ fails undefinedError
+      go : (b : Bool) → le_z (store_word ws a) greatest ≡ b → le_z (store_word ws a) greatest && all_values ws (a + 1) n ≡ false
+          → (all_values ws (a + 1) n ≡ false → read_cells (a + 1) n m ≡ fails undefined_error) → read_cells a (suc n) m ≡ fails undefined_error
       go false e h rest = rw (high-cell a e)
       go true e h rest =
-          let C : Value (readCell a m) (storeWord ws a) = low-cell a e in
-          let f : readCells (suc a) n m ≡ fails undefinedError =
-          ap (λ (x : ℕ). readCells x n m) (omega arith) ∙ rest (sym (ap (λ (b : Bool). b && allValues ws (a + 1) n) e) ∙ h) in
+          let C : Value (read_cell a m) (store_word ws a) = low-cell a e in
+          let f : read_cells (suc a) n m ≡ fails undefined_error =
+          ap (λ (x : ℕ). read_cells x n m) (omega arith) ∙ rest (sym (ap (λ (b : Bool). b && all_values ws (a + 1) n) e) ∙ h) in
           rw (C.gives, f)
 
   -- what the word of some cells says
-  pub cells-value : (n a : ℕ) (x : ℤ) → x ≡ cellsWord ws a n → lt_z greatest x ≡ false → AllRead ws m a n
-  unfolding cellsWord pick allValues
+  pub cells-value : (n a : ℕ) (x : ℤ) → x ≡ cells_word ws a n → lt_z greatest x ≡ false → AllRead ws m a n
+  unfolding cells_word pick all_values
   cells-value zero a x e h = cells-read 0 a refl
-  cells-value (suc n) a x e h = go (allValues ws a (suc n)) refl
+  cells-value (suc n) a x e h = go (all_values ws a (suc n)) refl
     where
-      go : (b : Bool) → allValues ws a (suc n) ≡ b → AllRead ws m a (suc n)
+      go : (b : Bool) → all_values ws a (suc n) ≡ b → AllRead ws m a (suc n)
       go true f = cells-read (suc n) a f
-      go false f = absurd (subst T (ap (λ (b : Bool). lt_z greatest (pick b (storeWord ws a) undefinedWord)) (sym f) ∙ ap (lt_z greatest) (sym e) ∙ h) tt)
+      go false f = absurd (subst T (ap (λ (b : Bool). lt_z greatest (pick b (store_word ws a) undefined_word)) (sym f) ∙ ap (lt_z greatest) (sym e) ∙ h) tt)
 
-  pub cells-fault : (n a : ℕ) (x : ℤ) → x ≡ cellsWord ws a n → lt_z greatest x ≡ true → Faulty (readCells a n m) x
-  unfolding cellsWord pick allValues faultIn InRange inside
+  pub cells-fault : (n a : ℕ) (x : ℤ) → x ≡ cells_word ws a n → lt_z greatest x ≡ true → Faulty (read_cells a n m) x
+  unfolding cells_word pick all_values fault_in InRange inside
   cells-fault zero a x e h = absurd (subst T (sym h ∙ ap (lt_z greatest) e) tt)
-  cells-fault (suc n) a x e h = go (allValues ws a (suc n)) refl
+  cells-fault (suc n) a x e h = go (all_values ws a (suc n)) refl
     where
-      go : (b : Bool) → allValues ws a (suc n) ≡ b → Faulty (readCells a (suc n) m) x
+      go : (b : Bool) → all_values ws a (suc n) ≡ b → Faulty (read_cells a (suc n) m) x
       go true f =
-          let z : x ≡ storeWord ws a = e ∙ ap (λ (b : Bool). pick b (storeWord ws a) undefinedWord) f in
-          absurd (subst T (sym h ∙ ap (lt_z greatest) z ∙ le_not (storeWord ws a) greatest (and_left (le_z (storeWord ws a) greatest) (allValues ws (a + 1) n) f)) tt)
+          let z : x ≡ store_word ws a = e ∙ ap (λ (b : Bool). pick b (store_word ws a) undefined_word) f in
+          absurd (subst T (sym h ∙ ap (lt_z greatest) z ∙ le_not (store_word ws a) greatest (and_left (le_z (store_word ws a) greatest) (all_values ws (a + 1) n) f)) tt)
       go false f =
-          let z : x ≡ undefinedWord = e ∙ ap (λ (b : Bool). pick b (storeWord ws a) undefinedWord) f in
-          let y : faultIn x ≡ undefinedError = ap faultIn z in
+          let z : x ≡ undefined_word = e ∙ ap (λ (b : Bool). pick b (store_word ws a) undefined_word) f in
+          let y : fault_in x ≡ undefined_error = ap fault_in z in
           record { gives = cells-fail (suc n) a f ∙ ap (λ (k : ℤ). fails k) (sym y); ranged = subst InRange (sym y) refl }

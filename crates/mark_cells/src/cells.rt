@@ -1,7 +1,7 @@
 // Storing into cells; one past the last changes nothing.
 ghost use Rattle.std.specs.Prelude.{◌≡◌, ◌+◌, pos, get_or};
 ghost use Rattle.mark_cells.specs.Cells.{Puts, upwards, downwards, made, Copying, Addresses, StoresOrdinal, StoresOne, StoresCells, Gives, Forgets};
-ghost use Rattle.code_calc.specs.Words.{storeWord};
+ghost use Rattle.code_calc.specs.Words.{store_word};
 
 use code_calc::cells::cell;
 use code_calc::words::{CELLS, RANGE_ERROR, Store, UNDEFINED};
@@ -43,7 +43,7 @@ fn put_after(store: &mut Store, a: u32, i: u32, z: i64)
 
 // One cell copied: that at s + i into that at a + i.
 fn copy_one(store: &mut Store, s: u32, a: u32, i: u32)
-    ensures { Puts store.old (a + i) (storeWord store.old (s + i)) store.new }
+    ensures { Puts store.old (a + i) (store_word store.old (s + i)) store.new }
 {
     let z = cell(store, s as usize + i as usize);
     put_after(store, a, i, z);

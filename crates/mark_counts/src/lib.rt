@@ -1,8 +1,8 @@
 // How many statements a part of a text holds: where a walk passes the part, the next statement's number is by so much higher.
 ghost use Rattle.std.specs.Prelude.{◌≡◌, ◌+◌};
 ghost use Rattle.law.specs.Trees.{first};
-ghost use Rattle.law_theorems.specs.Readings.{stackAt};
-ghost use Rattle.mark_counts.specs.Statements.{oneFor, headVerbs, verbsIn, Room, shutFrom, Moves, CountsStatements};
+ghost use Rattle.law_theorems.specs.Readings.{stack_at};
+ghost use Rattle.mark_counts.specs.Statements.{one_for, head_verbs, verbs_in, Room, shut_from, Moves, CountsStatements};
 
 use text_heads::{Verb, verb_of};
 use text_parts::{Part, part_at};
@@ -16,7 +16,7 @@ pub enum Move {
 
 // A statement's head is one.
 fn one_for(v: Verb) -> usize
-    ensures { result ≡ oneFor v }
+    ensures { result ≡ one_for v }
 {
     match v {
         Verb::Assign => 1,
@@ -33,7 +33,7 @@ fn one_for(v: Verb) -> usize
 
 // One, where the form whose parts begin at an offset is a statement.
 fn head_at(text: &[u8], at: usize) -> usize
-    ensures { result ≡ headVerbs (first (stackAt text.now at)) }
+    ensures { result ≡ head_verbs (first (stack_at text.now at)) }
 {
     let part = part_at(text, at);
     match part {
@@ -45,7 +45,7 @@ fn head_at(text: &[u8], at: usize) -> usize
 
 // Past a closing bracket that ends at q, where m forms are open and n statements counted.
 fn shut(q: usize, m: usize, n: usize) -> Move
-    ensures { result ≡ shutFrom q m n }
+    ensures { result ≡ shut_from q m n }
 {
     if m == 0 {
         return Move::Out;
@@ -68,7 +68,7 @@ fn step(text: &[u8], p: usize, m: usize, n: usize) -> Move
 
 // The statements in the form whose parts begin at an offset, itself among them.
 fn count_form(text: &[u8], at: usize) -> usize
-    ensures { result ≡ headVerbs (first (stackAt text.now at)) + verbsIn (first (stackAt text.now at)) }
+    ensures { result ≡ head_verbs (first (stack_at text.now at)) + verbs_in (first (stack_at text.now at)) }
 {
     let mut p = at;
     let mut m = 0;

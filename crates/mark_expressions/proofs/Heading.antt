@@ -10,17 +10,17 @@ use Rattle.leaf_words.specs.declared.words.Word.{Word}
 use Rattle.leaf_words.specs.Words.{word_of}
 use Rattle.law.specs.Base.{◌>>=◌}
 use Rattle.law.specs.Trees.{word, form, Trees, end, ◌then◌, Run, first, later, word_at}
-use Rattle.law_theorems.specs.Readings.{stackAt}
+use Rattle.law_theorems.specs.Readings.{stack_at}
 use Rattle.text_heads.specs.declared.ExprHead.{ExprHead}
 use Rattle.text_heads.specs.declared.ExprHead.TheVariants as EH
-use Rattle.text_heads.specs.Heads.{exprHeadOf}
-use Rattle.text_heads.specs.Parts.{exprIn, targetIn, targetBy, part_of}
+use Rattle.text_heads.specs.Heads.{expr_head_of}
+use Rattle.text_heads.specs.Parts.{expr_in, target_in, target_by, part_of}
 use Rattle.text_heads.proofs.Heads.{expr-head-is, expr-word, target-word}
 use Rattle.text_heads.proofs.Expressions.{expr-form, expr-end, expr-zero, expr-empty, expr-headless, target-form, target-end, target-zero, target-empty, target-headless}
 use Rattle.text_parts.specs.declared.Part.{Part}
 use Rattle.text_parts.specs.declared.Part.TheVariants as part
 use Rattle.text_parts.specs.Parts.{Stands}
-use Rattle.rule_expressions.specs.Walks.{formIn}
+use Rattle.rule_expressions.specs.Walks.{form_in}
 use Rattle.mark_values.specs.declared.values.Carried.{Carried}
 use Rattle.mark_values.specs.declared.places.Reached.{Reached}
 use Rattle.mark_expressions.specs.Marks.{MarksExpr, MarksTarget, MarksForm, MarksPlace, MarksInner, MarksInnerPlace, MarksWord, MarksVar}
@@ -32,20 +32,20 @@ fuel zero h = absurd (h refl)
 fuel (suc d) h = omega arith
 
 -- the form's first part decides, not what stands after the form
-expr-alone : (d : ℕ) (us ts : Trees Run) → exprIn d (form us then ts) ≡ exprIn d (form us then end)
-unfolding exprIn part_of
+expr-alone : (d : ℕ) (us ts : Trees Run) → expr_in d (form us then ts) ≡ expr_in d (form us then end)
+unfolding expr_in part_of
 expr-alone d us ts = refl
 
-target-alone : (d : ℕ) (us ts : Trees Run) → targetIn d (form us then ts) ≡ targetIn d (form us then end)
-unfolding targetIn part_of
+target-alone : (d : ℕ) (us ts : Trees Run) → target_in d (form us then ts) ≡ target_in d (form us then end)
+unfolding target_in part_of
 target-alone d us ts = refl
 
 module _ (s l ts : List ℕ) (ws : List ℤ) (scope : Scope) (d at : ℕ) where
   pub expr-deep : (r : Carried) → d ≡ 0 → MarksExpr s l ts ws scope d at r
-  expr-deep r h = record { says = λ σ S. no-expr (rw h (expr-zero (first (stackAt s at)))) }
+  expr-deep r h = record { says = λ σ S. no-expr (rw h (expr-zero (first (stack_at s at)))) }
 
   pub target-deep : (r : Reached) → d ≡ 0 → MarksTarget s l ts ws scope d at r
-  target-deep r h = record { says = λ σ S. no_target (rw h (target-zero (first (stackAt s at)))) }
+  target-deep r h = record { says = λ σ S. no_target (rw h (target-zero (first (stack_at s at)))) }
 
   module _ (x : Part) (c : Stands s at x) where
     pub expr-shut : (q : ℕ) (r : Carried) → x ≡ part.Shut q → MarksExpr s l ts ws scope d at r
@@ -57,22 +57,22 @@ module _ (s l ts : List ℕ) (ws : List ℤ) (scope : Scope) (d at : ℕ) where
     pub expr-leaf : (w : Word) (p q : ℕ) (r : Carried) → ((d ≡ 0) → ⊥) → x ≡ part.Leaf w p q → MarksWord s l ts ws scope w p r → MarksExpr s l ts ws scope d at r
     expr-leaf w p q r n h W =
         let f = rw h at c.says in
-        record { says = λ σ S. rw (f.0.leaf.here, ← fuel d n, expr-word (d - 1) (word_at s p) (first (stackAt s q)), ← f.1) (W.says σ S f.1) }
+        record { says = λ σ S. rw (f.0.leaf.here, ← fuel d n, expr-word (d - 1) (word_at s p) (first (stack_at s q)), ← f.1) (W.says σ S f.1) }
 
     pub target-leaf : (w : Word) (p q : ℕ) (r : Reached) → ((d ≡ 0) → ⊥) → x ≡ part.Leaf w p q → MarksVar s l scope w p r → MarksTarget s l ts ws scope d at r
     target-leaf w p q r n h W =
         let f = rw h at c.says in
-        record { says = λ σ S. rw (f.0.leaf.here, ← fuel d n, target-word (d - 1) (word_at s p) (first (stackAt s q)), ← f.1) (W.says ts ws σ S f.1) }
+        record { says = λ σ S. rw (f.0.leaf.here, ← fuel d n, target-word (d - 1) (word_at s p) (first (stack_at s q)), ← f.1) (W.says ts ws σ S f.1) }
 
     pub expr-inner : (p : ℕ) (r : Carried) → ((d ≡ 0) → ⊥) → x ≡ part.Form p → MarksInner s l ts ws scope (d - 1) p r → MarksExpr s l ts ws scope d at r
     expr-inner p r n h I =
         let f = rw h at c.says in
-        record { says = λ σ S. rw (f.here, ← fuel d n, expr-alone (suc (d - 1)) (first (stackAt s p)) (first (later (stackAt s p)))) (I.says σ S) }
+        record { says = λ σ S. rw (f.here, ← fuel d n, expr-alone (suc (d - 1)) (first (stack_at s p)) (first (later (stack_at s p)))) (I.says σ S) }
 
     pub target-inner : (p : ℕ) (r : Reached) → ((d ≡ 0) → ⊥) → x ≡ part.Form p → MarksInnerPlace s l ts ws scope (d - 1) p r → MarksTarget s l ts ws scope d at r
     target-inner p r n h I =
         let f = rw h at c.says in
-        record { says = λ σ S. rw (f.here, ← fuel d n, target-alone (suc (d - 1)) (first (stackAt s p)) (first (later (stackAt s p)))) (I.says σ S) }
+        record { says = λ σ S. rw (f.here, ← fuel d n, target-alone (suc (d - 1)) (first (stack_at s p)) (first (later (stack_at s p)))) (I.says σ S) }
 
     -- ---- the head word
 
@@ -80,27 +80,27 @@ module _ (s l ts : List ℕ) (ws : List ℤ) (scope : Scope) (d at : ℕ) where
     inner-shut q r h = let f = rw h at c.says in record { says = λ σ S. no-expr (rw f.here (expr-empty (suc d) end)) }
 
     pub inner-form : (p : ℕ) (r : Carried) → x ≡ part.Form p → MarksInner s l ts ws scope d at r
-    inner-form p r h = let f = rw h at c.says in record { says = λ σ S. no-expr (rw f.here (expr-headless (suc d) (first (stackAt s p)) (first (later (stackAt s p))) end)) }
+    inner-form p r h = let f = rw h at c.says in record { says = λ σ S. no-expr (rw f.here (expr-headless (suc d) (first (stack_at s p)) (first (later (stack_at s p))) end)) }
 
     pub place-shut : (q : ℕ) (r : Reached) → x ≡ part.Shut q → MarksInnerPlace s l ts ws scope d at r
     place-shut q r h = let f = rw h at c.says in record { says = λ σ S. no_target (rw f.here (target-empty (suc d) end)) }
 
     pub place-form : (p : ℕ) (r : Reached) → x ≡ part.Form p → MarksInnerPlace s l ts ws scope d at r
-    place-form p r h = let f = rw h at c.says in record { says = λ σ S. no_target (rw f.here (target-headless (suc d) (first (stackAt s p)) (first (later (stackAt s p))) end)) }
+    place-form p r h = let f = rw h at c.says in record { says = λ σ S. no_target (rw f.here (target-headless (suc d) (first (stack_at s p)) (first (later (stack_at s p))) end)) }
 
-    module _ (w : Word) (p q : ℕ) (h : x ≡ part.Leaf w p q) (k : ExprHead) (i : k ≡ exprHeadOf w) where
+    module _ (w : Word) (p q : ℕ) (h : x ≡ part.Leaf w p q) (k : ExprHead) (i : k ≡ expr_head_of w) where
       pub inner-head : (r : Carried) → MarksForm s l ts ws scope k d q r → MarksInner s l ts ws scope d at r
-      unfolding formIn
+      unfolding form_in
       inner-head r F =
           let f = rw h at c.says in
-          let j : k ≡ exprHeadOf (word_of (word_at s p)) = i ∙ ap exprHeadOf f.1 in
-          record { says = λ σ S. rw (f.0.leaf.here, expr-form d (word_at s p) (first (stackAt s q)) end, expr-head-is (word_at s p), ← j) (F.says σ S) }
+          let j : k ≡ expr_head_of (word_of (word_at s p)) = i ∙ ap expr_head_of f.1 in
+          record { says = λ σ S. rw (f.0.leaf.here, expr-form d (word_at s p) (first (stack_at s q)) end, expr-head-is (word_at s p), ← j) (F.says σ S) }
 
       pub place-head : (r : Reached) → MarksPlace s l ts ws scope k d q r → MarksInnerPlace s l ts ws scope d at r
       place-head r F =
           let f = rw h at c.says in
-          let j : k ≡ exprHeadOf (word_of (word_at s p)) = i ∙ ap exprHeadOf f.1 in
-          record { says = λ σ S. rw (f.0.leaf.here, target-form d (word_at s p) (first (stackAt s q)) end, ← j) (F.says σ S) }
+          let j : k ≡ expr_head_of (word_of (word_at s p)) = i ∙ ap expr_head_of f.1 in
+          record { says = λ σ S. rw (f.0.leaf.here, target-form d (word_at s p) (first (stack_at s q)) end, ← j) (F.says σ S) }
 
 pub ruleset expr-laws = (expr-deep, expr-shut, expr-leaf, expr-inner)
 
@@ -117,7 +117,7 @@ module _ (s l ts : List ℕ) (ws : List ℤ) (scope : Scope) (k : ExprHead) (d a
   by_form r h e F = rw e F
 
   pub by-nothing : (r : Carried) → k ≡ EH.Nothing → MarksForm s l ts ws scope k d at r
-  unfolding formIn ◌>>=◌
+  unfolding form_in ◌>>=◌
   by-nothing r h = rw h (record { says = λ σ S. no-expr refl })
 
   pub by_place : (r : Reached) (h : ExprHead) → k ≡ h → MarksPlace s l ts ws scope h d at r → MarksPlace s l ts ws scope k d at r
@@ -125,35 +125,35 @@ module _ (s l ts : List ℕ) (ws : List ℤ) (scope : Scope) (k : ExprHead) (d a
 
   -- any other head is that of no target
   module _ (r : Reached) where
-    no_place : targetBy k d (first (stackAt s at)) ≡ none → MarksPlace s l ts ws scope k d at r
+    no_place : target_by k d (first (stack_at s at)) ≡ none → MarksPlace s l ts ws scope k d at r
     no_place h = record { says = λ σ S. no_target h }
 
     pub place-members : k ≡ EH.Members → MarksPlace s l ts ws scope k d at r
-    unfolding targetBy
+    unfolding target_by
     place-members h = no_place (rw h refl)
 
     pub place-minus : k ≡ EH.Minus → MarksPlace s l ts ws scope k d at r
-    unfolding targetBy
+    unfolding target_by
     place-minus h = no_place (rw h refl)
 
     pub place-bound : (b : Bool) → k ≡ EH.Bound b → MarksPlace s l ts ws scope k d at r
-    unfolding targetBy
+    unfolding target_by
     place-bound b h = no_place (rw h refl)
 
     pub place_short : (b : Bool) → k ≡ EH.Short b → MarksPlace s l ts ws scope k d at r
-    unfolding targetBy
+    unfolding target_by
     place_short b h = no_place (rw h refl)
 
     pub place-two : (n : ℕ) → k ≡ EH.Two n → MarksPlace s l ts ws scope k d at r
-    unfolding targetBy
+    unfolding target_by
     place-two n h = no_place (rw h refl)
 
     pub place-one : (n : ℕ) → k ≡ EH.One n → MarksPlace s l ts ws scope k d at r
-    unfolding targetBy
+    unfolding target_by
     place-one n h = no_place (rw h refl)
 
     pub place-nothing : k ≡ EH.Nothing → MarksPlace s l ts ws scope k d at r
-    unfolding targetBy
+    unfolding target_by
     place-nothing h = no_place (rw h refl)
 
 pub ruleset by-laws = (by_form, by-nothing)

@@ -16,13 +16,13 @@ use mir.Facts.{to_z-of_z}
 use Rattle.leaf_integers.specs.Integers.{inside, least, most}
 use Rattle.leaf_integers.proofs.Machine.{wire}
 use Rattle.leaf_words.specs.Numbers.{signed}
-use Rattle.law.specs.Calculate.{Result, is, fails, stuck, ◌>>=◌, isTrue, compute, compute1}
-use Rattle.code.specs.Layout.{operationNumber, node1}
-use Rattle.law.specs.Machine.{Store, sole, oneCell, shortCircuited}
-use Rattle.law.specs.Marking.{TypedValue, typedValue, typedAs, orStuck, require, wanted}
-use Rattle.law.specs.Operators.{Op, Fun, Operation, Operation1, predIn, succIn, Rule, Rule1, operatorRule, functionRule}
-use Rattle.code.specs.Readback.{operationAt, operation1At}
-use Rattle.law.specs.Types.{Types, infoAt, ordinal?}
+use Rattle.law.specs.Calculate.{Result, is, fails, stuck, ◌>>=◌, is_true, compute, compute1}
+use Rattle.code.specs.Layout.{operation_number, node1}
+use Rattle.law.specs.Machine.{Store, sole, one_cell, short_circuited}
+use Rattle.law.specs.Marking.{TypedValue, typed_value, typed_as, or_stuck, require, wanted}
+use Rattle.law.specs.Operators.{Op, Fun, Operation, Operation1, pred_in, succ_in, Rule, Rule1, operator_rule, function_rule}
+use Rattle.code.specs.Readback.{operation_at, operation1_at}
+use Rattle.law.specs.Types.{Types, info_at, ordinal?}
 use Rattle.code.proofs.LayoutCode.{signed-bits}
 use Rattle.table_kinds.specs.Kinds.{strict, Kinded, told, ruling2}
 use Rattle.table_kinds.specs.Functions.{node_of, told1, ruling1}
@@ -31,11 +31,11 @@ use Rattle.table_kinds.proofs.OneSided.{one-sided-rule}
 use Rattle.table_kinds.specs.declared.Side.{Side}
 use Rattle.table_kinds.specs.declared.Ruling.{Ruling}
 use Rattle.table_kinds.specs.declared.Ruling.TheVariants.{Misfit, Fits}
-use Rattle.code_calc.specs.Words.{noResult, greatest, word_of, applied1, InRange}
+use Rattle.code_calc.specs.Words.{no_result, greatest, word_of, applied1, InRange}
 use Rattle.code_calc.proofs.Combining.{value-again}
 use Rattle.code_calc.proofs.Ranging.{range-value, low-range, Bounded, plain, compute-ranged, compute1-ranged}
 use Rattle.table_scope.specs.declared.Info.{Info}
-use Rattle.table_scope.specs.Descriptions.{infoOf}
+use Rattle.table_scope.specs.Descriptions.{info_of}
 use Rattle.table_scope.specs.Sides.{side_in}
 use Rattle.table_scope.proofs.Telling.{kinded, side-in, low_told, high-told}
 use Rattle.mark_values.specs.declared.values.Carried.{Carried}
@@ -44,26 +44,26 @@ use Rattle.mark_values.specs.Steps.{Wants}
 use Rattle.mark_values.proofs.Carrying.{is-inj, broken-bind, carries-broken, view-broken, view-value, means-marks, carries-value, carries-cell, carries-one, carries-stuck, carried-broken, carried-value}
 use Rattle.mark_values.specs.Carrying.{by-fault, by-stuck}
 use Rattle.mark_values.proofs.Ruling.{operation-back, rule-simple, Comes, plainly, by-pred, by-succ, rule-comes}
-use Rattle.mark_operators.specs.Operations.{ruledWord, nodeWord, ruledWord1, operated, applied, Operates, Applies, Shorts}
+use Rattle.mark_operators.specs.Operations.{ruled_word, node_word, ruled_word1, operated, applied, Operates, Applies, Shorts}
 
 -- ---- by what an operator comes to
 
 module _ (r : Ruling) (c : Carried) where
-  pub ruled-misfit : (x y : ℤ) → r ≡ Misfit → c ≡ carried_of 0 noResult 0 → c ≡ ruledWord r x y
-  unfolding ruledWord
+  pub ruled-misfit : (x y : ℤ) → r ≡ Misfit → c ≡ carried_of 0 no_result 0 → c ≡ ruled_word r x y
+  unfolding ruled_word
   ruled-misfit x y h e = e ∙ rw h refl
 
-  pub ruled-fits : (x y z : ℤ) (n k : ℕ) → r ≡ Fits n k → SFits w64 x → SFits w64 y → SFits w64 z → z ≡ word_of (compute (operationAt (n - 9)) (wire x) (wire y))
-      → c ≡ carried_of k (wire z) 0 → c ≡ ruledWord r x y
-  unfolding ruledWord
+  pub ruled-fits : (x y z : ℤ) (n k : ℕ) → r ≡ Fits n k → SFits w64 x → SFits w64 y → SFits w64 z → z ≡ word_of (compute (operation_at (n - 9)) (wire x) (wire y))
+      → c ≡ carried_of k (wire z) 0 → c ≡ ruled_word r x y
+  unfolding ruled_word
   ruled-fits x y z n k h fx fy fz g e = e ∙ rw (h, to_z-of_z fz, g, to_z-of_z fx, to_z-of_z fy) refl
 
-  pub ruled1-misfit : (lo hi x : ℤ) → r ≡ Misfit → c ≡ carried_of 0 noResult 0 → c ≡ ruledWord1 r lo hi x
-  unfolding ruledWord1
+  pub ruled1-misfit : (lo hi x : ℤ) → r ≡ Misfit → c ≡ carried_of 0 no_result 0 → c ≡ ruled_word1 r lo hi x
+  unfolding ruled_word1
   ruled1-misfit lo hi x h e = e ∙ rw h refl
 
-  pub ruled1-fits : (lo hi x z : ℤ) (n k : ℕ) → r ≡ Fits n k → SFits w64 x → SFits w64 z → z ≡ nodeWord n lo hi (wire x) → c ≡ carried_of k (wire z) 0 → c ≡ ruledWord1 r lo hi x
-  unfolding ruledWord1
+  pub ruled1-fits : (lo hi x z : ℤ) (n k : ℕ) → r ≡ Fits n k → SFits w64 x → SFits w64 z → z ≡ node_word n lo hi (wire x) → c ≡ carried_of k (wire z) 0 → c ≡ ruled_word1 r lo hi x
+  unfolding ruled_word1
   ruled1-fits lo hi x z n k h fx fz g e = e ∙ rw (h, to_z-of_z fz, g, to_z-of_z fx) refl
 
 pub ruleset ruled-laws = (ruled-misfit, ruled-fits, sfits_of)
@@ -72,16 +72,16 @@ pub ruleset ruled-one-laws = (ruled1-misfit, ruled1-fits, sfits_of)
 
 module _ (n low high : ℕ) (x z : ℤ) (fx : SFits w64 x) (fz : SFits w64 z) where
   module _ (lo hi : ℤ) (el : lo ≡ signed low) (eh : hi ≡ signed high) (fl : SFits w64 lo) (fh : SFits w64 hi) where
-    pub node-pred : n ≡ 38 → z ≡ applied1 (predIn (wire lo) (wire hi)) (wire x) → wire z ≡ nodeWord n (signed low) (signed high) x
-    unfolding nodeWord
+    pub node-pred : n ≡ 38 → z ≡ applied1 (pred_in (wire lo) (wire hi)) (wire x) → wire z ≡ node_word n (signed low) (signed high) x
+    unfolding node_word
     node-pred e g = to_z-of_z fz ∙ g ∙ rw (e, to_z-of_z fx, to_z-of_z fl, to_z-of_z fh, el, eh) refl
 
-    pub node-succ : n ≡ 39 → z ≡ applied1 (succIn (wire lo) (wire hi)) (wire x) → wire z ≡ nodeWord n (signed low) (signed high) x
-    unfolding nodeWord
+    pub node-succ : n ≡ 39 → z ≡ applied1 (succ_in (wire lo) (wire hi)) (wire x) → wire z ≡ node_word n (signed low) (signed high) x
+    unfolding node_word
     node-succ e g = to_z-of_z fz ∙ g ∙ rw (e, to_z-of_z fx, to_z-of_z fl, to_z-of_z fh, el, eh) refl
 
-  pub node-plain : ((n ≡ 38) → ⊥) → ((n ≡ 39) → ⊥) → z ≡ applied1 (operation1At (n - 29)) (wire x) → wire z ≡ nodeWord n (signed low) (signed high) x
-  unfolding nodeWord
+  pub node-plain : ((n ≡ 38) → ⊥) → ((n ≡ 39) → ⊥) → z ≡ applied1 (operation1_at (n - 29)) (wire x) → wire z ≡ node_word n (signed low) (signed high) x
+  unfolding node_word
   node-plain a b g = to_z-of_z fz ∙ g ∙ rw (to_z-of_z fx, ne_eqb n 38 a, ne_eqb n 39 b) refl
 
 pub ruleset node_laws = (node-pred, node-succ, node-plain, sfits_of)
@@ -90,14 +90,14 @@ pub ruleset node_laws = (node-pred, node-succ, node-plain, sfits_of)
 
 module _ (Γ : Types) (K : Kinded Γ) (m : Store) where
   told-carries : (o : Op) (k j : ℕ) (x y : ℤ) → InRange x → InRange y
-      → Carries Γ m (orStuck (operatorRule Γ o k j) λ r. typedAs r.kind (oneCell (compute r.operation x y))) (ruledWord (told (operatorRule Γ o k j)) x y)
-  unfolding told ruledWord
-  told-carries o k j x y hx hy = go (operatorRule Γ o k j) refl
+      → Carries Γ m (or_stuck (operator_rule Γ o k j) λ r. typed_as r.kind (one_cell (compute r.operation x y))) (ruled_word (told (operator_rule Γ o k j)) x y)
+  unfolding told ruled_word
+  told-carries o k j x y hx hy = go (operator_rule Γ o k j) refl
     where
-      back : (c : Operation) → operationAt (9 + operationNumber c - 9) ≡ c
-      back c = ap operationAt (omega arith) ∙ operation-back c
+      back : (c : Operation) → operation_at (9 + operation_number c - 9) ≡ c
+      back c = ap operation_at (omega arith) ∙ operation-back c
 
-      go : (q : Option Rule) → operatorRule Γ o k j ≡ q → Carries Γ m (orStuck q λ r. typedAs r.kind (oneCell (compute r.operation x y))) (ruledWord (told q) x y)
+      go : (q : Option Rule) → operator_rule Γ o k j ≡ q → Carries Γ m (or_stuck q λ r. typed_as r.kind (one_cell (compute r.operation x y))) (ruled_word (told q) x y)
       go none e = carries-stuck Γ m
       go (some r) e = rw (back r.operation) (carries-one Γ m r.kind (word_of (compute r.operation x y)) (compute r.operation x y) (rule-simple Γ K k j o r e) (means-marks _ _ (record { word = refl; ranged = compute-ranged r.operation x y hx hy })))
 
@@ -113,8 +113,8 @@ module _ (l ts : List ℕ) (op : ℕ) (x y r : Carried) (fx : SFits w64 x.word) 
     })
 
     pub operates-both : (a b : Side) (R : Ruling) → lt_z greatest (wire y.word) ≡ false → a ≡ side_in l ts x.kind → b ≡ side_in l ts y.kind → R ≡ ruling2 op a b
-        → r ≡ ruledWord R (wire x.word) (wire y.word) → Operates l ts op x y r
-    operates-both a b R g ea eb eR e = rw (e, eR, ea, eb, to_z-of_z fx, to_z-of_z fy) (record {
+        → r ≡ ruled_word R (wire x.word) (wire y.word) → Operates l ts op x y r
+    operates-both a b R g ea eb e_r e = rw (e, e_r, ea, eb, to_z-of_z fx, to_z-of_z fy) (record {
       says = λ s scope σ S m o n v w X Y. carried-value X (rw (to_z-of_z fx) at h) (λ p q f i k. carried-value Y (rw (to_z-of_z fy) at g) (λ p' q' f' i' k'.
           rw (q, q', side-in S.scene x.kind, side-in S.scene y.kind, n, k, k', two-sided-rule σ.types (kinded S.scene) p.kind p'.kind (strict o), f, f')
           (told-carries σ.types (kinded S.scene) m o p.kind p'.kind (sole p.cells) (sole p'.cells) i i')));
@@ -124,7 +124,7 @@ pub ruleset operate-laws = (operates-left, operates-right, operates-both, sfits_
 
 -- ---- one side
 
-module _ (Γ : Types) (K : Kinded Γ) (m : Store) (k : ℕ) (bl : inside least most (infoAt Γ k).low ≡ true) (bh : inside least most (infoAt Γ k).high ≡ true) (x : ℤ) (h : InRange x) where
+module _ (Γ : Types) (K : Kinded Γ) (m : Store) (k : ℕ) (bl : inside least most (info_at Γ k).low ≡ true) (bh : inside least most (info_at Γ k).high ≡ true) (x : ℤ) (h : InRange x) where
   alone : (c : Operation1) → applied1 c x ≡ word_of (compute1 c x)
   unfolding applied1
   alone c = rw (value-again x (range-value x h)) refl
@@ -132,19 +132,19 @@ module _ (Γ : Types) (K : Kinded Γ) (m : Store) (k : ℕ) (bl : inside least m
   means-one : (c : Operation1) (w : ℤ) → Bounded c → w ≡ applied1 c x → MarkMeans w (compute1 c x)
   means-one c w b e = means-marks w (compute1 c x) (record { word = e ∙ alone c; ranged = compute1-ranged c x b h })
 
-  node-means : (c : Operation1) → Comes Γ K k c → MarkMeans (nodeWord (node_of c) (infoAt Γ k).low (infoAt Γ k).high x) (compute1 c x)
-  unfolding nodeWord node1
+  node-means : (c : Operation1) → Comes Γ K k c → MarkMeans (node_word (node_of c) (info_at Γ k).low (info_at Γ k).high x) (compute1 c x)
+  unfolding node_word node1
   node-means c (plainly o l e) =
       means-one o _ (subst Bounded e (plain (node_of o - 29)))
       (rw (ne_eqb (node_of o) 38 (λ q. omega arith), ne_eqb (node_of o) 39 (λ q. omega arith), e) refl)
-  node-means c by-pred = means-one (predIn (infoAt Γ k).low (infoAt Γ k).high) _ (bl, bh) refl
-  node-means c by-succ = means-one (succIn (infoAt Γ k).low (infoAt Γ k).high) _ (bl, bh) refl
+  node-means c by-pred = means-one (pred_in (info_at Γ k).low (info_at Γ k).high) _ (bl, bh) refl
+  node-means c by-succ = means-one (succ_in (info_at Γ k).low (info_at Γ k).high) _ (bl, bh) refl
 
-  told1-carries : (f : Fun) → Carries Γ m (orStuck (functionRule Γ f k) λ r. typedAs r.kind (oneCell (compute1 r.operation x))) (ruledWord1 (told1 (functionRule Γ f k)) (infoAt Γ k).low (infoAt Γ k).high x)
-  unfolding told1 ruledWord1
-  told1-carries f = go (functionRule Γ f k) refl
+  told1-carries : (f : Fun) → Carries Γ m (or_stuck (function_rule Γ f k) λ r. typed_as r.kind (one_cell (compute1 r.operation x))) (ruled_word1 (told1 (function_rule Γ f k)) (info_at Γ k).low (info_at Γ k).high x)
+  unfolding told1 ruled_word1
+  told1-carries f = go (function_rule Γ f k) refl
     where
-      go : (q : Option Rule1) → functionRule Γ f k ≡ q → Carries Γ m (orStuck q λ r. typedAs r.kind (oneCell (compute1 r.operation x))) (ruledWord1 (told1 q) (infoAt Γ k).low (infoAt Γ k).high x)
+      go : (q : Option Rule1) → function_rule Γ f k ≡ q → Carries Γ m (or_stuck q λ r. typed_as r.kind (one_cell (compute1 r.operation x))) (ruled_word1 (told1 q) (info_at Γ k).low (info_at Γ k).high x)
       go none e = carries-stuck Γ m
       go (some r) e = let u = rule-comes Γ K k f r e in carries-one Γ m r.kind _ (compute1 r.operation x) u.simple (node-means r.operation u.comes)
 
@@ -152,11 +152,11 @@ module _ (l ts : List ℕ) (f : ℕ) (x r : Carried) (fx : SFits w64 x.word) whe
   pub applies-fault : lt_z greatest (wire x.word) ≡ true → r ≡ carried_of 0 (wire x.word) 0 → Applies l ts f x r
   applies-fault h e = rw (e, to_z-of_z fx) (record { says = λ s scope σ S m o n v X. carries-broken σ.types m 0 0 (broken-bind (λ a. applied σ.types o a) (carried-broken X (rw (to_z-of_z fx) at h))) })
 
-  pub applies-value : (i : Info) (a : Side) (R : Ruling) → lt_z greatest (wire x.word) ≡ false → i ≡ infoOf l ts x.kind → a ≡ side_in l ts x.kind → R ≡ ruling1 f a
-      → r ≡ ruledWord1 R (signed i.low) (signed i.high) (wire x.word) → Applies l ts f x r
-  applies-value i a R h ei ea eR e = rw (e, eR, ea, ei, to_z-of_z fx) (record {
+  pub applies-value : (i : Info) (a : Side) (R : Ruling) → lt_z greatest (wire x.word) ≡ false → i ≡ info_of l ts x.kind → a ≡ side_in l ts x.kind → R ≡ ruling1 f a
+      → r ≡ ruled_word1 R (signed i.low) (signed i.high) (wire x.word) → Applies l ts f x r
+  applies-value i a R h ei ea e_r e = rw (e, e_r, ea, ei, to_z-of_z fx) (record {
     says = λ s scope σ S m o n v X. carried-value X (rw (to_z-of_z fx) at h) (λ p q g z k.
-        rw (q, side-in S.scene x.kind, n, low_told S.scene x.kind, high-told S.scene x.kind, k, signed-bits (infoAt σ.types p.kind).low (S.small p.kind).low.ok, signed-bits (infoAt σ.types p.kind).high (S.small p.kind).high.ok, one-sided-rule σ.types (kinded S.scene) p.kind o, g)
+        rw (q, side-in S.scene x.kind, n, low_told S.scene x.kind, high-told S.scene x.kind, k, signed-bits (info_at σ.types p.kind).low (S.small p.kind).low.ok, signed-bits (info_at σ.types p.kind).high (S.small p.kind).high.ok, one-sided-rule σ.types (kinded S.scene) p.kind o, g)
         (told1-carries σ.types (kinded S.scene) m p.kind (S.small p.kind).low.ok (S.small p.kind).high.ok (sole p.cells) z o));
   })
 
@@ -178,22 +178,22 @@ module _ (Γ : Types) (o : ordinal? Γ 1 ≡ true) (m : Store) where
   wanted-single (fails e) y c u q = let z : ◌≡◌ {A = ℕ} 0 1 = cc in absurd (omega arith)
   wanted-single stuck y c u q = let z : ◌≡◌ {A = ℕ} 0 1 = cc in absurd (omega arith)
 
-  right-carries : (w : Result TypedValue) (y : Carried) (b : ℤ) → Carries Γ m w y → MarkMeans b ((w >>= wanted 1) >>= λ u. is (sole u)) → Carries Γ m (typedAs 1 (w >>= wanted 1)) (carried_of 1 b 0)
+  right-carries : (w : Result TypedValue) (y : Carried) (b : ℤ) → Carries Γ m w y → MarkMeans b ((w >>= wanted 1) >>= λ u. is (sole u)) → Carries Γ m (typed_as 1 (w >>= wanted 1)) (carried_of 1 b 0)
   unfolding word_of MarkRanged
   right-carries w y b c h = go (w >>= wanted 1) refl h
     where
-      go : (q : Result (List ℤ)) → (w >>= wanted 1) ≡ q → MarkMeans b (q >>= λ u. is (sole u)) → Carries Γ m (typedAs 1 q) (carried_of 1 b 0)
-      go (is u) e n = carries-value Γ m (typedValue 1 u) b 0 n (λ _. wanted-single w y c u e) (λ z. absurd (true≢false (sym one-simple ∙ z)))
+      go : (q : Result (List ℤ)) → (w >>= wanted 1) ≡ q → MarkMeans b (q >>= λ u. is (sole u)) → Carries Γ m (typed_as 1 q) (carried_of 1 b 0)
+      go (is u) e n = carries-value Γ m (typed_value 1 u) b 0 n (λ _. wanted-single w y c u e) (λ z. absurd (true≢false (sym one-simple ∙ z)))
       go (fails e) _ n = carries-broken Γ m 1 0 (by-fault e n.word n.ranged)
       go stuck _ n = carries-broken Γ m 1 0 (by-stuck n.word)
 
 module _ (q : Bool) (x y r : Carried) (a : ℤ) (fa : SFits w64 a) (A : Wants 1 x a) where
   pub shorts-fault : lt_z greatest (wire a) ≡ true → r ≡ carried_of 0 (wire a) 0 → Shorts q x y r
-  shorts-fault h e = rw (e, to_z-of_z fa) (record { says = λ Γ o m v w X Y. carries-broken Γ m 0 0 (broken-bind (λ u. typedAs 1 (shortCircuited q (isTrue (sole u)) (w >>= wanted 1))) (view-broken a (v >>= wanted 1) (λ u. sole u) (A.says Γ m v X) (rw (to_z-of_z fa) at h))) })
+  shorts-fault h e = rw (e, to_z-of_z fa) (record { says = λ Γ o m v w X Y. carries-broken Γ m 0 0 (broken-bind (λ u. typed_as 1 (short_circuited q (is_true (sole u)) (w >>= wanted 1))) (view-broken a (v >>= wanted 1) (λ u. sole u) (A.says Γ m v X) (rw (to_z-of_z fa) at h))) })
 
   -- the left side is t, and leaves it open or not
   module _ (h : lt_z greatest (wire a) ≡ false) (t : Bool) (g : lt_z (pos 0) (wire a) ≡ t) where
-    by_left : ((Γ : Types) → ordinal? Γ 1 ≡ true → (m : Store) (w : Result TypedValue) → Carries Γ m w y → Carries Γ m (typedAs 1 (shortCircuited q t (w >>= wanted 1))) r) → Shorts q x y r
+    by_left : ((Γ : Types) → ordinal? Γ 1 ≡ true → (m : Store) (w : Result TypedValue) → Carries Γ m w y → Carries Γ m (typed_as 1 (short_circuited q t (w >>= wanted 1))) r) → Shorts q x y r
     by_left K = record {
       says = λ Γ o m v w X Y. view-value a (v >>= wanted 1) (λ u. sole u) (A.says Γ m v X) (rw (to_z-of_z fa) at h) (λ u e f i. rw (e, ← f, rw (to_z-of_z fa) at g) (K Γ o m w Y));
     }

@@ -1,7 +1,7 @@
 // Operators and functions of the marking machine: what they come to at the kinds that they meet.
 ghost use Rattle.std.specs.Prelude.{◌≡◌};
 ghost use Rattle.leaf_words.specs.Numbers.{signed};
-ghost use Rattle.mark_operators.specs.Operations.{ruledWord, nodeWord, ruledWord1, Operates, Applies, Shorts};
+ghost use Rattle.mark_operators.specs.Operations.{ruled_word, node_word, ruled_word1, Operates, Applies, Shorts};
 
 use code_calc::operators::{combine, pred, succ, unary};
 use code_calc::words::{GREATEST, signed_of};
@@ -11,7 +11,7 @@ use table_scope::{describe, side_of};
 
 // A two-sided operator on two values, by what it comes to.
 fn ruled(r: Ruling, x: i64, y: i64) -> Carried
-    ensures { result ≡ ruledWord r x y }
+    ensures { result ≡ ruled_word r x y }
 {
     match r {
         Ruling::Misfit => value(0, STUCK),
@@ -41,7 +41,7 @@ pub fn operate(work: &[u32], types: &[u32], op: usize, x: Carried, y: Carried) -
 
 // A one-sided operator of node n on a value, whose kind has these bounds.
 fn at_node(n: u32, low: u32, high: u32, x: i64) -> i64
-    ensures { result ≡ nodeWord n (signed low) (signed high) x }
+    ensures { result ≡ node_word n (signed low) (signed high) x }
 {
     if n == code_ops::expr::PRED {
         return pred(x, signed_of(low), signed_of(high));
@@ -54,7 +54,7 @@ fn at_node(n: u32, low: u32, high: u32, x: i64) -> i64
 
 // A one-sided operator on a value, by what it comes to.
 fn ruled_one(r: Ruling, low: u32, high: u32, x: i64) -> Carried
-    ensures { result ≡ ruledWord1 r (signed low) (signed high) x }
+    ensures { result ≡ ruled_word1 r (signed low) (signed high) x }
 {
     match r {
         Ruling::Misfit => value(0, STUCK),

@@ -15,19 +15,19 @@ use Rattle.leaf_integers.specs.Integers.{inside}
 use Rattle.leaf_integers.proofs.Machine.{wire}
 use Rattle.leaf_integers.proofs.Order.{le_not, not-le}
 use Rattle.law.specs.Base.{Name, pick, ◌>>=◌}
-use Rattle.law.specs.Calculate.{Result, is, isTrue, nat_of, rangeError}
-use Rattle.law.specs.Machine.{Store, State, state, Answer, answer, normal, spent, and_then, branch, countUp, ended, forRounds, forgotten, raising, stored, whileRounds, withResult, noRound, outside, planned, rounds}
+use Rattle.law.specs.Calculate.{Result, is, is_true, nat_of, range_error}
+use Rattle.law.specs.Machine.{Store, State, state, Answer, answer, normal, spent, and_then, branch, count_up, ended, for_rounds, forgotten, raising, stored, while_rounds, with_result, no_round, outside, planned, rounds}
 use Rattle.law.specs.Script as Script
 use Rattle.law.specs.Syntax.{Expr}
 use Rattle.law.specs.Trees.{end, first}
-use Rattle.law_theorems.specs.Readings.{stackAt}
-use Rattle.law.specs.Types.{Types, infoAt}
+use Rattle.law_theorems.specs.Readings.{stack_at}
+use Rattle.law.specs.Types.{Types, info_at}
 use Rattle.text_heads.specs.declared.Verb.TheVariants as VB
-use Rattle.text_heads.specs.Parts.{part_of, rest, exprIn, nameIn, stmtIn}
+use Rattle.text_heads.specs.Parts.{part_of, rest, expr_in, name_in, stmt_in}
 use Rattle.text_heads.proofs.Expressions.{expr-end}
 use Rattle.text_skips.specs.Skips.{Skips}
 use Rattle.code_calc.specs.Words.{greatest, InRange}
-use Rattle.mark_steps.specs.Ends.{leftIn, stepWord, Raises}
+use Rattle.mark_steps.specs.Ends.{left_in, step_word, Raises}
 use Rattle.mark_steps.specs.Stands.{Goes, Stands, after}
 use Rattle.mark_steps.specs.Turns.{Increments}
 use Rattle.mark_cells.specs.Cells.{Forgets, Puts}
@@ -41,10 +41,10 @@ use Rattle.mark_acts.specs.Bounds.{Counted, counted, SpanIs, Bounding}
 use Rattle.mark_acts.specs.Ends.{MarkEnds, MarkRuns, Halts}
 use Rattle.mark_acts.proofs.Ending.{normal-marks, raising-marks, halts-ends, goes_on}
 use Rattle.mark_acts.proofs.Shapes.{for-shape}
-use Rattle.table_bodies.specs.Procedures.{procsOf}
+use Rattle.table_bodies.specs.Procedures.{procs_of}
 use Rattle.mark_statements.specs.declared.finding.Plan.{Plan}
 use Rattle.mark_statements.specs.declared.finding.Plan.TheVariants as plan
-use Rattle.mark_statements.specs.Finding.{planAs, plan_of, planBy}
+use Rattle.mark_statements.specs.Finding.{plan_as, plan_of, plan_by}
 use Rattle.mark_statements.specs.Marks.{Found, FoundExpr, Setting, machine, testing, MarksStmt, MarksVerb, MarksWhile, MarksRounds}
 use Rattle.mark_statements.proofs.Machines.{goes-next, stops-there, goes-ends, spent-marks}
 use Rattle.mark_statements.proofs.Turning.{onward, rounds-by, onward-spent, onward-round, count-one, count-rest, count-last, next_up, next-ranged, for-spent, for-round, for-none as rounds-none, counts-none, counts-out, counts-in}
@@ -58,11 +58,11 @@ use Rattle.table_scope.specs.declared.Scope.{Scope}
 pub record RoundsLeft (a : Answer) (test : State → (Bool → Answer) → Answer) (body : State → Answer) (ws : List ℤ) (t : ℕ) : Type 0 where
   pub more : ℕ
   pub enough : t ≤ more
-  pub goes : Goes a (whileRounds more test body) ws t
+  pub goes : Goes a (while_rounds more test body) ws t
 
 pub record Repeating (s l us ts tb : List ℕ) (scope : Scope) (calls d n c b : ℕ) (ws : List ℤ) (left : ℕ) (vs : List ℤ) (t : ℕ) : Type 0 where
-  pub goes : (F : Setting s l us ts tb scope calls) (E : FoundExpr F.env (exprIn 33 (first (stackAt s c)))) (X : Found F.env (stmtIn d n (first (stackAt s b)))) (f : ℕ) → left ≤ f → (k : Store) → Stands ws left k
-      → RoundsLeft (whileRounds f (testing F n E.expr) (machine F X.stmt) (state k left)) (testing F n E.expr) (machine F X.stmt) vs t
+  pub goes : (F : Setting s l us ts tb scope calls) (E : FoundExpr F.env (expr_in 33 (first (stack_at s c)))) (X : Found F.env (stmt_in d n (first (stack_at s b)))) (f : ℕ) → left ≤ f → (k : Store) → Stands ws left k
+      → RoundsLeft (while_rounds f (testing F n E.expr) (machine F X.stmt) (state k left)) (testing F n E.expr) (machine F X.stmt) vs t
   pub fewer : t ≤ left
 
 module _ (s l us ts tb : List ℕ) (scope : Scope) (calls d n c b : ℕ) (ws : List ℤ) (left : ℕ) where
@@ -71,8 +71,8 @@ module _ (s l us ts tb : List ℕ) (scope : Scope) (calls d n c b : ℕ) (ws : L
 
   module _ (vs : List ℤ) (t : ℕ) (R : Repeating s l us ts tb scope calls d n c b ws left vs t) (x : ℤ) (C : Conditions s l ts vs scope c x) (fx : SFits w64 x) where
     -- the loop ends as a round from here does
-    while-from : (os : List ℤ) (r : ℕ) → leftIn r ≤ left
-        → ((F : Setting s l us ts tb scope calls) (E : FoundExpr F.env (exprIn 33 (first (stackAt s c)))) (X : Found F.env (stmtIn d n (first (stackAt s b)))) (f : ℕ) → t ≤ f → (k : Store) → Stands vs t k
+    while-from : (os : List ℤ) (r : ℕ) → left_in r ≤ left
+        → ((F : Setting s l us ts tb scope calls) (E : FoundExpr F.env (expr_in 33 (first (stack_at s c)))) (X : Found F.env (stmt_in d n (first (stack_at s b)))) (f : ℕ) → t ≤ f → (k : Store) → Stands vs t k
         → MarkEnds (testing F n E.expr (state k t) (λ q. branch q (onward (testing F n E.expr) (machine F X.stmt) f) (answer normal) (state k t))) os r)
         → MarksWhile s l us ts tb scope calls d n c b ws left os r
     while-from os r h g = record {
@@ -90,7 +90,7 @@ module _ (s l us ts tb : List ℕ) (scope : Scope) (calls d n c b : ℕ) (ws : L
 
     module _ (h : lt_z greatest (wire x) ≡ false) where
       -- what the test leads to
-      while-gives : (q : Bool) → isTrue x ≡ q → (F : Setting s l us ts tb scope calls) (E : FoundExpr F.env (exprIn 33 (first (stackAt s c)))) (X : Found F.env (stmtIn d n (first (stackAt s b)))) (f : ℕ)
+      while-gives : (q : Bool) → is_true x ≡ q → (F : Setting s l us ts tb scope calls) (E : FoundExpr F.env (expr_in 33 (first (stack_at s c)))) (X : Found F.env (stmt_in d n (first (stack_at s b)))) (f : ℕ)
           (k : Store) → Stands vs t k
           → testing F n E.expr (state k t) (λ q. branch q (onward (testing F n E.expr) (machine F X.stmt) f) (answer normal) (state k t))
           ≡ branch q (onward (testing F n E.expr) (machine F X.stmt) f) (answer normal) (state k t)
@@ -101,15 +101,15 @@ module _ (s l us ts tb : List ℕ) (scope : Scope) (calls d n c b : ℕ) (ws : L
       while-done g = while-from vs t (omega (arith, left-most t, R.fewer)) (λ F E X f z k S.
           subst (λ (a : Answer). MarkEnds a vs t) (sym (while-gives false (le_not x (pos 0) (rw (to_z-of_z fx) at g)) F E X f k S)) (normal-marks vs t k S))
 
-      module _ (g : le_z (wire x) (pos 0) ≡ false) (u : ℕ) (U : u ≡ stepWord t) where
-        while-on : (F : Setting s l us ts tb scope calls) (E : FoundExpr F.env (exprIn 33 (first (stackAt s c)))) (X : Found F.env (stmtIn d n (first (stackAt s b)))) (f : ℕ) (k : Store) → Stands vs t k
+      module _ (g : le_z (wire x) (pos 0) ≡ false) (u : ℕ) (U : u ≡ step_word t) where
+        while-on : (F : Setting s l us ts tb scope calls) (E : FoundExpr F.env (expr_in 33 (first (stack_at s c)))) (X : Found F.env (stmt_in d n (first (stack_at s b)))) (f : ℕ) (k : Store) → Stands vs t k
             → testing F n E.expr (state k t) (λ q. branch q (onward (testing F n E.expr) (machine F X.stmt) f) (answer normal) (state k t)) ≡ onward (testing F n E.expr) (machine F X.stmt) f (state k t)
         while-on F E X f k S = while-gives true (not-le x (pos 0) (rw (to_z-of_z fx) at g)) F E X f k S
 
         pub while-spent : 4294967295 < u → MarksWhile s l us ts tb scope calls d n c b ws left vs u
         while-spent e = while-from vs u (omega (arith, step_fewer t u U, R.fewer)) (λ F E X f z k S. go F E X f k S (step-spent t u U e S.steps))
           where
-            go : (F : Setting s l us ts tb scope calls) (E : FoundExpr F.env (exprIn 33 (first (stackAt s c)))) (X : Found F.env (stmtIn d n (first (stackAt s b)))) (f : ℕ) (k : Store) → Stands vs t k → t ≡ 0
+            go : (F : Setting s l us ts tb scope calls) (E : FoundExpr F.env (expr_in 33 (first (stack_at s c)))) (X : Found F.env (stmt_in d n (first (stack_at s b)))) (f : ℕ) (k : Store) → Stands vs t k → t ≡ 0
                 → MarkEnds (testing F n E.expr (state k t) (λ q. branch q (onward (testing F n E.expr) (machine F X.stmt) f) (answer normal) (state k t))) vs u
             go F E X f k S z = subst (λ (a : Answer). MarkEnds a vs u)
                 (sym (while-on F E X f k S ∙ ap (λ (w : ℕ). onward (testing F n E.expr) (machine F X.stmt) f (state k w)) z
@@ -120,20 +120,20 @@ module _ (s l us ts tb : List ℕ) (scope : Scope) (calls d n c b : ℕ) (ws : L
           taken : t ≡ suc u
           taken = step-taken t u U j
 
-          while-round : (F : Setting s l us ts tb scope calls) (E : FoundExpr F.env (exprIn 33 (first (stackAt s c)))) (X : Found F.env (stmtIn d n (first (stackAt s b)))) (f : ℕ) → t ≤ f → (k : Store) → Stands vs t k
+          while-round : (F : Setting s l us ts tb scope calls) (E : FoundExpr F.env (expr_in 33 (first (stack_at s c)))) (X : Found F.env (stmt_in d n (first (stack_at s b)))) (f : ℕ) → t ≤ f → (k : Store) → Stands vs t k
               → testing F n E.expr (state k t) (λ q. branch q (onward (testing F n E.expr) (machine F X.stmt) f) (answer normal) (state k t))
-              ≡ and_then (machine F X.stmt (state k u)) (whileRounds (f - 1) (testing F n E.expr) (machine F X.stmt))
+              ≡ and_then (machine F X.stmt (state k u)) (while_rounds (f - 1) (testing F n E.expr) (machine F X.stmt))
           while-round F E X f z k S =
               while-on F E X f k S ∙ ap (λ (w : ℕ). onward (testing F n E.expr) (machine F X.stmt) f (state k w)) taken
               ∙ onward-round (testing F n E.expr) (machine F X.stmt) f k u (omega (arith, taken, z))
 
-          round-ends : (F : Setting s l us ts tb scope calls) (X : Found F.env (stmtIn d n (first (stackAt s b)))) (k : Store) → Stands vs t k → MarkEnds (machine F X.stmt (state k u)) os o
+          round-ends : (F : Setting s l us ts tb scope calls) (X : Found F.env (stmt_in d n (first (stack_at s b)))) (k : Store) → Stands vs t k → MarkEnds (machine F X.stmt (state k u)) os o
           round-ends F X k S = (B.runs F X).says k (step-stands vs t u k taken S)
 
           pub while-stops : 4294967295 < o → MarksWhile s l us ts tb scope calls d n c b ws left os o
           while-stops q = while-from os o (omega (arith, B.fewer, taken, R.fewer)) (λ F E X f z k S.
               subst (λ (a : Answer). MarkEnds a os o) (sym (while-round F E X f z k S))
-              (stops-there (machine F X.stmt (state k u)) (whileRounds (f - 1) (testing F n E.expr) (machine F X.stmt)) os o (round-ends F X k S) q))
+              (stops-there (machine F X.stmt (state k u)) (while_rounds (f - 1) (testing F n E.expr) (machine F X.stmt)) os o (round-ends F X k S) q))
 
           pub while-falls : o ≤ 4294967295 → o < t
           while-falls q = omega (arith, left-of o q, B.fewer, taken)
@@ -141,11 +141,11 @@ module _ (s l us ts tb : List ℕ) (scope : Scope) (calls d n c b : ℕ) (ws : L
           pub while-next : o ≤ 4294967295 → Repeating s l us ts tb scope calls d n c b ws left os o
           while-next q = record { goes = λ F E X f z k S. go F E X (R.goes F E X f z k S); fewer = omega (arith, left-of o q, B.fewer, taken, R.fewer) }
             where
-              go : {a : Answer} (F : Setting s l us ts tb scope calls) (E : FoundExpr F.env (exprIn 33 (first (stackAt s c)))) (X : Found F.env (stmtIn d n (first (stackAt s b))))
+              go : {a : Answer} (F : Setting s l us ts tb scope calls) (E : FoundExpr F.env (expr_in 33 (first (stack_at s c)))) (X : Found F.env (stmt_in d n (first (stack_at s b))))
                   → RoundsLeft a (testing F n E.expr) (machine F X.stmt) vs t → RoundsLeft a (testing F n E.expr) (machine F X.stmt) os o
               go {a} F E X Q =
                   let k = Q.goes.store in
-                  let H = goes-next (machine F X.stmt (state k u)) (whileRounds (Q.more - 1) (testing F n E.expr) (machine F X.stmt)) os o (round-ends F X k Q.goes.stands) q in
+                  let H = goes-next (machine F X.stmt (state k u)) (while_rounds (Q.more - 1) (testing F n E.expr) (machine F X.stmt)) os o (round-ends F X k Q.goes.stands) q in
                   record {
                     more = Q.more - 1;
                     enough = omega (arith, left-of o q, B.fewer, taken, Q.enough);
@@ -168,11 +168,11 @@ ended-marks ws left m a es S G = normal-marks es left (forgotten a 1 m) (forgott
 pub record TurnsLeft (v : Answer) (a : ℕ) (body : State → Answer) (z y : ℤ) (ws : List ℤ) (t : ℕ) : Type 0 where
   pub up : le_z z y ≡ true
   pub ranged : InRange z
-  pub goes : Goes v (forRounds (nat_of (suc_ℤ (y -ℤ z))) a body z) ws t
+  pub goes : Goes v (for_rounds (nat_of (suc_ℤ (y -ℤ z))) a body z) ws t
 
 pub record Counting (s l us ts tb : List ℕ) (scope : Scope) (calls d n a : ℕ) (x y : ℤ) (b : ℕ) (ws : List ℤ) (left : ℕ) (z : ℤ) (vs : List ℤ) (t : ℕ) : Type 0 where
-  pub goes : (F : Setting s l us ts tb scope calls) (X : Found F.env (stmtIn d n (first (stackAt s b)))) → le_z x y ≡ true → InRange x → InRange y → (k : Store) → Stands ws left k
-      → TurnsLeft (forRounds (nat_of (suc_ℤ (y -ℤ x))) a (machine F X.stmt) x (state k left)) a (machine F X.stmt) z y vs t
+  pub goes : (F : Setting s l us ts tb scope calls) (X : Found F.env (stmt_in d n (first (stack_at s b)))) → le_z x y ≡ true → InRange x → InRange y → (k : Store) → Stands ws left k
+      → TurnsLeft (for_rounds (nat_of (suc_ℤ (y -ℤ x))) a (machine F X.stmt) x (state k left)) a (machine F X.stmt) z y vs t
   pub fewer : t ≤ left
   pub small : a ≤ 4294967295
 
@@ -181,27 +181,27 @@ module _ (s l us ts tb : List ℕ) (scope : Scope) (calls d n a : ℕ) (x y : �
   turn-start f = record { goes = λ F X h R Q k S. record { up = h; ranged = R; goes = record { store = k; stands = S; rest = refl } }; fewer = omega arith; small = omega (arith, f.fits) }
 
   module _ (z : ℤ) (vs : List ℤ) (t : ℕ) (C : Counting s l us ts tb scope calls d n a x y b ws left z vs t) where
-    turn-from : (os : List ℤ) (r : ℕ) → leftIn r ≤ left
-        → ((F : Setting s l us ts tb scope calls) (X : Found F.env (stmtIn d n (first (stackAt s b)))) → InRange y → (k : Store) → le_z z y ≡ true → InRange z → Stands vs t k
-        → MarkEnds (forRounds (suc (nat_of (y -ℤ z))) a (machine F X.stmt) z (state k t)) os r)
+    turn-from : (os : List ℤ) (r : ℕ) → left_in r ≤ left
+        → ((F : Setting s l us ts tb scope calls) (X : Found F.env (stmt_in d n (first (stack_at s b)))) → InRange y → (k : Store) → le_z z y ≡ true → InRange z → Stands vs t k
+        → MarkEnds (for_rounds (suc (nat_of (y -ℤ z))) a (machine F X.stmt) z (state k t)) os r)
         → MarksRounds s l us ts tb scope calls d n a x y b ws left os r
     turn-from os r h g = record {
       runs = λ F X i R Q. record {
         says = λ k S.
             let K = C.goes F X i R Q k S in
-            goes-ends K.goes (λ j J. subst (λ (e : ℕ). MarkEnds (forRounds e a (machine F X.stmt) z (state j t)) os r) (sym (count-one y z K.up)) (g F X Q j K.up K.ranged J));
+            goes-ends K.goes (λ j J. subst (λ (e : ℕ). MarkEnds (for_rounds e a (machine F X.stmt) z (state j t)) os r) (sym (count-one y z K.up)) (g F X Q j K.up K.ranged J));
       };
       fewer = h;
     }
 
-    module _ (u : ℕ) (U : u ≡ stepWord t) where
+    module _ (u : ℕ) (U : u ≡ step_word t) where
       turn-spent : 4294967295 < u → MarksRounds s l us ts tb scope calls d n a x y b ws left vs u
       turn-spent e = turn-from vs u (omega (arith, step_fewer t u U, C.fewer)) (λ F X Q k h R S. go F X k S (step-spent t u U e S.steps))
         where
-          go : (F : Setting s l us ts tb scope calls) (X : Found F.env (stmtIn d n (first (stackAt s b)))) (k : Store) → Stands vs t k → t ≡ 0
-              → MarkEnds (forRounds (suc (nat_of (y -ℤ z))) a (machine F X.stmt) z (state k t)) vs u
+          go : (F : Setting s l us ts tb scope calls) (X : Found F.env (stmt_in d n (first (stack_at s b)))) (k : Store) → Stands vs t k → t ≡ 0
+              → MarkEnds (for_rounds (suc (nat_of (y -ℤ z))) a (machine F X.stmt) z (state k t)) vs u
           go F X k S i = subst (λ (v : Answer). MarkEnds v vs u)
-              (sym (ap (λ (w : ℕ). forRounds (suc (nat_of (y -ℤ z))) a (machine F X.stmt) z (state k w)) i
+              (sym (ap (λ (w : ℕ). for_rounds (suc (nat_of (y -ℤ z))) a (machine F X.stmt) z (state k w)) i
               ∙ for-spent a (machine F X.stmt) z (nat_of (y -ℤ z)) k ∙ ap (λ (w : ℕ). answer spent (state k w)) (sym i)))
               (spent-marks vs t k S u U e)
 
@@ -209,18 +209,18 @@ module _ (s l us ts tb : List ℕ) (scope : Scope) (calls d n a : ℕ) (x y : �
         turned : t ≡ suc u
         turned = step-taken t u U j
 
-        turn-ends : (F : Setting s l us ts tb scope calls) (X : Found F.env (stmtIn d n (first (stackAt s b)))) (k : Store) → InRange z → Stands vs t k
+        turn-ends : (F : Setting s l us ts tb scope calls) (X : Found F.env (stmt_in d n (first (stack_at s b)))) (k : Store) → InRange z → Stands vs t k
             → MarkEnds (machine F X.stmt (state (stored a (z ∷ []) k) u)) os o
         turn-ends F X k R S = (B.runs F X).says (stored a (z ∷ []) k) (step-stands qs t u (stored a (z ∷ []) k) turned (put-stands vs t k a a z qs S R (omega (arith, C.small)) P))
 
-        turn-round : (F : Setting s l us ts tb scope calls) (X : Found F.env (stmtIn d n (first (stackAt s b)))) (e : ℕ) (k : Store) → forRounds (suc e) a (machine F X.stmt) z (state k t)
-            ≡ and_then (machine F X.stmt (state (stored a (z ∷ []) k) u)) (forRounds e a (machine F X.stmt) (suc_ℤ z))
-        turn-round F X e k = ap (λ (w : ℕ). forRounds (suc e) a (machine F X.stmt) z (state k w)) turned ∙ for-round a (machine F X.stmt) z e k u
+        turn-round : (F : Setting s l us ts tb scope calls) (X : Found F.env (stmt_in d n (first (stack_at s b)))) (e : ℕ) (k : Store) → for_rounds (suc e) a (machine F X.stmt) z (state k t)
+            ≡ and_then (machine F X.stmt (state (stored a (z ∷ []) k) u)) (for_rounds e a (machine F X.stmt) (suc_ℤ z))
+        turn-round F X e k = ap (λ (w : ℕ). for_rounds (suc e) a (machine F X.stmt) z (state k w)) turned ∙ for-round a (machine F X.stmt) z e k u
 
         turn-stops : 4294967295 < o → MarksRounds s l us ts tb scope calls d n a x y b ws left os o
         turn-stops q = turn-from os o (omega (arith, B.fewer, turned, C.fewer)) (λ F X Q k h R S.
             subst (λ (v : Answer). MarkEnds v os o) (sym (turn-round F X (nat_of (y -ℤ z)) k))
-            (stops-there (machine F X.stmt (state (stored a (z ∷ []) k) u)) (forRounds (nat_of (y -ℤ z)) a (machine F X.stmt) (suc_ℤ z)) os o (turn-ends F X k R S) q))
+            (stops-there (machine F X.stmt (state (stored a (z ∷ []) k) u)) (for_rounds (nat_of (y -ℤ z)) a (machine F X.stmt) (suc_ℤ z)) os o (turn-ends F X k R S) q))
 
         pub turn-falls : o ≤ 4294967295 → o < t
         turn-falls q = omega (arith, left-of o q, B.fewer, turned)
@@ -230,8 +230,8 @@ module _ (s l us ts tb : List ℕ) (scope : Scope) (calls d n a : ℕ) (x y : �
         turn_last q i es G = turn-from es o (omega (arith, B.fewer, turned, C.fewer)) (λ F X Q k h R S.
             subst (λ (v : Answer). MarkEnds v es o)
             (sym (turn-round F X (nat_of (y -ℤ z)) k
-            ∙ ap (λ (e : ℕ). and_then (machine F X.stmt (state (stored a (z ∷ []) k) u)) (forRounds e a (machine F X.stmt) (suc_ℤ z))) (count-last y z h i)))
-            (goes-ends (goes-next (machine F X.stmt (state (stored a (z ∷ []) k) u)) (forRounds 0 a (machine F X.stmt) (suc_ℤ z)) os o (turn-ends F X k R S) q)
+            ∙ ap (λ (e : ℕ). and_then (machine F X.stmt (state (stored a (z ∷ []) k) u)) (for_rounds e a (machine F X.stmt) (suc_ℤ z))) (count-last y z h i)))
+            (goes-ends (goes-next (machine F X.stmt (state (stored a (z ∷ []) k) u)) (for_rounds 0 a (machine F X.stmt) (suc_ℤ z)) os o (turn-ends F X k R S) q)
             (λ m T. subst (λ (v : Answer). MarkEnds v es o) (sym (rounds-none a (machine F X.stmt) (suc_ℤ z) (state m o))) (ended-marks os o m a es T G))))
 
         turn-next : (r : ℤ) → o ≤ 4294967295 → le_z y z ≡ false → r ≡ suc_ℤ z → Counting s l us ts tb scope calls d n a x y b ws left r os o
@@ -241,19 +241,19 @@ module _ (s l us ts tb : List ℕ) (scope : Scope) (calls d n a : ℕ) (x y : �
           small = C.small;
         })
           where
-            go : {v : Answer} (F : Setting s l us ts tb scope calls) (X : Found F.env (stmtIn d n (first (stackAt s b)))) → InRange y
+            go : {v : Answer} (F : Setting s l us ts tb scope calls) (X : Found F.env (stmt_in d n (first (stack_at s b)))) → InRange y
                 → TurnsLeft v a (machine F X.stmt) z y vs t → TurnsLeft v a (machine F X.stmt) (suc_ℤ z) y os o
             go {v} F X Q K =
                 let k = K.goes.store in
                 let e : nat_of (suc_ℤ (y -ℤ z)) ≡ suc (nat_of (suc_ℤ (y -ℤ suc_ℤ z))) = count-one y z K.up ∙ ap (λ (c : ℤ). suc (nat_of c)) (sym (count-rest y z)) in
-                let H = goes-next (machine F X.stmt (state (stored a (z ∷ []) k) u)) (forRounds (nat_of (suc_ℤ (y -ℤ suc_ℤ z))) a (machine F X.stmt) (suc_ℤ z)) os o (turn-ends F X k K.ranged K.goes.stands) q in
+                let H = goes-next (machine F X.stmt (state (stored a (z ∷ []) k) u)) (for_rounds (nat_of (suc_ℤ (y -ℤ suc_ℤ z))) a (machine F X.stmt) (suc_ℤ z)) os o (turn-ends F X k K.ranged K.goes.stands) q in
                 record {
                   up = next_up y z (not-le y z i);
                   ranged = next-ranged y z (not-le y z i) K.ranged Q;
                   goes = record {
                     store = H.store;
                     stands = H.stands;
-                    rest = K.goes.rest ∙ ap (λ (c : ℕ). forRounds c a (machine F X.stmt) z (state k t)) e ∙ turn-round F X (nat_of (suc_ℤ (y -ℤ suc_ℤ z))) k ∙ H.rest;
+                    rest = K.goes.rest ∙ ap (λ (c : ℕ). for_rounds c a (machine F X.stmt) z (state k t)) e ∙ turn-round F X (nat_of (suc_ℤ (y -ℤ suc_ℤ z))) k ∙ H.rest;
                   };
                 }
 
@@ -265,7 +265,7 @@ module _ (s l us ts tb : List ℕ) (scope : Scope) (calls d n a : ℕ) (x y : �
       subst (λ (v : ℤ). MarksRounds s l us ts tb scope calls d n a v y b ws left os r) (to_z-of_z f)
       (subst (λ (v : ℤ). MarksRounds s l us ts tb scope calls d n a (wire x) v b ws left os r) (to_z-of_z g) K)
 
-  module _ (u : ℕ) (U : u ≡ stepWord t) where
+  module _ (u : ℕ) (U : u ≡ step_word t) where
     pub rounds-spent : 4294967295 < u → MarksRounds s l us ts tb scope calls d n a x y b ws left vs u
     rounds-spent e = plainly vs u (turn-spent s l us ts tb scope calls d n a (wire x) (wire y) b ws left z vs t C u U e)
 
@@ -284,57 +284,57 @@ module _ (s l us ts tb : List ℕ) (scope : Scope) (calls d n a : ℕ) (x y : �
 pub ruleset rounds-laws = (rounds-spent, rounds-stop, rounds-end, sfits_of)
 
 -- ---- `count_up`
-name-end : nameIn end ≡ none
-unfolding nameIn part_of ◌>>=◌
+name-end : name_in end ≡ none
+unfolding name_in part_of ◌>>=◌
 name-end = refl
 
 -- what a plan says of what v is, where w was worked out
 abbrev PlanFor : (n : ℕ) (body : State → Answer) (t : State) → Result Counted → Answer → Plan → Type 0
-PlanFor n body t w v (plan.Rounds a x y) = (le_z x y ≡ true) × (InRange x × (InRange y × (v ≡ forRounds (nat_of (suc_ℤ (y -ℤ x))) a body x t)))
+PlanFor n body t w v (plan.Rounds a x y) = (le_z x y ≡ true) × (InRange x × (InRange y × (v ≡ for_rounds (nat_of (suc_ℤ (y -ℤ x))) a body x t)))
 PlanFor n body t w v (plan.NoRound a) = v ≡ ended a t
-PlanFor n body t w v plan.Outside = v ≡ raising rangeError n t
+PlanFor n body t w v plan.Outside = v ≡ raising range_error n t
 PlanFor n body t w v (plan.Halted u) = Broken u w
 
-plan-counts : (n a : ℕ) (lo hi x y : ℤ) (body : State → Answer) (t : State) (w : Result Counted) → InRange x → InRange y → PlanFor n body t w (countUp n a lo hi x y body t) (plan_of a lo hi x y)
+plan-counts : (n a : ℕ) (lo hi x y : ℤ) (body : State → Answer) (t : State) (w : Result Counted) → InRange x → InRange y → PlanFor n body t w (count_up n a lo hi x y body t) (plan_of a lo hi x y)
 unfolding plan_of planned pick
 plan-counts n a lo hi x y body t w R Q = go (le_z x y) (inside lo hi x && inside lo hi y) refl refl
   where
-    go : (q i : Bool) → le_z x y ≡ q → (inside lo hi x && inside lo hi y) ≡ i → PlanFor n body t w (countUp n a lo hi x y body t) (planAs a x y (pick q (pick i (rounds (nat_of (suc_ℤ (y -ℤ x)))) outside) noRound))
+    go : (q i : Bool) → le_z x y ≡ q → (inside lo hi x && inside lo hi y) ≡ i → PlanFor n body t w (count_up n a lo hi x y body t) (plan_as a x y (pick q (pick i (rounds (nat_of (suc_ℤ (y -ℤ x)))) outside) no_round))
     go false i h g = counts-none n a lo hi x y body t h
     go true false h g = counts-out n a lo hi x y body t h g
     go true true h g = (h, (R, (Q, counts-in n a lo hi x y body t h g)))
 
 module _ (Γ : Types) (n : ℕ) (body : State → Answer) (t : State) (w : Result Counted) where
   abbrev over : Counted → Answer
-  over q = countUp n q.0.base (infoAt Γ q.0.type).low (infoAt Γ q.0.type).high q.1.0 q.1.1 body t
+  over q = count_up n q.0.base (info_at Γ q.0.type).low (info_at Γ q.0.type).high q.1.0 q.1.1 body t
 
   -- by the bounds
-  span-tells : (c : Span) → SpanIs Γ w c → PlanFor n body t w (withResult n t w over) (planBy c)
+  span-tells : (c : Span) → SpanIs Γ w c → PlanFor n body t w (with_result n t w over) (plan_by c)
   span-tells (span.Halted u) S = S.says
   span-tells (span.Over a lo hi x y) S =
       let C = S.says in
-      let e : countUp n a lo hi x y body t ≡ withResult n t w over
-      = ap (λ (c : ℕ). countUp n c lo hi x y body t) C.cell ∙ ap (λ (c : ℤ). countUp n C.control.base c hi x y body t) C.least-is
-      ∙ ap (λ (c : ℤ). countUp n C.control.base (infoAt Γ C.control.type).low c x y body t) C.most-is ∙ ap (λ (v : Result Counted). withResult n t v over) (sym C.gives) in
+      let e : count_up n a lo hi x y body t ≡ with_result n t w over
+      = ap (λ (c : ℕ). count_up n c lo hi x y body t) C.cell ∙ ap (λ (c : ℤ). count_up n C.control.base c hi x y body t) C.least-is
+      ∙ ap (λ (c : ℤ). count_up n C.control.base (info_at Γ C.control.type).low c x y body t) C.most-is ∙ ap (λ (v : Result Counted). with_result n t v over) (sym C.gives) in
       subst (λ (v : Answer). PlanFor n body t w v (plan_of a lo hi x y)) e (plan-counts n a lo hi x y body t w C.from-ranged C.to-ranged)
 
-module _ (s l us ts tb : List ℕ) (scope : Scope) (calls d n at : ℕ) (ws : List ℤ) (left : ℕ) (b : Span) (B : Bounding s l ts ws scope at b) (p : Plan) (P : p ≡ planBy b) where
-  for-from : (ws' : List ℤ) (r : ℕ) → leftIn r ≤ left
-      → ((F : Setting s l us ts tb scope calls) (C : Found F.env (stmtIn d n (rest (rest (rest (first (stackAt s at))))))) (w : Name) (x y : Expr) → nameIn (first (stackAt s at)) ≡ some w
-      → exprIn 33 (rest (first (stackAt s at))) ≡ some x → exprIn 33 (rest (rest (first (stackAt s at)))) ≡ some y → (k : Store) → Stands ws left k → (v : Result Counted)
-      → PlanFor n (machine F C.stmt) (state k left) v (withResult n (state k left) v (over F.env.types n (machine F C.stmt) (state k left) v)) p
-      → MarkEnds (withResult n (state k left) v (over F.env.types n (machine F C.stmt) (state k left) v)) ws' r)
+module _ (s l us ts tb : List ℕ) (scope : Scope) (calls d n at : ℕ) (ws : List ℤ) (left : ℕ) (b : Span) (B : Bounding s l ts ws scope at b) (p : Plan) (P : p ≡ plan_by b) where
+  for-from : (ws' : List ℤ) (r : ℕ) → left_in r ≤ left
+      → ((F : Setting s l us ts tb scope calls) (C : Found F.env (stmt_in d n (rest (rest (rest (first (stack_at s at))))))) (w : Name) (x y : Expr) → name_in (first (stack_at s at)) ≡ some w
+      → expr_in 33 (rest (first (stack_at s at))) ≡ some x → expr_in 33 (rest (rest (first (stack_at s at)))) ≡ some y → (k : Store) → Stands ws left k → (v : Result Counted)
+      → PlanFor n (machine F C.stmt) (state k left) v (with_result n (state k left) v (over F.env.types n (machine F C.stmt) (state k left) v)) p
+      → MarkEnds (with_result n (state k left) v (over F.env.types n (machine F C.stmt) (state k left) v)) ws' r)
       → MarksVerb s l us ts tb scope calls VB.For d n at ws left ws' r
   for-from ws' r h f = record {
-    runs = λ F X. for-found F.env d n (first (stackAt s at)) X (λ w i A D C hw hi j.
+    runs = λ F X. for-found F.env d n (first (stack_at s at)) X (λ w i A D C hw hi j.
         subst (λ (y : Script.Stmt). MarkRuns (after (machine F y)) ws left ws' r) (sym j) (record {
           says = λ k S.
               let v = counted F.env.types F.env.vars i A.expr D.expr k in
               let T = B.says F.env (known F) w A.form D.form i A.expr D.expr hw A.reads D.reads hi A.names D.names k S.holds in
               subst (λ (a : Answer). MarkEnds a ws' r)
-              (sym (for-shape F.env.types F.env.vars (procsOf F.other F.bodies F.before) k left n i A.expr D.expr C.stmt))
+              (sym (for-shape F.env.types F.env.vars (procs_of F.other F.bodies F.before) k left n i A.expr D.expr C.stmt))
               (f F C w A.form D.form hw A.reads D.reads k S v
-              (subst (λ (c : Plan). PlanFor n (machine F C.stmt) (state k left) v (withResult n (state k left) v (over F.env.types n (machine F C.stmt) (state k left) v)) c) (sym P)
+              (subst (λ (c : Plan). PlanFor n (machine F C.stmt) (state k left) v (with_result n (state k left) v (over F.env.types n (machine F C.stmt) (state k left) v)) c) (sym P)
               (span-tells F.env.types n (machine F C.stmt) (state k left) v b T)));
         }));
     fewer = h;
@@ -350,24 +350,24 @@ module _ (s l us ts tb : List ℕ) (scope : Scope) (calls d n at : ℕ) (ws : Li
   pub for-outside : (ws' : List ℤ) (r : ℕ) → p ≡ plan.Outside → Raises (negsuc 102) n ws left ws' r → MarksVerb s l us ts tb scope calls VB.For d n at ws left ws' r
   unfolding InRange inside
   for-outside ws' r e R = for-from ws' r (raised-fewer (negsuc 102) n ws left ws' r R) (λ F C w x y hw hx hy k S v T.
-      subst (λ (a : Answer). MarkEnds a ws' r) (sym (rw e at T)) (raising-marks ws left k S rangeError n ws' r refl R))
+      subst (λ (a : Answer). MarkEnds a ws' r) (sym (rw e at T)) (raising-marks ws left k S range_error n ws' r refl R))
 
   pub for-rounds : (a : ℕ) (x y : ℤ) (q₁ q₂ q₃ : ℕ) (ws' : List ℤ) (r : ℕ) → p ≡ plan.Rounds a x y → SFits w64 x → SFits w64 y → Skips s at q₁ → Skips s q₁ q₂ → Skips s q₂ q₃
       → MarksRounds s l us ts tb scope calls d n a (wire x) (wire y) q₃ ws left ws' r → MarksVerb s l us ts tb scope calls VB.For d n at ws left ws' r
   for-rounds a x y q₁ q₂ q₃ ws' r e fx fy A₁ A₂ A₃ R = for-from ws' r R.fewer (λ F C w g h hw hg hh k S v T. go F C w g h hw hg hh k S v (rw e at T))
     where
-      go : (F : Setting s l us ts tb scope calls) (C : Found F.env (stmtIn d n (rest (rest (rest (first (stackAt s at))))))) (w : Name) (g h : Expr) → nameIn (first (stackAt s at)) ≡ some w
-          → exprIn 33 (rest (first (stackAt s at))) ≡ some g → exprIn 33 (rest (rest (first (stackAt s at)))) ≡ some h → (k : Store) → Stands ws left k → (v : Result Counted)
-          → PlanFor n (machine F C.stmt) (state k left) v (withResult n (state k left) v (over F.env.types n (machine F C.stmt) (state k left) v)) (plan.Rounds a x y)
-          → MarkEnds (withResult n (state k left) v (over F.env.types n (machine F C.stmt) (state k left) v)) ws' r
+      go : (F : Setting s l us ts tb scope calls) (C : Found F.env (stmt_in d n (rest (rest (rest (first (stack_at s at))))))) (w : Name) (g h : Expr) → name_in (first (stack_at s at)) ≡ some w
+          → expr_in 33 (rest (first (stack_at s at))) ≡ some g → expr_in 33 (rest (rest (first (stack_at s at)))) ≡ some h → (k : Store) → Stands ws left k → (v : Result Counted)
+          → PlanFor n (machine F C.stmt) (state k left) v (with_result n (state k left) v (over F.env.types n (machine F C.stmt) (state k left) v)) (plan.Rounds a x y)
+          → MarkEnds (with_result n (state k left) v (over F.env.types n (machine F C.stmt) (state k left) v)) ws' r
       go F C w g h hw hg hh k S v T =
-          let e₁ : rest (first (stackAt s at)) ≡ first (stackAt s q₁) = past A₁ nameIn w name-end hw in
-          let e₂ : rest (first (stackAt s q₁)) ≡ first (stackAt s q₂) = past A₂ (exprIn 33) g (expr-end 33) (ap (exprIn 33) (sym e₁) ∙ hg) in
-          let e₃ : rest (first (stackAt s q₂)) ≡ first (stackAt s q₃) = past A₃ (exprIn 33) h (expr-end 33) (ap (exprIn 33) (sym (ap rest e₁ ∙ e₂)) ∙ hh) in
+          let e₁ : rest (first (stack_at s at)) ≡ first (stack_at s q₁) = past A₁ name_in w name-end hw in
+          let e₂ : rest (first (stack_at s q₁)) ≡ first (stack_at s q₂) = past A₂ (expr_in 33) g (expr-end 33) (ap (expr_in 33) (sym e₁) ∙ hg) in
+          let e₃ : rest (first (stack_at s q₂)) ≡ first (stack_at s q₃) = past A₃ (expr_in 33) h (expr-end 33) (ap (expr_in 33) (sym (ap rest e₁ ∙ e₂)) ∙ hh) in
           let Q : MarksRounds s l us ts tb scope calls d n a x y q₃ ws left ws' r
           = subst (λ (c : ℤ). MarksRounds s l us ts tb scope calls d n a c y q₃ ws left ws' r) (to_z-of_z fx)
           (subst (λ (c : ℤ). MarksRounds s l us ts tb scope calls d n a (wire x) c q₃ ws left ws' r) (to_z-of_z fy) R) in
           subst (λ (z : Answer). MarkEnds z ws' r) (sym T.1.1.1)
-          ((Q.runs F (found_as C (stmtIn d n (first (stackAt s q₃))) (ap (stmtIn d n) (ap rest (ap rest e₁ ∙ e₂) ∙ e₃))) T.0 T.1.0 T.1.1.0).says k S)
+          ((Q.runs F (found_as C (stmt_in d n (first (stack_at s q₃))) (ap (stmt_in d n) (ap rest (ap rest e₁ ∙ e₂) ∙ e₃))) T.0 T.1.0 T.1.1.0).says k S)
 
 pub ruleset for-laws = (for-halts, for-none, for-outside, for-rounds, sfits_of)

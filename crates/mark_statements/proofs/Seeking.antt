@@ -18,35 +18,35 @@ use Rattle.law.specs.Environment.{Environment, NameSort}
 use Rattle.law.specs.Forms.{free}
 use Rattle.law.specs.Machine as Machine
 use Rattle.law.specs.Machine.{planned}
-use Rattle.law.specs.Names.{asProc}
+use Rattle.law.specs.Names.{as_proc}
 use Rattle.law.specs.Syntax.{Body, Stmt, Stmts}
 use Rattle.law.specs.Trees.{word, form, Trees, end, ◌then◌, Run, first, later, word_at}
-use Rattle.law_theorems.specs.Readings.{stackAt}
+use Rattle.law_theorems.specs.Readings.{stack_at}
 use Rattle.law_theorems.proofs.Inversion.{none-some, some_inj}
 use Rattle.law.specs.Words as Words
-use Rattle.law.specs.Words.{worded, wordedAll}
+use Rattle.law.specs.Words.{worded, worded_all}
 use Rattle.leaf_words.specs.declared.words.Word as Kind
 use Rattle.leaf_words.specs.Words.{word_of}
 use Rattle.text_heads.specs.declared.Atom.{Atom}
 use Rattle.text_heads.specs.declared.Atom.TheVariants as AT
-use Rattle.text_heads.specs.Heads.{atomName, atomOf}
-use Rattle.text_heads.specs.Parts.{part_of, rest, nameIn, bodyIn, handlerIn}
+use Rattle.text_heads.specs.Heads.{atom_name, atom_of}
+use Rattle.text_heads.specs.Parts.{part_of, rest, name_in, body_in, handler_in}
 use Rattle.text_heads.proofs.Heads.{name-word}
 use Rattle.text_parts.specs.declared.Part.{Part}
 use Rattle.text_parts.specs.declared.Part.TheVariants as part
 use Rattle.text_parts.specs.Parts as Parts
 use Rattle.table_scope.specs.declared.frames.Frame as Scoped
-use Rattle.table_scope.specs.Frames.{frameIn}
+use Rattle.table_scope.specs.Frames.{frame_in}
 use Rattle.table_scope.specs.declared.Scope.{Scope}
 use Rattle.table_scope.specs.declared.Meaning.{Meaning}
 use Rattle.table_scope.specs.declared.Meaning.TheVariants as meaning
-use Rattle.table_scope.specs.Scene.{Told, unknown, known, a-type, a-var, a-proc, a-value, meaningHere}
+use Rattle.table_scope.specs.Scene.{Told, unknown, known, a-type, a-var, a-proc, a-value, meaning_here}
 use Rattle.table_scope.proofs.Telling.{meant}
 use Rattle.rule_stmt_nodes.specs.declared.last.Next.{Next}
 use Rattle.rule_stmt_nodes.specs.declared.last.Next.TheVariants as following
 use Rattle.rule_stmt_nodes.specs.Handlers.{Comes, HandlerAt, PlainAt}
 use Rattle.text_skips.specs.Skips.{Skips}
-use Rattle.mark_counts.specs.Statements.{CountsStatements, verbsIn}
+use Rattle.mark_counts.specs.Statements.{CountsStatements, verbs_in}
 use Rattle.mark_counts.proofs.Numbers.{body-handler, body-number}
 use Rattle.mark_counts.proofs.Passing.{body-on}
 use Rattle.rule_expressions.specs.Members.{many}
@@ -57,10 +57,10 @@ use Rattle.mark_statements.specs.declared.finding.Handler.{Handler}
 use Rattle.mark_statements.specs.declared.finding.Handler.TheVariants as handler
 use Rattle.mark_steps.specs.declared.turns.Plan as Steps
 use Rattle.mark_steps.specs.declared.turns.Plan.TheVariants as steps
-use Rattle.mark_steps.specs.Turns.{Plans, planFrom}
+use Rattle.mark_steps.specs.Turns.{Plans, plan_from}
 use Rattle.mark_statements.specs.declared.finding.Plan.{Plan}
 use Rattle.mark_statements.specs.declared.finding.Plan.TheVariants as plan
-use Rattle.mark_statements.specs.Finding.{line_of, procIn, calleeAt, CalleeIs, Calls, HandlesBy, Handles, planAs, plan_of, planBy}
+use Rattle.mark_statements.specs.Finding.{line_of, proc_in, callee_at, CalleeIs, Calls, HandlesBy, Handles, plan_as, plan_of, plan_by}
 
 -- ---- `line_of`
 pub line-is : (tb : List ℕ) (q a b c d e f g h : ℕ) → a ≡ get_or tb (8 * q) 0 → b ≡ get_or tb (8 * q + 1) 0 → c ≡ get_or tb (8 * q + 2) 0 → d ≡ get_or tb (8 * q + 3) 0 → e ≡ get_or tb (8 * q + 4) 0
@@ -69,7 +69,7 @@ pub line-is : (tb : List ℕ) (q a b c d e f g h : ℕ) → a ≡ get_or tb (8 *
 line-is tb q a b c d e f g h ea eb ec ed ee ef eg eh = rw (ea, eb, ec, ed, ee, ef, eg, eh) refl
 
 -- ---- `callee`
-told-proc : (σ : Environment) (bs : List ℕ) (x : Meaning) (n : Option NameSort) → Told σ bs x n → (p : ℕ × List ℕ) → (n >>= asProc) ≡ some p → procIn x ≡ get_or bs p.0 0
+told-proc : (σ : Environment) (bs : List ℕ) (x : Meaning) (n : Option NameSort) → Told σ bs x n → (p : ℕ × List ℕ) → (n >>= as_proc) ≡ some p → proc_in x ≡ get_or bs p.0 0
 unfolding ◌>>=◌
 told-proc σ bs _ _ unknown p h = none-some h
 told-proc σ bs _ _ (known a-type) p h = none-some h
@@ -77,11 +77,11 @@ told-proc σ bs _ _ (known (a-var v e)) p h = none-some h
 told-proc σ bs _ _ (known a-proc) p h = ap (λ (k : ℕ × List ℕ). get_or bs k.0 0) (some_inj h)
 told-proc σ bs _ _ (known a-value) p h = none-some h
 
-pub callee-is : (l : List ℕ) (p q a : ℕ) (x : Scoped.Frame) → a ≡ get_or l p 0 → x ≡ frameIn l p → record { number = a; frame = x; next = q } ≡ calleeAt l p q
+pub callee-is : (l : List ℕ) (p q a : ℕ) (x : Scoped.Frame) → a ≡ get_or l p 0 → x ≡ frame_in l p → record { number = a; frame = x; next = q } ≡ callee_at l p q
 callee-is l p q a x e f = rw (e, f) refl
 
 -- a word that reads as a name is that name
-atom-name : (a : Atom) (v w : Name) → atomName a v ≡ some w → v ≡ w
+atom-name : (a : Atom) (v w : Name) → atom_name a v ≡ some w → v ≡ w
 atom-name (AT.Number z) v w h = none-some h
 atom-name AT.Named v w h = some_inj h
 atom-name (AT.Truth b) v w h = none-some h
@@ -89,36 +89,36 @@ atom-name AT.ErrorNumber v w h = none-some h
 atom-name (AT.Base k) v w h = none-some h
 atom-name AT.Nothing v w h = none-some h
 
-no-name-form : (us ts : Trees Run) → nameIn (form us then ts) ≡ none
-unfolding nameIn part_of free worded ◌>>=◌
-no-name-form us ts = go (wordedAll us)
+no-name-form : (us ts : Trees Run) → name_in (form us then ts) ≡ none
+unfolding name_in part_of free worded ◌>>=◌
+no-name-form us ts = go (worded_all us)
   where
     go : (o : Option (Trees Words.Word)) → ((o >>= λ vs. some (form vs)) >>= free) ≡ none
     go none = refl
     go (some vs) = refl
 
-no-name-end : nameIn end ≡ none
-unfolding nameIn part_of ◌>>=◌
+no-name-end : name_in end ≡ none
+unfolding name_in part_of ◌>>=◌
 no-name-end = refl
 
 module _ (s l : List ℕ) (scope : Scope) (at : ℕ) (x : Part) (X : Parts.Stands s at x) where
-  pub callee_named : (w : Kind.Word) (p q : ℕ) (m : Meaning) (a : ℕ) (r : Callee) → x ≡ part.Leaf w p q → m ≡ meaningHere s l scope p → a ≡ procIn m → r ≡ calleeAt l a q → Calls s l scope at r
+  pub callee_named : (w : Kind.Word) (p q : ℕ) (m : Meaning) (a : ℕ) (r : Callee) → x ≡ part.Leaf w p q → m ≡ meaning_here s l scope p → a ≡ proc_in m → r ≡ callee_at l a q → Calls s l scope at r
   callee_named w p q m a r e em ea er = record {
     says = λ ts top σ bs S v hv k hk.
         let f = rw e at X.says in
-        let b : map small (word_at s p) ≡ v = atom-name (atomOf (word_of (word_at s p))) (map small (word_at s p)) v (sym (name-word (word_at s p) (first (stackAt s q))) ∙ ap nameIn (sym f.0.leaf.here) ∙ hv) in
-        let c : a ≡ get_or bs k.0 0 = ea ∙ ap procIn em ∙ told-proc σ bs (meaningHere s l scope p) (find σ.names (map small (word_at s p))) (meant S (map small (word_at s p))) k
-        (ap (λ (v : Name). find σ.names v >>= asProc) b ∙ hk) in
-        rw er (record { callee = ap (λ (y : ℕ). calleeAt l y q) c; after = ap rest f.0.leaf.here });
+        let b : map small (word_at s p) ≡ v = atom-name (atom_of (word_of (word_at s p))) (map small (word_at s p)) v (sym (name-word (word_at s p) (first (stack_at s q))) ∙ ap name_in (sym f.0.leaf.here) ∙ hv) in
+        let c : a ≡ get_or bs k.0 0 = ea ∙ ap proc_in em ∙ told-proc σ bs (meaning_here s l scope p) (find σ.names (map small (word_at s p))) (meant S (map small (word_at s p))) k
+        (ap (λ (v : Name). find σ.names v >>= as_proc) b ∙ hk) in
+        rw er (record { callee = ap (λ (y : ℕ). callee_at l y q) c; after = ap rest f.0.leaf.here });
   }
 
   pub callee-form : (p : ℕ) (r : Callee) → x ≡ part.Form p → Calls s l scope at r
   callee-form p r e = record {
-    says = λ ts top σ bs S v hv k hk. none-some (sym (no-name-form (first (stackAt s p)) (first (later (stackAt s p)))) ∙ ap nameIn (sym (rw e at X.says).here) ∙ hv);
+    says = λ ts top σ bs S v hv k hk. none-some (sym (no-name-form (first (stack_at s p)) (first (later (stack_at s p)))) ∙ ap name_in (sym (rw e at X.says).here) ∙ hv);
   }
 
   pub callee-shut : (p : ℕ) (r : Callee) → x ≡ part.Shut p → Calls s l scope at r
-  callee-shut p r e = record { says = λ ts top σ bs S v hv k hk. none-some (sym no-name-end ∙ ap nameIn (sym (rw e at X.says).here) ∙ hv) }
+  callee-shut p r e = record { says = λ ts top σ bs S v hv k hk. none-some (sym no-name-end ∙ ap name_in (sym (rw e at X.says).here) ∙ hv) }
 
 pub ruleset callee-laws = (callee_named, callee-form, callee-shut)
 
@@ -126,30 +126,30 @@ pub ruleset callee-laws = (callee_named, callee-form, callee-shut)
 
 -- what is left of a body has its handler
 pub record Behind (s : List ℕ) (n at m p : ℕ) : Type 0 where
-  pub left : (b : Body × ℕ) → bodyIn n (first (stackAt s at)) ≡ some b → b.1 ≤ 4294967295
-      → (c : Body × ℕ) × ((bodyIn m (first (stackAt s p)) ≡ some c) × ((b.0.handles ≡ c.0.handles) × ((b.0.handler ≡ c.0.handler) × (b.1 ≡ c.1))))
+  pub left : (b : Body × ℕ) → body_in n (first (stack_at s at)) ≡ some b → b.1 ≤ 4294967295
+      → (c : Body × ℕ) × ((body_in m (first (stack_at s p)) ≡ some c) × ((b.0.handles ≡ c.0.handles) × ((b.0.handler ≡ c.0.handler) × (b.1 ≡ c.1))))
 
 pub behind-start : (s : List ℕ) (n at : ℕ) → Behind s n at n at
 behind-start s n at = record { left = λ b h l. (b, (h, (refl, (refl, refl)))) }
 
 module _ (s : List ℕ) (n at m p : ℕ) (B : Behind s n at m p) (x : Next) (C : Comes s p x) where
-  body-shut : (c : Body × ℕ) → first (stackAt s p) ≡ end → bodyIn m (first (stackAt s p)) ≡ some c → c.0.handles ≡ false
-  unfolding bodyIn
+  body-shut : (c : Body × ℕ) → first (stack_at s p) ≡ end → body_in m (first (stack_at s p)) ≡ some c → c.0.handles ≡ false
+  unfolding body_in
   body-shut c e h = ap (λ (y : Body × ℕ). y.0.handles) (sym (some_inj (rw e at h)))
 
   pub handler-past : (q : ℕ) → x ≡ following.Past q → Handles s n at handler.Nothing
   handler-past q e = record { says = λ b h l. let y = B.left b h l in y.1.1.0 ∙ body-shut y.0 (rw e at C.says).here y.1.0 }
 
   pub handler-here : (q : ℕ) → x ≡ following.Handler q → Handles s n at (handler.From q m)
-  unfolding handlerIn given
+  unfolding handler_in given
   handler-here q e = record { says = λ b h l. let y = B.left b h l in go b y.0 y.1.0 y.1.1.0 y.1.1.1.0 y.1.1.1.1 }
     where
       H : HandlerAt s p q
       H = rw e at C.says
 
-      go : (b c : Body × ℕ) → bodyIn m (first (stackAt s p)) ≡ some c → b.0.handles ≡ c.0.handles → b.0.handler ≡ c.0.handler → b.1 ≡ c.1 → HandlesBy s b (handler.From q m)
-      go b c h i j k = body-handler m (form (word H.head then first (stackAt s q))) (first (stackAt s q)) (first (later (stackAt s q))) c
-          (rw H.exception refl) (ap (bodyIn m) (sym H.here) ∙ h) λ u z hu g.
+      go : (b c : Body × ℕ) → body_in m (first (stack_at s p)) ≡ some c → b.0.handles ≡ c.0.handles → b.0.handler ≡ c.0.handler → b.1 ≡ c.1 → HandlesBy s b (handler.From q m)
+      go b c h i j k = body-handler m (form (word H.head then first (stack_at s q))) (first (stack_at s q)) (first (later (stack_at s q))) c
+          (rw H.exception refl) (ap (body_in m) (sym H.here) ∙ h) λ u z hu g.
           (i ∙ ap (λ (v : Body × ℕ). v.0.handles) (sym g), hu ∙ ap (λ (v : Stmts × ℕ). some v) (rw (j, k, ← g) refl))
 
   module _ (e : x ≡ following.Stmt) (r : ℕ) (R : CountsStatements s p r) (m' : ℕ) (M : m + r ≤ 4294967295 → m' ≡ m + r) (q : ℕ) (Q : Skips s p q) where
@@ -157,59 +157,59 @@ module _ (s : List ℕ) (n at m p : ℕ) (B : Behind s n at m p) (x : Next) (C :
     plainly = rw e at C.says
 
     pub handler-next : Behind s n at m' q
-    handler-next = record { left = λ b h l. let y = B.left b h l in go b l y.0 y.1.0 y.1.1.0 y.1.1.1.0 y.1.1.1.1 (first (stackAt s p)) refl }
+    handler-next = record { left = λ b h l. let y = B.left b h l in go b l y.0 y.1.0 y.1.1.0 y.1.1.1.0 y.1.1.1.1 (first (stack_at s p)) refl }
       where
-        go : (b : Body × ℕ) → b.1 ≤ 4294967295 → (c : Body × ℕ) → bodyIn m (first (stackAt s p)) ≡ some c → b.0.handles ≡ c.0.handles → b.0.handler ≡ c.0.handler → b.1 ≡ c.1
-            → (us : Trees Run) → first (stackAt s p) ≡ us
-            → (c : Body × ℕ) × ((bodyIn m' (first (stackAt s q)) ≡ some c) × ((b.0.handles ≡ c.0.handles) × ((b.0.handler ≡ c.0.handler) × (b.1 ≡ c.1))))
+        go : (b : Body × ℕ) → b.1 ≤ 4294967295 → (c : Body × ℕ) → body_in m (first (stack_at s p)) ≡ some c → b.0.handles ≡ c.0.handles → b.0.handler ≡ c.0.handler → b.1 ≡ c.1
+            → (us : Trees Run) → first (stack_at s p) ≡ us
+            → (c : Body × ℕ) × ((body_in m' (first (stack_at s q)) ≡ some c) × ((b.0.handles ≡ c.0.handles) × ((b.0.handler ≡ c.0.handler) × (b.1 ≡ c.1))))
         go b l c h i j k end z = absurd (plainly.more z)
         go b l c h i j k (t then us) z = body-on s p r R q t m c (Q.says t us z) (plainly.plain t us z) h λ a f ha hf g.
-            let v : f.1 ≡ m + r + verbsIn (first (stackAt s q)) = body-number (m + r) (first (stackAt s q)) f hf in
+            let v : f.1 ≡ m + r + verbs_in (first (stack_at s q)) = body-number (m + r) (first (stack_at s q)) f hf in
             let w : f.1 ≡ c.1 = ap (λ (y : Body × ℕ). y.1) g in
             let u : m + r ≤ 4294967295 = omega (arith, v, w, k, l) in (
               f,
               (
-                ap (λ (y : ℕ). bodyIn y (first (stackAt s q))) (M u) ∙ hf,
+                ap (λ (y : ℕ). body_in y (first (stack_at s q))) (M u) ∙ hf,
                 (i ∙ ap (λ (y : Body × ℕ). y.0.handles) (sym g), (j ∙ ap (λ (y : Body × ℕ). y.0.handler) (sym g), k ∙ sym w)),
               ),
             )
 
 -- a part more is passed
-pub handler-falls : (s : List ℕ) (p q : ℕ) (x : Next) → Comes s p x → x ≡ following.Stmt → Skips s p q → many (first (stackAt s q)) < many (first (stackAt s p))
+pub handler-falls : (s : List ℕ) (p q : ℕ) (x : Next) → Comes s p x → x ≡ following.Stmt → Skips s p q → many (first (stack_at s q)) < many (first (stack_at s p))
 unfolding many
-handler-falls s p q x C e Q = go (first (stackAt s p)) refl
+handler-falls s p q x C e Q = go (first (stack_at s p)) refl
   where
-    go : (us : Trees Run) → first (stackAt s p) ≡ us → many (first (stackAt s q)) < many us
+    go : (us : Trees Run) → first (stack_at s p) ≡ us → many (first (stack_at s q)) < many us
     go end i = absurd ((rw e at C.says).more i)
-    go (u then us) i = let b : us ≡ first (stackAt s q) = ap rest (sym i ∙ (Q.says u us i).here) in rw b (omega arith)
+    go (u then us) i = let b : us ≡ first (stack_at s q) = ap rest (sym i ∙ (Q.says u us i).here) in rw b (omega arith)
 
 pub ruleset handler-laws = (handler-past, handler-here)
 
 -- ---- `plan_for`
 module _ (a : ℕ) (lo hi x y : ℤ) (fl : SFits w64 lo) (fh : SFits w64 hi) (fx : SFits w64 x) (fy : SFits w64 y) (p : Steps.Plan) (P : Plans (wire lo) (wire hi) (wire x) (wire y) p) where
-  planned-is : planned lo hi x y ≡ planFrom (wire x) (wire y) p
-  planned-is = subst (λ (q : Machine.Plan). q ≡ planFrom (wire x) (wire y) p) (rw (to_z-of_z fl, to_z-of_z fh, to_z-of_z fx, to_z-of_z fy)) P.says
+  planned-is : planned lo hi x y ≡ plan_from (wire x) (wire y) p
+  planned-is = subst (λ (q : Machine.Plan). q ≡ plan_from (wire x) (wire y) p) (rw (to_z-of_z fl, to_z-of_z fh, to_z-of_z fx, to_z-of_z fy)) P.says
 
   pub plan-none : p ≡ steps.NoRound → plan.NoRound a ≡ plan_of a lo hi x y
   unfolding plan_of
-  plan-none e = sym (ap (planAs a x y) (planned-is ∙ ap (planFrom (wire x) (wire y)) e))
+  plan-none e = sym (ap (plan_as a x y) (planned-is ∙ ap (plan_from (wire x) (wire y)) e))
 
   pub plan-out : p ≡ steps.Outside → plan.Outside ≡ plan_of a lo hi x y
   unfolding plan_of
-  plan-out e = sym (ap (planAs a x y) (planned-is ∙ ap (planFrom (wire x) (wire y)) e))
+  plan-out e = sym (ap (plan_as a x y) (planned-is ∙ ap (plan_from (wire x) (wire y)) e))
 
   pub plan-rounds : p ≡ steps.Rounds → plan.Rounds a (wire x) (wire y) ≡ plan_of a lo hi x y
   unfolding plan_of
-  plan-rounds e = rw (to_z-of_z fx, to_z-of_z fy) (sym (ap (planAs a x y) (planned-is ∙ ap (planFrom (wire x) (wire y)) e)))
+  plan-rounds e = rw (to_z-of_z fx, to_z-of_z fy) (sym (ap (plan_as a x y) (planned-is ∙ ap (plan_from (wire x) (wire y)) e)))
 
 pub ruleset within-laws = (plan-none, plan-out, plan-rounds, sfits_of)
 
 module _ (s : Span) where
   pub plan-over : (a : ℕ) (lo hi x y : ℤ) (r : Plan) → s ≡ span.Over a lo hi x y → SFits w64 lo → SFits w64 hi → SFits w64 x → SFits w64 y
-      → r ≡ plan_of a (wire lo) (wire hi) (wire x) (wire y) → r ≡ planBy s
+      → r ≡ plan_of a (wire lo) (wire hi) (wire x) (wire y) → r ≡ plan_by s
   plan-over a lo hi x y r e fl fh fx fy h = h ∙ rw (e, to_z-of_z fl, to_z-of_z fh, to_z-of_z fx, to_z-of_z fy) refl
 
-  pub plan-halted : (w : ℤ) → s ≡ span.Halted w → SFits w64 w → plan.Halted (wire w) ≡ planBy s
+  pub plan-halted : (w : ℤ) → s ≡ span.Halted w → SFits w64 w → plan.Halted (wire w) ≡ plan_by s
   plan-halted w e f = rw (e, to_z-of_z f) refl
 
 pub ruleset plan-laws = (plan-over, plan-halted, sfits_of)

@@ -10,11 +10,11 @@ use lib.Dec.{T}
 use lib.IntN.{ℤ, pos, negsuc, ◌+ℤ◌, ◌-ℤ◌, suc_ℤ, neg_ℤ, suc-pred, neg_ℤ-suc_ℤ, +ℤ-pred_ℤ, +ℤ_invr, +ℤ_one}
 use lib.Signed.{le_z, lt_z, non_neg}
 use Rattle.leaf_integers.specs.Integers.{inside}
-use Rattle.leaf_integers.proofs.Order.{leZ-diff, leZ-trans, up_le, add-high}
+use Rattle.leaf_integers.proofs.Order.{le_z-diff, le_z-trans, up_le, add-high}
 use Rattle.leaf_integers.proofs.Ranges.{inside_is, inside_both}
 use Rattle.law.specs.Base.{pick}
-use Rattle.law.specs.Calculate.{nat_of, rangeError}
-use Rattle.law.specs.Machine.{Store, State, state, Answer, answer, normal, spent, and_then, branch, countUp, ended, forRounds, raising, step, stored, whileRounds, noRound, opened, outside, planned, rounds}
+use Rattle.law.specs.Calculate.{nat_of, range_error}
+use Rattle.law.specs.Machine.{Store, State, state, Answer, answer, normal, spent, and_then, branch, count_up, ended, for_rounds, raising, step, stored, while_rounds, no_round, opened, outside, planned, rounds}
 use Rattle.code_calc.specs.Words.{lowest, greatest, InRange}
 
 -- ---- `while`
@@ -22,10 +22,10 @@ module _ (test : State → (Bool → Answer) → Answer) (body : State → Answe
   -- what a true test leads to
   pub onward : ℕ → State → Answer
   onward zero = answer spent
-  onward (suc f) = λ t. step t (λ u. and_then (body u) (whileRounds f test body))
+  onward (suc f) = λ t. step t (λ u. and_then (body u) (while_rounds f test body))
 
-  pub rounds-by : (f : ℕ) (t : State) → whileRounds f test body t ≡ test t (λ b. branch b (onward f) (answer normal) t)
-  unfolding onward whileRounds
+  pub rounds-by : (f : ℕ) (t : State) → while_rounds f test body t ≡ test t (λ b. branch b (onward f) (answer normal) t)
+  unfolding onward while_rounds
   rounds-by zero t = refl
   rounds-by (suc f) t = refl
 
@@ -34,16 +34,16 @@ module _ (test : State → (Bool → Answer) → Answer) (body : State → Answe
   onward-spent zero m = refl
   onward-spent (suc f) m = refl
 
-  pub onward-round : (f : ℕ) (m : Store) (k : ℕ) → k < f → onward f (state m (suc k)) ≡ and_then (body (state m k)) (whileRounds (f - 1) test body)
+  pub onward-round : (f : ℕ) (m : Store) (k : ℕ) → k < f → onward f (state m (suc k)) ≡ and_then (body (state m k)) (while_rounds (f - 1) test body)
   unfolding onward
   onward-round zero m k h = absurd (omega arith)
   onward-round (suc f) m k h =
       let e : f ≡ suc f - 1 = omega arith in
-      ap (λ (g : ℕ). and_then (body (state m k)) (whileRounds g test body)) e
+      ap (λ (g : ℕ). and_then (body (state m k)) (while_rounds g test body)) e
 
 -- ---- how many rounds a `for` has
 diff-nat : (y z : ℤ) → le_z z y ≡ true → y -ℤ z ≡ pos (nat_of (y -ℤ z))
-diff-nat y z h = go (y -ℤ z) (sym (leZ-diff z y) ∙ h)
+diff-nat y z h = go (y -ℤ z) (sym (le_z-diff z y) ∙ h)
   where
     go : (k : ℤ) → non_neg k ≡ true → k ≡ pos (nat_of k)
     go (pos n) e = refl
@@ -71,41 +71,41 @@ pub next-ranged : (y z : ℤ) → lt_z z y ≡ true → InRange z → InRange y 
 unfolding InRange
 next-ranged y z h R Q =
     inside_both lowest greatest (suc_ℤ z)
-    (leZ-trans lowest z (suc_ℤ z) (inside_is lowest greatest z R).0 (ap (le_z z) (sym (+ℤ_one z)) ∙ add-high z (pos 1) refl))
-    (leZ-trans (suc_ℤ z) y greatest (next_up y z h) (inside_is lowest greatest y Q).1)
+    (le_z-trans lowest z (suc_ℤ z) (inside_is lowest greatest z R).0 (ap (le_z z) (sym (+ℤ_one z)) ∙ add-high z (pos 1) refl))
+    (le_z-trans (suc_ℤ z) y greatest (next_up y z h) (inside_is lowest greatest y Q).1)
 
 -- ---- the rounds of a `for`
 module _ (a : ℕ) (body : State → Answer) (z : ℤ) where
-  pub for-spent : (k : ℕ) (m : Store) → forRounds (suc k) a body z (state m 0) ≡ answer spent (state m 0)
-  unfolding forRounds
+  pub for-spent : (k : ℕ) (m : Store) → for_rounds (suc k) a body z (state m 0) ≡ answer spent (state m 0)
+  unfolding for_rounds
   for-spent k m = refl
 
-  pub for-round : (k : ℕ) (m : Store) (n : ℕ) → forRounds (suc k) a body z (state m (suc n)) ≡ and_then (body (state (stored a (z ∷ []) m) n)) (forRounds k a body (suc_ℤ z))
-  unfolding forRounds
+  pub for-round : (k : ℕ) (m : Store) (n : ℕ) → for_rounds (suc k) a body z (state m (suc n)) ≡ and_then (body (state (stored a (z ∷ []) m) n)) (for_rounds k a body (suc_ℤ z))
+  unfolding for_rounds
   for-round k m n = refl
 
-  pub for-none : (t : State) → forRounds 0 a body z t ≡ ended a t
-  unfolding forRounds
+  pub for-none : (t : State) → for_rounds 0 a body z t ≡ ended a t
+  unfolding for_rounds
   for-none t = refl
 
 -- what a `for` does by the order of its bounds, and whether both lie in the range
 module _ (n a : ℕ) (lo hi x y : ℤ) (body : State → Answer) (t : State) where
-  countBy : Bool → Bool → Answer
-  countBy q i = opened (pick q (pick i (rounds (nat_of (suc_ℤ (y -ℤ x)))) outside) noRound) n a x body t
+  count_by : Bool → Bool → Answer
+  count_by q i = opened (pick q (pick i (rounds (nat_of (suc_ℤ (y -ℤ x)))) outside) no_round) n a x body t
 
-  count_by : countUp n a lo hi x y body t ≡ countBy (le_z x y) (inside lo hi x && inside lo hi y)
-  unfolding countUp planned countBy
-  count_by = refl
+  count-by : count_up n a lo hi x y body t ≡ count_by (le_z x y) (inside lo hi x && inside lo hi y)
+  unfolding count_up planned count_by
+  count-by = refl
 
-  pub counts-none : le_z x y ≡ false → countUp n a lo hi x y body t ≡ ended a t
-  unfolding countBy opened pick
-  counts-none h = count_by ∙ ap (λ (b : Bool). countBy b (inside lo hi x && inside lo hi y)) h
+  pub counts-none : le_z x y ≡ false → count_up n a lo hi x y body t ≡ ended a t
+  unfolding count_by opened pick
+  counts-none h = count-by ∙ ap (λ (b : Bool). count_by b (inside lo hi x && inside lo hi y)) h
 
   module _ (h : le_z x y ≡ true) where
-    pub counts-out : (inside lo hi x && inside lo hi y) ≡ false → countUp n a lo hi x y body t ≡ raising rangeError n t
-    unfolding countBy opened pick
-    counts-out g = count_by ∙ ap (λ (b : Bool). countBy b (inside lo hi x && inside lo hi y)) h ∙ ap (λ (b : Bool). countBy true b) g
+    pub counts-out : (inside lo hi x && inside lo hi y) ≡ false → count_up n a lo hi x y body t ≡ raising range_error n t
+    unfolding count_by opened pick
+    counts-out g = count-by ∙ ap (λ (b : Bool). count_by b (inside lo hi x && inside lo hi y)) h ∙ ap (λ (b : Bool). count_by true b) g
 
-    pub counts-in : (inside lo hi x && inside lo hi y) ≡ true → countUp n a lo hi x y body t ≡ forRounds (nat_of (suc_ℤ (y -ℤ x))) a body x t
-    unfolding countBy opened pick
-    counts-in g = count_by ∙ ap (λ (b : Bool). countBy b (inside lo hi x && inside lo hi y)) h ∙ ap (λ (b : Bool). countBy true b) g
+    pub counts-in : (inside lo hi x && inside lo hi y) ≡ true → count_up n a lo hi x y body t ≡ for_rounds (nat_of (suc_ℤ (y -ℤ x))) a body x t
+    unfolding count_by opened pick
+    counts-in g = count-by ∙ ap (λ (b : Bool). count_by b (inside lo hi x && inside lo hi y)) h ∙ ap (λ (b : Bool). count_by true b) g

@@ -5,17 +5,17 @@ use Rattle.law.specs.Base.{Name, ◌>>=◌, find}
 use Rattle.law.specs.Environment.{Environment}
 use Rattle.law.specs.Machine as Machine
 use Rattle.law.specs.Machine.{planned}
-use Rattle.law.specs.Names.{asProc}
+use Rattle.law.specs.Names.{as_proc}
 use Rattle.law.specs.Syntax.{Body}
 use Rattle.law.specs.Trees.{first}
-use Rattle.law_theorems.specs.Readings.{stackAt}
-use Rattle.text_heads.specs.Parts.{rest, nameIn, stmtsIn, bodyIn}
+use Rattle.law_theorems.specs.Readings.{stack_at}
+use Rattle.text_heads.specs.Parts.{rest, name_in, stmts_in, body_in}
 use Rattle.table_scope.specs.declared.Scope.{Scope}
 use Rattle.table_scope.specs.declared.Meaning.{Meaning}
 use Rattle.table_scope.specs.declared.Meaning.TheVariants as meaning
-use Rattle.table_scope.specs.Frames.{frameIn}
+use Rattle.table_scope.specs.Frames.{frame_in}
 use Rattle.table_scope.specs.Scene.{Scene}
-use Rattle.table_bodies.specs.Table.{offset_of, scope_of, stmtsBefore, types_of}
+use Rattle.table_bodies.specs.Table.{offset_of, scope_of, stmts_before, types_of}
 use Rattle.mark_acts.specs.declared.bounds.Span.{Span}
 use Rattle.mark_acts.specs.declared.bounds.Span.TheVariants as span
 use Rattle.mark_statements.specs.declared.finding.Callee.{Callee}
@@ -27,50 +27,50 @@ use Rattle.mark_statements.specs.declared.finding.Plan.TheVariants as plan
 
 -- body q's line in the table
 abbrev pub line_of : List ℕ → ℕ → Line
-line_of tb q = record { start = offset_of tb q; scope = scope_of tb q; number = stmtsBefore tb q; kinds = types_of tb q }
+line_of tb q = record { start = offset_of tb q; scope = scope_of tb q; number = stmts_before tb q; kinds = types_of tb q }
 
 -- the place of a procedure's node by what its name means
-abbrev pub procIn : Meaning → ℕ
-procIn meaning.Unknown = 0
-procIn (meaning.Type t) = 0
-procIn (meaning.Var i t a) = 0
-procIn (meaning.Proc p) = p
-procIn (meaning.Value k n) = 0
+abbrev pub proc_in : Meaning → ℕ
+proc_in meaning.Unknown = 0
+proc_in (meaning.Type t) = 0
+proc_in (meaning.Var i t a) = 0
+proc_in (meaning.Proc p) = p
+proc_in (meaning.Value k n) = 0
 
 -- the procedure whose node stands at p, with arguments from q on
-abbrev pub calleeAt : List ℕ → ℕ → ℕ → Callee
-calleeAt l p q = record { number = get_or l p 0; frame = frameIn l p; next = q }
+abbrev pub callee_at : List ℕ → ℕ → ℕ → Callee
+callee_at l p q = record { number = get_or l p 0; frame = frame_in l p; next = q }
 
 -- r is the procedure that the name at an offset means, with what stands after that; bs holds the places of the nodes
 pub record CalleeIs (s l : List ℕ) (at place : ℕ) (r : Callee) : Type 0 where
-  pub callee : r ≡ calleeAt l place r.next
-  pub after : rest (first (stackAt s at)) ≡ first (stackAt s r.next)
+  pub callee : r ≡ callee_at l place r.next
+  pub after : rest (first (stack_at s at)) ≡ first (stack_at s r.next)
 
 pub record Calls (s l : List ℕ) (scope : Scope) (at : ℕ) (r : Callee) : Type 0 where
   pub says : (ts : List ℕ) (top : ℕ) (σ : Environment) (bs : List ℕ) → Scene s l ts scope top σ bs
-      → (w : Name) → nameIn (first (stackAt s at)) ≡ some w → (p : ℕ × List ℕ) → (find σ.names w >>= asProc) ≡ some p → CalleeIs s l at (get_or bs p.0 0) r
+      → (w : Name) → name_in (first (stack_at s at)) ≡ some w → (p : ℕ × List ℕ) → (find σ.names w >>= as_proc) ≡ some p → CalleeIs s l at (get_or bs p.0 0) r
 
 -- ---- a body's handler
 
 -- the statements of its handler begin at q, after statement m
 abbrev pub HandlesBy : List ℕ → Body × ℕ → Handler → Type 0
-HandlesBy s b (handler.From q m) = (b.0.handles ≡ true) × (stmtsIn 33 m (first (stackAt s q)) ≡ some (b.0.handler, b.1))
+HandlesBy s b (handler.From q m) = (b.0.handles ≡ true) × (stmts_in 33 m (first (stack_at s q)) ≡ some (b.0.handler, b.1))
 HandlesBy s b handler.Nothing = b.0.handles ≡ false
 
 -- for the body at an offset, where n is the number of the last statement before
 pub record Handles (s : List ℕ) (n at : ℕ) (r : Handler) : Type 0 where
-  pub says : (b : Body × ℕ) → bodyIn n (first (stackAt s at)) ≡ some b → b.1 ≤ 4294967295 → HandlesBy s b r
+  pub says : (b : Body × ℕ) → body_in n (first (stack_at s at)) ≡ some b → b.1 ≤ 4294967295 → HandlesBy s b r
 
 -- ---- a `for` after its bounds: its rounds from x to y in cell a, if both lie from lo to hi
 
-abbrev pub planAs : ℕ → ℤ → ℤ → Machine.Plan → Plan
-planAs a x y Machine.noRound = plan.NoRound a
-planAs a x y Machine.outside = plan.Outside
-planAs a x y (Machine.rounds k) = plan.Rounds a x y
+abbrev pub plan_as : ℕ → ℤ → ℤ → Machine.Plan → Plan
+plan_as a x y Machine.no_round = plan.NoRound a
+plan_as a x y Machine.outside = plan.Outside
+plan_as a x y (Machine.rounds k) = plan.Rounds a x y
 
 unfoldable pub plan_of : ℕ → ℤ → ℤ → ℤ → ℤ → Plan
-plan_of a lo hi x y = planAs a x y (planned lo hi x y)
+plan_of a lo hi x y = plan_as a x y (planned lo hi x y)
 
-abbrev pub planBy : Span → Plan
-planBy (span.Over a lo hi x y) = plan_of a lo hi x y
-planBy (span.Halted w) = plan.Halted w
+abbrev pub plan_by : Span → Plan
+plan_by (span.Over a lo hi x y) = plan_of a lo hi x y
+plan_by (span.Halted w) = plan.Halted w

@@ -1,6 +1,6 @@
 // What a walk over statements looks up: a body's line in the table, the procedure that a call names, a body's handler, the rounds of a `for`.
 ghost use Rattle.std.specs.Prelude.{◌≡◌};
-ghost use Rattle.mark_statements.specs.Finding.{line_of, procIn, calleeAt, Calls, Handles, plan_of, planBy};
+ghost use Rattle.mark_statements.specs.Finding.{line_of, proc_in, callee_at, Calls, Handles, plan_of, plan_by};
 
 use mark_acts::bounds::Span;
 use mark_arms::later;
@@ -70,7 +70,7 @@ pub fn line_of(bodies: &[u32], q: u32) -> Line
 
 // The place of a procedure's node by its name's meaning, 0 of any other.
 fn proc_in(m: Meaning) -> u32
-    ensures { result ≡ procIn m }
+    ensures { result ≡ proc_in m }
 {
     match m {
         Meaning::Unknown => 0,
@@ -83,7 +83,7 @@ fn proc_in(m: Meaning) -> u32
 
 // The procedure whose node stands at a place.
 fn callee_at(work: &[u32], place: u32, next: usize) -> Callee
-    ensures { result ≡ calleeAt work.now place next }
+    ensures { result ≡ callee_at work.now place next }
 {
     Callee {
         number: at(work, place as usize),
@@ -141,7 +141,7 @@ fn within(a: u32, lo: i64, hi: i64, x: i64, y: i64) -> Plan
 
 // What a `for` does after its bounds are worked out.
 pub fn plan_for(s: Span) -> Plan
-    ensures { result ≡ planBy s }
+    ensures { result ≡ plan_by s }
 {
     match s {
         Span::Over(a, lo, hi, x, y) => within(a, lo, hi, x, y),

@@ -51,7 +51,7 @@ pub ruleset next-laws = (next-room, next_more, next-same)
 
 -- by the three tests
 plan-by : (lo hi x y : ℤ) (p i j : Bool) → le_z x y ≡ p → inside lo hi x ≡ i → inside lo hi y ≡ j
-    → planned lo hi x y ≡ pick p (pick (i && j) (Machine.rounds (nat_of (suc_ℤ (y -ℤ x)))) Machine.outside) Machine.noRound
+    → planned lo hi x y ≡ pick p (pick (i && j) (Machine.rounds (nat_of (suc_ℤ (y -ℤ x)))) Machine.outside) Machine.no_round
 unfolding planned
 plan-by lo hi x y p i j e f g = rw (e, f, g)
 

@@ -17,63 +17,63 @@ use Rattle.leaf_integers.specs.Integers.{is_zero}
 use Rattle.leaf_integers.proofs.Machine.{wire, low, high, zero_bits, fits-between}
 use Rattle.leaf_integers.proofs.Order.{lt-le, lt-moved, moved-lt}
 use Rattle.law.specs.Base.{pick}
-use Rattle.law.specs.Calculate.{systemError}
-use Rattle.code_calc.specs.Words.{greatest, faultBase, latestAt, placeAt, latestIn, Exceptional}
+use Rattle.law.specs.Calculate.{system_error}
+use Rattle.code_calc.specs.Words.{greatest, fault_base, latest_at, place_at, latest_in, Exceptional}
 use Rattle.code_calc.proofs.Ranging.{above-fault, back-fault}
-use Rattle.mark_steps.specs.Ends.{leftIn, stepWord, raisedWord, faultIn, noted_in, number_in, Raises, RaisesNumber}
+use Rattle.mark_steps.specs.Ends.{left_in, step_word, raised_word, fault_in, noted_in, number_in, Raises, RaisesNumber}
 
 -- ---- `left_in`, `stepped`
-pub left_is : (w : ℕ) → w % 4294967296 ≡ leftIn w
-unfolding leftIn
+pub left_is : (w : ℕ) → w % 4294967296 ≡ left_in w
+unfolding left_in
 left_is w = refl
 
-pub step-none : (left : ℕ) → left ≡ 0 → 4294967296 ≡ stepWord left
-unfolding stepWord pick
+pub step-none : (left : ℕ) → left ≡ 0 → 4294967296 ≡ step_word left
+unfolding step_word pick
 step-none left h = sym (ap (λ (b : Bool). pick b 4294967296 (left - 1)) (eq-eqb left 0 h))
 
-pub step-one : (left : ℕ) → ((left ≡ 0) → ⊥) → left - 1 ≡ stepWord left
-unfolding stepWord pick
+pub step-one : (left : ℕ) → ((left ≡ 0) → ⊥) → left - 1 ≡ step_word left
+unfolding step_word pick
 step-one left h = sym (ap (λ (b : Bool). pick b 4294967296 (left - 1)) (ne_eqb left 0 h))
 
 pub ruleset step-laws = (step-none, step-one)
 
 -- ---- `raising`
 pub raising-is : (z : ℤ) (n : ℕ) (ws : List ℤ) (left : ℕ) → SFits w64 z → Fits w32 n
-    → Raises z n ws left (set (set ws latestAt (wire z)) placeAt (to_z w64 n)) (8589934592 + left % 4294967296)
-unfolding raisedWord noted_in
+    → Raises z n ws left (set (set ws latest_at (wire z)) place_at (to_z w64 n)) (8589934592 + left % 4294967296)
+unfolding raised_word noted_in
 raising-is z n ws left f g = record {
   word = refl;
-  store = ap (λ (y : ℤ). set (set ws latestAt y) placeAt (to_z w64 n)) (to_z-of_z f) ∙ ap (set (set ws latestAt z) placeAt) (to_z_pos w64 {n = n} (omega (arith, g.fits)));
+  store = ap (λ (y : ℤ). set (set ws latest_at y) place_at (to_z w64 n)) (to_z-of_z f) ∙ ap (set (set ws latest_at z) place_at) (to_z_pos w64 {n = n} (omega (arith, g.fits)));
   small = omega (arith, g.fits);
 }
 
 -- ---- `failing`
 
 -- the word of an exception holds it
-pub fault-back : (e : ℤ) → Exceptional e → faultIn (e +ℤ faultBase) ≡ e
-unfolding faultIn pick
+pub fault-back : (e : ℤ) → Exceptional e → fault_in (e +ℤ fault_base) ≡ e
+unfolding fault_in pick
 fault-back e h = rw (sym (above-fault e h)) (back-fault e h)
 
-less-room : (w : ℤ) → SFits w64 w → lt_z greatest w ≡ true → SFits w64 (w -ℤ faultBase)
+less-room : (w : ℤ) → SFits w64 w → lt_z greatest w ≡ true → SFits w64 (w -ℤ fault_base)
 less-room (pos n) f h =
     let g : n < 9223372036854775808 = f.sfits in
-    fits-between (pos n -ℤ faultBase)
-    (lt-le low (pos n -ℤ faultBase) (lt-moved low faultBase (pos n)))
-    (lt-le (pos n -ℤ faultBase) high (moved-lt high faultBase (pos n) ∙ lt-ltb n 18446744073709551614 (omega arith)))
+    fits-between (pos n -ℤ fault_base)
+    (lt-le low (pos n -ℤ fault_base) (lt-moved low fault_base (pos n)))
+    (lt-le (pos n -ℤ fault_base) high (moved-lt high fault_base (pos n) ∙ lt-ltb n 18446744073709551614 (omega arith)))
 less-room (negsuc n) f h = absurd (subst T (sym h) tt)
 
 module _ (w : ℤ) (n : ℕ) (ws : List ℤ) (left : ℕ) (ws' : List ℤ) (r : ℕ) (f : SFits w64 w) where
-  pub failing-room : lt_z greatest (wire w) ≡ true → SFits w64 (wire w -ℤ faultBase)
+  pub failing-room : lt_z greatest (wire w) ≡ true → SFits w64 (wire w -ℤ fault_base)
   failing-room h = rw (to_z-of_z f) (less-room w f (rw (to_z-of_z f) at h))
 
-  pub failing-above : lt_z greatest (wire w) ≡ true → Raises (wire (wire w -ℤ faultBase)) n ws left ws' r → Raises (faultIn w) n ws left ws' r
-  unfolding faultIn pick
+  pub failing-above : lt_z greatest (wire w) ≡ true → Raises (wire (wire w -ℤ fault_base)) n ws left ws' r → Raises (fault_in w) n ws left ws' r
+  unfolding fault_in pick
   failing-above h R =
       let g : lt_z greatest w ≡ true = rw (to_z-of_z f) at h in
-      subst (λ (z : ℤ). Raises z n ws left ws' r) (to_z-of_z (failing-room h) ∙ ap (λ (z : ℤ). z -ℤ faultBase) (to_z-of_z f) ∙ rw g) R
+      subst (λ (z : ℤ). Raises z n ws left ws' r) (to_z-of_z (failing-room h) ∙ ap (λ (z : ℤ). z -ℤ fault_base) (to_z-of_z f) ∙ rw g) R
 
-  pub failing-below : lt_z greatest (wire w) ≡ false → Raises (wire w) n ws left ws' r → Raises (faultIn w) n ws left ws' r
-  unfolding faultIn pick
+  pub failing-below : lt_z greatest (wire w) ≡ false → Raises (wire w) n ws left ws' r → Raises (fault_in w) n ws left ws' r
+  unfolding fault_in pick
   failing-below h R =
       let g : lt_z greatest w ≡ false = rw (to_z-of_z f) at h in
       subst (λ (z : ℤ). Raises z n ws left ws' r) (to_z-of_z f ∙ rw g) R
@@ -100,20 +100,20 @@ module _ (z : ℤ) (n : ℕ) (ws : List ℤ) (left : ℕ) (ws' : List ℤ) (r : 
     small = R.small;
   }
 
-  pub raise-none : of_z w64 z ≡ 0 → SFits w64 (get_or ws latestAt (pos 0)) → of_z w64 (get_or ws latestAt (pos 0)) ≡ 0 → Raises (negsuc 101) n ws left ws' r → RaisesNumber z n ws left ws' r
-  unfolding number_in latestIn pick
+  pub raise-none : of_z w64 z ≡ 0 → SFits w64 (get_or ws latest_at (pos 0)) → of_z w64 (get_or ws latest_at (pos 0)) ≡ 0 → Raises (negsuc 101) n ws left ws' r → RaisesNumber z n ws left ws' r
+  unfolding number_in latest_in pick
   raise-none h g k R = record {
     word = R.word;
-    store = R.store ∙ rw (zero_is z f h, zero_is (get_or ws latestAt (pos 0)) g k);
+    store = R.store ∙ rw (zero_is z f h, zero_is (get_or ws latest_at (pos 0)) g k);
     small = R.small;
   }
 
-pub raise-again : (z : ℤ) (n : ℕ) (ws : List ℤ) (left : ℕ) → SFits w64 z → Fits w32 n → of_z w64 z ≡ 0 → ((of_z w64 (get_or ws latestAt (pos 0)) ≡ 0) → ⊥)
+pub raise-again : (z : ℤ) (n : ℕ) (ws : List ℤ) (left : ℕ) → SFits w64 z → Fits w32 n → of_z w64 z ≡ 0 → ((of_z w64 (get_or ws latest_at (pos 0)) ≡ 0) → ⊥)
     → RaisesNumber z n ws left ws (8589934592 + left % 4294967296)
-unfolding raisedWord number_in latestIn pick
+unfolding raised_word number_in latest_in pick
 raise-again z n ws left f g h k = record {
   word = refl;
-  store = rw (zero_is z f h, zero-not (get_or ws latestAt (pos 0)) k);
+  store = rw (zero_is z f h, zero-not (get_or ws latest_at (pos 0)) k);
   small = omega (arith, g.fits);
 }
 

@@ -1,8 +1,8 @@
 -- What the store's array and a word say of the chair's machine.
 use Rattle.std.specs.Prelude.{◌≡◌, List, ◌⊎◌, ℕ, suc, ◌≤◌, ℤ, pos, length, get_or}
 use Rattle.law.specs.Machine.{Store, State, state, Answer, store_cells}
-use Rattle.code_calc.specs.Words.{Holds, placeAt, store_words}
-use Rattle.mark_steps.specs.Ends.{leftIn, toldBy}
+use Rattle.code_calc.specs.Words.{Holds, place_at, store_words}
+use Rattle.mark_steps.specs.Ends.{left_in, told_by}
 
 -- a cell is defined, or it is undefined with value 0
 abbrev pub Tidy : ℕ → ℤ → Type 0
@@ -13,7 +13,7 @@ pub record Stands (ws : List ℤ) (left : ℕ) (m : Store) : Type 0 where
   pub long : length ws ≡ store_words
   pub steps : left ≤ 4294967295
   pub holds : Holds ws m
-  pub place : get_or ws placeAt (pos 0) ≡ pos m.place
+  pub place : get_or ws place_at (pos 0) ≡ pos m.place
   pub small : m.place ≤ 4294967295
   pub values : length m.values ≡ store_cells
   pub marks : length m.marks ≡ store_cells
@@ -21,9 +21,9 @@ pub record Stands (ws : List ℤ) (left : ℕ) (m : Store) : Type 0 where
 
 -- the answer a is what the words ws and the word w say
 pub record Ends (a : Answer) (ws : List ℤ) (w : ℕ) : Type 0 where
-  pub outcome : a.outcome ≡ toldBy w ws
-  pub stands : Stands ws (leftIn w) a.state.store
-  pub left : a.state.left ≡ leftIn w
+  pub outcome : a.outcome ≡ told_by w ws
+  pub stands : Stands ws (left_in w) a.state.store
+  pub left : a.state.left ≡ left_in w
 
 -- from ws, with so many steps left, the machine f comes to ws' and the word r
 pub record Runs (f : State → Answer) (ws : List ℤ) (left : ℕ) (ws' : List ℤ) (r : ℕ) : Type 0 where

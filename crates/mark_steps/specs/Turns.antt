@@ -13,12 +13,12 @@ pub record Increments (z y r : ℤ) : Type 0 where
   pub says : lt_z z y ≡ true → r ≡ suc_ℤ z
 
 -- what is planned, where the rounds are from x to y
-abbrev pub planFrom : ℤ → ℤ → Plan → Machine.Plan
-planFrom x y NoRound = Machine.noRound
-planFrom x y Outside = Machine.outside
-planFrom x y Rounds = Machine.rounds (nat_of (suc_ℤ (y -ℤ x)))
+abbrev pub plan_from : ℤ → ℤ → Plan → Machine.Plan
+plan_from x y NoRound = Machine.no_round
+plan_from x y Outside = Machine.outside
+plan_from x y Rounds = Machine.rounds (nat_of (suc_ℤ (y -ℤ x)))
 
 -- the plan of a `for` from x to y over a variable of lo to hi
 pub record Plans (lo hi x y : ℤ) (r : Plan) : Type 0 where
-  pub says : planned lo hi x y ≡ planFrom x y r
+  pub says : planned lo hi x y ≡ plan_from x y r
   pub up : r ≡ Rounds → le_z x y ≡ true

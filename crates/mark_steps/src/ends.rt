@@ -1,7 +1,7 @@
 // How a statement ends, as one word: the steps left; with SPENT, a step was due and none was left; with RAISED, an exception,
 // which is the last one. The store's array tells that: its number and its statement stand behind the cells' words.
 ghost use Rattle.std.specs.Prelude.{◌≡◌, ltb};
-ghost use Rattle.mark_steps.specs.Ends.{leftIn, stepWord, faultIn, Raises, RaisesNumber};
+ghost use Rattle.mark_steps.specs.Ends.{left_in, step_word, fault_in, Raises, RaisesNumber};
 
 use code_calc::words::{FAULT, GREATEST, LATEST, PLACE, SYSTEM_ERROR, Store};
 
@@ -19,14 +19,14 @@ pub fn stopped(w: u64) -> bool
 
 // The steps left by a word.
 pub fn left_in(w: u64) -> u64
-    ensures { result ≡ leftIn w }
+    ensures { result ≡ left_in w }
 {
     w % SPENT
 }
 
 // One step taken, as a word.
 pub fn stepped(left: u64) -> u64
-    ensures { result ≡ stepWord left }
+    ensures { result ≡ step_word left }
 {
     if left == 0 {
         return SPENT;
@@ -45,7 +45,7 @@ pub fn raising(store: &mut Store, left: u64, z: i64, n: u32) -> u64
 
 // The fault that a word is, at statement n.
 pub fn failing(store: &mut Store, left: u64, w: i64, n: u32) -> u64
-    ensures { Raises (faultIn w) n store.old left store.new result }
+    ensures { Raises (fault_in w) n store.old left store.new result }
 {
     if w > GREATEST {
         return raising(store, left, w - FAULT, n);

@@ -10,22 +10,22 @@ use Rattle.rule_declarations.specs.State.{notes}
 use Rattle.law.specs.Verdict.{Verdict, Read, accepted, refused, judge, loosely}
 use Rattle.law_theorems.proofs.LinesCover.{judged-covered}
 use Rattle.law_answers.specs.declared.Counted.{Counted}
-use Rattle.law_answers.specs.Verdicts.{cellsTold}
+use Rattle.law_answers.specs.Verdicts.{cells_told}
 use Rattle.rule_texts.specs.declared.Checked.{Checked}
 use Rattle.rule_judge_loose.specs.Texts.{AdmittedBy, Admits}
-use Rattle.rule_cells.specs.Cells.{countedBy, NamesBy}
+use Rattle.rule_cells.specs.Cells.{counted_by, NamesBy}
 use Rattle.law_answers.specs.Owners.{Owners, OwnedBy}
 use Rattle.rule_texts.proofs.Texts.{part-long}
 use Rattle.mark_texts.proofs.MarkWays.{judged-here}
 
-counted_is : (s l ts tb : List ℕ) (v : Verdict Read) (c : Checked) → AdmittedBy s l ts tb v c → countedBy c ≡ cellsTold v
-unfolding countedBy cellsTold
+counted_is : (s l ts tb : List ℕ) (v : Verdict Read) (c : Checked) → AdmittedBy s l ts tb v c → counted_by c ≡ cells_told v
+unfolding counted_by cells_told
 counted_is s l ts tb (accepted q) c h = rw (eq-eqb c.refusal 0 h.0, h.1.holds.cells_are) refl
 counted_is s l ts tb (refused m n) c h = rw (ne_eqb c.refusal 0 (λ e. omega (arith, h.0, h.2)), h.0, h.1) refl
 
 module _ (s l : List ℕ) (n : ℕ) (i : n ≡ min 16384 (length l)) (c : Checked) (l' ts' tb' : List ℕ) (C : Admits s (take n l) (replicate notes 0) (replicate 264 0) c l' ts' tb') where
-  pub cells_told : (r : Counted) → r ≡ countedBy c → r ≡ cellsTold (judge loosely s (length l))
-  cells_told r e = e ∙ counted_is s l' ts' tb' (judge loosely s (length l)) c (judged-here s l n i c l' ts' tb' C)
+  pub cells-told : (r : Counted) → r ≡ counted_by c → r ≡ cells_told (judge loosely s (length l))
+  cells-told r e = e ∙ counted_is s l' ts' tb' (judge loosely s (length l)) c (judged-here s l n i c l' ts' tb' C)
 
   pub owners-told : (old names : List ℕ) → length l' ≡ length (take n l) → NamesBy (take n (l' ++ drop n l)) ts' c old names → Owners s (judge loosely s (length l)) old names
   owners-told old names e N = record { says = go (judge loosely s (length l)) refl (judged-here s l n i c l' ts' tb' C) }

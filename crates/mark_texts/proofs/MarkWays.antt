@@ -9,19 +9,19 @@ use lib.IntN.{ℤ}
 use lib.ListN.{length, take, drop, replicate}
 use lib.Seq.{take_at}
 use Rattle.rule_declarations.specs.State.{notes}
-use Rattle.law.specs.Code.{noFrame}
+use Rattle.law.specs.Code.{no_frame}
 use Rattle.law.specs.Environment.{PlacedBody}
 use Rattle.law.specs.Machine.{Answer, State, state}
 use Rattle.law.specs.Script.{done}
-use Rattle.law.specs.Store.{storeFault}
+use Rattle.law.specs.Store.{store_fault}
 use Rattle.law.specs.Verdict.{Verdict, Read, accepted, refused, judge, loosely}
-use Rattle.law.specs.Whole.{report, fresh, lent, onStore, unless, markAll, mark_of, workAfter}
+use Rattle.law.specs.Whole.{report, fresh, lent, on_store, unless, mark_all, mark_of, work_after}
 use Rattle.law_theorems.proofs.LinesCover.{judged-covered}
 use Rattle.law_answers.specs.declared.Marked.{Marked}
 use Rattle.law_answers.specs.declared.MarkReport.{MarkReport}
 use Rattle.law_answers.specs.declared.MarkReport.TheVariants.{Refused, Ran}
-use Rattle.law_answers.specs.MarkingReports.{markEnding, MarkReports}
-use Rattle.rule_stores.specs.Stores.{StoreFault, rowNumber}
+use Rattle.law_answers.specs.MarkingReports.{mark_ending, MarkReports}
+use Rattle.rule_stores.specs.Stores.{StoreFault, row_number}
 use Rattle.rule_known.specs.declared.Known.{Known}
 use Rattle.table_bodies.proofs.Calling.{all-is}
 use Rattle.rule_texts.specs.declared.Checked.{Checked}
@@ -39,35 +39,35 @@ last_none n e = omega arith
 
 -- a body for the numbers that have none
 nothing : PlacedBody
-nothing = record { types = []; vars = []; frame = noFrame; body = record { stmts = done; handles = false; handler = done } }
+nothing = record { types = []; vars = []; frame = no_frame; body = record { stmts = done; handles = false; handler = done } }
 
 module _ (s l ts tb : List ℕ) (kn : Known) (vs : List ℤ) (ms : List ℕ) (budget f : ℕ) (F : StoreFault l ts kn.state vs ms f) where
   pub loaded-refused : (r : MarkReport) → ((f ≡ 0) → ⊥) → r ≡ Refused f 0 → MarksLoaded s l ts tb kn vs ms budget r vs ms
-  unfolding onStore lent rowNumber markEnding
+  unfolding on_store lent row_number mark_ending
   loaded-refused r ne e = record {
     says = λ work q acc S _.
-        go q (storeFault q.known.env.types q.known.cells vs ms) refl (F.says s q.known S.places S.holds (judged-covered loosely s work q acc));
+        go q (store_fault q.known.env.types q.known.cells vs ms) refl (F.says s q.known S.places S.holds (judged-covered loosely s work q acc));
   }
     where
-      go : (q : Read) (o : Option ℕ) → storeFault q.known.env.types q.known.cells vs ms ≡ o → f ≡ rowNumber o → MarkReports (onStore q.known (markAll q.known.bodies []) vs ms budget) r vs ms
+      go : (q : Read) (o : Option ℕ) → store_fault q.known.env.types q.known.cells vs ms ≡ o → f ≡ row_number o → MarkReports (on_store q.known (mark_all q.known.bodies []) vs ms budget) r vs ms
       go q none h z = absurd (ne z)
       go q (some n) h z = rw (h, e) (record { ending = rw z refl; values = refl; marks = refl })
 
   pub loaded-run : (a : Marked) (r : MarkReport) (n : ℕ) (vs' : List ℤ) (ms' : List ℕ) → f ≡ 0 → n ≡ kn.state.procs - 1 → MarksLent s l ts tb n vs ms budget a vs' ms' → r ≡ Ran a
       → MarksLoaded s l ts tb kn vs ms budget r vs' ms'
-  unfolding onStore lent rowNumber markEnding report storeFault
+  unfolding on_store lent row_number mark_ending report store_fault
   loaded-run a r n vs' ms' zero_row p R e = record {
     says = λ work q acc S ended.
         let c = S.holds.cells_are in let d = S.holds.few-cells in
         let many : length q.known.bodies ≡ suc n = omega (arith, p, S.holds.procs-are, S.main-there ended) in
-        go q (storeFault q.known.env.types q.known.cells vs ms) refl (F.says s q.known S.places S.holds (judged-covered loosely s work q acc)) λ none_is.
+        go q (store_fault q.known.env.types q.known.cells vs ms) refl (F.says s q.known S.places S.holds (judged-covered loosely s work q acc)) λ none_is.
         let A = R.says S.places q.known.bodies nothing (all-stand S.bodies nothing) (omega (arith, many)) (lent-store q.known.env.types S.holds.scene.table q.known.cells vs ms (omega arith) none_is) in
         subst (λ (x : State → Answer). MarkAnswers (x (state (fresh vs ms) budget)) (length vs) budget a vs' ms') (sym (all-is nothing q.known.bodies n many)) A;
   }
     where
-      go : (q : Read) (o : Option ℕ) → storeFault q.known.env.types q.known.cells vs ms ≡ o → f ≡ rowNumber o
-          → (storeFault q.known.env.types q.known.cells vs ms ≡ none → MarkAnswers (markAll q.known.bodies [] (state (fresh vs ms) budget)) (length vs) budget a vs' ms')
-          → MarkReports (onStore q.known (markAll q.known.bodies []) vs ms budget) r vs' ms'
+      go : (q : Read) (o : Option ℕ) → store_fault q.known.env.types q.known.cells vs ms ≡ o → f ≡ row_number o
+          → (store_fault q.known.env.types q.known.cells vs ms ≡ none → MarkAnswers (mark_all q.known.bodies [] (state (fresh vs ms) budget)) (length vs) budget a vs' ms')
+          → MarkReports (on_store q.known (mark_all q.known.bodies []) vs ms budget) r vs' ms'
       go q none h z k =
           let A = k h in
           rw (h, e) (record { ending = rw (A.outcome, A.steps) refl; values = A.values; marks = A.marks })
@@ -77,10 +77,10 @@ pub ruleset loaded-laws = (loaded-refused, loaded-run)
 
 module _ (s l ts tb : List ℕ) (c : Checked) (vs : List ℤ) (ms : List ℕ) (budget : ℕ) where
   pub checked_refused : (r : MarkReport) → ((c.refusal ≡ 0) → ⊥) → r ≡ Refused c.refusal c.line → MarksChecked s l ts tb c vs ms budget r vs ms
-  unfolding unless markEnding
+  unfolding unless mark_ending
   checked_refused r ne e = record { says = λ work C. go (judge loosely s work) C }
     where
-      go : (v : Verdict Read) → AdmittedBy s l ts tb v c → MarkReports (unless v vs ms λ q. onStore q.known (markAll q.known.bodies []) vs ms budget) r vs ms
+      go : (v : Verdict Read) → AdmittedBy s l ts tb v c → MarkReports (unless v vs ms λ q. on_store q.known (mark_all q.known.bodies []) vs ms budget) r vs ms
       go (accepted q) C = absurd (ne C.0)
       go (refused m n) C = rw e (record { ending = rw (C.0, C.1) refl; values = refl; marks = refl })
 
@@ -89,7 +89,7 @@ module _ (s l ts tb : List ℕ) (c : Checked) (vs : List ℤ) (ms : List ℕ) (b
   checked-run r vs' ms' h R = record { says = λ work C. go work (judge loosely s work) refl C }
     where
       go : (work : ℕ) (v : Verdict Read) → judge loosely s work ≡ v → AdmittedBy s l ts tb v c
-          → MarkReports (unless v vs ms λ q. onStore q.known (markAll q.known.bodies []) vs ms budget) r vs' ms'
+          → MarkReports (unless v vs ms λ q. on_store q.known (mark_all q.known.bodies []) vs ms budget) r vs' ms'
       go work (accepted q) e C = R.says work q e C.1 C.2
       go work (refused m n) e C = absurd (omega (arith, C.0, C.2))
 
@@ -113,5 +113,5 @@ module _ (s l : List ℕ) (n : ℕ) (i : n ≡ min 16384 (length l)) (c : Checke
       (rw front at R).says (length l) (judged-here C)
 
 -- the working list
-pub list-clears : (l : List ℕ) (n : ℕ) (l' l'' : List ℕ) → n ≡ min 16384 (length l) → length l' ≡ length (take n l) → l'' ≡ workAfter (l' ++ drop n l) → l'' ≡ workAfter l
+pub list-clears : (l : List ℕ) (n : ℕ) (l' l'' : List ℕ) → n ≡ min 16384 (length l) → length l' ≡ length (take n l) → l'' ≡ work_after (l' ++ drop n l) → l'' ≡ work_after l
 list-clears l n l' l'' i e f = f ∙ after_same l l' n i e

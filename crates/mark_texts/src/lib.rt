@@ -2,7 +2,7 @@
 pub mod owning;
 
 ghost use Rattle.std.specs.Prelude.{◌≡◌, ◌-◌, length};
-ghost use Rattle.law.specs.Whole.{mark_of, workAfter};
+ghost use Rattle.law.specs.Whole.{mark_of, work_after};
 ghost use Rattle.law_answers.specs.MarkingReports.{MarkReports};
 ghost use Rattle.mark_texts.specs.Reports.{MarksLoaded, MarksChecked};
 
@@ -77,7 +77,7 @@ pub fn mark(
     marks: &mut [u8],
     budget: u32,
 ) -> MarkReport
-    ensures { MarkReports (mark_of text.now (length work.old) values.old marks.old budget) result values.new marks.new × (work.new ≡ workAfter work.old) }
+    ensures { MarkReports (mark_of text.now (length work.old) values.old marks.old budget) result values.new marks.new × (work.new ≡ work_after work.old) }
 {
     let mut types = [0; NOTES];
     let mut bodies = [0; TABLE_LENGTH];

@@ -1,8 +1,8 @@
 // The cells of a text that the marking machine takes, and the name of each one's variable.
 ghost use Rattle.std.specs.Prelude.{◌≡◌, length};
 ghost use Rattle.law.specs.Verdict.{judge, loosely};
-ghost use Rattle.law.specs.Whole.{workAfter};
-ghost use Rattle.law_answers.specs.Verdicts.{cellsTold};
+ghost use Rattle.law.specs.Whole.{work_after};
+ghost use Rattle.law_answers.specs.Verdicts.{cells_told};
 ghost use Rattle.law_answers.specs.Owners.{Owners};
 
 use law_answers::Counted;
@@ -16,7 +16,7 @@ use table_list::clear;
 // How many cells a text has; names[i] becomes the offset of the name of cell i's variable, for each cell that there is room for. The rest of
 // `names`, and all of it on a refusal, stays as lent.
 pub fn mark_owners(text: &[u8], work: &mut [u32], names: &mut [usize]) -> Counted
-    ensures { (result ≡ cellsTold (judge loosely text.now (length work.old))) × (work.new ≡ workAfter work.old) × Owners text.now (judge loosely text.now (length work.old)) names.old names.new }
+    ensures { (result ≡ cells_told (judge loosely text.now (length work.old))) × (work.new ≡ work_after work.old) × Owners text.now (judge loosely text.now (length work.old)) names.old names.new }
 {
     let mut types = [0; NOTES];
     let mut bodies = [0; TABLE_LENGTH];

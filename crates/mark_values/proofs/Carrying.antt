@@ -13,13 +13,13 @@ use mir.Val.{SFits}
 use mir.Facts.{to_z-of_z}
 use Rattle.leaf_integers.proofs.Machine.{wire}
 use Rattle.law.specs.Calculate.{Result, is, fails, stuck, ◌>>=◌}
-use Rattle.law.specs.Machine.{Store, readCells, sole, oneCell}
-use Rattle.law.specs.Marking.{TypedValue, TypedPlace, typedValue, typedAs, wanted}
+use Rattle.law.specs.Machine.{Store, read_cells, sole, one_cell}
+use Rattle.law.specs.Marking.{TypedValue, TypedPlace, typed_value, typed_as, wanted}
 use Rattle.law.specs.Types.{Types, size_of}
-use Rattle.code_calc.specs.Words.{noResult, greatest, faultBase, word_of, InRange, Ranged, Means}
+use Rattle.code_calc.specs.Words.{no_result, greatest, fault_base, word_of, InRange, Ranged, Means}
 use Rattle.code_calc.proofs.Ranging.{range-value, above-fault}
 use Rattle.mark_values.specs.declared.values.Carried.{Carried}
-use Rattle.mark_values.specs.Values.{carried_of, reachedOf, MarkRanged, MarkMeans, simple?, Carries, Reaches}
+use Rattle.mark_values.specs.Values.{carried_of, reached_of, MarkRanged, MarkMeans, simple?, Carries, Reaches}
 use Rattle.mark_values.specs.Steps.{Wants}
 use Rattle.mark_values.specs.Carrying.{Broken, by-fault, by-stuck}
 
@@ -56,7 +56,7 @@ carries-broken Γ m k a b = record {
   whole = λ x q h. absurd (broken-not b q);
 }
 
-pub reaches-broken : (t : ℕ) {w : ℤ} {v : Result TypedPlace} → Broken w v → Reaches v (reachedOf t w)
+pub reaches-broken : (t : ℕ) {w : ℤ} {v : Result TypedPlace} → Broken w v → Reaches v (reached_of t w)
 reaches-broken t b = record { word-is = broken-means (broken-bind (λ x. is (pos (min x.addr 4294967295))) b); type-is = λ x q. absurd (broken-not b q) }
 
 -- ---- a word above every value is that of no value, and any other is a value's
@@ -80,7 +80,7 @@ pub means-value : (z : ℤ) → InRange z → MarkMeans z (is z)
 unfolding word_of MarkRanged
 means-value z h = record { word = refl; ranged = h }
 
-pub means-stuck : MarkMeans noResult stuck
+pub means-stuck : MarkMeans no_result stuck
 unfolding word_of MarkRanged
 means-stuck = record { word = refl; ranged = tt }
 
@@ -93,28 +93,28 @@ means-marks r stuck h = absurd h.ranged
 module _ (Γ : Types) (m : Store) where
   pub carries-value : (x : TypedValue) (w : ℤ) (a : ℕ) → MarkMeans w (is (sole x.cells))
       → (simple? Γ x.kind ≡ true → x.cells ≡ (sole x.cells ∷ []))
-      → (simple? Γ x.kind ≡ false → readCells a (size_of Γ x.kind) m ≡ is x.cells) → Carries Γ m (is x) (carried_of x.kind w a)
+      → (simple? Γ x.kind ≡ false → read_cells a (size_of Γ x.kind) m ≡ is x.cells) → Carries Γ m (is x) (carried_of x.kind w a)
   carries-value x w a h s n = record {
     word-is = h;
     kind-is = λ y q. ap (λ (t : TypedValue). t.kind) (is-inj q);
     single = λ y q. subst (λ (t : TypedValue). simple? Γ t.kind ≡ true → t.cells ≡ (sole t.cells ∷ [])) (is-inj q) s;
-    whole = λ y q. subst (λ (t : TypedValue). simple? Γ t.kind ≡ false → readCells a (size_of Γ t.kind) m ≡ is t.cells) (is-inj q) n;
+    whole = λ y q. subst (λ (t : TypedValue). simple? Γ t.kind ≡ false → read_cells a (size_of Γ t.kind) m ≡ is t.cells) (is-inj q) n;
   }
 
   -- one cell of a kind
-  pub carries-cell : (k : ℕ) (z : ℤ) (a : ℕ) → simple? Γ k ≡ true → InRange z → Carries Γ m (is (typedValue k (z ∷ []))) (carried_of k z a)
-  carries-cell k z a s h = carries-value (typedValue k (z ∷ [])) z a (means-value z h) (λ _. refl) (λ n. absurd (true≢false (sym s ∙ n)))
+  pub carries-cell : (k : ℕ) (z : ℤ) (a : ℕ) → simple? Γ k ≡ true → InRange z → Carries Γ m (is (typed_value k (z ∷ []))) (carried_of k z a)
+  carries-cell k z a s h = carries-value (typed_value k (z ∷ [])) z a (means-value z h) (λ _. refl) (λ n. absurd (true≢false (sym s ∙ n)))
 
-  pub carries-one : (k : ℕ) (w : ℤ) (u : Result ℤ) → simple? Γ k ≡ true → MarkMeans w u → Carries Γ m (typedAs k (oneCell u)) (carried_of k w 0)
+  pub carries-one : (k : ℕ) (w : ℤ) (u : Result ℤ) → simple? Γ k ≡ true → MarkMeans w u → Carries Γ m (typed_as k (one_cell u)) (carried_of k w 0)
   unfolding word_of MarkRanged
   carries-one k w (is z) s h = rw h.word (carries-cell k z 0 s h.ranged)
   carries-one k w (fails e) s h = carries-broken Γ m k 0 (by-fault e h.word h.ranged)
   carries-one k w stuck s h = carries-broken Γ m k 0 (by-stuck h.word)
 
-  pub carries-stuck : Carries Γ m stuck (carried_of 0 noResult 0)
+  pub carries-stuck : Carries Γ m stuck (carried_of 0 no_result 0)
   carries-stuck = carries-broken Γ m 0 0 (by-stuck refl)
 
-pub reaches-stuck : Reaches stuck (reachedOf 0 noResult)
+pub reaches-stuck : Reaches stuck (reached_of 0 no_result)
 reaches-stuck = reaches-broken 0 (by-stuck refl)
 
 -- what is carried is no value, or is one of the kind that it says
@@ -134,7 +134,7 @@ module _ (k : ℕ) (x : Carried) (f : SFits w64 x.word) where
   pub wants-value : lt_z greatest (wire x.word) ≡ false → k ≡ x.kind → Wants k x (wire x.word)
   wants-value h e = rw (to_z-of_z f) (record { says = λ Γ m v c. carried-value c (rw (to_z-of_z f) at h) (λ a q w i n. rw (q, eq-eqb k a.kind (e ∙ n), w) (means-value (sole a.cells) i)) })
 
-  pub wants-other : lt_z greatest (wire x.word) ≡ false → ((k ≡ x.kind) → ⊥) → Wants k x noResult
+  pub wants-other : lt_z greatest (wire x.word) ≡ false → ((k ≡ x.kind) → ⊥) → Wants k x no_result
   wants-other h e = record { says = λ Γ m v c. carried-value c (rw (to_z-of_z f) at h) (λ a q w i n. rw (q, ne_eqb k a.kind (λ j. e (j ∙ sym n))) means-stuck) }
 
 pub ruleset wanted-laws = (wants-fault, wants-value, wants-other, sfits_of)

@@ -4,7 +4,7 @@ use Rattle.std.specs.Int.Signed.{lt_z}
 use Rattle.law.specs.Base.{pick}
 use Rattle.law.specs.Calculate.{Result, is, fails, stuck, ◌>>=◌, nat_of}
 use Rattle.law.specs.Environment.{Environment}
-use Rattle.law.specs.Machine.{Store, readCells, sole}
+use Rattle.law.specs.Machine.{Store, read_cells, sole}
 use Rattle.law.specs.Marking.{TypedValue, TypedPlace}
 use Rattle.law.specs.Types.{Types, ordinal?, set?, size_of}
 use Rattle.law_theorems.specs.TypeSizes.{SmallTypes}
@@ -17,12 +17,12 @@ use Rattle.mark_values.specs.declared.places.Reached.{Reached}
 abbrev pub carried_of : ℕ → ℤ → ℕ → Carried
 carried_of k w a = record { kind = k; word = w; from = a }
 
-abbrev pub reachedOf : ℕ → ℤ → Reached
-reachedOf t w = record { typed = t; word = w }
+abbrev pub reached_of : ℕ → ℤ → Reached
+reached_of t w = record { typed = t; word = w }
 
 -- a place's first cell by its word, 0 of a fault
-unfoldable pub firstCell : ℤ → ℕ
-firstCell w = pick (lt_z greatest w) 0 (min (nat_of w) 4294967295)
+unfoldable pub first_cell : ℤ → ℕ
+first_cell w = pick (lt_z greatest w) 0 (min (nat_of w) 4294967295)
 
 -- a value in its range, one of the exceptions' numbers, or stuck
 unfoldable pub MarkRanged : Result ℤ → Type 0
@@ -44,7 +44,7 @@ pub record Carries (Γ : Types) (m : Store) (v : Result TypedValue) (r : Carried
   pub word-is : MarkMeans r.word (v >>= λ x. is (sole x.cells))
   pub kind-is : (x : TypedValue) → v ≡ is x → r.kind ≡ x.kind
   pub single : (x : TypedValue) → v ≡ is x → simple? Γ x.kind ≡ true → x.cells ≡ (sole x.cells ∷ [])
-  pub whole : (x : TypedValue) → v ≡ is x → simple? Γ x.kind ≡ false → readCells r.from (size_of Γ x.kind) m ≡ is x.cells
+  pub whole : (x : TypedValue) → v ≡ is x → simple? Γ x.kind ≡ false → read_cells r.from (size_of Γ x.kind) m ≡ is x.cells
 
 -- r is the place v; no store has a cell past the greatest value
 pub record Reaches (v : Result TypedPlace) (r : Reached) : Type 0 where

@@ -1,6 +1,6 @@
 // The members of a set.
 ghost use Rattle.std.specs.Prelude.{◌≡◌, eqb};
-ghost use Rattle.table_scope.specs.Descriptions.{infoOf};
+ghost use Rattle.table_scope.specs.Descriptions.{info_of};
 ghost use Rattle.mark_values.specs.Steps.{Admits};
 
 use crate::values::{Carried, wanted};
@@ -10,7 +10,7 @@ use table_scope::{describe, host_of};
 
 // Whether t is a set.
 pub fn is_set(work: &[u32], types: &[u32], t: u32) -> bool
-    ensures { result ≡ eqb (infoOf work.now types.now t).shape 1 }
+    ensures { result ≡ eqb (info_of work.now types.now t).shape 1 }
 {
     let i = describe(work, types, t);
     if i.shape == 1 {

@@ -1,7 +1,7 @@
 // Places with their types: elements, fields, and the cells that stand there.
 ghost use Rattle.std.specs.Prelude.{◌≡◌};
-ghost use Rattle.mark_values.specs.Values.{reachedOf, firstCell};
-ghost use Rattle.mark_values.specs.Steps.{elementPlace, Loads, Indexes, Selects};
+ghost use Rattle.mark_values.specs.Values.{reached_of, first_cell};
+ghost use Rattle.mark_values.specs.Steps.{element_place, Loads, Indexes, Selects};
 
 use crate::values::{Carried, STUCK};
 use code_calc::cells::cells_at;
@@ -19,14 +19,14 @@ pub struct Reached {
 
 // A place, or a fault.
 pub fn place(typed: u32, word: i64) -> Reached
-    ensures { result ≡ reachedOf typed word }
+    ensures { result ≡ reached_of typed word }
 {
     Reached { typed, word }
 }
 
 // A place's first cell, 0 of a fault.
 fn first_cell(word: i64) -> u32
-    ensures { result ≡ firstCell word }
+    ensures { result ≡ first_cell word }
 {
     if word > GREATEST {
         return 0;
@@ -47,7 +47,7 @@ pub fn load(work: &[u32], types: &[u32], store: &Store, g: Reached) -> Carried
 
 // The element at an index's word, of an array that i describes and whose place has the word a.
 fn element_place(work: &[u32], types: &[u32], i: Info, a: i64, b: i64) -> Reached
-    ensures { result ≡ elementPlace work.now types.now i a b }
+    ensures { result ≡ element_place work.now types.now i a b }
 {
     let e = describe(work, types, i.element);
     place(i.element, element(a, distance(b, i.low, i.high), e.size))

@@ -15,17 +15,17 @@ use Rattle.leaf_words.specs.declared.words.Word.TheVariants as W
 use Rattle.law.specs.Base.{Name, ◌>>=◌, find}
 use Rattle.law.specs.Calculate.{truth}
 use Rattle.law.specs.Environment.{Environment, NameSort}
-use Rattle.law.specs.Names.{type_of, constant_of, const_of, asType, asValue}
+use Rattle.law.specs.Names.{type_of, constant_of, const_of, as_type, as_value}
 use Rattle.law.specs.Rules.{plain}
 use Rattle.rule_stages.specs.Stages.{wrong, unnamed, unfit, fits, ruled, named, staged}
 use Rattle.rule_faults.specs.declared.Fault.TheVariants as fault
 use Rattle.table_scope.specs.declared.Meaning.{Meaning}
 use Rattle.table_scope.specs.Scene.{Told, unknown, known, a-type, a-var, a-proc, a-value}
-use Rattle.text_heads.specs.Heads.{atomOf, reservedAtom, atomType, atomConstant}
+use Rattle.text_heads.specs.Heads.{atom_of, reserved_atom, atom_type, atom_constant}
 use Rattle.text_heads.specs.declared.Atom.{Atom}
 use Rattle.text_heads.specs.declared.Atom.TheVariants as AT
-use Rattle.rule_atoms.specs.Answers.{typeMeant, type_by, valued, numValued, valueMeant, valueBy}
-use Rattle.rule_atoms.specs.Contracts.{TypeTold, ValueTold}
+use Rattle.rule_atoms.specs.Answers.{type_meant, type_by, valued, num_valued, value_meant, value_by}
+use Rattle.rule_atoms.specs.Answering.{TypeTold, ValueTold}
 
 -- ---- stages
 
@@ -52,8 +52,8 @@ base-small false false false true f k h = absurd (let z : ◌≡◌ {A = ℕ} 0 
 base-small false false false false true k h = absurd (let z : ◌≡◌ {A = ℕ} 0 1 = cc in omega arith)
 base-small false false false false false k h = absurd (let z : ◌≡◌ {A = ℕ} 0 1 = cc in omega arith)
 
-pub base-two : (w : Word.Word) (k : ℕ) → atomOf w ≡ AT.Base k → k < 2
-unfolding reservedAtom
+pub base-two : (w : Word.Word) (k : ℕ) → atom_of w ≡ AT.Base k → k < 2
+unfolding reserved_atom
 base-two (W.Number z) k h = absurd (let z : ◌≡◌ {A = ℕ} 0 1 = cc in omega arith)
 base-two W.Name k h = absurd (let z : ◌≡◌ {A = ℕ} 0 1 = cc in omega arith)
 base-two (W.Reserved n) k h = base-small (eqb n 41) (eqb n 42) (eqb n 43) (eqb n 44) (eqb n 45) k h
@@ -61,7 +61,7 @@ base-two (W.Operator n) k h = absurd (let z : ◌≡◌ {A = ℕ} 0 1 = cc in om
 base-two W.Unknown k h = absurd (let z : ◌≡◌ {A = ℕ} 0 1 = cc in omega arith)
 
 module _ (σ : Environment) (bs : List ℕ) (n : Name) (q : ℕ) where
-  meant-type : (m : Meaning) (o : Option NameSort) → Told σ bs m o → TypeTold (named (o >>= asType) (λ _. true) some) (typeMeant m q)
+  meant-type : (m : Meaning) (o : Option NameSort) → Told σ bs m o → TypeTold (named (o >>= as_type) (λ _. true) some) (type_meant m q)
   unfolding named ruled ◌>>=◌
   meant-type _ _ unknown = record { fault-is = refl; kind-is = λ k h. unnamed-fits h }
   meant-type _ _ (known (a-type {t})) = record { fault-is = refl; kind-is = λ k h. fits-inj h }
@@ -70,7 +70,7 @@ module _ (σ : Environment) (bs : List ℕ) (n : Name) (q : ℕ) where
   meant-type _ _ (known a-value) = record { fault-is = refl; kind-is = λ k h. unnamed-fits h }
 
   pub type-told : (a : Atom) → ((k : ℕ) → a ≡ AT.Base k → k < 2) → (m : Meaning) → Told σ bs m (find σ.names n)
-      → TypeTold (staged (atomType a n) (type_of σ) (λ _. true) some) (type_by a m q)
+      → TypeTold (staged (atom_type a n) (type_of σ) (λ _. true) some) (type_by a m q)
   unfolding staged named ruled type_of
   type-told (AT.Number z) b m T = record { fault-is = refl; kind-is = λ k h. wrong-fits h }
   type-told AT.Named b m T = meant-type m (find σ.names n) T
@@ -84,11 +84,11 @@ module _ (σ : Environment) (bs : List ℕ) (n : Name) (q : ℕ) where
 -- ---- constants
 
 -- a constant in or past the integers
-pub num-told : (k : ℕ) (z : ℤ) (q : ℕ) → ValueTold (named (some (const_of k z)) plain some) (numValued k (exact z) q)
+pub num-told : (k : ℕ) (z : ℤ) (q : ℕ) → ValueTold (named (some (const_of k z)) plain some) (num_valued k (exact z) q)
 unfolding named ruled plain exact ranged pick
 num-told k z q = go (inside least most z)
   where
-    go : (t : Bool) → ValueTold (ruled t (some (const_of k z))) (numValued k (pick t (Value z) (Failed Overflow)) q)
+    go : (t : Bool) → ValueTold (ruled t (some (const_of k z))) (num_valued k (pick t (Value z) (Failed Overflow)) q)
     go true = record { fault-is = refl; value-is = λ c h. (ap (λ c. c.kind) (fits-inj h), ap (λ c. c.value) (fits-inj h)) }
     go false = record { fault-is = refl; value-is = λ c h. unfit-fits h }
 
@@ -104,7 +104,7 @@ truth-told true q = record { fault-is = refl; value-is = λ c h. (ap (λ c. c.ki
 truth-told false q = record { fault-is = refl; value-is = λ c h. (ap (λ c. c.kind) (fits-inj h), ap (λ c. c.value) (fits-inj h)) }
 
 module _ (σ : Environment) (bs : List ℕ) (n : Name) (q : ℕ) where
-  meant-value : (m : Meaning) (o : Option NameSort) → Told σ bs m o → ValueTold (named (o >>= asValue) plain some) (valueMeant m q)
+  meant-value : (m : Meaning) (o : Option NameSort) → Told σ bs m o → ValueTold (named (o >>= as_value) plain some) (value_meant m q)
   unfolding named ◌>>=◌
   meant-value _ _ unknown = unnamed_told
   meant-value _ _ (known a-type) = unnamed_told
@@ -112,7 +112,7 @@ module _ (σ : Environment) (bs : List ℕ) (n : Name) (q : ℕ) where
   meant-value _ _ (known a-proc) = unnamed_told
   meant-value _ _ (known (a-value {k} {n})) = num-told k (pos n) q
 
-  pub value-told : (a : Atom) (m : Meaning) → Told σ bs m (find σ.names n) → ValueTold (staged (atomConstant a n) (constant_of σ) plain some) (valueBy a m q)
+  pub value-told : (a : Atom) (m : Meaning) → Told σ bs m (find σ.names n) → ValueTold (staged (atom_constant a n) (constant_of σ) plain some) (value_by a m q)
   unfolding staged constant_of
   value-told (AT.Number z) m T = num-told 0 z q
   value-told AT.Named m T = meant-value m (find σ.names n) T

@@ -20,27 +20,27 @@ use Rattle.leaf_words.specs.declared.words.Word.{Word}
 use Rattle.law.specs.Base.{◌>>=◌, either}
 use Rattle.law.specs.Calculate.{truth}
 use Rattle.law.specs.Environment.{Environment}
-use Rattle.law.specs.Forms.{typeName, free, key_of, is_number}
+use Rattle.law.specs.Forms.{type_name, free, key_of, is_number}
 use Rattle.law.specs.Words as Words
-use Rattle.law.specs.Words.{worded, wordedAll}
+use Rattle.law.specs.Words.{worded, worded_all}
 use Rattle.law.specs.Names.{type_of, constant_of}
 use Rattle.rule_stages.specs.Stages.{staged}
 use Rattle.law.specs.Syntax.{Constant, minus}
 use Rattle.law.specs.Trees.{word, form, Trees, end, ◌then◌, Run, first, later, word_at}
-use Rattle.law_theorems.specs.Readings.{stackAt}
+use Rattle.law_theorems.specs.Readings.{stack_at}
 use Rattle.table_scope.specs.declared.Scope.{Scope}
 use Rattle.rule_faults.specs.declared.Fault.TheVariants.{Clear, Kind, Name, Form}
 use Rattle.table_scope.specs.declared.Meaning.{Meaning}
 use Rattle.table_scope.specs.declared.Meaning.TheVariants as meaning
-use Rattle.table_scope.specs.Scene.{meaningHere}
+use Rattle.table_scope.specs.Scene.{meaning_here}
 use Rattle.table_scope.proofs.Telling.{meant}
 use Rattle.text_parts.specs.Parts.{Before, LeafAt, FormAt, ShutAt, Stands, Shuts}
 use Rattle.text_parts.specs.declared.Part.{Part}
 use Rattle.text_parts.specs.declared.Part.TheVariants as part
 use Rattle.text_parts.specs.declared.End.{End}
 use Rattle.text_parts.specs.declared.End.TheVariants as ending
-use Rattle.text_heads.specs.Heads.{atomOf, exprHeadOf, atomNumber, minusPick}
-use Rattle.text_heads.specs.Parts.{part_of, closed, number_in, typeNameIn, constantIn, constant_by}
+use Rattle.text_heads.specs.Heads.{atom_of, expr_head_of, atom_number, minus_pick}
+use Rattle.text_heads.specs.Parts.{part_of, closed, number_in, type_name_in, constant_in, constant_by}
 use Rattle.text_heads.specs.declared.Atom.{Atom}
 use Rattle.text_heads.specs.declared.Atom.TheVariants as AT
 use Rattle.text_heads.specs.declared.ExprHead.{ExprHead}
@@ -49,44 +49,44 @@ use Rattle.text_heads.proofs.Heads.{type-word, constant-word, number_word}
 use Rattle.text_heads.proofs.Expressions.{constant-form, constant-empty, constant-headless}
 use Rattle.rule_atoms.specs.declared.Typed.{Typed}
 use Rattle.rule_atoms.specs.declared.Valued.{Valued}
-use Rattle.rule_atoms.specs.Answers.{typed, typeMeant, type_by, valued, numValued, valueMeant, valueBy, isMinus}
-use Rattle.rule_atoms.specs.Contracts.{TypeTold, GivesType, GivesConstant, GivesMinus, minusForm, minusNumber, minusEnd, minusBy}
+use Rattle.rule_atoms.specs.Answers.{typed, type_meant, type_by, valued, num_valued, value_meant, value_by, is_minus}
+use Rattle.rule_atoms.specs.Answering.{TypeTold, GivesType, GivesConstant, GivesMinus, minus_form, minus_number, minus_end, minus_by}
 use Rattle.rule_atoms.proofs.Telling.{base-two, type-told, value-told, num-told, wrong-told, wrong-fits}
 
 -- ---- by meaning
 
 module _ (m : Meaning) (q : ℕ) (r : Typed) where
-  pub type-unknown : m ≡ meaning.Unknown → r ≡ typed Name 0 q → r ≡ typeMeant m q
+  pub type-unknown : m ≡ meaning.Unknown → r ≡ typed Name 0 q → r ≡ type_meant m q
   type-unknown e f = rw e f
 
-  pub type-type : (t : ℕ) → m ≡ meaning.Type t → r ≡ typed Clear t q → r ≡ typeMeant m q
+  pub type-type : (t : ℕ) → m ≡ meaning.Type t → r ≡ typed Clear t q → r ≡ type_meant m q
   type-type t e f = rw e f
 
-  pub type-var : (i t a : ℕ) → m ≡ meaning.Var i t a → r ≡ typed Name 0 q → r ≡ typeMeant m q
+  pub type-var : (i t a : ℕ) → m ≡ meaning.Var i t a → r ≡ typed Name 0 q → r ≡ type_meant m q
   type-var i t a e f = rw e f
 
-  pub type-proc : (p : ℕ) → m ≡ meaning.Proc p → r ≡ typed Name 0 q → r ≡ typeMeant m q
+  pub type-proc : (p : ℕ) → m ≡ meaning.Proc p → r ≡ typed Name 0 q → r ≡ type_meant m q
   type-proc p e f = rw e f
 
-  pub type-value : (k n : ℕ) → m ≡ meaning.Value k n → r ≡ typed Name 0 q → r ≡ typeMeant m q
+  pub type-value : (k n : ℕ) → m ≡ meaning.Value k n → r ≡ typed Name 0 q → r ≡ type_meant m q
   type-value k n e f = rw e f
 
 pub ruleset type-meant-laws = (type-unknown, type-type, type-var, type-proc, type-value)
 
 module _ (m : Meaning) (q : ℕ) (r : Valued) where
-  pub value-unknown : m ≡ meaning.Unknown → r ≡ valued Name 0 (pos 0) q → r ≡ valueMeant m q
+  pub value-unknown : m ≡ meaning.Unknown → r ≡ valued Name 0 (pos 0) q → r ≡ value_meant m q
   value-unknown e f = rw e f
 
-  pub value-type : (t : ℕ) → m ≡ meaning.Type t → r ≡ valued Name 0 (pos 0) q → r ≡ valueMeant m q
+  pub value-type : (t : ℕ) → m ≡ meaning.Type t → r ≡ valued Name 0 (pos 0) q → r ≡ value_meant m q
   value-type t e f = rw e f
 
-  pub value-var : (i t a : ℕ) → m ≡ meaning.Var i t a → r ≡ valued Name 0 (pos 0) q → r ≡ valueMeant m q
+  pub value-var : (i t a : ℕ) → m ≡ meaning.Var i t a → r ≡ valued Name 0 (pos 0) q → r ≡ value_meant m q
   value-var i t a e f = rw e f
 
-  pub value-proc : (p : ℕ) → m ≡ meaning.Proc p → r ≡ valued Name 0 (pos 0) q → r ≡ valueMeant m q
+  pub value-proc : (p : ℕ) → m ≡ meaning.Proc p → r ≡ valued Name 0 (pos 0) q → r ≡ value_meant m q
   value-proc p e f = rw e f
 
-  pub value-value : (k n : ℕ) (z : ℤ) (x : Num) → m ≡ meaning.Value k n → SFits w64 z → z ≡ pos n → x ≡ exact (wire z) → r ≡ numValued k x q → r ≡ valueMeant m q
+  pub value-value : (k n : ℕ) (z : ℤ) (x : Num) → m ≡ meaning.Value k n → SFits w64 z → z ≡ pos n → x ≡ exact (wire z) → r ≡ num_valued k x q → r ≡ value_meant m q
   value-value k n z x e p f g h = let i : wire z ≡ pos n = to_z-of_z p ∙ f in rw e (h ∙ rw (g, i) refl)
 
 pub ruleset value-meant-laws = (value-unknown, value-type, value-var, value-proc, value-value)
@@ -94,10 +94,10 @@ pub ruleset value-meant-laws = (value-unknown, value-type, value-var, value-proc
 -- ---- by a number
 
 module _ (k q : ℕ) (x : Num) (r : Valued) where
-  pub num-value : (z : ℤ) → x ≡ Value z → SFits w64 z → r ≡ valued Clear k (wire z) q → r ≡ numValued k x q
+  pub num-value : (z : ℤ) → x ≡ Value z → SFits w64 z → r ≡ valued Clear k (wire z) q → r ≡ num_valued k x q
   num-value z e p f = f ∙ rw (e, to_z-of_z p) refl
 
-  pub num-failed : (f : ArithFault.Fault) → x ≡ Failed f → r ≡ valued Kind 0 (pos 0) q → r ≡ numValued k x q
+  pub num-failed : (f : ArithFault.Fault) → x ≡ Failed f → r ≡ valued Kind 0 (pos 0) q → r ≡ num_valued k x q
   num-failed f e g = rw e g
 
 pub ruleset num_laws = (num-value, num-failed)
@@ -117,48 +117,48 @@ wide_is n h = to_z-of_z {w = w64} {z = pos n} (record { sfits = omega arith })
 
 -- ---- a word alone
 
-module _ (w : Word) (M : Meaning) (q : ℕ) (a : Atom) (e : a ≡ atomOf w) (r : Typed) where
-  pub word_number : (z : ℤ) → a ≡ AT.Number z → r ≡ typed Form 0 q → r ≡ type_by (atomOf w) M q
+module _ (w : Word) (M : Meaning) (q : ℕ) (a : Atom) (e : a ≡ atom_of w) (r : Typed) where
+  pub word_number : (z : ℤ) → a ≡ AT.Number z → r ≡ typed Form 0 q → r ≡ type_by (atom_of w) M q
   word_number z f g = rw (← e, f) g
 
-  pub word-truth : (b : Bool) → a ≡ AT.Truth b → r ≡ typed Form 0 q → r ≡ type_by (atomOf w) M q
+  pub word-truth : (b : Bool) → a ≡ AT.Truth b → r ≡ typed Form 0 q → r ≡ type_by (atom_of w) M q
   word-truth b f g = rw (← e, f) g
 
-  pub word-error : a ≡ AT.ErrorNumber → r ≡ typed Form 0 q → r ≡ type_by (atomOf w) M q
+  pub word-error : a ≡ AT.ErrorNumber → r ≡ typed Form 0 q → r ≡ type_by (atom_of w) M q
   word-error f g = rw (← e, f) g
 
-  pub word-nothing : a ≡ AT.Nothing → r ≡ typed Form 0 q → r ≡ type_by (atomOf w) M q
+  pub word-nothing : a ≡ AT.Nothing → r ≡ typed Form 0 q → r ≡ type_by (atom_of w) M q
   word-nothing f g = rw (← e, f) g
 
-  pub word-base : (k : ℕ) → a ≡ AT.Base k → r ≡ typed Clear k q → r ≡ type_by (atomOf w) M q
+  pub word-base : (k : ℕ) → a ≡ AT.Base k → r ≡ typed Clear k q → r ≡ type_by (atom_of w) M q
   word-base k f g = rw (← e, f) g
 
-pub type-named : (s l : List ℕ) (scope : Scope) (p : ℕ) (w : Word) (q : ℕ) (a : Atom) (r : Typed) (m : Meaning) → a ≡ atomOf w
-    → m ≡ meaningHere s l scope p → a ≡ AT.Named → r ≡ typeMeant m q
-    → r ≡ type_by (atomOf w) (meaningHere s l scope p) q
+pub type-named : (s l : List ℕ) (scope : Scope) (p : ℕ) (w : Word) (q : ℕ) (a : Atom) (r : Typed) (m : Meaning) → a ≡ atom_of w
+    → m ≡ meaning_here s l scope p → a ≡ AT.Named → r ≡ type_meant m q
+    → r ≡ type_by (atom_of w) (meaning_here s l scope p) q
 type-named s l scope p w q a r m e g f h = rw (← e, f) (h ∙ rw g refl)
 
 pub ruleset type-word-laws = (word_number, word-truth, word-error, word-nothing, word-base, type-named)
 
-module _ (w : Word) (M : Meaning) (q : ℕ) (a : Atom) (e : a ≡ atomOf w) (r : Valued) where
-  pub value-number : (z : ℤ) (x : Num) → a ≡ AT.Number z → SFits w64 z → x ≡ exact (wire z) → r ≡ numValued 0 x q → r ≡ valueBy (atomOf w) M q
+module _ (w : Word) (M : Meaning) (q : ℕ) (a : Atom) (e : a ≡ atom_of w) (r : Valued) where
+  pub value-number : (z : ℤ) (x : Num) → a ≡ AT.Number z → SFits w64 z → x ≡ exact (wire z) → r ≡ num_valued 0 x q → r ≡ value_by (atom_of w) M q
   value-number z x f p g h = rw (← e, f) (h ∙ rw (g, to_z-of_z p) refl)
 
-  pub value-truth : (b : Bool) (z : ℤ) → a ≡ AT.Truth b → SFits w64 z → z ≡ truth b → r ≡ valued Clear 1 (wire z) q → r ≡ valueBy (atomOf w) M q
+  pub value-truth : (b : Bool) (z : ℤ) → a ≡ AT.Truth b → SFits w64 z → z ≡ truth b → r ≡ valued Clear 1 (wire z) q → r ≡ value_by (atom_of w) M q
   value-truth b z f p g h = rw (← e, f) (h ∙ rw (to_z-of_z p, g) refl)
 
-  pub value-error : a ≡ AT.ErrorNumber → r ≡ valued Form 0 (pos 0) q → r ≡ valueBy (atomOf w) M q
+  pub value-error : a ≡ AT.ErrorNumber → r ≡ valued Form 0 (pos 0) q → r ≡ value_by (atom_of w) M q
   value-error f g = rw (← e, f) g
 
-  pub value-nothing : a ≡ AT.Nothing → r ≡ valued Form 0 (pos 0) q → r ≡ valueBy (atomOf w) M q
+  pub value-nothing : a ≡ AT.Nothing → r ≡ valued Form 0 (pos 0) q → r ≡ value_by (atom_of w) M q
   value-nothing f g = rw (← e, f) g
 
-  pub value-base : (k : ℕ) → a ≡ AT.Base k → r ≡ valued Form 0 (pos 0) q → r ≡ valueBy (atomOf w) M q
+  pub value-base : (k : ℕ) → a ≡ AT.Base k → r ≡ valued Form 0 (pos 0) q → r ≡ value_by (atom_of w) M q
   value-base k f g = rw (← e, f) g
 
-pub value-named : (s l : List ℕ) (scope : Scope) (p : ℕ) (w : Word) (q : ℕ) (a : Atom) (r : Valued) (m : Meaning) → a ≡ atomOf w
-    → m ≡ meaningHere s l scope p → a ≡ AT.Named → r ≡ valueMeant m q
-    → r ≡ valueBy (atomOf w) (meaningHere s l scope p) q
+pub value-named : (s l : List ℕ) (scope : Scope) (p : ℕ) (w : Word) (q : ℕ) (a : Atom) (r : Valued) (m : Meaning) → a ≡ atom_of w
+    → m ≡ meaning_here s l scope p → a ≡ AT.Named → r ≡ value_meant m q
+    → r ≡ value_by (atom_of w) (meaning_here s l scope p) q
 value-named s l scope p w q a r m e g f h = rw (← e, f) (h ∙ rw g refl)
 
 pub ruleset value-word-laws = (value-number, value-truth, value-error, value-nothing, value-base, value-named)
@@ -178,39 +178,39 @@ type-next (AT.Base k) m q = refl
 type-next AT.Nothing m q = refl
 
 -- a part that is no word is wrong
-no-type : (t : Trees Run) (σ : Environment) (q : ℕ) → typeNameIn t ≡ none → TypeTold (staged (typeNameIn t) (type_of σ) (λ _. true) some) (typed Form 0 q)
+no-type : (t : Trees Run) (σ : Environment) (q : ℕ) → type_name_in t ≡ none → TypeTold (staged (type_name_in t) (type_of σ) (λ _. true) some) (typed Form 0 q)
 unfolding staged
 no-type t σ q e = rw e (record { fault-is = refl; kind-is = λ k h. wrong-fits h })
 
-form_type : (us ts : Trees Run) → typeNameIn (form us then ts) ≡ none
-unfolding typeNameIn part_of typeName free key_of either worded ◌>>=◌
-form_type us ts = go (wordedAll us)
+form_type : (us ts : Trees Run) → type_name_in (form us then ts) ≡ none
+unfolding type_name_in part_of type_name free key_of either worded ◌>>=◌
+form_type us ts = go (worded_all us)
   where
-    go : (o : Option (Trees Words.Word)) → ((o >>= λ vs. some (form vs)) >>= typeName) ≡ none
+    go : (o : Option (Trees Words.Word)) → ((o >>= λ vs. some (form vs)) >>= type_name) ≡ none
     go none = refl
     go (some vs) = refl
 
 module _ (s l : List ℕ) (scope : Scope) (at : ℕ) (x : Part) (h : Stands s at x) (r : Typed) where
-  pub type-leaf : (w : Word) (p q : ℕ) → x ≡ part.Leaf w p q → r ≡ type_by (atomOf w) (meaningHere s l scope p) q → GivesType s l scope at r
+  pub type-leaf : (w : Word) (p q : ℕ) → x ≡ part.Leaf w p q → r ≡ type_by (atom_of w) (meaning_here s l scope p) q → GivesType s l scope at r
   type-leaf w p q e f =
       let g : LeafAt s at p q × (w ≡ word_of (word_at s p)) = rw e at h.says in
       let b : Before s at (word (word_at s p)) q = g.0.leaf in
       record {
-        goes = λ _. (word (word_at s p), rw (f, type-next (atomOf w) (meaningHere s l scope p) q) b);
-        says = λ ts top σ bs S. rw (f, b.here, type-word (word_at s p) (first (stackAt s q)), g.1)
-            (type-told σ bs (map small (word_at s p)) q (atomOf (word_of (word_at s p))) (base-two (word_of (word_at s p))) _ (meant S (map small (word_at s p))));
+        goes = λ _. (word (word_at s p), rw (f, type-next (atom_of w) (meaning_here s l scope p) q) b);
+        says = λ ts top σ bs S. rw (f, b.here, type-word (word_at s p) (first (stack_at s q)), g.1)
+            (type-told σ bs (map small (word_at s p)) q (atom_of (word_of (word_at s p))) (base-two (word_of (word_at s p))) _ (meant S (map small (word_at s p))));
       }
 
   pub type-form : (p : ℕ) → x ≡ part.Form p → r ≡ typed Form 0 at → GivesType s l scope at r
   type-form p e f =
       let g : FormAt s at p = rw e at h.says in
-      rw f (record { goes = λ k. absurd (false≢true (sym k)); says = λ ts top σ bs S. no-type (first (stackAt s at)) σ at (ap typeNameIn g.here ∙ form_type (first (stackAt s p)) (first (later (stackAt s p)))) })
+      rw f (record { goes = λ k. absurd (false≢true (sym k)); says = λ ts top σ bs S. no-type (first (stack_at s at)) σ at (ap type_name_in g.here ∙ form_type (first (stack_at s p)) (first (later (stack_at s p)))) })
 
   pub type-shut : (q : ℕ) → x ≡ part.Shut q → r ≡ typed Form 0 at → GivesType s l scope at r
-  unfolding typeNameIn part_of ◌>>=◌
+  unfolding type_name_in part_of ◌>>=◌
   type-shut q e f =
       let g : ShutAt s at q = rw e at h.says in
-      rw f (record { goes = λ k. absurd (false≢true (sym k)); says = λ ts top σ bs S. no-type (first (stackAt s at)) σ at (ap typeNameIn g.here ∙ refl) })
+      rw f (record { goes = λ k. absurd (false≢true (sym k)); says = λ ts top σ bs S. no-type (first (stack_at s at)) σ at (ap type_name_in g.here ∙ refl) })
 
 pub ruleset type-name-laws = (type-leaf, type-form, type-shut)
 
@@ -221,7 +221,7 @@ pub no_minus : (s : List ℕ) (at q : ℕ) (o : Option Constant) (r : Valued) �
 unfolding staged
 no_minus s at q o r e f = rw (e, f) (record { goes = λ k. absurd (false≢true (sym k)); says = λ σ. wrong-told })
 
-number-next : (k : ℕ) (x : Num) (q : ℕ) → (numValued k x q).next ≡ q
+number-next : (k : ℕ) (x : Num) (q : ℕ) → (num_valued k x q).next ≡ q
 number-next k (Value y) q = refl
 number-next k (Failed f) q = refl
 
@@ -231,69 +231,69 @@ more-closed end a k = absurd (k refl)
 more-closed (t then us) a k = refl
 
 module _ (s : List ℕ) (at : ℕ) (z : ℤ) (e : End) (h : Shuts s at e) (r : Valued) where
-  pub minus-past : (q : ℕ) (x : Num) → e ≡ ending.Past q → SFits w64 z → x ≡ exact (neg_ℤ (wire z)) → r ≡ numValued 0 x q
-      → GivesMinus s at (minusEnd z (first (stackAt s at))) r
-  unfolding minusEnd closed staged constant_of
+  pub minus-past : (q : ℕ) (x : Num) → e ≡ ending.Past q → SFits w64 z → x ≡ exact (neg_ℤ (wire z)) → r ≡ num_valued 0 x q
+      → GivesMinus s at (minus_end z (first (stack_at s at))) r
+  unfolding minus_end closed staged constant_of
   minus-past q x f p g k =
       let d : ShutAt s at q = rw f at h.says in
       let y : x ≡ exact (neg_ℤ z) = g ∙ ap (λ v. exact (neg_ℤ v)) (to_z-of_z p) in
       rw k (record {
-        goes = λ _. d.around ∙ ap (stackAt s) (sym (number-next 0 x q));
+        goes = λ _. d.around ∙ ap (stack_at s) (sym (number-next 0 x q));
         says = λ σ. rw (d.here, y) (num-told 0 (neg_ℤ z) q);
       })
 
-  pub minus-more : e ≡ ending.More → r ≡ valued Form 0 (pos 0) at → GivesMinus s at (minusEnd z (first (stackAt s at))) r
-  unfolding minusEnd
+  pub minus-more : e ≡ ending.More → r ≡ valued Form 0 (pos 0) at → GivesMinus s at (minus_end z (first (stack_at s at))) r
+  unfolding minus_end
   minus-more f k =
-      let d : first (stackAt s at) ≡ end → ⊥ = rw f at h.says in
-      no_minus s at at (closed (first (stackAt s at)) (minus z)) r (more-closed (first (stackAt s at)) (minus z) d) k
+      let d : first (stack_at s at) ≡ end → ⊥ = rw f at h.says in
+      no_minus s at at (closed (first (stack_at s at)) (minus z)) r (more-closed (first (stack_at s at)) (minus z) d) k
 
 pub ruleset minus-end-laws = (minus-past, minus-more)
 
-module _ (s : List ℕ) (next at : ℕ) (w : Word) (a : Atom) (e : a ≡ atomOf w) (r : Valued) where
-  pub minus_number : (z : ℤ) → a ≡ AT.Number z → SFits w64 z → GivesMinus s next (minusEnd (wire z) (first (stackAt s next))) r
-      → GivesMinus s next (minusBy (atomOf w) (first (stackAt s next))) r
-  minus_number z f p g = rw (← e, f) (rw (to_z-of_z p) at g)
+module _ (s : List ℕ) (next at : ℕ) (w : Word) (a : Atom) (e : a ≡ atom_of w) (r : Valued) where
+  pub minus-number : (z : ℤ) → a ≡ AT.Number z → SFits w64 z → GivesMinus s next (minus_end (wire z) (first (stack_at s next))) r
+      → GivesMinus s next (minus_by (atom_of w) (first (stack_at s next))) r
+  minus-number z f p g = rw (← e, f) (rw (to_z-of_z p) at g)
 
-  pub minus-named : a ≡ AT.Named → r ≡ valued Form 0 (pos 0) at → GivesMinus s next (minusBy (atomOf w) (first (stackAt s next))) r
+  pub minus-named : a ≡ AT.Named → r ≡ valued Form 0 (pos 0) at → GivesMinus s next (minus_by (atom_of w) (first (stack_at s next))) r
   minus-named f g = rw (← e, f) (no_minus s next at none r refl g)
 
-  pub minus-truth : (b : Bool) → a ≡ AT.Truth b → r ≡ valued Form 0 (pos 0) at → GivesMinus s next (minusBy (atomOf w) (first (stackAt s next))) r
+  pub minus-truth : (b : Bool) → a ≡ AT.Truth b → r ≡ valued Form 0 (pos 0) at → GivesMinus s next (minus_by (atom_of w) (first (stack_at s next))) r
   minus-truth b f g = rw (← e, f) (no_minus s next at none r refl g)
 
-  pub minus-error : a ≡ AT.ErrorNumber → r ≡ valued Form 0 (pos 0) at → GivesMinus s next (minusBy (atomOf w) (first (stackAt s next))) r
+  pub minus-error : a ≡ AT.ErrorNumber → r ≡ valued Form 0 (pos 0) at → GivesMinus s next (minus_by (atom_of w) (first (stack_at s next))) r
   minus-error f g = rw (← e, f) (no_minus s next at none r refl g)
 
-  pub minus-base : (k : ℕ) → a ≡ AT.Base k → r ≡ valued Form 0 (pos 0) at → GivesMinus s next (minusBy (atomOf w) (first (stackAt s next))) r
+  pub minus-base : (k : ℕ) → a ≡ AT.Base k → r ≡ valued Form 0 (pos 0) at → GivesMinus s next (minus_by (atom_of w) (first (stack_at s next))) r
   minus-base k f g = rw (← e, f) (no_minus s next at none r refl g)
 
-  pub minus-nothing : a ≡ AT.Nothing → r ≡ valued Form 0 (pos 0) at → GivesMinus s next (minusBy (atomOf w) (first (stackAt s next))) r
+  pub minus-nothing : a ≡ AT.Nothing → r ≡ valued Form 0 (pos 0) at → GivesMinus s next (minus_by (atom_of w) (first (stack_at s next))) r
   minus-nothing f g = rw (← e, f) (no_minus s next at none r refl g)
 
-pub ruleset minus-word-laws = (minus_number, minus-named, minus-truth, minus-error, minus-base, minus-nothing)
+pub ruleset minus-word-laws = (minus-number, minus-named, minus-truth, minus-error, minus-base, minus-nothing)
 
-form-number : (us ts : Trees Run) → minusNumber (form us then ts) ≡ none
-unfolding minusNumber number_in part_of is_number worded ◌>>=◌
-form-number us ts = go (wordedAll us)
+form-number : (us ts : Trees Run) → minus_number (form us then ts) ≡ none
+unfolding minus_number number_in part_of is_number worded ◌>>=◌
+form-number us ts = go (worded_all us)
   where
     go : (o : Option (Trees Words.Word)) → (((o >>= λ vs. some (form vs)) >>= is_number) >>= λ z. closed ts (minus z)) ≡ none
     go none = refl
     go (some vs) = refl
 
-end-number : minusNumber end ≡ none
-unfolding minusNumber number_in part_of ◌>>=◌
+end-number : minus_number end ≡ none
+unfolding minus_number number_in part_of ◌>>=◌
 end-number = refl
 
 -- what stands after a part that is passed is judged there
-passed : (s : List ℕ) (at q : ℕ) (o : Option Constant) (r : Valued) → later (stackAt s at) ≡ later (stackAt s q) → GivesMinus s q o r → GivesMinus s at o r
+passed : (s : List ℕ) (at q : ℕ) (o : Option Constant) (r : Valued) → later (stack_at s at) ≡ later (stack_at s q) → GivesMinus s q o r → GivesMinus s at o r
 passed s at q o r e G = record { goes = λ k. e ∙ G.goes k; says = G.says }
 
 -- a number and what follows it
-minus-then : (w : Run) (us : Trees Run) → minusNumber (word w then us) ≡ minusBy (atomOf (word_of w)) us
-unfolding minusNumber minusEnd ◌>>=◌
-minus-then w us = ap (λ o. o >>= λ z. closed us (minus z)) (number_word w us) ∙ go (atomOf (word_of w))
+minus-then : (w : Run) (us : Trees Run) → minus_number (word w then us) ≡ minus_by (atom_of (word_of w)) us
+unfolding minus_number minus_end ◌>>=◌
+minus-then w us = ap (λ o. o >>= λ z. closed us (minus z)) (number_word w us) ∙ go (atom_of (word_of w))
   where
-    go : (a : Atom) → (atomNumber a >>= λ z. closed us (minus z)) ≡ minusBy a us
+    go : (a : Atom) → (atom_number a >>= λ z. closed us (minus z)) ≡ minus_by a us
     go (AT.Number z) = refl
     go AT.Named = refl
     go (AT.Truth b) = refl
@@ -302,30 +302,30 @@ minus-then w us = ap (λ o. o >>= λ z. closed us (minus z)) (number_word w us) 
     go AT.Nothing = refl
 
 module _ (s : List ℕ) (at : ℕ) (x : Part) (h : Stands s at x) (r : Valued) where
-  pub number-leaf : (w : Word) (p q : ℕ) → x ≡ part.Leaf w p q → GivesMinus s q (minusBy (atomOf w) (first (stackAt s q))) r
-      → GivesMinus s at (minusNumber (first (stackAt s at))) r
+  pub number-leaf : (w : Word) (p q : ℕ) → x ≡ part.Leaf w p q → GivesMinus s q (minus_by (atom_of w) (first (stack_at s q))) r
+      → GivesMinus s at (minus_number (first (stack_at s at))) r
   number-leaf w p q e G =
       let g : LeafAt s at p q × (w ≡ word_of (word_at s p)) = rw e at h.says in
       let b : Before s at (word (word_at s p)) q = g.0.leaf in
-      let i : minusNumber (first (stackAt s at)) ≡ minusBy (atomOf w) (first (stackAt s q)) =
-      ap minusNumber b.here ∙ minus-then (word_at s p) (first (stackAt s q)) ∙ ap (λ v. minusBy (atomOf v) (first (stackAt s q))) (sym g.1) in
-      rw i (passed s at q (minusBy (atomOf w) (first (stackAt s q))) r b.around G)
+      let i : minus_number (first (stack_at s at)) ≡ minus_by (atom_of w) (first (stack_at s q)) =
+      ap minus_number b.here ∙ minus-then (word_at s p) (first (stack_at s q)) ∙ ap (λ v. minus_by (atom_of v) (first (stack_at s q))) (sym g.1) in
+      rw i (passed s at q (minus_by (atom_of w) (first (stack_at s q))) r b.around G)
 
-  pub number-form : (p : ℕ) → x ≡ part.Form p → r ≡ valued Form 0 (pos 0) at → GivesMinus s at (minusNumber (first (stackAt s at))) r
+  pub number-form : (p : ℕ) → x ≡ part.Form p → r ≡ valued Form 0 (pos 0) at → GivesMinus s at (minus_number (first (stack_at s at))) r
   number-form p e f =
       let g : FormAt s at p = rw e at h.says in
-      no_minus s at at (minusNumber (first (stackAt s at))) r (ap minusNumber g.here ∙ form-number (first (stackAt s p)) (first (later (stackAt s p)))) f
+      no_minus s at at (minus_number (first (stack_at s at))) r (ap minus_number g.here ∙ form-number (first (stack_at s p)) (first (later (stack_at s p)))) f
 
-  pub number-shut : (q : ℕ) → x ≡ part.Shut q → r ≡ valued Form 0 (pos 0) at → GivesMinus s at (minusNumber (first (stackAt s at))) r
+  pub number-shut : (q : ℕ) → x ≡ part.Shut q → r ≡ valued Form 0 (pos 0) at → GivesMinus s at (minus_number (first (stack_at s at))) r
   number-shut q e f =
       let g : ShutAt s at q = rw e at h.says in
-      no_minus s at at (minusNumber (first (stackAt s at))) r (ap minusNumber g.here ∙ end-number) f
+      no_minus s at at (minus_number (first (stack_at s at))) r (ap minus_number g.here ∙ end-number) f
 
 pub ruleset minus-number-laws = (number-leaf, number-form, number-shut)
 
 -- ---- the head
 
-picked : {A : Type 0} (x : Option A) (h : ExprHead) (b : Bool) → b ≡ isMinus h → minusPick x h ≡ cond b x none
+picked : {A : Type 0} (x : Option A) (h : ExprHead) (b : Bool) → b ≡ is_minus h → minus_pick x h ≡ cond b x none
 picked x EH.At b e = rw e refl
 picked x EH.Dot b e = rw e refl
 picked x EH.Members b e = rw e refl
@@ -336,43 +336,43 @@ picked x (EH.Two k) b e = rw e refl
 picked x (EH.One k) b e = rw e refl
 picked x EH.Nothing b e = rw e refl
 
-minus-headed : (w : Run) (us : Trees Run) (b : Bool) → b ≡ isMinus (exprHeadOf (word_of w)) → minusForm (word w then us) ≡ cond b (minusNumber us) none
-unfolding minusForm minusNumber constant_by
-minus-headed w us b e = constant-form w us end ∙ picked (minusNumber us) (exprHeadOf (word_of w)) b e
+minus-headed : (w : Run) (us : Trees Run) (b : Bool) → b ≡ is_minus (expr_head_of (word_of w)) → minus_form (word w then us) ≡ cond b (minus_number us) none
+unfolding minus_form minus_number constant_by
+minus-headed w us b e = constant-form w us end ∙ picked (minus_number us) (expr_head_of (word_of w)) b e
 
 module _ (s : List ℕ) (at : ℕ) (x : Part) (h : Stands s at x) (r : Valued) where
-  module _ (w : Word) (p q : ℕ) (e : x ≡ part.Leaf w p q) (b : Bool) (t : b ≡ isMinus (exprHeadOf w)) where
-    headed-is : minusForm (first (stackAt s at)) ≡ cond b (minusNumber (first (stackAt s q))) none
+  module _ (w : Word) (p q : ℕ) (e : x ≡ part.Leaf w p q) (b : Bool) (t : b ≡ is_minus (expr_head_of w)) where
+    headed-is : minus_form (first (stack_at s at)) ≡ cond b (minus_number (first (stack_at s q))) none
     headed-is =
         let g : LeafAt s at p q × (w ≡ word_of (word_at s p)) = rw e at h.says in
-        ap minusForm g.0.leaf.here ∙ minus-headed (word_at s p) (first (stackAt s q)) b (t ∙ ap (λ v. isMinus (exprHeadOf v)) g.1)
+        ap minus_form g.0.leaf.here ∙ minus-headed (word_at s p) (first (stack_at s q)) b (t ∙ ap (λ v. is_minus (expr_head_of v)) g.1)
 
-    pub form-minus : b ≡ true → GivesMinus s q (minusNumber (first (stackAt s q))) r → GivesMinus s at (minusForm (first (stackAt s at))) r
+    pub form-minus : b ≡ true → GivesMinus s q (minus_number (first (stack_at s q))) r → GivesMinus s at (minus_form (first (stack_at s at))) r
     form-minus i G =
         let g : LeafAt s at p q × (w ≡ word_of (word_at s p)) = rw e at h.says in
-        let j : minusForm (first (stackAt s at)) ≡ minusNumber (first (stackAt s q)) = headed-is ∙ rw i refl in
-        rw j (passed s at q (minusNumber (first (stackAt s q))) r g.0.leaf.around G)
+        let j : minus_form (first (stack_at s at)) ≡ minus_number (first (stack_at s q)) = headed-is ∙ rw i refl in
+        rw j (passed s at q (minus_number (first (stack_at s q))) r g.0.leaf.around G)
 
-    pub form-other : b ≡ false → r ≡ valued Form 0 (pos 0) at → GivesMinus s at (minusForm (first (stackAt s at))) r
-    form-other i f = no_minus s at at (minusForm (first (stackAt s at))) r (headed-is ∙ rw i refl) f
+    pub form-other : b ≡ false → r ≡ valued Form 0 (pos 0) at → GivesMinus s at (minus_form (first (stack_at s at))) r
+    form-other i f = no_minus s at at (minus_form (first (stack_at s at))) r (headed-is ∙ rw i refl) f
 
-  pub form-form : (p : ℕ) → x ≡ part.Form p → r ≡ valued Form 0 (pos 0) at → GivesMinus s at (minusForm (first (stackAt s at))) r
-  unfolding minusForm
+  pub form-form : (p : ℕ) → x ≡ part.Form p → r ≡ valued Form 0 (pos 0) at → GivesMinus s at (minus_form (first (stack_at s at))) r
+  unfolding minus_form
   form-form p e f =
       let g : FormAt s at p = rw e at h.says in
-      no_minus s at at (minusForm (first (stackAt s at))) r (ap minusForm g.here ∙ constant-headless (first (stackAt s p)) (first (later (stackAt s p))) end) f
+      no_minus s at at (minus_form (first (stack_at s at))) r (ap minus_form g.here ∙ constant-headless (first (stack_at s p)) (first (later (stack_at s p))) end) f
 
-  pub form-shut : (q : ℕ) → x ≡ part.Shut q → r ≡ valued Form 0 (pos 0) at → GivesMinus s at (minusForm (first (stackAt s at))) r
-  unfolding minusForm
+  pub form-shut : (q : ℕ) → x ≡ part.Shut q → r ≡ valued Form 0 (pos 0) at → GivesMinus s at (minus_form (first (stack_at s at))) r
+  unfolding minus_form
   form-shut q e f =
       let g : ShutAt s at q = rw e at h.says in
-      no_minus s at at (minusForm (first (stackAt s at))) r (ap minusForm g.here ∙ constant-empty end) f
+      no_minus s at at (minus_form (first (stack_at s at))) r (ap minus_form g.here ∙ constant-empty end) f
 
 pub ruleset minus-form-laws = (form-minus, form-other, form-form, form-shut)
 
 -- ---- a constant
 
-value-next : (a : Atom) (m : Meaning) (q : ℕ) → (valueBy a m q).next ≡ q
+value-next : (a : Atom) (m : Meaning) (q : ℕ) → (value_by a m q).next ≡ q
 value-next (AT.Number z) m q = number-next 0 (exact z) q
 value-next AT.Named meaning.Unknown q = refl
 value-next AT.Named (meaning.Type t) q = refl
@@ -385,31 +385,31 @@ value-next (AT.Base k) m q = refl
 value-next AT.Nothing m q = refl
 
 -- the parts after a form do not matter
-form-alone : (us ts : Trees Run) → constantIn (form us then ts) ≡ minusForm us
-unfolding minusForm constantIn part_of
+form-alone : (us ts : Trees Run) → constant_in (form us then ts) ≡ minus_form us
+unfolding minus_form constant_in part_of
 form-alone us ts = refl
 
 module _ (s l : List ℕ) (scope : Scope) (at : ℕ) (x : Part) (h : Stands s at x) (r : Valued) where
-  pub constant-leaf : (w : Word) (p q : ℕ) → x ≡ part.Leaf w p q → r ≡ valueBy (atomOf w) (meaningHere s l scope p) q → GivesConstant s l scope at r
+  pub constant-leaf : (w : Word) (p q : ℕ) → x ≡ part.Leaf w p q → r ≡ value_by (atom_of w) (meaning_here s l scope p) q → GivesConstant s l scope at r
   constant-leaf w p q e f =
       let g : LeafAt s at p q × (w ≡ word_of (word_at s p)) = rw e at h.says in
       let b : Before s at (word (word_at s p)) q = g.0.leaf in
       record {
-        goes = λ _. (word (word_at s p), rw (f, value-next (atomOf w) (meaningHere s l scope p) q) b);
-        says = λ ts top σ bs S. rw (f, b.here, constant-word (word_at s p) (first (stackAt s q)), g.1)
-            (value-told σ bs (map small (word_at s p)) q (atomOf (word_of (word_at s p))) _ (meant S (map small (word_at s p))));
+        goes = λ _. (word (word_at s p), rw (f, value-next (atom_of w) (meaning_here s l scope p) q) b);
+        says = λ ts top σ bs S. rw (f, b.here, constant-word (word_at s p) (first (stack_at s q)), g.1)
+            (value-told σ bs (map small (word_at s p)) q (atom_of (word_of (word_at s p))) _ (meant S (map small (word_at s p))));
       }
 
-  pub constant-minus : (p : ℕ) → x ≡ part.Form p → GivesMinus s p (minusForm (first (stackAt s p))) r → GivesConstant s l scope at r
+  pub constant-minus : (p : ℕ) → x ≡ part.Form p → GivesMinus s p (minus_form (first (stack_at s p))) r → GivesConstant s l scope at r
   constant-minus p e G =
       let g : FormAt s at p = rw e at h.says in
       record {
-        goes = λ k. (form (first (stackAt s p)), record { here = g.here ∙ ap (λ z. form (first (stackAt s p)) then first z) (G.goes k); around = g.around ∙ ap later (G.goes k) });
-        says = λ ts top σ bs S. rw (g.here, form-alone (first (stackAt s p)) (first (later (stackAt s p)))) (G.says σ);
+        goes = λ k. (form (first (stack_at s p)), record { here = g.here ∙ ap (λ z. form (first (stack_at s p)) then first z) (G.goes k); around = g.around ∙ ap later (G.goes k) });
+        says = λ ts top σ bs S. rw (g.here, form-alone (first (stack_at s p)) (first (later (stack_at s p)))) (G.says σ);
       }
 
   pub constant-shut : (q : ℕ) → x ≡ part.Shut q → r ≡ valued Form 0 (pos 0) at → GivesConstant s l scope at r
-  unfolding staged constantIn part_of ◌>>=◌
+  unfolding staged constant_in part_of ◌>>=◌
   constant-shut q e f =
       let g : ShutAt s at q = rw e at h.says in
       rw f (record { goes = λ k. absurd (false≢true (sym k)); says = λ ts top σ bs S. rw g.here wrong-told })

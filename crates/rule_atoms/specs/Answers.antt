@@ -20,16 +20,16 @@ use Rattle.rule_atoms.specs.declared.Valued.{Valued}
 abbrev pub typed : Fault → ℕ → ℕ → Typed
 typed f k q = record { fault = f; kind = k; next = q }
 
-abbrev pub typeMeant : Meaning → ℕ → Typed
-typeMeant meaning.Unknown q = typed Name 0 q
-typeMeant (meaning.Type t) q = typed Clear t q
-typeMeant (meaning.Var i t a) q = typed Name 0 q
-typeMeant (meaning.Proc p) q = typed Name 0 q
-typeMeant (meaning.Value k n) q = typed Name 0 q
+abbrev pub type_meant : Meaning → ℕ → Typed
+type_meant meaning.Unknown q = typed Name 0 q
+type_meant (meaning.Type t) q = typed Clear t q
+type_meant (meaning.Var i t a) q = typed Name 0 q
+type_meant (meaning.Proc p) q = typed Name 0 q
+type_meant (meaning.Value k n) q = typed Name 0 q
 
 abbrev pub type_by : Atom → Meaning → ℕ → Typed
 type_by (AT.Number z) m q = typed Form 0 q
-type_by AT.Named m q = typeMeant m q
+type_by AT.Named m q = type_meant m q
 type_by (AT.Truth b) m q = typed Form 0 q
 type_by AT.ErrorNumber m q = typed Form 0 q
 type_by (AT.Base k) m q = typed Clear k q
@@ -41,33 +41,33 @@ abbrev pub valued : Fault → ℕ → ℤ → ℕ → Valued
 valued f k z q = record { fault = f; kind = k; value = z; next = q }
 
 -- a constant past the integers is a fault of row 8
-abbrev pub numValued : ℕ → Num → ℕ → Valued
-numValued k (Value z) q = valued Clear k z q
-numValued k (Failed f) q = valued Kind 0 (pos 0) q
+abbrev pub num_valued : ℕ → Num → ℕ → Valued
+num_valued k (Value z) q = valued Clear k z q
+num_valued k (Failed f) q = valued Kind 0 (pos 0) q
 
-abbrev pub valueMeant : Meaning → ℕ → Valued
-valueMeant meaning.Unknown q = valued Name 0 (pos 0) q
-valueMeant (meaning.Type t) q = valued Name 0 (pos 0) q
-valueMeant (meaning.Var i t a) q = valued Name 0 (pos 0) q
-valueMeant (meaning.Proc p) q = valued Name 0 (pos 0) q
-valueMeant (meaning.Value k n) q = numValued k (exact (pos n)) q
+abbrev pub value_meant : Meaning → ℕ → Valued
+value_meant meaning.Unknown q = valued Name 0 (pos 0) q
+value_meant (meaning.Type t) q = valued Name 0 (pos 0) q
+value_meant (meaning.Var i t a) q = valued Name 0 (pos 0) q
+value_meant (meaning.Proc p) q = valued Name 0 (pos 0) q
+value_meant (meaning.Value k n) q = num_valued k (exact (pos n)) q
 
-abbrev pub valueBy : Atom → Meaning → ℕ → Valued
-valueBy (AT.Number z) m q = numValued 0 (exact z) q
-valueBy AT.Named m q = valueMeant m q
-valueBy (AT.Truth b) m q = valued Clear 1 (truth b) q
-valueBy AT.ErrorNumber m q = valued Form 0 (pos 0) q
-valueBy (AT.Base k) m q = valued Form 0 (pos 0) q
-valueBy AT.Nothing m q = valued Form 0 (pos 0) q
+abbrev pub value_by : Atom → Meaning → ℕ → Valued
+value_by (AT.Number z) m q = num_valued 0 (exact z) q
+value_by AT.Named m q = value_meant m q
+value_by (AT.Truth b) m q = valued Clear 1 (truth b) q
+value_by AT.ErrorNumber m q = valued Form 0 (pos 0) q
+value_by (AT.Base k) m q = valued Form 0 (pos 0) q
+value_by AT.Nothing m q = valued Form 0 (pos 0) q
 
 -- the head `-`
-abbrev pub isMinus : ExprHead → Bool
-isMinus EH.At = false
-isMinus EH.Dot = false
-isMinus EH.Members = false
-isMinus EH.Minus = true
-isMinus (EH.Bound b) = false
-isMinus (EH.Short q) = false
-isMinus (EH.Two k) = false
-isMinus (EH.One k) = false
-isMinus EH.Nothing = false
+abbrev pub is_minus : ExprHead → Bool
+is_minus EH.At = false
+is_minus EH.Dot = false
+is_minus EH.Members = false
+is_minus EH.Minus = true
+is_minus (EH.Bound b) = false
+is_minus (EH.Short q) = false
+is_minus (EH.Two k) = false
+is_minus (EH.One k) = false
+is_minus EH.Nothing = false

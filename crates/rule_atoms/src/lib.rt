@@ -1,12 +1,12 @@
 // A type's name, and a constant, where one is expected.
 ghost use Rattle.std.specs.Prelude.{◌≡◌, pos};
-ghost use Rattle.table_scope.specs.Scene.{meaningHere};
+ghost use Rattle.table_scope.specs.Scene.{meaning_here};
 ghost use Rattle.law.specs.Calculate.{truth as truth_of};
 ghost use Rattle.law.specs.Trees.{first};
-ghost use Rattle.law_theorems.specs.Readings.{stackAt};
-ghost use Rattle.text_heads.specs.Heads.{atomOf, exprHeadOf};
-ghost use Rattle.rule_atoms.specs.Answers.{typed as typedBy, typeMeant, type_by, valued as valuedBy, numValued, valueMeant, valueBy, isMinus};
-ghost use Rattle.rule_atoms.specs.Contracts.{GivesType, GivesConstant, GivesMinus, minusForm, minusNumber, minusEnd, minusBy};
+ghost use Rattle.law_theorems.specs.Readings.{stack_at};
+ghost use Rattle.text_heads.specs.Heads.{atom_of, expr_head_of};
+ghost use Rattle.rule_atoms.specs.Answers.{typed as typed_by, type_meant, type_by, valued as valued_by, num_valued, value_meant, value_by, is_minus};
+ghost use Rattle.rule_atoms.specs.Answering.{GivesType, GivesConstant, GivesMinus, minus_form, minus_number, minus_end, minus_by};
 
 use leaf_integers::{Num, fit, neg};
 use leaf_words::words::Word;
@@ -34,7 +34,7 @@ pub struct Valued {
 
 // An answer for a type's name from its parts.
 fn type_answer(fault: Fault, kind: u32, next: usize) -> Typed
-    ensures { result ≡ typedBy fault kind next }
+    ensures { result ≡ typed_by fault kind next }
 {
     Typed {
         fault: fault,
@@ -45,7 +45,7 @@ fn type_answer(fault: Fault, kind: u32, next: usize) -> Typed
 
 // The type that a name means, a fault of row 7 where it means none.
 fn type_meant(m: Meaning, next: usize) -> Typed
-    ensures { result ≡ typeMeant m next }
+    ensures { result ≡ type_meant m next }
 {
     match m {
         Meaning::Unknown => type_answer(Fault::Name, 0, next),
@@ -58,7 +58,7 @@ fn type_meant(m: Meaning, next: usize) -> Typed
 
 // The type that the word at p names; the word ends at `next`.
 fn type_word(text: &[u8], work: &[u32], scope: Scope, w: Word, p: usize, next: usize) -> Typed
-    ensures { result ≡ type_by (atomOf w) (meaningHere text.now work.now scope p) next }
+    ensures { result ≡ type_by (atom_of w) (meaning_here text.now work.now scope p) next }
 {
     let a = atom_of(w);
     match a {
@@ -85,7 +85,7 @@ pub fn type_name(text: &[u8], work: &[u32], scope: Scope, at: usize) -> Typed
 
 // An answer for a constant from its parts.
 fn value_answer(fault: Fault, kind: u32, value: i64, next: usize) -> Valued
-    ensures { result ≡ valuedBy fault kind value next }
+    ensures { result ≡ valued_by fault kind value next }
 {
     Valued {
         fault: fault,
@@ -97,14 +97,14 @@ fn value_answer(fault: Fault, kind: u32, value: i64, next: usize) -> Valued
 
 // The answer with no constant.
 fn no_value(fault: Fault, next: usize) -> Valued
-    ensures { result ≡ valuedBy fault 0 (pos 0) next }
+    ensures { result ≡ valued_by fault 0 (pos 0) next }
 {
     value_answer(fault, 0, 0, next)
 }
 
 // A constant of a type by its exact value.
 fn num_valued(kind: u32, n: Num, next: usize) -> Valued
-    ensures { result ≡ numValued kind n next }
+    ensures { result ≡ num_valued kind n next }
 {
     match n {
         Num::Value(z) => value_answer(Fault::Clear, kind, z, next),
@@ -131,7 +131,7 @@ fn truth(b: bool) -> i64
 
 // The enum value that a name means, a fault of row 7 where it means none.
 fn value_meant(m: Meaning, next: usize) -> Valued
-    ensures { result ≡ valueMeant m next }
+    ensures { result ≡ value_meant m next }
 {
     match m {
         Meaning::Unknown => no_value(Fault::Name, next),
@@ -144,7 +144,7 @@ fn value_meant(m: Meaning, next: usize) -> Valued
 
 // The constant that the word at p is; the word ends at `next`.
 fn value_word(text: &[u8], work: &[u32], scope: Scope, w: Word, p: usize, next: usize) -> Valued
-    ensures { result ≡ valueBy (atomOf w) (meaningHere text.now work.now scope p) next }
+    ensures { result ≡ value_by (atom_of w) (meaning_here text.now work.now scope p) next }
 {
     let a = atom_of(w);
     match a {
@@ -159,7 +159,7 @@ fn value_word(text: &[u8], work: &[u32], scope: Scope, w: Word, p: usize, next: 
 
 // The constant `(- z)`, whose number ends at an offset.
 fn minus_end(text: &[u8], z: i64, at: usize) -> Valued
-    ensures { GivesMinus text.now at (minusEnd z (first (stackAt text.now at))) result }
+    ensures { GivesMinus text.now at (minus_end z (first (stack_at text.now at))) result }
 {
     let e = end_at(text, at);
     match e {
@@ -170,7 +170,7 @@ fn minus_end(text: &[u8], z: i64, at: usize) -> Valued
 
 // The constant `(- number)`, past its head: the word there, if it is a number.
 fn minus_word(text: &[u8], w: Word, next: usize, at: usize) -> Valued
-    ensures { GivesMinus text.now next (minusBy (atomOf w) (first (stackAt text.now next))) result }
+    ensures { GivesMinus text.now next (minus_by (atom_of w) (first (stack_at text.now next))) result }
 {
     let a = atom_of(w);
     match a {
@@ -185,7 +185,7 @@ fn minus_word(text: &[u8], w: Word, next: usize, at: usize) -> Valued
 
 // The constant `(- number)`, past its head.
 fn minus_number(text: &[u8], at: usize) -> Valued
-    ensures { GivesMinus text.now at (minusNumber (first (stackAt text.now at))) result }
+    ensures { GivesMinus text.now at (minus_number (first (stack_at text.now at))) result }
 {
     let part = part_at(text, at);
     match part {
@@ -197,7 +197,7 @@ fn minus_number(text: &[u8], at: usize) -> Valued
 
 // Whether a word is `-`.
 fn is_minus(w: Word) -> bool
-    ensures { result ≡ isMinus (exprHeadOf w) }
+    ensures { result ≡ is_minus (expr_head_of w) }
 {
     let h = expr_head(w);
     match h {
@@ -215,7 +215,7 @@ fn is_minus(w: Word) -> bool
 
 // The constant `(- number)` whose parts begin at an offset.
 pub fn minus_form(text: &[u8], at: usize) -> Valued
-    ensures { GivesMinus text.now at (minusForm (first (stackAt text.now at))) result }
+    ensures { GivesMinus text.now at (minus_form (first (stack_at text.now at))) result }
 {
     let part = part_at(text, at);
     match part {

@@ -9,66 +9,66 @@ use lib.ListN.{length, get_or, set, drop, drop_of_length-le}
 use lib.Seq as Seq
 use Rattle.leaf_integers.proofs.Order.{le-or-lt}
 use Rattle.law.specs.Trees.{word_at}
-use Rattle.law_theorems.specs.Readings.{ended, readBytes, stackAt, rest_at}
+use Rattle.law_theorems.specs.Readings.{ended, read_bytes, stack_at, rest_at}
 use Rattle.code.proofs.LayoutRegions.{sets-at, sets_below}
 use Rattle.table_scope.specs.declared.Scope.{Scope}
-use Rattle.table_bodies.specs.Table.{offset_of, stmtsBefore, types_of, scope_of}
+use Rattle.table_bodies.specs.Table.{offset_of, stmts_before, types_of, scope_of}
 use Rattle.rule_parameters.specs.declared.framing.Opened.{Opened}
 use Rattle.rule_known.specs.declared.Known.{Known}
-use Rattle.rule_body_notes.specs.Noting.{offsetIn, linePlace, notedStart, notedNames, notedPairs, noted}
+use Rattle.rule_body_notes.specs.Noting.{offset_in, line_place, noted_start, noted_names, noted_pairs, noted}
 
 -- ---- the offset
 
-stack-by : (s : List ℕ) (p q : ℕ) → drop p s ≡ drop q s → stackAt s p ≡ stackAt s q
-unfolding stackAt rest_at
-stack-by s p q e = ap (λ (r : List ℕ). ended (readBytes r).begun (readBytes r).stack) e
+stack-by : (s : List ℕ) (p q : ℕ) → drop p s ≡ drop q s → stack_at s p ≡ stack_at s q
+unfolding stack_at rest_at
+stack-by s p q e = ap (λ (r : List ℕ). ended (read_bytes r).begun (read_bytes r).stack) e
 
 module _ (s : List ℕ) (at : ℕ) where
-  pub offset-low : at < length s → at % 65536 ≡ offsetIn s at
-  unfolding offsetIn
+  pub offset-low : at < length s → at % 65536 ≡ offset_in s at
+  unfolding offset_in
   offset-low h = let e : min at (length s) ≡ at = min-eq_left (omega arith) in rw e refl
 
-  pub offset-past : length s ≤ at → length s % 65536 ≡ offsetIn s at
-  unfolding offsetIn
+  pub offset-past : length s ≤ at → length s % 65536 ≡ offset_in s at
+  unfolding offset_in
   offset-past h = let e : min at (length s) ≡ length s = min-eq_right h in rw e refl
 
-  pub offset-exact : at ≤ length s → length s ≤ 32768 → offsetIn s at ≡ at
-  unfolding offsetIn
+  pub offset-exact : at ≤ length s → length s ≤ 32768 → offset_in s at ≡ at
+  unfolding offset_in
   offset-exact h g = let e : min at (length s) ≡ at = min-eq_left h in rw e (mod-eq_of_lt (omega arith))
 
   -- what stands there is what stands at the offset
-  pub offset-stack : length s ≤ 32768 → stackAt s (offsetIn s at) ≡ stackAt s at
-  unfolding offsetIn
+  pub offset-stack : length s ≤ 32768 → stack_at s (offset_in s at) ≡ stack_at s at
+  unfolding offset_in
   offset-stack h = go (le-or-lt (length s) at)
     where
-      go : (length s ≤ at) ⊎ (at < length s) → stackAt s (min at (length s) % 65536) ≡ stackAt s at
+      go : (length s ≤ at) ⊎ (at < length s) → stack_at s (min at (length s) % 65536) ≡ stack_at s at
       go (inl g) =
           let e : min at (length s) ≡ length s = min-eq_right g in
           let m : min at (length s) % 65536 ≡ length s = ap (λ (n : ℕ). n % 65536) e ∙ mod-eq_of_lt (omega arith) in
-          ap (stackAt s) m ∙ stack-by s (length s) at (drop_of_length-le s {i = length s} (omega arith) ∙ sym (drop_of_length-le s {i = at} g))
+          ap (stack_at s) m ∙ stack-by s (length s) at (drop_of_length-le s {i = length s} (omega arith) ∙ sym (drop_of_length-le s {i = at} g))
       go (inr g) =
           let e : min at (length s) ≡ at = min-eq_left (omega arith) in
           let m : min at (length s) % 65536 ≡ at = ap (λ (n : ℕ). n % 65536) e ∙ mod-eq_of_lt (omega arith) in
-          ap (stackAt s) m
+          ap (stack_at s) m
 
 pub ruleset offset-laws = (offset-low, offset-past)
 
 module _ (s : List ℕ) (kn : Known) (tb : List ℕ) where
-  pub start-noted : (at p n : ℕ) (t u v : List ℕ) → p ≡ linePlace kn → n ≡ offsetIn s at → t ≡ set tb p n → u ≡ set t (p + 1) kn.stmts → v ≡ set u (p + 2) kn.state.types
-      → v ≡ notedStart s kn at tb
-  unfolding notedStart
+  pub start-noted : (at p n : ℕ) (t u v : List ℕ) → p ≡ line_place kn → n ≡ offset_in s at → t ≡ set tb p n → u ≡ set t (p + 1) kn.stmts → v ≡ set u (p + 2) kn.state.types
+      → v ≡ noted_start s kn at tb
+  unfolding noted_start
   start-noted at p n t u v q e f g h = h ∙ rw (g, f, e, q) refl
 
-  pub names-noted : (x : Scope) (p : ℕ) (t u : List ℕ) → p ≡ linePlace kn → t ≡ set tb (p + 3) x.count → u ≡ set t (p + 4) x.newest → u ≡ notedNames kn x tb
-  unfolding notedNames
+  pub names-noted : (x : Scope) (p : ℕ) (t u : List ℕ) → p ≡ line_place kn → t ≡ set tb (p + 3) x.count → u ≡ set t (p + 4) x.newest → u ≡ noted_names kn x tb
+  unfolding noted_names
   names-noted x p t u q f g = g ∙ rw (f, q) refl
 
-  pub pairs-noted : (x : Scope) (p n : ℕ) (t u v : List ℕ) → p ≡ linePlace kn → n ≡ offsetIn s x.pairs → t ≡ set tb (p + 5) n → u ≡ set t (p + 6) x.vars → v ≡ set u (p + 7) x.parameters
-      → v ≡ notedPairs s kn x tb
-  unfolding notedPairs
+  pub pairs-noted : (x : Scope) (p n : ℕ) (t u v : List ℕ) → p ≡ line_place kn → n ≡ offset_in s x.pairs → t ≡ set tb (p + 5) n → u ≡ set t (p + 6) x.vars → v ≡ set u (p + 7) x.parameters
+      → v ≡ noted_pairs s kn x tb
+  unfolding noted_pairs
   pairs-noted x p n t u v q e f g h = h ∙ rw (g, f, e, q) refl
 
-  pub body-noted : (o : Opened) (t u v : List ℕ) → t ≡ notedStart s kn o.at tb → u ≡ notedNames kn o.scope t → v ≡ notedPairs s kn o.scope u → v ≡ noted s kn o tb
+  pub body-noted : (o : Opened) (t u v : List ℕ) → t ≡ noted_start s kn o.at tb → u ≡ noted_names kn o.scope t → v ≡ noted_pairs s kn o.scope u → v ≡ noted s kn o tb
   unfolding noted
   body-noted o t u v f g h = h ∙ rw (g, f) refl
 
@@ -77,7 +77,7 @@ module _ (s : List ℕ) (kn : Known) (tb : List ℕ) where
 -- body q has the same line in both
 pub record SameLine (tb tb' : List ℕ) (q : ℕ) : Type 0 where
   pub offset-is : offset_of tb' q ≡ offset_of tb q
-  pub stmts-are : stmtsBefore tb' q ≡ stmtsBefore tb q
+  pub stmts-are : stmts_before tb' q ≡ stmts_before tb q
   pub types_are : types_of tb' q ≡ types_of tb q
   pub scope-is : scope_of tb' q ≡ scope_of tb q
 
@@ -110,14 +110,14 @@ module _ (p : ℕ) where
 -- the line of body q, which is the next
 module _ (s : List ℕ) (kn : Known) (o : Opened) (tb : List ℕ) where
   abbrev line : List ℕ
-  line = offsetIn s o.at ∷ kn.stmts ∷ kn.state.types ∷ o.scope.count ∷ o.scope.newest ∷ offsetIn s o.scope.pairs ∷ o.scope.vars ∷ o.scope.parameters ∷ []
+  line = offset_in s o.at ∷ kn.stmts ∷ kn.state.types ∷ o.scope.count ∷ o.scope.newest ∷ offset_in s o.scope.pairs ∷ o.scope.vars ∷ o.scope.parameters ∷ []
 
-  noted-line : noted s kn o tb ≡ Seq.sets tb (linePlace kn) line
-  unfolding noted notedStart notedNames notedPairs
-  noted-line = rw (second (linePlace kn), third (linePlace kn), fourth (linePlace kn), fifth (linePlace kn), sixth (linePlace kn), seventh (linePlace kn), eighth (linePlace kn)) refl
+  noted-line : noted s kn o tb ≡ Seq.sets tb (line_place kn) line
+  unfolding noted noted_start noted_names noted_pairs
+  noted-line = rw (second (line_place kn), third (line_place kn), fourth (line_place kn), fifth (line_place kn), sixth (line_place kn), seventh (line_place kn), eighth (line_place kn)) refl
 
   pub noted-long : length (noted s kn o tb) ≡ length tb
-  noted-long = ap (λ (t : List ℕ). length t) noted-line ∙ Seq.length-sets tb (linePlace kn) line
+  noted-long = ap (λ (t : List ℕ). length t) noted-line ∙ Seq.length-sets tb (line_place kn) line
 
   module _ (q : ℕ) (here : kn.state.procs ≡ q) (few : q ≤ 32) (long : 264 ≤ length tb) where
     noted_here : noted s kn o tb ≡ Seq.sets tb (8 * q) line
@@ -126,10 +126,10 @@ module _ (s : List ℕ) (kn : Known) (o : Opened) (tb : List ℕ) where
     number : (i : ℕ) → i < 8 → get_or (noted s kn o tb) (8 * q + i) 0 ≡ get_or line i 0
     number i h = ap (λ (t : List ℕ). get_or t (8 * q + i) 0) noted_here ∙ sets-at line tb (8 * q) i (omega arith) h
 
-    pub noted-offset : offset_of (noted s kn o tb) q ≡ offsetIn s o.at
+    pub noted-offset : offset_of (noted s kn o tb) q ≡ offset_in s o.at
     noted-offset = ap (λ (i : ℕ). get_or (noted s kn o tb) i 0) (omega arith) ∙ number 0 (omega arith)
 
-    pub noted-stmts : stmtsBefore (noted s kn o tb) q ≡ kn.stmts
+    pub noted-stmts : stmts_before (noted s kn o tb) q ≡ kn.stmts
     noted-stmts = number 1 (omega arith)
 
     pub noted-types : types_of (noted s kn o tb) q ≡ kn.state.types

@@ -1,6 +1,6 @@
 // A body's line in the bodies' table (`table_bodies`), as the judge of the marking machine writes it.
 ghost use Rattle.std.specs.Prelude.{◌≡◌};
-ghost use Rattle.rule_body_notes.specs.Noting.{offsetIn, linePlace, notedStart, notedNames, notedPairs, noted};
+ghost use Rattle.rule_body_notes.specs.Noting.{offset_in, line_place, noted_start, noted_names, noted_pairs, noted};
 
 use rule_known::Known;
 use rule_parameters::framing::Opened;
@@ -16,7 +16,7 @@ const BODIES: u32 = 64;
 
 // An offset as a number of the table.
 fn offset_in(text: &[u8], at: usize) -> u32
-    ensures { result ≡ offsetIn text.now at }
+    ensures { result ≡ offset_in text.now at }
 {
     if at < text.len() {
         return (at % OFFSETS) as u32;
@@ -26,7 +26,7 @@ fn offset_in(text: &[u8], at: usize) -> u32
 
 // The place of the next body's line.
 fn line_place(kn: Known) -> usize
-    ensures { result ≡ linePlace kn }
+    ensures { result ≡ line_place kn }
 {
     let st = kn.state;
     LINE_LENGTH * (st.procs % BODIES) as usize
@@ -34,7 +34,7 @@ fn line_place(kn: Known) -> usize
 
 // Writes where the next body's parts begin, the number of the last statement before them, and how many types it sees.
 fn note_start(text: &[u8], bodies: &mut [u32], kn: Known, at: usize)
-    ensures { bodies.new ≡ notedStart text.now kn at bodies.old }
+    ensures { bodies.new ≡ noted_start text.now kn at bodies.old }
 {
     let st = kn.state;
     let p = line_place(kn);
@@ -45,7 +45,7 @@ fn note_start(text: &[u8], bodies: &mut [u32], kn: Known, at: usize)
 
 // Writes which names it knows.
 fn note_names(bodies: &mut [u32], kn: Known, scope: Scope)
-    ensures { bodies.new ≡ notedNames kn scope bodies.old }
+    ensures { bodies.new ≡ noted_names kn scope bodies.old }
 {
     let p = line_place(kn);
     put(bodies, p + 3, scope.count);
@@ -54,7 +54,7 @@ fn note_names(bodies: &mut [u32], kn: Known, scope: Scope)
 
 // Writes where the pairs of its parameters begin, and how many variables and parameters are before them.
 fn note_pairs(text: &[u8], bodies: &mut [u32], kn: Known, scope: Scope)
-    ensures { bodies.new ≡ notedPairs text.now kn scope bodies.old }
+    ensures { bodies.new ≡ noted_pairs text.now kn scope bodies.old }
 {
     let p = line_place(kn);
     put(bodies, p + 5, offset_in(text, scope.pairs));

@@ -11,25 +11,25 @@ use lib.Seq.{take_at, get_or-set_same, get_or-set_other, drop-set-lt}
 use Rattle.rule_declarations.specs.State.{notes}
 use Rattle.law.specs.Verdict as Meaning
 use Rattle.law.specs.Verdict.{Read, accepted, refused}
-use Rattle.law.specs.Whole.{verdictOf}
+use Rattle.law.specs.Whole.{verdict_of}
 use Rattle.law_theorems.proofs.LinesCover.{text-covered}
 use Rattle.law_answers.specs.declared.Counted.{Counted}
 use Rattle.law_answers.specs.declared.Counted.TheVariants as told
-use Rattle.law_answers.specs.Verdicts.{cellsTold}
+use Rattle.law_answers.specs.Verdicts.{cells_told}
 use Rattle.rule_declarations.specs.declared.State.{State}
 use Rattle.rule_stores.specs.Stores.{Owner}
 use Rattle.rule_texts.specs.declared.Checked.{Checked}
 use Rattle.rule_texts.specs.Answers.{CheckedBy, Checks}
-use Rattle.rule_cells.specs.Cells.{countedBy, Named, Names, NamesBy}
+use Rattle.rule_cells.specs.Cells.{counted_by, Named, Names, NamesBy}
 use Rattle.law_answers.specs.Owners.{Owners, OwnedBy}
 use Rattle.rule_texts.proofs.Texts.{verdict-same, part-long, zeros}
 
-pub counted-no : (c : Checked) (r : Counted) → c.refusal ≡ 0 → r ≡ told.Cells c.known.state.cells → r ≡ countedBy c
-unfolding countedBy
+pub counted-no : (c : Checked) (r : Counted) → c.refusal ≡ 0 → r ≡ told.Cells c.known.state.cells → r ≡ counted_by c
+unfolding counted_by
 counted-no c r h e = rw (eq-eqb c.refusal 0 h) e
 
-pub counted-yes : (c : Checked) (r : Counted) → ((c.refusal ≡ 0) → ⊥) → r ≡ told.Refused c.refusal c.line → r ≡ countedBy c
-unfolding countedBy
+pub counted-yes : (c : Checked) (r : Counted) → ((c.refusal ≡ 0) → ⊥) → r ≡ told.Refused c.refusal c.line → r ≡ counted_by c
+unfolding counted_by
 counted-yes c r h e = rw (ne_eqb c.refusal 0 h) e
 
 pub ruleset counted-laws = (counted-no, counted-yes)
@@ -70,23 +70,23 @@ pub ruleset checked-laws = (names-refused, names-accepted)
 
 -- ---- the whole
 
-counted_is : (s l ts : List ℕ) (v : Meaning.Verdict Read) (c : Checked) → CheckedBy s l ts v c → countedBy c ≡ cellsTold v
-unfolding countedBy cellsTold
+counted_is : (s l ts : List ℕ) (v : Meaning.Verdict Read) (c : Checked) → CheckedBy s l ts v c → counted_by c ≡ cells_told v
+unfolding counted_by cells_told
 counted_is s l ts (accepted q) c h = rw (eq-eqb c.refusal 0 h.0, h.2.holds.cells_are) refl
 counted_is s l ts (refused m n) c h = rw (ne_eqb c.refusal 0 (λ e. omega (arith, h.0, h.2)), h.0, h.1) refl
 
 module _ (s l : List ℕ) (n : ℕ) (i : n ≡ min 16384 (length l)) (c : Checked) (l' ts' : List ℕ) (C : Checks s (take n l) (replicate notes 0) c l' ts') where
-  same-verdict : verdictOf s (length (take n l)) ≡ verdictOf s (length l)
-  same-verdict = ap (λ m. verdictOf s m) (sym (part-long l n i) ∙ i) ∙ verdict-same s (length l)
+  same-verdict : verdict_of s (length (take n l)) ≡ verdict_of s (length l)
+  same-verdict = ap (λ m. verdict_of s m) (sym (part-long l n i) ∙ i) ∙ verdict-same s (length l)
 
-  checked : CheckedBy s l' ts' (verdictOf s (length l)) c
+  checked : CheckedBy s l' ts' (verdict_of s (length l)) c
   checked = subst (λ (x : Meaning.Verdict Read). CheckedBy s l' ts' x c) same-verdict (C.says (omega arith) (zeros notes))
 
-  pub cells_told : (r : Counted) → r ≡ countedBy c → r ≡ cellsTold (verdictOf s (length l))
-  cells_told r e = e ∙ counted_is s l' ts' (verdictOf s (length l)) c checked
+  pub cells-told : (r : Counted) → r ≡ counted_by c → r ≡ cells_told (verdict_of s (length l))
+  cells-told r e = e ∙ counted_is s l' ts' (verdict_of s (length l)) c checked
 
-  pub owners-told : (old names : List ℕ) → length l' ≡ length (take n l) → NamesBy (take n (l' ++ drop n l)) ts' c old names → Owners s (verdictOf s (length l)) old names
-  owners-told old names e N = record { says = go (verdictOf s (length l)) refl checked }
+  pub owners-told : (old names : List ℕ) → length l' ≡ length (take n l) → NamesBy (take n (l' ++ drop n l)) ts' c old names → Owners s (verdict_of s (length l)) old names
+  owners-told old names e N = record { says = go (verdict_of s (length l)) refl checked }
     where
       front : take n (l' ++ drop n l) ≡ l'
       front = take_at l' (drop n l) n (e ∙ sym (part-long l n i))
@@ -94,7 +94,7 @@ module _ (s l : List ℕ) (n : ℕ) (i : n ≡ min 16384 (length l)) (c : Checke
       here : NamesBy l' ts' c old names
       here = subst (λ (x : List ℕ). NamesBy x ts' c old names) front N
 
-      go : (v : Meaning.Verdict Read) → verdictOf s (length l) ≡ v → CheckedBy s l' ts' v c → OwnedBy s v old names
+      go : (v : Meaning.Verdict Read) → verdict_of s (length l) ≡ v → CheckedBy s l' ts' v c → OwnedBy s v old names
       go (refused m k) h D = here.kept λ z. omega (arith, D.0, D.2)
       go (accepted q) h D =
           let M = here.named D.0 in

@@ -8,8 +8,8 @@ use Rattle.rule_stores.specs.Stores.{Owner}
 use Rattle.rule_texts.specs.declared.Checked.{Checked}
 
 -- the answer that a check of the text gives
-unfoldable pub countedBy : Checked → Counted
-countedBy c = cond (eqb c.refusal 0) (Cells c.known.state.cells) (Refused c.refusal c.line)
+unfoldable pub counted_by : Checked → Counted
+counted_by c = cond (eqb c.refusal 0) (Cells c.known.state.cells) (Refused c.refusal c.line)
 
 -- names holds the offsets of the names of the first cells' variables, and is as before past the cells
 pub record Named (l ts : List ℕ) (st : State) (i : ℕ) (old names : List ℕ) : Type 0 where

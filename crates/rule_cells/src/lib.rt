@@ -1,8 +1,8 @@
 // The cells of a script: how many there are, and the name of each one's variable.
 ghost use Rattle.std.specs.Prelude.{◌≡◌, length};
-ghost use Rattle.law.specs.Whole.{verdictOf, workAfter};
-ghost use Rattle.law_answers.specs.Verdicts.{cellsTold};
-ghost use Rattle.rule_cells.specs.Cells.{countedBy, Names, NamesBy};
+ghost use Rattle.law.specs.Whole.{verdict_of, work_after};
+ghost use Rattle.law_answers.specs.Verdicts.{cells_told};
+ghost use Rattle.rule_cells.specs.Cells.{counted_by, Names, NamesBy};
 ghost use Rattle.law_answers.specs.Owners.{Owners};
 
 use law_answers::Counted;
@@ -13,7 +13,7 @@ use table_list::clear;
 
 // How many cells by the answer for a text.
 pub fn count_of(c: Checked) -> Counted
-    ensures { result ≡ countedBy c }
+    ensures { result ≡ counted_by c }
 {
     if c.refusal == 0 {
         let known = c.known;
@@ -51,7 +51,7 @@ pub fn name_checked(work: &[u32], types: &[u32], c: Checked, names: &mut [usize]
 
 // How many cells a text has.
 pub fn cells(text: &[u8], work: &mut [u32]) -> Counted
-    ensures { (result ≡ cellsTold (verdictOf text.now (length work.old))) × (work.new ≡ workAfter work.old) }
+    ensures { (result ≡ cells_told (verdict_of text.now (length work.old))) × (work.new ≡ work_after work.old) }
 {
     let mut types = [0; NOTES];
     let n = working(work.len());
@@ -63,7 +63,7 @@ pub fn cells(text: &[u8], work: &mut [u32]) -> Counted
 // How many cells a text has; names[i] becomes the offset of the name of cell i's variable, for each cell that there is room for. The rest of
 // `names`, and all of it on a refusal, stays as lent.
 pub fn owners(text: &[u8], work: &mut [u32], names: &mut [usize]) -> Counted
-    ensures { (result ≡ cellsTold (verdictOf text.now (length work.old))) × (work.new ≡ workAfter work.old) × Owners text.now (verdictOf text.now (length work.old)) names.old names.new }
+    ensures { (result ≡ cells_told (verdict_of text.now (length work.old))) × (work.new ≡ work_after work.old) × Owners text.now (verdict_of text.now (length work.old)) names.old names.new }
 {
     let mut types = [0; NOTES];
     let n = working(work.len());

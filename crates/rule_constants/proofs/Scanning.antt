@@ -10,51 +10,51 @@ use lib.ListN.{length}
 use Rattle.leaf_integers.specs.Integers.{inside, least, most}
 use Rattle.law.specs.Base.{◌>>=◌, find}
 use Rattle.law.specs.Calculate as Calculate
-use Rattle.law.specs.Environment.{nothingDeclared}
+use Rattle.law.specs.Environment.{nothing_declared}
 use Rattle.law.specs.Names.{constant_of}
 use Rattle.law.specs.Rules.{plain}
 use Rattle.law.specs.Script.{Const}
-use Rattle.rule_stages.specs.Stages.{ruled, named as namedStage, staged}
+use Rattle.rule_stages.specs.Stages.{ruled, named as named_stage, staged}
 use Rattle.law.specs.Syntax.{Constant, number, minus, truth, named}
-use Rattle.law.specs.Trees.{Tree, word, form, Trees, end, nodes, nodesIn, Run, first, later, push, word_at}
-use Rattle.law_theorems.specs.Readings.{stackAt}
-use Rattle.text_words.specs.Passes.{nodesAll}
+use Rattle.law.specs.Trees.{Tree, word, form, Trees, end, nodes, nodes_in, Run, first, later, push, word_at}
+use Rattle.law_theorems.specs.Readings.{stack_at}
+use Rattle.text_words.specs.Passes.{nodes_all}
 use Rattle.text_words.specs.declared.sight.Sight.{Sight}
 use Rattle.text_words.specs.declared.sight.Sight.TheVariants as sight
 use Rattle.text_words.specs.Sights.{Looks, Ends}
 use Rattle.rule_faults.specs.declared.Fault.{Fault}
 use Rattle.rule_faults.specs.declared.Fault.TheVariants.{Form}
-use Rattle.rule_faults.specs.Got.{faultOf}
+use Rattle.rule_faults.specs.Got.{fault_of}
 use Rattle.rule_atoms.specs.declared.Valued.{Valued}
-use Rattle.rule_atoms.specs.Contracts.{GivesMinus, minusForm}
+use Rattle.rule_atoms.specs.Answering.{GivesMinus, minus_form}
 use Rattle.text_skips.proofs.Counts.{all_first, all_push, nodes-short}
 use Rattle.rule_constants.specs.declared.Stride.{Stride}
 use Rattle.rule_constants.specs.declared.Stride.TheVariants as stride
-use Rattle.rule_constants.specs.Plain.{isKind, soundBy, plainTree, plainIn, plainFirst}
-use Rattle.rule_constants.specs.Scans.{plainLevels, outFrom, Opens, Strides}
+use Rattle.rule_constants.specs.Plain.{is_kind, sound_by, plain_tree, plain_in, plain_first}
+use Rattle.rule_constants.specs.Scans.{plain_levels, out_from, Opens, Strides}
 
 -- ---- `(- number)`
 
 -- with no names known, row 8 is left for a constant past the integers alone
-kind-is : (o : Option Constant) → isKind (faultOf (staged o (constant_of nothingDeclared.env) plain some)) ≡ not (soundBy o)
-unfolding staged namedStage ruled constant_of plain soundBy find ◌>>=◌ Calculate.truth inside
+kind-is : (o : Option Constant) → is_kind (fault_of (staged o (constant_of nothing_declared.env) plain some)) ≡ not (sound_by o)
+unfolding staged named_stage ruled constant_of plain sound_by find ◌>>=◌ Calculate.truth inside
 kind-is none = refl
 kind-is (some (number z)) = go (inside least most z)
   where
-    go : (b : Bool) → isKind (faultOf {A = Const} (ruled b (some (record { kind = 0; value = z })))) ≡ not b
+    go : (b : Bool) → is_kind (fault_of {A = Const} (ruled b (some (record { kind = 0; value = z })))) ≡ not b
     go true = refl
     go false = refl
 kind-is (some (minus z)) = go (inside least most (neg_ℤ z))
   where
-    go : (b : Bool) → isKind (faultOf {A = Const} (ruled b (some (record { kind = 0; value = neg_ℤ z })))) ≡ not b
+    go : (b : Bool) → is_kind (fault_of {A = Const} (ruled b (some (record { kind = 0; value = neg_ℤ z })))) ≡ not b
     go true = refl
     go false = refl
 kind-is (some (truth true)) = refl
 kind-is (some (truth false)) = refl
 kind-is (some (named w)) = refl
 
-pub past_is : (s : List ℕ) (p : ℕ) (v : Valued) (f : Fault) (r : Bool) → GivesMinus s p (minusForm (first (stackAt s p))) v → f ≡ v.fault → r ≡ isKind f → r ≡ not (soundBy (minusForm (first (stackAt s p))))
-past_is s p v f r g e h = h ∙ ap isKind (e ∙ (g.says nothingDeclared.env).fault-is) ∙ kind-is (minusForm (first (stackAt s p)))
+pub past_is : (s : List ℕ) (p : ℕ) (v : Valued) (f : Fault) (r : Bool) → GivesMinus s p (minus_form (first (stack_at s p))) v → f ≡ v.fault → r ≡ is_kind f → r ≡ not (sound_by (minus_form (first (stack_at s p))))
+past_is s p v f r g e h = h ∙ ap is_kind (e ∙ (g.says nothing_declared.env).fault-is) ∙ kind-is (minus_form (first (stack_at s p)))
 
 -- ---- into a form
 
@@ -66,23 +66,23 @@ not-false : (b : Bool) → false ≡ not b → b ≡ true
 not-false true h = refl
 not-false false h = h
 
-module _ (s : List ℕ) (q n : ℕ) (r : Bool) (h : r ≡ not (soundBy (minusForm (first (stackAt s q))))) where
+module _ (s : List ℕ) (q n : ℕ) (r : Bool) (h : r ≡ not (sound_by (minus_form (first (stack_at s q))))) where
   pub open-bad : r ≡ true → Opens s q n stride.Bad
-  open-bad e = record { says = not-true (soundBy (minusForm (first (stackAt s q)))) (sym e ∙ h) }
+  open-bad e = record { says = not-true (sound_by (minus_form (first (stack_at s q)))) (sym e ∙ h) }
 
   pub open-on : r ≡ false → Opens s q n (stride.To q (n + 1))
-  open-on e = record { says = (refl, (omega arith, not-false (soundBy (minusForm (first (stackAt s q)))) (sym e ∙ h))) }
+  open-on e = record { says = (refl, (omega arith, not-false (sound_by (minus_form (first (stack_at s q)))) (sym e ∙ h))) }
 
 pub ruleset open-laws = (open-bad, open-on)
 
 -- ---- a closing bracket
 
-pub shut_none : (n q : ℕ) → n ≡ 0 → stride.Out ≡ outFrom n q
-unfolding outFrom
+pub shut_none : (n q : ℕ) → n ≡ 0 → stride.Out ≡ out_from n q
+unfolding out_from
 shut_none n q e = rw e
 
-pub shut-some : (n q : ℕ) → ((n ≡ 0) → ⊥) → stride.To q (n - 1) ≡ outFrom n q
-unfolding outFrom
+pub shut-some : (n q : ℕ) → ((n ≡ 0) → ⊥) → stride.To q (n - 1) ≡ out_from n q
+unfolding out_from
 shut-some zero q h = absurd (h refl)
 shut-some (suc n) q h = let e : suc n - 1 ≡ n = omega arith in rw e
 
@@ -91,64 +91,64 @@ pub ruleset shut-laws = (shut_none, shut-some)
 -- ---- a step
 
 -- a level and those further out
-levels-push : (n : ℕ) (t : Tree Run) (k : List (Trees Run)) → plainLevels n (push t k) ≡ (plainTree t && plainLevels n k)
-unfolding plainLevels plainIn
+levels-push : (n : ℕ) (t : Tree Run) (k : List (Trees Run)) → plain_levels n (push t k) ≡ (plain_tree t && plain_levels n k)
+unfolding plain_levels plain_in
 levels-push zero t k = refl
-levels-push (suc n) t k = and_assoc (plainTree t) (plainIn (first k)) (plainLevels n (later k))
+levels-push (suc n) t k = and_assoc (plain_tree t) (plain_in (first k)) (plain_levels n (later k))
 
-module _ (s : List ℕ) (p n : ℕ) (x : Sight) (h : Looks s (stackAt s p) x) where
-  opened : (q : ℕ) → x ≡ sight.Form q → stackAt s p ≡ push (form (first (stackAt s q))) (later (stackAt s q))
+module _ (s : List ℕ) (p n : ℕ) (x : Sight) (h : Looks s (stack_at s p) x) where
+  opened : (q : ℕ) → x ≡ sight.Form q → stack_at s p ≡ push (form (first (stack_at s q))) (later (stack_at s q))
   opened q e = rw e at h.says
 
-  form-nodes : (q : ℕ) → x ≡ sight.Form q → nodesAll (stackAt s p) ≡ 1 + nodesAll (stackAt s q)
+  form-nodes : (q : ℕ) → x ≡ sight.Form q → nodes_all (stack_at s p) ≡ 1 + nodes_all (stack_at s q)
   unfolding nodes
   form-nodes q e =
-      let a = ap nodesAll (opened q e) ∙ all_push (form (first (stackAt s q))) (later (stackAt s q)) in
-      let b = all_first (stackAt s q) in
+      let a = ap nodes_all (opened q e) ∙ all_push (form (first (stack_at s q))) (later (stack_at s q)) in
+      let b = all_first (stack_at s q) in
       omega arith
 
   -- the levels from inside a form on
-  form-levels : (q : ℕ) → x ≡ sight.Form q → plainLevels n (stackAt s p) ≡ (soundBy (minusForm (first (stackAt s q))) && plainLevels (suc n) (stackAt s q))
-  unfolding plainLevels plainIn
+  form-levels : (q : ℕ) → x ≡ sight.Form q → plain_levels n (stack_at s p) ≡ (sound_by (minus_form (first (stack_at s q))) && plain_levels (suc n) (stack_at s q))
+  unfolding plain_levels plain_in
   form-levels q e =
-      ap (plainLevels n) (opened q e) ∙ levels-push n (form (first (stackAt s q))) (later (stackAt s q))
-      ∙ and_assoc (soundBy (minusForm (first (stackAt s q)))) (plainIn (first (stackAt s q))) (plainLevels n (later (stackAt s q)))
+      ap (plain_levels n) (opened q e) ∙ levels-push n (form (first (stack_at s q))) (later (stack_at s q))
+      ∙ and_assoc (sound_by (minus_form (first (stack_at s q)))) (plain_in (first (stack_at s q))) (plain_levels n (later (stack_at s q)))
 
-  pub stride-room : (q : ℕ) → x ≡ sight.Form q → n + nodesAll (stackAt s p) ≤ length s → n + nodesAll (stackAt s q) ≤ length s
+  pub stride-room : (q : ℕ) → x ≡ sight.Form q → n + nodes_all (stack_at s p) ≤ length s → n + nodes_all (stack_at s q) ≤ length s
   stride-room q e r = let a = form-nodes q e in omega arith
 
   pub stride-form : (q : ℕ) (r : Stride) → x ≡ sight.Form q → Opens s q n r → Strides s p n r
   stride-form q (stride.To p' m) e o =
       let a = form-nodes q e in
       let g = o.says in
-      let f : plainLevels n (stackAt s p) ≡ plainLevels (suc n) (stackAt s q) = form-levels q e ∙ ap (λ (b : Bool). b && plainLevels (suc n) (stackAt s q)) g.1.1 in
+      let f : plain_levels n (stack_at s p) ≡ plain_levels (suc n) (stack_at s q) = form-levels q e ∙ ap (λ (b : Bool). b && plain_levels (suc n) (stack_at s q)) g.1.1 in
       rw (g.0, g.1.0) (record { says = (f, (omega arith, omega arith)) })
   stride-form q stride.Out e o = absurd o.says
-  stride-form q stride.Bad e o = record { says = form-levels q e ∙ ap (λ (b : Bool). b && plainLevels (suc n) (stackAt s q)) o.says }
+  stride-form q stride.Bad e o = record { says = form-levels q e ∙ ap (λ (b : Bool). b && plain_levels (suc n) (stack_at s q)) o.says }
 
-  passed : (q r : ℕ) → x ≡ sight.Leaf q → Ends s q r → stackAt s p ≡ push (word (word_at s q)) (stackAt s r)
+  passed : (q r : ℕ) → x ≡ sight.Leaf q → Ends s q r → stack_at s p ≡ push (word (word_at s q)) (stack_at s r)
   passed q r e f = (rw e at h.says).0 ∙ ap (push (word (word_at s q))) (sym f.rest)
 
   pub stride-leaf : (q r : ℕ) → x ≡ sight.Leaf q → Ends s q r → Strides s p n (stride.To r n)
-  unfolding nodes plainTree
+  unfolding nodes plain_tree
   stride-leaf q r e f =
-      let a = ap nodesAll (passed q r e f) ∙ all_push (word (word_at s q)) (stackAt s r) in
-      record { says = (ap (plainLevels n) (passed q r e f) ∙ levels-push n (word (word_at s q)) (stackAt s r), (omega arith, omega arith)) }
+      let a = ap nodes_all (passed q r e f) ∙ all_push (word (word_at s q)) (stack_at s r) in
+      record { says = (ap (plain_levels n) (passed q r e f) ∙ levels-push n (word (word_at s q)) (stack_at s r), (omega arith, omega arith)) }
 
-  pub stride-shut : (q : ℕ) (r : Stride) → x ≡ sight.Shut q → r ≡ outFrom n q → Strides s p n r
-  unfolding plainLevels plainIn outFrom nodes
+  pub stride-shut : (q : ℕ) (r : Stride) → x ≡ sight.Shut q → r ≡ out_from n q → Strides s p n r
+  unfolding plain_levels plain_in out_from nodes
   stride-shut q r e f = rw f (go n)
     where
-      said : (first (stackAt s p) ≡ end) × (later (stackAt s p) ≡ stackAt s q)
+      said : (first (stack_at s p) ≡ end) × (later (stack_at s p) ≡ stack_at s q)
       said = rw e at h.says
 
-      same : nodesAll (stackAt s p) ≡ nodesAll (stackAt s q)
-      same = all_first (stackAt s p) ∙ ap (λ (ts : Trees Run). nodesIn ts + nodesAll (later (stackAt s p))) said.0 ∙ let a = ap nodesAll said.1 in omega arith
+      same : nodes_all (stack_at s p) ≡ nodes_all (stack_at s q)
+      same = all_first (stack_at s p) ∙ ap (λ (ts : Trees Run). nodes_in ts + nodes_all (later (stack_at s p))) said.0 ∙ let a = ap nodes_all said.1 in omega arith
 
-      go : (m : ℕ) → Strides s p m (outFrom m q)
-      go zero = record { says = ap plainIn said.0 }
+      go : (m : ℕ) → Strides s p m (out_from m q)
+      go zero = record { says = ap plain_in said.0 }
       go (suc m) = let a = same in record {
-        says = (ap (λ (ts : Trees Run). plainIn ts && plainLevels m (later (stackAt s p))) said.0 ∙ ap (plainLevels m) said.1, (omega arith, omega arith));
+        says = (ap (λ (ts : Trees Run). plain_in ts && plain_levels m (later (stack_at s p))) said.0 ∙ ap (plain_levels m) said.1, (omega arith, omega arith));
       }
 
 pub ruleset stride-laws = (stride-form, stride-leaf, stride-shut)
@@ -156,53 +156,53 @@ pub ruleset stride-laws = (stride-form, stride-leaf, stride-shut)
 -- ---- the loop: from `at` on the scan came to p, inside n more forms
 
 pub record Scanning (s : List ℕ) (at p n : ℕ) : Type 0 where
-  pub same : plainIn (first (stackAt s at)) ≡ plainLevels n (stackAt s p)
-  pub few : n + nodesAll (stackAt s p) ≤ length s
+  pub same : plain_in (first (stack_at s at)) ≡ plain_levels n (stack_at s p)
+  pub few : n + nodes_all (stack_at s p) ≤ length s
 
 pub scan-start : (s : List ℕ) (at : ℕ) → Scanning s at at 0
-unfolding plainLevels
+unfolding plain_levels
 scan-start s at = record { same = refl; few = let a = nodes-short s at in omega arith }
 
-pub scan-few : (s : List ℕ) (at p n : ℕ) → Scanning s at p n → n + nodesAll (stackAt s p) ≤ length s
+pub scan-few : (s : List ℕ) (at p n : ℕ) → Scanning s at p n → n + nodes_all (stack_at s p) ≤ length s
 scan-few s at p n i = i.few
 
 module _ (s : List ℕ) (p n : ℕ) (r : Stride) (h : Strides s p n r) where
   pub scan-on : (at q m : ℕ) → Scanning s at p n → r ≡ stride.To q m → Scanning s at q m
   scan-on at q m i e = let g = rw e at h.says in record { same = i.same ∙ g.0; few = let a = i.few in let b = g.1.0 in omega arith }
 
-  pub scan-out : (at : ℕ) → Scanning s at p n → r ≡ stride.Out → true ≡ plainIn (first (stackAt s at))
+  pub scan-out : (at : ℕ) → Scanning s at p n → r ≡ stride.Out → true ≡ plain_in (first (stack_at s at))
   scan-out at i e = sym (i.same ∙ (rw e at h.says))
 
-  pub scan-bad : (at : ℕ) → Scanning s at p n → r ≡ stride.Bad → false ≡ plainIn (first (stackAt s at))
+  pub scan-bad : (at : ℕ) → Scanning s at p n → r ≡ stride.Bad → false ≡ plain_in (first (stack_at s at))
   scan-bad at i e = sym (i.same ∙ (rw e at h.says))
 
-  pub scan-falls : (q m : ℕ) → r ≡ stride.To q m → 2 * nodesAll (stackAt s q) + m < 2 * nodesAll (stackAt s p) + n
+  pub scan-falls : (q m : ℕ) → r ≡ stride.To q m → 2 * nodes_all (stack_at s q) + m < 2 * nodes_all (stack_at s p) + n
   scan-falls q m e = let g = rw e at h.says in g.1.1
 
 pub ruleset scan-laws = (scan-on, scan-out, scan-bad)
 
 -- ---- a form, a part
 
-module _ (s : List ℕ) (p : ℕ) (r : Bool) (h : r ≡ not (soundBy (minusForm (first (stackAt s p))))) where
-  pub form-bad : r ≡ true → false ≡ (soundBy (minusForm (first (stackAt s p))) && plainIn (first (stackAt s p)))
-  form-bad e = sym (ap (λ (b : Bool). b && plainIn (first (stackAt s p))) (not-true (soundBy (minusForm (first (stackAt s p)))) (sym e ∙ h)))
+module _ (s : List ℕ) (p : ℕ) (r : Bool) (h : r ≡ not (sound_by (minus_form (first (stack_at s p))))) where
+  pub form-bad : r ≡ true → false ≡ (sound_by (minus_form (first (stack_at s p))) && plain_in (first (stack_at s p)))
+  form-bad e = sym (ap (λ (b : Bool). b && plain_in (first (stack_at s p))) (not-true (sound_by (minus_form (first (stack_at s p)))) (sym e ∙ h)))
 
-  pub form-good : (t : Bool) → r ≡ false → t ≡ plainIn (first (stackAt s p)) → t ≡ (soundBy (minusForm (first (stackAt s p))) && plainIn (first (stackAt s p)))
-  form-good t e g = g ∙ sym (ap (λ (b : Bool). b && plainIn (first (stackAt s p))) (not-false (soundBy (minusForm (first (stackAt s p)))) (sym e ∙ h)))
+  pub form-good : (t : Bool) → r ≡ false → t ≡ plain_in (first (stack_at s p)) → t ≡ (sound_by (minus_form (first (stack_at s p))) && plain_in (first (stack_at s p)))
+  form-good t e g = g ∙ sym (ap (λ (b : Bool). b && plain_in (first (stack_at s p))) (not-false (sound_by (minus_form (first (stack_at s p)))) (sym e ∙ h)))
 
 pub ruleset form-laws = (form-bad, form-good)
 
-module _ (s : List ℕ) (at : ℕ) (x : Sight) (h : Looks s (stackAt s at) x) where
-  pub part-form : (p : ℕ) (r : Bool) → x ≡ sight.Form p → r ≡ (soundBy (minusForm (first (stackAt s p))) && plainIn (first (stackAt s p))) → r ≡ plainFirst (first (stackAt s at))
-  unfolding plainFirst plainTree
-  part-form p r e g = g ∙ sym (ap (λ (k : List (Trees Run)). plainFirst (first k)) (rw e at h.says))
+module _ (s : List ℕ) (at : ℕ) (x : Sight) (h : Looks s (stack_at s at) x) where
+  pub part-form : (p : ℕ) (r : Bool) → x ≡ sight.Form p → r ≡ (sound_by (minus_form (first (stack_at s p))) && plain_in (first (stack_at s p))) → r ≡ plain_first (first (stack_at s at))
+  unfolding plain_first plain_tree
+  part-form p r e g = g ∙ sym (ap (λ (k : List (Trees Run)). plain_first (first k)) (rw e at h.says))
 
-  pub part-leaf : (p : ℕ) → x ≡ sight.Leaf p → true ≡ plainFirst (first (stackAt s at))
-  unfolding plainFirst plainTree
-  part-leaf p e = sym (ap (λ (k : List (Trees Run)). plainFirst (first k)) (rw e at h.says).0)
+  pub part-leaf : (p : ℕ) → x ≡ sight.Leaf p → true ≡ plain_first (first (stack_at s at))
+  unfolding plain_first plain_tree
+  part-leaf p e = sym (ap (λ (k : List (Trees Run)). plain_first (first k)) (rw e at h.says).0)
 
-  pub part-shut : (q : ℕ) → x ≡ sight.Shut q → true ≡ plainFirst (first (stackAt s at))
-  unfolding plainFirst
-  part-shut q e = sym (ap plainFirst (rw e at h.says).0)
+  pub part-shut : (q : ℕ) → x ≡ sight.Shut q → true ≡ plain_first (first (stack_at s at))
+  unfolding plain_first
+  part-shut q e = sym (ap plain_first (rw e at h.says).0)
 
 pub ruleset part-laws = (part-form, part-leaf, part-shut)

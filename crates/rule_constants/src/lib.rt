@@ -1,11 +1,11 @@
 // Row 8 of document 01, constants past the integers: only `(- number)` may be one, so a part is scanned for that form, bracket by bracket.
 ghost use Rattle.std.specs.Prelude.{◌≡◌, not, ◌&&◌, ◌+◌, ◌≤◌, length};
 ghost use Rattle.law.specs.Trees.{first};
-ghost use Rattle.law_theorems.specs.Readings.{stackAt};
-ghost use Rattle.text_words.specs.Passes.{nodesAll};
-ghost use Rattle.rule_atoms.specs.Contracts.{minusForm};
-ghost use Rattle.rule_constants.specs.Plain.{isKind, soundBy, plainIn, plainFirst};
-ghost use Rattle.rule_constants.specs.Scans.{outFrom, Opens, Strides};
+ghost use Rattle.law_theorems.specs.Readings.{stack_at};
+ghost use Rattle.text_words.specs.Passes.{nodes_all};
+ghost use Rattle.rule_atoms.specs.Answering.{minus_form};
+ghost use Rattle.rule_constants.specs.Plain.{is_kind, sound_by, plain_in, plain_first};
+ghost use Rattle.rule_constants.specs.Scans.{out_from, Opens, Strides};
 
 use rule_atoms::minus_form;
 use rule_faults::Fault;
@@ -21,7 +21,7 @@ pub enum Stride {
 
 // Whether it is a fault of row 8.
 fn is_kind(f: Fault) -> bool
-    ensures { result ≡ isKind f }
+    ensures { result ≡ is_kind f }
 {
     match f {
         Fault::Clear => false,
@@ -33,7 +33,7 @@ fn is_kind(f: Fault) -> bool
 
 // Whether a form whose parts begin at p is a constant past the integers.
 fn past_integers(text: &[u8], p: usize) -> bool
-    ensures { result ≡ not (soundBy (minusForm (first (stackAt text.now p)))) }
+    ensures { result ≡ not (sound_by (minus_form (first (stack_at text.now p)))) }
 {
     let v = minus_form(text, p);
     let f = v.fault;
@@ -42,7 +42,7 @@ fn past_integers(text: &[u8], p: usize) -> bool
 
 // Into a form whose parts begin at q, where n are open around it.
 fn open_form(text: &[u8], q: usize, n: usize) -> Stride
-    requires { n + nodesAll (stackAt text.now q) ≤ length text.now }
+    requires { n + nodes_all (stack_at text.now q) ≤ length text.now }
     ensures { Opens text.now q n result }
 {
     if past_integers(text, q) {
@@ -53,7 +53,7 @@ fn open_form(text: &[u8], q: usize, n: usize) -> Stride
 
 // Past a closing bracket that ends at q, where n forms are open.
 fn shut(n: usize, q: usize) -> Stride
-    ensures { result ≡ outFrom n q }
+    ensures { result ≡ out_from n q }
 {
     if n == 0 {
         return Stride::Out;
@@ -63,7 +63,7 @@ fn shut(n: usize, q: usize) -> Stride
 
 // Past a word or a bracket inside a form in which n more are open.
 fn stride_at(text: &[u8], p: usize, n: usize) -> Stride
-    requires { n + nodesAll (stackAt text.now p) ≤ length text.now }
+    requires { n + nodes_all (stack_at text.now p) ≤ length text.now }
     ensures { Strides text.now p n result }
 {
     let s = look(text, p);
@@ -76,7 +76,7 @@ fn stride_at(text: &[u8], p: usize, n: usize) -> Stride
 
 // Whether the parts from an offset to the closing bracket have no constant past the integers.
 fn plain_parts(text: &[u8], at: usize) -> bool
-    ensures { result ≡ plainIn (first (stackAt text.now at)) }
+    ensures { result ≡ plain_in (first (stack_at text.now at)) }
 {
     let mut p = at;
     let mut n = 0;
@@ -99,7 +99,7 @@ fn plain_parts(text: &[u8], at: usize) -> bool
 
 // The same of a form whose parts begin at p.
 fn plain_form(text: &[u8], p: usize) -> bool
-    ensures { result ≡ (soundBy (minusForm (first (stackAt text.now p))) && plainIn (first (stackAt text.now p))) }
+    ensures { result ≡ (sound_by (minus_form (first (stack_at text.now p))) && plain_in (first (stack_at text.now p))) }
 {
     if past_integers(text, p) {
         return false;
@@ -109,7 +109,7 @@ fn plain_form(text: &[u8], p: usize) -> bool
 
 // Whether the part at an offset, if there is one, has no constant past the integers.
 pub fn plain_part(text: &[u8], at: usize) -> bool
-    ensures { result ≡ plainFirst (first (stackAt text.now at)) }
+    ensures { result ≡ plain_first (first (stack_at text.now at)) }
 {
     let s = look(text, at);
     match s {

@@ -13,14 +13,14 @@ use Rattle.law.specs.Types.{variable}
 use Rattle.code.proofs.LayoutRegions.{lay-g}
 use Rattle.code.specs.LayoutRegions.{Same, Room}
 use Rattle.table_names.specs.Keys.{keyed}
-use Rattle.table_names.specs.Chain.{entries, valuesBy}
+use Rattle.table_names.specs.Chain.{entries, values_by}
 use Rattle.table_names.proofs.Chained.{Added, added, entries-kept, names-kept, below-kept, below-higher}
 use Rattle.table_names.specs.Chained.{Names, no_names, one_name, Below}
 use Rattle.table_scope.specs.declared.Scope.{Scope}
 use Rattle.table_scope.specs.declared.Meaning.{Meaning}
 use Rattle.rule_declarations.specs.State.{scoped, Holds}
 use Rattle.rule_declarations.specs.declared.State.{State}
-use Rattle.table_scope.specs.Scene.{meaningBy, meaningAt, Means, Meant}
+use Rattle.table_scope.specs.Scene.{meaning_by, meaning_at, Means, Meant}
 
 -- ---- names
 
@@ -49,9 +49,9 @@ pub laid_same : (ns : List ℕ) (t : ℕ) (l l' : List ℕ) → l' ≡ (lay ns t
 laid_same ns t l l' e = rw e (lay-same ns t l)
 
 meant-kept : {l l' : List ℕ} {top : ℕ} → Same 0 top l' l → (σ : Environment) (bs : List ℕ) (p : ℕ) (m : NameSort) → p + 4 ≤ top → Meant σ bs l p m → Meant σ bs l' p m
-unfolding meaningAt
+unfolding meaning_at
 meant-kept {l} {l'} E σ bs p m h M =
-    let e : meaningAt l' p ≡ meaningAt l p = rw (E.at (p + 1) (omega arith) (omega arith), E.at (p + 2) (omega arith) (omega arith)) refl in
+    let e : meaning_at l' p ≡ meaning_at l p = rw (E.at (p + 1) (omega arith) (omega arith), E.at (p + 2) (omega arith) (omega arith)) refl in
     record { means = rw e M.means }
 
 pub chained-kept : {s l l' : List ℕ} {scope : Scope} {top top' : ℕ} {σ : Environment} {bs : List ℕ} {ns : List (Name × NameSort)}
@@ -63,15 +63,15 @@ chained-kept {σ = σ} {bs = bs} E h C = record {
 
 -- a new entry at the free place, of the name at p
 pub chained_more : {s l : List ℕ} {scope : Scope} {top : ℕ} {σ : Environment} {bs : List ℕ} {ns : List (Name × NameSort)} (p sort more : ℕ) (m : NameSort)
-    → valuesBy sort more ≡ 0 → p < 32768 → Room 4 top l → Means σ bs (meaningBy sort more) m → Chained s l scope top σ bs ns
+    → values_by sort more ≡ 0 → p < 32768 → Room 4 top l → Means σ bs (meaning_by sort more) m → Chained s l scope top σ bs ns
     → Chained s (lay (keyed s p ∷ sort ∷ more ∷ scope.newest ∷ []) top l).list (scoped (suc scope.count) top) (top + 4) σ bs ((map small (word_at s p), m) ∷ ns)
-unfolding meaningAt
+unfolding meaning_at
 chained_more {s} {l} {scope} {top} {σ} {bs} {ns} p sort more m v h R M C =
     let l' = (lay (keyed s p ∷ sort ∷ more ∷ scope.newest ∷ []) top l).list in
     let A : Added s l l' top scope.count p sort more scope.newest = added s l top scope.count p sort more scope.newest v h R C.below in
     let K : Chained s l' scope top σ bs ns = chained-kept A.kept (omega arith) C in
     let z : top ≡ 0 → ⊥ = λ e. omega (arith, R.start) in
-    let g : meaningAt l' top ≡ meaningBy sort more = rw (ne_eqb top 0 z, A.sort-is, A.more-is) refl in
+    let g : meaning_at l' top ≡ meaning_by sort more = rw (ne_eqb top 0 z, A.sort-is, A.more-is) refl in
     record {
       names = rw (A.places, ← entries-kept A.kept C.below) (one_name {a = m} R.start A.called (record { means = rw g M }) K.names);
       below = A.below;

@@ -11,22 +11,22 @@ use lib.Dec.{leb}
 use lib.ListN.{length, length-append}
 use Rattle.leaf_bytes.specs.Bytes.{small, same}
 use Rattle.law.specs.Base.{Name, ◌>>=◌, find, given}
-use Rattle.law.specs.Ceilings.{cells_in, lineBounded, variablesIn}
-use Rattle.law.specs.Environment.{Declared, Environment, NameSort, aProc, aVar, aValue, declareLine}
-use Rattle.law.specs.Forms.{free, typeName, isVar}
-use Rattle.law_theorems.specs.FormsByDepth.{lineBy}
+use Rattle.law.specs.Ceilings.{cells_in, line_bounded, variables_in}
+use Rattle.law.specs.Environment.{Declared, Environment, NameSort, a_proc, a_var, a_value, declare_line}
+use Rattle.law.specs.Forms.{free, type_name, is_var}
+use Rattle.law_theorems.specs.FormsByDepth.{line_by}
 use Rattle.code.specs.Layout.{lay}
-use Rattle.code.specs.LayoutSize.{symbolSize}
-use Rattle.law.specs.Names.{type_of, isKnown, listedIn, distinct, noneKnown, newNames, entry_of}
-use Rattle.law.specs.Rules.{keepsRules}
-use Rattle.law.specs.Script.{Const, Entry, newVar}
+use Rattle.code.specs.LayoutSize.{symbol_size}
+use Rattle.law.specs.Names.{type_of, is_known, listed_in, distinct, none_known, new_names, entry_of}
+use Rattle.law.specs.Rules.{keeps_rules}
+use Rattle.law.specs.Script.{Const, Entry, new_var}
 use Rattle.rule_stages.specs.Stages as Stages
-use Rattle.rule_stages.specs.Stages.{Staged, wrong, unnamed, unfit, fits, ruled, staged, onFits, unknown}
-use Rattle.law.specs.Syntax.{LineForm, TypeName, varLine}
+use Rattle.rule_stages.specs.Stages.{Staged, wrong, unnamed, unfit, fits, ruled, staged, on_fits, unknown}
+use Rattle.law.specs.Syntax.{LineForm, TypeName, var_line}
 use Rattle.law.specs.Trees.{Trees, end, ◌then◌, Run, first, list, word_at}
-use Rattle.law_theorems.specs.Readings.{stackAt}
+use Rattle.law_theorems.specs.Readings.{stack_at}
 use Rattle.law.specs.Types.{Var, Vars, variable, size_of}
-use Rattle.law.specs.Words.{Word, wordedAll}
+use Rattle.law.specs.Words.{Word, worded_all}
 use Rattle.law_theorems.proofs.Inversion.{none-some, some_inj, and-true}
 use Rattle.code.proofs.LayoutRegions.{lay-g, lay-l}
 use Rattle.code.specs.LayoutRegions.{Same, Room}
@@ -38,24 +38,24 @@ use Rattle.table_scope.proofs.Cells.{keeps-cells}
 use Rattle.rule_faults.specs.declared.Fault.{Fault}
 use Rattle.rule_faults.specs.declared.Fault.TheVariants.{Clear, Kind, Form}
 use Rattle.rule_faults.specs.declared.Fault.TheVariants as fault
-use Rattle.table_names.specs.Chain.{valuesBy}
+use Rattle.table_names.specs.Chain.{values_by}
 use Rattle.table_scope.specs.declared.Info.{Info}
 use Rattle.table_scope.specs.declared.Meaning.{Meaning}
-use Rattle.table_scope.specs.Descriptions.{infoOf}
-use Rattle.table_scope.specs.Scene.{Scene, Means, a-type, a-var, a-proc, a-value, meaningBy, Told, unknown as unmeant, known, meaningHere}
+use Rattle.table_scope.specs.Descriptions.{info_of}
+use Rattle.table_scope.specs.Scene.{Scene, Means, a-type, a-var, a-proc, a-value, meaning_by, Told, unknown as unmeant, known, meaning_here}
 use Rattle.table_scope.proofs.Kept.{scene-kept}
 use Rattle.table_scope.proofs.Within.{chain-told, find-other}
 use Rattle.table_scope.proofs.Telling.{meant, size-told}
-use Rattle.rule_faults.specs.Got.{isClear, lowest, faultOf}
-use Rattle.text_heads.specs.Parts.{part_of, rest, closed, nameIn, typeNameIn}
+use Rattle.rule_faults.specs.Got.{is_clear, lowest, fault_of}
+use Rattle.text_heads.specs.Parts.{part_of, rest, closed, name_in, type_name_in}
 use Rattle.text_heads.proofs.Walks.{bind-cong, bind_assoc, two_then}
 use Rattle.rule_atoms.specs.declared.Typed.{Typed}
-use Rattle.rule_atoms.specs.Contracts.{TypeTold}
+use Rattle.rule_atoms.specs.Answering.{TypeTold}
 use Rattle.rule_atoms.proofs.Telling.{fits-inj, wrong-fits, unnamed-fits, unfit-fits}
-use Rattle.rule_declarations.specs.State.{scoped, Holds, withNames, withVar}
-use Rattle.rule_declarations.specs.Names.{newFault, lastType, GivesLastType, GivesName}
-use Rattle.rule_declarations.specs.Lines.{line_of, entryStaged, newly, linedBy, LineTold, GivesLine}
-use Rattle.rule_declarations.specs.Vars.{varAfter, varsHeld, cellsHeld, varsFit, varEntry, varState, AddsVar, var-fits, var-past, GivesVar}
+use Rattle.rule_declarations.specs.State.{scoped, Holds, with_names, with_var}
+use Rattle.rule_declarations.specs.Names.{new_fault, last_type, GivesLastType, GivesName}
+use Rattle.rule_declarations.specs.Lines.{line_of, entry_staged, newly, lined_by, LineTold, GivesLine}
+use Rattle.rule_declarations.specs.Vars.{var_after, vars_held, cells_held, vars_fit, var_entry, var_state, AddsVar, var-fits, var-past, GivesVar}
 use Rattle.rule_declarations.specs.declared.State.{State}
 use Rattle.rule_declarations.specs.declared.Lined.{Lined}
 use Rattle.rule_declarations.specs.declared.Naming.{Naming}
@@ -69,47 +69,47 @@ unfolding closed ◌>>=◌
 closed-map f end a = refl
 closed-map f (u then vs) a = refl
 
-pub var-parts : (n : ℕ) (us : Trees Run) → line_of isVar n us ≡ (nameIn us >>= λ (w : Name). varAfter w (rest us))
-unfolding line_of lineBy varAfter nameIn typeNameIn
+pub var-parts : (n : ℕ) (us : Trees Run) → line_of is_var n us ≡ (name_in us >>= λ (w : Name). var_after w (rest us))
+unfolding line_of line_by var_after name_in type_name_in
 var-parts n us =
-    sym (bind_assoc (wordedAll us) (λ (vs : Trees Word). lineBy isVar n (list vs)) (λ (p : LineForm × ℕ). some p.0))
-    ∙ ap (λ (o : Option (LineForm × ℕ)). o >>= λ (p : LineForm × ℕ). some p.0) (two_then free typeName (λ (w : Name) (t : TypeName). (varLine w t, n)) us)
-    ∙ bind_assoc (part_of us >>= free) (λ (w : Name). (part_of (rest us) >>= typeName) >>= λ (t : TypeName). closed (rest (rest us)) (varLine w t, n)) (λ (p : LineForm × ℕ). some p.0)
+    sym (bind_assoc (worded_all us) (λ (vs : Trees Word). line_by is_var n (list vs)) (λ (p : LineForm × ℕ). some p.0))
+    ∙ ap (λ (o : Option (LineForm × ℕ)). o >>= λ (p : LineForm × ℕ). some p.0) (two_then free type_name (λ (w : Name) (t : TypeName). (var_line w t, n)) us)
+    ∙ bind_assoc (part_of us >>= free) (λ (w : Name). (part_of (rest us) >>= type_name) >>= λ (t : TypeName). closed (rest (rest us)) (var_line w t, n)) (λ (p : LineForm × ℕ). some p.0)
     ∙ bind-cong (part_of us >>= free) (λ (w : Name).
-    bind_assoc (part_of (rest us) >>= typeName) (λ (t : TypeName). closed (rest (rest us)) (varLine w t, n)) (λ (p : LineForm × ℕ). some p.0)
-    ∙ bind-cong (part_of (rest us) >>= typeName) (λ (t : TypeName). closed-map (λ (p : LineForm × ℕ). p.0) (rest (rest us)) (varLine w t, n)))
+    bind_assoc (part_of (rest us) >>= type_name) (λ (t : TypeName). closed (rest (rest us)) (var_line w t, n)) (λ (p : LineForm × ℕ). some p.0)
+    ∙ bind-cong (part_of (rest us) >>= type_name) (λ (t : TypeName). closed-map (λ (p : LineForm × ℕ). p.0) (rest (rest us)) (var_line w t, n)))
 
 -- by the last part
-after_last : (w : Name) (us : Trees Run) → varAfter w us ≡ (lastType us >>= λ (t : TypeName). some (varLine w t))
-unfolding varAfter lastType
+after_last : (w : Name) (us : Trees Run) → var_after w us ≡ (last_type us >>= λ (t : TypeName). some (var_line w t))
+unfolding var_after last_type
 after_last w us =
-    bind-cong (typeNameIn us) (λ (t : TypeName). sym (closed-map (λ (x : TypeName). varLine w x) (rest us) t))
-    ∙ sym (bind_assoc (typeNameIn us) (λ (t : TypeName). closed (rest us) t) (λ (t : TypeName). some (varLine w t)))
+    bind-cong (type_name_in us) (λ (t : TypeName). sym (closed-map (λ (x : TypeName). var_line w x) (rest us) t))
+    ∙ sym (bind_assoc (type_name_in us) (λ (t : TypeName). closed (rest us) t) (λ (t : TypeName). some (var_line w t)))
 
 -- ---- a line of one type: F makes the line, E the entry, and the name w is new
 
-pub new-one : (σ : Environment) (w : Name) → newNames σ (w ∷ []) ≡ not (isKnown σ w)
-unfolding newNames distinct noneKnown listedIn
-new-one σ w = go (isKnown σ w)
+pub new-one : (σ : Environment) (w : Name) → new_names σ (w ∷ []) ≡ not (is_known σ w)
+unfolding new_names distinct none_known listed_in
+new-one σ w = go (is_known σ w)
   where
     go : (b : Bool) → (not b && true) ≡ not b
     go true = refl
     go false = refl
 
 module _ (k : Declared) (w : Name) (F : TypeName → LineForm) (E : ℕ → Entry)
-    (hE : (t : TypeName) → entry_of k.env (F t) ≡ (type_of k.env t >>= λ (n : ℕ). given (newNames k.env (w ∷ [])) (E n))) where
-  pub one-staged : (o : Option TypeName) → entryStaged k (o >>= λ (t : TypeName). some (F t))
-      ≡ newly (isKnown k.env w) (staged o (type_of k.env) (λ _. true) some) (λ (n : ℕ). ruled (keepsRules k.env.types (E n)) (some (E n)))
-  unfolding entryStaged staged Stages.named ruled newly unknown onFits ◌>>=◌ given
-  one-staged none = wrongs (isKnown k.env w)
+    (h_e : (t : TypeName) → entry_of k.env (F t) ≡ (type_of k.env t >>= λ (n : ℕ). given (new_names k.env (w ∷ [])) (E n))) where
+  pub one-staged : (o : Option TypeName) → entry_staged k (o >>= λ (t : TypeName). some (F t))
+      ≡ newly (is_known k.env w) (staged o (type_of k.env) (λ _. true) some) (λ (n : ℕ). ruled (keeps_rules k.env.types (E n)) (some (E n)))
+  unfolding entry_staged staged Stages.named ruled newly unknown on_fits ◌>>=◌ given
+  one-staged none = wrongs (is_known k.env w)
     where
-      wrongs : (b : Bool) → wrong ≡ newly {A = ℕ} b wrong (λ (n : ℕ). ruled (keepsRules k.env.types (E n)) (some (E n)))
+      wrongs : (b : Bool) → wrong ≡ newly {A = ℕ} b wrong (λ (n : ℕ). ruled (keeps_rules k.env.types (E n)) (some (E n)))
       wrongs true = refl
       wrongs false = refl
-  one-staged (some t) = rw (hE t, new-one k.env w) (go (type_of k.env t) (isKnown k.env w))
+  one-staged (some t) = rw (h_e t, new-one k.env w) (go (type_of k.env t) (is_known k.env w))
     where
-      go : (o : Option ℕ) (b : Bool) → Stages.named (o >>= λ (n : ℕ). given (not b) (E n)) (keepsRules k.env.types) some
-          ≡ newly b (Stages.named o (λ _. true) some) (λ (n : ℕ). ruled (keepsRules k.env.types (E n)) (some (E n)))
+      go : (o : Option ℕ) (b : Bool) → Stages.named (o >>= λ (n : ℕ). given (not b) (E n)) (keeps_rules k.env.types) some
+          ≡ newly b (Stages.named o (λ _. true) some) (λ (n : ℕ). ruled (keeps_rules k.env.types (E n)) (some (E n)))
       go none true = refl
       go none false = refl
       go (some n) true = refl
@@ -117,7 +117,7 @@ module _ (k : Declared) (w : Name) (F : TypeName → LineForm) (E : ℕ → Entr
 
 -- ---- faults
 
-pub clear-is : (f : Fault) → isClear f ≡ true → f ≡ Clear
+pub clear-is : (f : Fault) → is_clear f ≡ true → f ≡ Clear
 clear-is Clear e = refl
 clear-is Kind e = absurd (false≢true e)
 clear-is fault.Name e = absurd (false≢true e)
@@ -129,25 +129,25 @@ lowest-name Kind e = absurd (let z : ◌≡◌ {A = ℕ} 0 1 = cc in omega arith
 lowest-name fault.Name e = absurd (let z : ◌≡◌ {A = ℕ} 0 1 = cc in omega arith)
 lowest-name Form e = absurd (let z : ◌≡◌ {A = ℕ} 0 1 = cc in omega arith)
 
-pub fits-clear : {A : Type 0} (S : Staged A) → faultOf S ≡ Clear → (a : A) × (S ≡ fits a)
+pub fits-clear : {A : Type 0} (S : Staged A) → fault_of S ≡ Clear → (a : A) × (S ≡ fits a)
 fits-clear wrong e = absurd (let z : ◌≡◌ {A = ℕ} 0 1 = cc in omega arith)
 fits-clear unnamed e = absurd (let z : ◌≡◌ {A = ℕ} 0 1 = cc in omega arith)
 fits-clear unfit e = absurd (let z : ◌≡◌ {A = ℕ} 0 1 = cc in omega arith)
 fits-clear (fits a) e = (a, refl)
 
 -- the fault of a new name: whether it is known
-pub fault-new : {σ : Environment} {bs : List ℕ} (w : Name) (f : Fault) (m : Meaning) → Told σ bs m (find σ.names w) → newFault f m ≡ cond (isKnown σ w) (lowest f fault.Name) f
-unfolding isKnown
+pub fault-new : {σ : Environment} {bs : List ℕ} (w : Name) (f : Fault) (m : Meaning) → Told σ bs m (find σ.names w) → new_fault f m ≡ cond (is_known σ w) (lowest f fault.Name) f
+unfolding is_known
 fault-new {σ} {bs} w f m T = go (find σ.names w) m T
   where
-    go : (o : Option NameSort) (m : Meaning) → Told σ bs m o → newFault f m ≡ cond (elim o [ none ↦ false | some m ↦ true ]) (lowest f fault.Name) f
+    go : (o : Option NameSort) (m : Meaning) → Told σ bs m o → new_fault f m ≡ cond (elim o [ none ↦ false | some m ↦ true ]) (lowest f fault.Name) f
     go _ _ unmeant = refl
     go _ _ (known a-type) = refl
     go _ _ (known (a-var v e)) = refl
     go _ _ (known a-proc) = refl
     go _ _ (known a-value) = refl
 
-pub fault-unknown : {A : Type 0} (B : Type 0) (S : Staged A) → lowest (faultOf S) fault.Name ≡ faultOf (unknown {B = B} S)
+pub fault-unknown : {A : Type 0} (B : Type 0) (S : Staged A) → lowest (fault_of S) fault.Name ≡ fault_of (unknown {B = B} S)
 unfolding unknown
 fault-unknown B wrong = refl
 fault-unknown B unnamed = refl
@@ -155,22 +155,22 @@ fault-unknown B unfit = refl
 fault-unknown B (fits a) = refl
 
 -- what fits has a form and an entry that keeps its rules
-pub entry-fits : (k : Declared) (o : Option LineForm) (x : Entry) → entryStaged k o ≡ fits x → (f : LineForm) × (entry_of k.env f ≡ some x) × (keepsRules k.env.types x ≡ true)
-unfolding entryStaged staged Stages.named ruled
+pub entry-fits : (k : Declared) (o : Option LineForm) (x : Entry) → entry_staged k o ≡ fits x → (f : LineForm) × (entry_of k.env f ≡ some x) × (keeps_rules k.env.types x ≡ true)
+unfolding entry_staged staged Stages.named ruled
 entry-fits k none x h = wrong-fits h
 entry-fits k (some f) x h = go (entry_of k.env f) refl h
   where
-    last : (t : Bool) (y : Entry) → keepsRules k.env.types y ≡ t → entry_of k.env f ≡ some y → ruled t (some y) ≡ fits x → (f : LineForm) × (entry_of k.env f ≡ some x) × (keepsRules k.env.types x ≡ true)
+    last : (t : Bool) (y : Entry) → keeps_rules k.env.types y ≡ t → entry_of k.env f ≡ some y → ruled t (some y) ≡ fits x → (f : LineForm) × (entry_of k.env f ≡ some x) × (keeps_rules k.env.types x ≡ true)
     last true y i e g = let z : y ≡ x = fits-inj g in rw (← z) (f, e, i)
     last false y i e g = unfit-fits g
 
-    go : (o : Option Entry) → entry_of k.env f ≡ o → Stages.named o (keepsRules k.env.types) some ≡ fits x → (f : LineForm) × (entry_of k.env f ≡ some x) × (keepsRules k.env.types x ≡ true)
+    go : (o : Option Entry) → entry_of k.env f ≡ o → Stages.named o (keeps_rules k.env.types) some ≡ fits x → (f : LineForm) × (entry_of k.env f ≡ some x) × (keeps_rules k.env.types x ≡ true)
     go none e g = unnamed-fits g
-    go (some y) e g = last (keepsRules k.env.types y) y refl e g
+    go (some y) e g = last (keeps_rules k.env.types y) y refl e g
 
 -- a fault of rows 6 to 8: nothing is held anew
-pub failed-told : (s l ts : List ℕ) (st : State) (k : Declared) (bs : List ℕ) (S : Staged Entry) (f : Fault) → f ≡ faultOf S → isClear f ≡ false
-    → LineTold s st k bs S (linedBy f false st) l ts
+pub failed-told : (s l ts : List ℕ) (st : State) (k : Declared) (bs : List ℕ) (S : Staged Entry) (f : Fault) → f ≡ fault_of S → is_clear f ≡ false
+    → LineTold s st k bs S (lined_by f false st) l ts
 failed-told s l ts st k bs S f e c = record {
   fault-is = e;
   within-is = λ x h. absurd (no x h);
@@ -178,17 +178,17 @@ failed-told s l ts st k bs S f e c = record {
 }
   where
     no : (x : Entry) → S ≡ fits x → ⊥
-    no x h = let g : f ≡ Clear = e ∙ ap faultOf h in false≢true (sym c ∙ ap isClear g)
+    no x h = let g : f ≡ Clear = e ∙ ap fault_of h in false≢true (sym c ∙ ap is_clear g)
 
 -- ---- one type and a new name, with no rule of row 8
 
 module _ {σ : Environment} {bs : List ℕ} (w : Name) (m : Meaning) (T : Told σ bs m (find σ.names w)) (S : Staged ℕ) (E : ℕ → Entry) where
   -- the fault of the line
-  pub plain-fault : newFault (faultOf S) m ≡ faultOf (newly (isKnown σ w) S (λ (n : ℕ). fits (E n)))
-  unfolding newly onFits
-  plain-fault = fault-new w (faultOf S) m T ∙ go (isKnown σ w) S
+  pub plain-fault : new_fault (fault_of S) m ≡ fault_of (newly (is_known σ w) S (λ (n : ℕ). fits (E n)))
+  unfolding newly on_fits
+  plain-fault = fault-new w (fault_of S) m T ∙ go (is_known σ w) S
     where
-      go : (b : Bool) (S : Staged ℕ) → cond b (lowest (faultOf S) fault.Name) (faultOf S) ≡ faultOf (newly b S (λ (n : ℕ). fits (E n)))
+      go : (b : Bool) (S : Staged ℕ) → cond b (lowest (fault_of S) fault.Name) (fault_of S) ≡ fault_of (newly b S (λ (n : ℕ). fits (E n)))
       go true S = fault-unknown Entry S
       go false wrong = refl
       go false unnamed = refl
@@ -196,11 +196,11 @@ module _ {σ : Environment} {bs : List ℕ} (w : Name) (m : Meaning) (T : Told �
       go false (fits n) = refl
 
   -- with no fault the name is new and the type known
-  pub plain-clear : newFault (faultOf S) m ≡ Clear → (n : ℕ) × (S ≡ fits n) × (isKnown σ w ≡ false)
-  plain-clear h = go (isKnown σ w) (sym (fault-new w (faultOf S) m T) ∙ h)
+  pub plain-clear : new_fault (fault_of S) m ≡ Clear → (n : ℕ) × (S ≡ fits n) × (is_known σ w ≡ false)
+  plain-clear h = go (is_known σ w) (sym (fault-new w (fault_of S) m T) ∙ h)
     where
-      go : (b : Bool) → cond b (lowest (faultOf S) fault.Name) (faultOf S) ≡ Clear → (n : ℕ) × (S ≡ fits n) × (b ≡ false)
-      go true e = lowest-name (faultOf S) e
+      go : (b : Bool) → cond b (lowest (fault_of S) fault.Name) (fault_of S) ≡ Clear → (n : ℕ) × (S ≡ fits n) × (b ≡ false)
+      go true e = lowest-name (fault_of S) e
       go false e = let x = fits-clear S e in (x.0, x.1, refl)
 
 -- ---- a new variable
@@ -223,8 +223,8 @@ means-old u e _ _ a-value = a-value
 
 -- the numbers of its entry
 var-means : (σ : Environment) (bs : List ℕ) (i kind base : ℕ) → kind < 128 → variable σ.vars i ≡ some (record { type = kind; base = base })
-    → Means σ bs (meaningBy (1 + 4 * i) (kind + 128 * base)) (aVar i)
-unfolding meaningBy
+    → Means σ bs (meaning_by (1 + 4 * i) (kind + 128 * base)) (a_var i)
+unfolding meaning_by
 var-means σ bs i kind base l h =
     let a : (1 + 4 * i) % 4 ≡ 1 = omega arith in
     let b : (1 + 4 * i) / 4 ≡ i = omega arith in
@@ -232,29 +232,29 @@ var-means σ bs i kind base l h =
     let d : (kind + 128 * base) / 128 ≡ base = omega arith in
     rw (a, b, c, d) (a-var (record { type = kind; base = base }) h)
 
-none-behind : (i more : ℕ) → valuesBy (1 + 4 * i) more ≡ 0
-unfolding valuesBy
+none-behind : (i more : ℕ) → values_by (1 + 4 * i) more ≡ 0
+unfolding values_by
 none-behind i more = let a : (1 + 4 * i) % 4 ≡ 1 = omega arith in rw a refl
 
 -- a name that is no value leaves values their names
-pub value-find : (w v : Name) (m : NameSort) (ns : List (Name × NameSort)) (c : Const) → ((c : Const) → m ≡ aValue c → ⊥) → find ((w, m) ∷ ns) v ≡ some (aValue c) → find ns v ≡ some (aValue c)
-value-find w v m ns c n h = find-other w v m (aValue c) ns (n c) h
+pub value-find : (w v : Name) (m : NameSort) (ns : List (Name × NameSort)) (c : Const) → ((c : Const) → m ≡ a_value c → ⊥) → find ((w, m) ∷ ns) v ≡ some (a_value c) → find ns v ≡ some (a_value c)
+value-find w v m ns c n h = find-other w v m (a_value c) ns (n c) h
 
 -- and one that is no procedure leaves procedures theirs
-var-proc : (i q : ℕ) (us : List ℕ) → aVar i ≡ aProc q us → ⊥
+var-proc : (i q : ℕ) (us : List ℕ) → a_var i ≡ a_proc q us → ⊥
 var-proc i q us h = let z : ◌≡◌ {A = ℕ} 0 1 = cc in omega arith
 
-var-value : (i : ℕ) (c : Const) → aVar i ≡ aValue c → ⊥
+var-value : (i : ℕ) (c : Const) → a_var i ≡ a_value c → ⊥
 var-value i c h = let z : ◌≡◌ {A = ℕ} 0 1 = cc in omega arith
 
 module _ {s l ts : List ℕ} {st : State} {k : Declared} {bs : List ℕ} (H : Holds s l ts st k bs) where
-  pub vars-held : varsHeld st ≡ variablesIn k
+  pub vars-held : vars_held st ≡ variables_in k
   vars-held =
       let a : st.vars % 256 ≡ st.vars = mod-eq_of_lt (omega (arith, H.few-vars)) in
       let b : st.parameters % 256 ≡ st.parameters = mod-eq_of_lt (omega (arith, H.few-parameters)) in
       rw (a, b, H.vars-are, H.parameters-are) refl
 
-  pub cells-held : cellsHeld st ≡ cells_in k
+  pub cells-held : cells_held st ≡ cells_in k
   cells-held =
       let a : st.cells % 4096 ≡ st.cells = mod-eq_of_lt (omega (arith, H.few-cells)) in
       let b : st.parameters % 256 ≡ st.parameters = mod-eq_of_lt (omega (arith, H.few-parameters)) in
@@ -265,65 +265,65 @@ module _ {s l ts : List ℕ} {st : State} {k : Declared} {bs : List ℕ} (H : Ho
   wp = map small (word_at s p)
 
   abbrev size : ℕ
-  size = (infoOf l ts kind).size
+  size = (info_of l ts kind).size
 
   abbrev lp : List ℕ
-  lp = (lay (varEntry st (keyed s p) kind) st.top l).list
+  lp = (lay (var_entry st (keyed s p) kind) st.top l).list
 
   -- row 9
-  var-bounded : varsFit st 1 size ≡ lineBounded k (newVar wp kind)
-  unfolding varsFit lineBounded
+  var-bounded : vars_fit st 1 size ≡ line_bounded k (new_var wp kind)
+  unfolding vars_fit line_bounded
   var-bounded =
-      let e : varsHeld st + 1 ≡ suc (variablesIn k) = omega (arith, vars-held H) in
+      let e : vars_held st + 1 ≡ suc (variables_in k) = omega (arith, vars-held H) in
       rw (e, cells-held H, size-told H.scene kind) refl
 
-  module _ (f : LineForm) (e : entry_of k.env f ≡ some (newVar wp kind)) (b : lineBounded k (newVar wp kind) ≡ true) (room : st.top + 4 ≤ 16384) (sn nn : ℕ) where
+  module _ (f : LineForm) (e : entry_of k.env f ≡ some (new_var wp kind)) (b : line_bounded k (new_var wp kind) ≡ true) (room : st.top + 4 ≤ 16384) (sn nn : ℕ) where
     abbrev k' : Declared
-    k' = declareLine k (newVar wp kind) sn nn
+    k' = declare_line k (new_var wp kind) sn nn
 
     var-keeps : Keeps k'
-    unfolding keepsRules
-    var-keeps = line-keeps k H.keeps f (newVar wp kind) e refl b sn nn
+    unfolding keeps_rules
+    var-keeps = line-keeps k H.keeps f (new_var wp kind) e refl b sn nn
 
     var-low : st.vars < 128
-    unfolding lineBounded
-    var-low = let x = leb-true (suc (variablesIn k)) 128 (and-true (leb (suc (variablesIn k)) 128) (leb (cells_in k + size_of k.env.types kind) 2048) b).0 in omega (arith, H.vars-are)
+    unfolding line_bounded
+    var-low = let x = leb-true (suc (variables_in k)) 128 (and-true (leb (suc (variables_in k)) 128) (leb (cells_in k + size_of k.env.types kind) 2048) b).0 in omega (arith, H.vars-are)
 
     cells_low : length k.cells + size_of k.env.types kind ≤ 2048
-    unfolding lineBounded
-    cells_low = let x = leb-true (cells_in k + size_of k.env.types kind) 2048 (and-true (leb (suc (variablesIn k)) 128) (leb (cells_in k + size_of k.env.types kind) 2048) b).1 in omega arith
+    unfolding line_bounded
+    cells_low = let x = leb-true (cells_in k + size_of k.env.types kind) 2048 (and-true (leb (suc (variables_in k)) 128) (leb (cells_in k + size_of k.env.types kind) 2048) b).1 in omega arith
 
     kind-low : kind < 128
-    unfolding declareLine
+    unfolding declare_line
     kind-low =
         let x : kind < length k.env.types = var-keeps.typed (length k.env.vars) (record { type = kind; base = length k.cells }) (var-last k.env.vars (record { type = kind; base = length k.cells })) in
         omega (arith, H.types_are, H.few-types, H.few-lines)
 
-    entry-is : varEntry st (keyed s p) kind ≡ keyed s p ∷ (1 + 4 * length k.env.vars) ∷ (kind + 128 * length k.cells) ∷ st.scope.newest ∷ []
-    unfolding varEntry
+    entry-is : var_entry st (keyed s p) kind ≡ keyed s p ∷ (1 + 4 * length k.env.vars) ∷ (kind + 128 * length k.cells) ∷ st.scope.newest ∷ []
+    unfolding var_entry
     entry-is =
         let y : st.vars % 128 ≡ length k.env.vars = mod-eq_of_lt var-low ∙ H.vars-are in
         let z : st.cells % 4096 ≡ length k.cells = mod-eq_of_lt (omega (arith, H.few-cells)) ∙ H.cells_are in
         let v : kind % 128 ≡ kind = mod-eq_of_lt kind-low in
         rw (y, z, v) refl
 
-    top-is : (lay (varEntry st (keyed s p) kind) st.top l).top ≡ st.top + 4
+    top-is : (lay (var_entry st (keyed s p) kind) st.top l).top ≡ st.top + 4
     top-is = rw entry-is ((lay-l (keyed s p ∷ (1 + 4 * length k.env.vars) ∷ (kind + 128 * length k.cells) ∷ st.scope.newest ∷ []) st.top l).top-is room)
 
     var-room : Room 4 st.top l
     var-room = record { start = H.start; fits = room; long = H.long-list }
 
-    var-chained : Chained s lp (scoped (suc st.scope.count) st.top) (st.top + 4) k'.env bs ((wp, aVar (length k.env.vars)) ∷ k.env.names)
-    unfolding declareLine
-    var-chained = subst (λ (ns : List ℕ). Chained s (lay ns st.top l).list (scoped (suc st.scope.count) st.top) (st.top + 4) k'.env bs ((wp, aVar (length k.env.vars)) ∷ k.env.names)) (sym entry-is) (chained_more p (1 + 4 * length k.env.vars) (kind + 128 * length k.cells) (aVar (length k.env.vars)) (none-behind (length k.env.vars) (kind + 128 * length k.cells)) (omega (arith, H.short-text)) var-room
+    var-chained : Chained s lp (scoped (suc st.scope.count) st.top) (st.top + 4) k'.env bs ((wp, a_var (length k.env.vars)) ∷ k.env.names)
+    unfolding declare_line
+    var-chained = subst (λ (ns : List ℕ). Chained s (lay ns st.top l).list (scoped (suc st.scope.count) st.top) (st.top + 4) k'.env bs ((wp, a_var (length k.env.vars)) ∷ k.env.names)) (sym entry-is) (chained_more p (1 + 4 * length k.env.vars) (kind + 128 * length k.cells) (a_var (length k.env.vars)) (none-behind (length k.env.vars) (kind + 128 * length k.cells)) (omega (arith, H.short-text)) var-room
         (var-means k'.env bs (length k.env.vars) kind (length k.cells) kind-low (var-last k.env.vars (record { type = kind; base = length k.cells })))
         (chained-env {σ' = k'.env} (means-old (record { type = kind; base = length k.cells }) refl) (holds-chained H)))
 
     var-same : Same 0 st.top lp l
-    var-same = laid_same (varEntry st (keyed s p) kind) st.top l lp refl
+    var-same = laid_same (var_entry st (keyed s p) kind) st.top l lp refl
 
     var-scene : Scene s lp ts (scoped (suc st.scope.count) st.top) (st.top + 4) k'.env bs
-    unfolding declareLine
+    unfolding declare_line
     var-scene =
         let K = scene-kept {top' = st.top + 4} H.scene var-same (omega arith) in
         record {
@@ -335,15 +335,15 @@ module _ {s l ts : List ℕ} {st : State} {k : Declared} {bs : List ℕ} (H : Ho
           fair = rw H.bodies-are var-keeps.names;
           fieldless = K.fieldless;
           cells = keeps-cells k' var-keeps;
-          above = λ v c g. K.above v c (value-find wp v (aVar (length k.env.vars)) k.env.names c (var-value (length k.env.vars)) g);
+          above = λ v c g. K.above v c (value-find wp v (a_var (length k.env.vars)) k.env.names c (var-value (length k.env.vars)) g);
           once = λ v w c g h. K.once v w c
-              (value-find wp v (aVar (length k.env.vars)) k.env.names c (var-value (length k.env.vars)) g)
-              (value-find wp w (aVar (length k.env.vars)) k.env.names c (var-value (length k.env.vars)) h);
-          frames = λ w q us g. K.frames w q us (find-other wp w (aVar (length k.env.vars)) (aProc q us) k.env.names (var-proc (length k.env.vars) q us) g);
+              (value-find wp v (a_var (length k.env.vars)) k.env.names c (var-value (length k.env.vars)) g)
+              (value-find wp w (a_var (length k.env.vars)) k.env.names c (var-value (length k.env.vars)) h);
+          frames = λ w q us g. K.frames w q us (find-other wp w (a_var (length k.env.vars)) (a_proc q us) k.env.names (var-proc (length k.env.vars) q us) g);
         }
 
-    pub var-holds : Holds s lp ts (varState st size (lay (varEntry st (keyed s p) kind) st.top l).top) k' bs
-    unfolding varState declareLine
+    pub var-holds : Holds s lp ts (var_state st size (lay (var_entry st (keyed s p) kind) st.top l).top) k' bs
+    unfolding var_state declare_line
     var-holds =
         let a : st.scope.count % 65536 ≡ st.scope.count = mod-eq_of_lt (omega (arith, H.few-names, H.low)) in
         let c : st.scope.count % 65536 + 1 ≡ suc st.scope.count = rw a (omega arith) in
@@ -371,7 +371,7 @@ module _ {s l ts : List ℕ} {st : State} {k : Declared} {bs : List ℕ} (H : Ho
           few-names = rw (c, top-is) (omega (arith, H.few-names));
           start = rw top-is (omega arith);
           low = rw top-is (omega arith);
-          long-list = rw (lay-g (varEntry st (keyed s p) kind) st.top l).long H.long-list;
+          long-list = rw (lay-g (var_entry st (keyed s p) kind) st.top l).long H.long-list;
           long-notes = H.long-notes;
           short-text = H.short-text;
         }
@@ -380,22 +380,22 @@ module _ {s l ts : List ℕ} {st : State} {k : Declared} {bs : List ℕ} (H : Ho
 
 -- `vars_fit`
 module _ (st : State) (n size : ℕ) where
-  pub fits_more : 128 < n → false ≡ varsFit st n size
-  unfolding varsFit
-  fits_more h = rw (lt-leb (varsHeld st + n) 128 (omega arith)) refl
+  pub fits_more : 128 < n → false ≡ vars_fit st n size
+  unfolding vars_fit
+  fits_more h = rw (lt-leb (vars_held st + n) 128 (omega arith)) refl
 
-  module _ (h : n ≤ 128) (v : ℕ) (e : v ≡ varsHeld st) where
-    pub fits-many : 128 - n < v → false ≡ varsFit st n size
-    unfolding varsFit
+  module _ (h : n ≤ 128) (v : ℕ) (e : v ≡ vars_held st) where
+    pub fits-many : 128 - n < v → false ≡ vars_fit st n size
+    unfolding vars_fit
     fits-many g = rw (← e, lt-leb (v + n) 128 (omega arith)) refl
 
     module _ (g : v ≤ 128 - n) where
-      pub fits-large : 2048 < size → false ≡ varsFit st n size
-      unfolding varsFit
-      fits-large i = rw (← e, le-leb (v + n) 128 (omega arith), lt-leb (cellsHeld st + size) 2048 (omega arith)) refl
+      pub fits-large : 2048 < size → false ≡ vars_fit st n size
+      unfolding vars_fit
+      fits-large i = rw (← e, le-leb (v + n) 128 (omega arith), lt-leb (cells_held st + size) 2048 (omega arith)) refl
 
-      pub fits-is : size ≤ 2048 → (c : ℕ) → c ≡ cellsHeld st → leb c (2048 - size) ≡ varsFit st n size
-      unfolding varsFit
+      pub fits-is : size ≤ 2048 → (c : ℕ) → c ≡ cells_held st → leb c (2048 - size) ≡ vars_fit st n size
+      unfolding vars_fit
       fits-is i c f = rw (← e, ← f, le-leb (v + n) 128 (omega arith)) (go (leb c (2048 - size)) refl)
         where
           go : (b : Bool) → leb c (2048 - size) ≡ b → b ≡ leb (c + size) 2048
@@ -405,37 +405,37 @@ module _ (st : State) (n size : ℕ) where
 pub ruleset fits-laws = (fits_more, fits-many, fits-large, fits-is)
 
 -- `var_state`
-pub state-is : (st a b : State) (size top : ℕ) → a ≡ withNames st 1 st.top top → b ≡ withVar a size → b ≡ varState st size top
-unfolding varState
-state-is st a b size top e f = f ∙ ap (λ (x : State). withVar x size) e
+pub state-is : (st a b : State) (size top : ℕ) → a ≡ with_names st 1 st.top top → b ≡ with_var a size → b ≡ var_state st size top
+unfolding var_state
+state-is st a b size top e f = f ∙ ap (λ (x : State). with_var x size) e
 
 -- `lay_var`
 pub var-laid : (st : State) (name kind : ℕ) (l : List ℕ) (r : ℕ) (l' : List ℕ)
     → Laid (lay (name ∷ (1 + 4 * (st.vars % 128)) ∷ (kind % 128 + 128 * (st.cells % 4096)) ∷ st.scope.newest ∷ []) st.top l) r l'
-    → Laid (lay (varEntry st name kind) st.top l) r l'
-unfolding varEntry
+    → Laid (lay (var_entry st name kind) st.top l) r l'
+unfolding var_entry
 var-laid st name kind l r l' L = L
 
 -- `add_var`
-module _ (l ts : List ℕ) (st : State) (name kind : ℕ) (x : Info) (e : x ≡ infoOf l ts kind) (b : Bool) (g : b ≡ varsFit st 1 x.size) where
-  pub adds-fits : b ≡ true → (t : ℕ) (l' : List ℕ) → Laid (lay (varEntry st name kind) st.top l) t l' → (st' : State) → st' ≡ varState st x.size t
-      → (r : Lined) → r ≡ linedBy Clear true st' → AddsVar l ts st name kind r l'
+module _ (l ts : List ℕ) (st : State) (name kind : ℕ) (x : Info) (e : x ≡ info_of l ts kind) (b : Bool) (g : b ≡ vars_fit st 1 x.size) where
+  pub adds-fits : b ≡ true → (t : ℕ) (l' : List ℕ) → Laid (lay (var_entry st name kind) st.top l) t l' → (st' : State) → st' ≡ var_state st x.size t
+      → (r : Lined) → r ≡ lined_by Clear true st' → AddsVar l ts st name kind r l'
   adds-fits h t l' L st' i r j =
-      let a : varsFit st 1 (infoOf l ts kind).size ≡ true = ap (λ (y : Info). varsFit st 1 y.size) (sym e) ∙ sym g ∙ h in
+      let a : vars_fit st 1 (info_of l ts kind).size ≡ true = ap (λ (y : Info). vars_fit st 1 y.size) (sym e) ∙ sym g ∙ h in
       rw (j, i, L.free, L.left, e) (var-fits a)
 
-  pub adds-past : b ≡ false → (r : Lined) → r ≡ linedBy Clear false st → AddsVar l ts st name kind r l
+  pub adds-past : b ≡ false → (r : Lined) → r ≡ lined_by Clear false st → AddsVar l ts st name kind r l
   adds-past h r j =
-      let a : varsFit st 1 (infoOf l ts kind).size ≡ false = ap (λ (y : Info). varsFit st 1 y.size) (sym e) ∙ sym g ∙ h in
+      let a : vars_fit st 1 (info_of l ts kind).size ≡ false = ap (λ (y : Info). vars_fit st 1 y.size) (sym e) ∙ sym g ∙ h in
       rw j (var-past a)
 
 pub ruleset adds-laws = (adds-fits, adds-past)
 
 -- a variable with no fault: row 9 decides
 added-told : (s l ts : List ℕ) (st : State) (p kind : ℕ) (r : Lined) (l' : List ℕ) → p < length s → AddsVar l ts st (keyed s p) kind r l'
-    → (k : Declared) (bs : List ℕ) → Holds s l ts st k bs → (f : LineForm) → entry_of k.env f ≡ some (newVar (map small (word_at s p)) kind)
-    → LineTold s st k bs (fits (newVar (map small (word_at s p)) kind)) r l' ts
-unfolding symbolSize varState
+    → (k : Declared) (bs : List ℕ) → Holds s l ts st k bs → (f : LineForm) → entry_of k.env f ≡ some (new_var (map small (word_at s p)) kind)
+    → LineTold s st k bs (fits (new_var (map small (word_at s p)) kind)) r l' ts
+unfolding symbol_size var_state
 added-told s l ts st p kind _ _ hp (var-fits h) k bs H f e = record {
   fault-is = refl;
   within-is = λ x i. rw (← fits-inj i) (sym h ∙ var-bounded H p kind hp);
@@ -448,57 +448,57 @@ added-told s l ts st p kind _ _ hp (var-past h) k bs H f e = record {
 }
 
 added-below : (l ts : List ℕ) (st : State) (name kind : ℕ) (r : Lined) (l' : List ℕ) → AddsVar l ts st name kind r l' → Same 0 st.top l' l
-added-below l ts st name kind _ _ (var-fits h) = laid_same (varEntry st name kind) st.top l _ refl
+added-below l ts st name kind _ _ (var-fits h) = laid_same (var_entry st name kind) st.top l _ refl
 added-below l ts st name kind _ _ (var-past h) = record { at = λ _ _ _. refl }
 
 -- `var_after`
 module _ (s l ts : List ℕ) (st : State) (p at : ℕ) (t : Typed) (G : GivesLastType s l st.scope at t)
-    (g : Fault) (d : g ≡ t.fault) (f : Fault) (e : f ≡ newFault g (meaningHere s l st.scope p)) (b : Bool) (i : b ≡ isClear f) where
+    (g : Fault) (d : g ≡ t.fault) (f : Fault) (e : f ≡ new_fault g (meaning_here s l st.scope p)) (b : Bool) (i : b ≡ is_clear f) where
   abbrev w : Name
   w = map small (word_at s p)
 
   abbrev us : Trees Run
-  us = first (stackAt s at)
+  us = first (stack_at s at)
 
   module _ (k : Declared) (bs : List ℕ) (H : Holds s l ts st k bs) where
     abbrev S : Staged ℕ
-    S = staged (lastType us) (type_of k.env) (λ _. true) some
+    S = staged (last_type us) (type_of k.env) (λ _. true) some
 
     told : TypeTold S t
     told = G.says ts st.top k.env bs H.scene
 
-    meaning-told : Told k.env bs (meaningHere s l st.scope p) (find k.env.names w)
+    meaning-told : Told k.env bs (meaning_here s l st.scope p) (find k.env.names w)
     meaning-told = meant H.scene w
 
-    f-is : f ≡ newFault (faultOf S) (meaningHere s l st.scope p)
-    f-is = e ∙ ap (λ (x : Fault). newFault x (meaningHere s l st.scope p)) (d ∙ told.fault-is)
+    f-is : f ≡ new_fault (fault_of S) (meaning_here s l st.scope p)
+    f-is = e ∙ ap (λ (x : Fault). new_fault x (meaning_here s l st.scope p)) (d ∙ told.fault-is)
 
-    staged-is : entryStaged k (varAfter w us) ≡ newly (isKnown k.env w) S (λ (n : ℕ). fits (newVar w n))
-    unfolding keepsRules ruled entry_of
-    staged-is = ap (entryStaged k) (after_last w us) ∙ one-staged k w (λ (x : TypeName). varLine w x) (λ (n : ℕ). newVar w n) (λ x. refl) (lastType us)
+    staged-is : entry_staged k (var_after w us) ≡ newly (is_known k.env w) S (λ (n : ℕ). fits (new_var w n))
+    unfolding keeps_rules ruled entry_of
+    staged-is = ap (entry_staged k) (after_last w us) ∙ one-staged k w (λ (x : TypeName). var_line w x) (λ (n : ℕ). new_var w n) (λ x. refl) (last_type us)
 
-  pub after-fault : b ≡ false → (r : Lined) → r ≡ linedBy f false st → GivesVar s l ts st p at r l
+  pub after-fault : b ≡ false → (r : Lined) → r ≡ lined_by f false st → GivesVar s l ts st p at r l
   after-fault j r c = rw c (record {
     gives = λ hp. record {
       below = record { at = λ _ _ _. refl };
-      told = λ k bs H. failed-told s l ts st k bs (entryStaged k (varAfter w us)) f
-          (f-is k bs H ∙ plain-fault w _ (meaning-told k bs H) (S k bs H) (λ (n : ℕ). newVar w n) ∙ ap faultOf (sym (staged-is k bs H)))
+      told = λ k bs H. failed-told s l ts st k bs (entry_staged k (var_after w us)) f
+          (f-is k bs H ∙ plain-fault w _ (meaning-told k bs H) (S k bs H) (λ (n : ℕ). new_var w n) ∙ ap fault_of (sym (staged-is k bs H)))
           (sym i ∙ j);
     };
   })
 
   pub after-clear : b ≡ true → (name : ℕ) → name ≡ keyed s p → (r : Lined) (l' : List ℕ) → AddsVar l ts st name t.kind r l' → GivesVar s l ts st p at r l'
-  unfolding newly onFits
+  unfolding newly on_fits
   after-clear j name c r l' A = record {
     gives = λ hp. record {
       below = added-below l ts st name t.kind r l' A;
       told = λ k bs H.
-          let x = plain-clear w _ (meaning-told k bs H) (S k bs H) (λ (n : ℕ). newVar w n) (sym (f-is k bs H) ∙ clear-is f (sym i ∙ j)) in
+          let x = plain-clear w _ (meaning-told k bs H) (S k bs H) (λ (n : ℕ). new_var w n) (sym (f-is k bs H) ∙ clear-is f (sym i ∙ j)) in
           let n : t.kind ≡ x.0 = (told k bs H).kind-is x.0 x.1 in
-          let z : entryStaged k (varAfter w us) ≡ fits (newVar w t.kind) =
-          staged-is k bs H ∙ ap (λ (c : Bool). newly c (S k bs H) (λ (n : ℕ). fits (newVar w n))) x.2
-          ∙ ap (λ (T : Staged ℕ). newly false T (λ (n : ℕ). fits (newVar w n))) x.1 ∙ ap (λ (n : ℕ). fits (newVar w n)) (sym n) in
-          let y = entry-fits k (varAfter w us) (newVar w t.kind) z in
+          let z : entry_staged k (var_after w us) ≡ fits (new_var w t.kind) =
+          staged-is k bs H ∙ ap (λ (c : Bool). newly c (S k bs H) (λ (n : ℕ). fits (new_var w n))) x.2
+          ∙ ap (λ (T : Staged ℕ). newly false T (λ (n : ℕ). fits (new_var w n))) x.1 ∙ ap (λ (n : ℕ). fits (new_var w n)) (sym n) in
+          let y = entry-fits k (var_after w us) (new_var w t.kind) z in
           subst (λ (T : Staged Entry). LineTold s st k bs T r l' ts) (sym z) (added-told s l ts st p t.kind r l' hp (rw c at A) k bs H y.0 y.1);
     };
   }
@@ -508,20 +508,20 @@ pub ruleset after-laws = (after-fault, after-clear)
 -- `var_line`
 module _ (s l ts : List ℕ) (st : State) (at : ℕ) (n : Naming) (N : GivesName s at n) where
   pub line-called : (p q : ℕ) → n ≡ naming.Called p q → (r : Lined) (l' : List ℕ) → GivesVar s l ts st p q r l'
-      → GivesLine s l ts st (line_of isVar 0 (first (stackAt s at))) r l' ts
+      → GivesLine s l ts st (line_of is_var 0 (first (stack_at s at))) r l' ts
   unfolding ◌>>=◌
   line-called p q e r l' G =
       let g = rw e at N.says in
-      let z : line_of isVar 0 (first (stackAt s at)) ≡ varAfter (map small (word_at s p)) (first (stackAt s q)) =
-      var-parts 0 (first (stackAt s at)) ∙ ap (λ (o : Option Name). o >>= λ (w : Name). varAfter w (rest (first (stackAt s at)))) g.2
-      ∙ ap (λ (us : Trees Run). varAfter (map small (word_at s p)) (rest us)) g.0.leaf.here in
+      let z : line_of is_var 0 (first (stack_at s at)) ≡ var_after (map small (word_at s p)) (first (stack_at s q)) =
+      var-parts 0 (first (stack_at s at)) ∙ ap (λ (o : Option Name). o >>= λ (w : Name). var_after w (rest (first (stack_at s at)))) g.2
+      ∙ ap (λ (us : Trees Run). var_after (map small (word_at s p)) (rest us)) g.0.leaf.here in
       rw z (G.gives g.1)
 
-  pub line-nothing : n ≡ naming.Nothing → (r : Lined) → r ≡ linedBy Form false st → GivesLine s l ts st (line_of isVar 0 (first (stackAt s at))) r l ts
-  unfolding ◌>>=◌ entryStaged staged
+  pub line-nothing : n ≡ naming.Nothing → (r : Lined) → r ≡ lined_by Form false st → GivesLine s l ts st (line_of is_var 0 (first (stack_at s at))) r l ts
+  unfolding ◌>>=◌ entry_staged staged
   line-nothing e r f =
-      let g : nameIn (first (stackAt s at)) ≡ none = rw e at N.says in
-      let z : line_of isVar 0 (first (stackAt s at)) ≡ none = var-parts 0 (first (stackAt s at)) ∙ ap (λ (o : Option Name). o >>= λ (w : Name). varAfter w (rest (first (stackAt s at)))) g in
+      let g : name_in (first (stack_at s at)) ≡ none = rw e at N.says in
+      let z : line_of is_var 0 (first (stack_at s at)) ≡ none = var-parts 0 (first (stack_at s at)) ∙ ap (λ (o : Option Name). o >>= λ (w : Name). var_after w (rest (first (stack_at s at)))) g in
       rw (f, z) (record { below = record { at = λ _ _ _. refl }; told = λ k bs H. failed-told s l ts st k bs wrong Form refl refl })
 
 pub ruleset var-line-laws = (line-called, line-nothing)

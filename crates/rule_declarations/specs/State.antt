@@ -24,7 +24,7 @@ pub record Holds (s l ts : List ℕ) (st : State) (k : Declared) (bs : List ℕ)
   pub plain : st.scope.pairs ≡ 0
   pub keeps : Keeps k
   pub types_are : st.types ≡ length k.env.types
-  pub lines_are : st.lines ≡ k.typeLines
+  pub lines_are : st.lines ≡ k.type_lines
   pub vars-are : st.vars ≡ length k.env.vars
   pub cells_are : st.cells ≡ length k.cells
   pub procs-are : st.procs ≡ length k.bodies
@@ -44,14 +44,14 @@ pub record Holds (s l ts : List ℕ) (st : State) (k : Declared) (bs : List ℕ)
   pub short-text : length s ≤ 32768
 
 -- before any line
-unfoldable pub startState : State
-startState = record { scope = scoped 0 0; top = 1; types = 2; lines = 0; vars = 0; cells = 0; procs = 0; parameters = 0 }
+unfoldable pub start_state : State
+start_state = record { scope = scoped 0 0; top = 1; types = 2; lines = 0; vars = 0; cells = 0; procs = 0; parameters = 0 }
 
 -- ---- after a line: numbers that are small wherever the lines so far are held are taken modulo a power of two, so that no sum overflows
 
 -- so many names more, the newest at p, and the free place then
-abbrev pub withNames : State → ℕ → ℕ → ℕ → State
-withNames st n p top = record {
+abbrev pub with_names : State → ℕ → ℕ → ℕ → State
+with_names st n p top = record {
   scope = scoped (st.scope.count % 65536 + n % 65536) p;
   top = top;
   types = st.types;
@@ -63,8 +63,8 @@ withNames st n p top = record {
 }
 
 -- a `type` line more, and so many types
-abbrev pub withTypeLine : State → ℕ → State
-withTypeLine st made = record {
+abbrev pub with_type_line : State → ℕ → State
+with_type_line st made = record {
   scope = st.scope;
   top = st.top;
   types = st.types % 128 + made % 2;
@@ -76,8 +76,8 @@ withTypeLine st made = record {
 }
 
 -- a variable of so many cells more
-abbrev pub withVar : State → ℕ → State
-withVar st size = record {
+abbrev pub with_var : State → ℕ → State
+with_var st size = record {
   scope = st.scope;
   top = st.top;
   types = st.types;
@@ -89,8 +89,8 @@ withVar st size = record {
 }
 
 -- a body more, and the free place then
-abbrev pub bodyState : State → ℕ → State
-bodyState st top = record {
+abbrev pub body_state : State → ℕ → State
+body_state st top = record {
   scope = st.scope;
   top = top;
   types = st.types;
@@ -102,8 +102,8 @@ bodyState st top = record {
 }
 
 -- n parameters more
-abbrev pub withParameters : State → ℕ → State
-withParameters st n = record {
+abbrev pub with_parameters : State → ℕ → State
+with_parameters st n = record {
   scope = st.scope;
   top = st.top;
   types = st.types;

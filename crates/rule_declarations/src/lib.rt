@@ -1,17 +1,17 @@
 // What is held of the lines so far, the parts that declaring lines share, and the lines that declare variables.
 ghost use Rattle.std.specs.Prelude.{◌≡◌, ◌+◌, ◌*◌, ◌%◌};
-ghost use Rattle.table_scope.specs.Scene.{meaningHere};
-ghost use Rattle.law.specs.Forms.{isVar};
+ghost use Rattle.table_scope.specs.Scene.{meaning_here};
+ghost use Rattle.law.specs.Forms.{is_var};
 ghost use Rattle.code.specs.Layout.{lay as laid};
 ghost use Rattle.law.specs.Trees.{first};
-ghost use Rattle.law_theorems.specs.Readings.{stackAt};
-ghost use Rattle.text_heads.specs.Heads.{atomOf};
-ghost use Rattle.rule_atoms.specs.Answers.{typed as typedBy};
-ghost use Rattle.rule_declarations.specs.Names.{named_by, GivesName, newFault, GivesLastType};
-ghost use Rattle.rule_declarations.specs.State.{startState, withNames, withTypeLine, withVar, bodyState, withParameters};
-ghost use Rattle.rule_declarations.specs.Lines.{linedBy, line_of, GivesLine};
+ghost use Rattle.law_theorems.specs.Readings.{stack_at};
+ghost use Rattle.text_heads.specs.Heads.{atom_of};
+ghost use Rattle.rule_atoms.specs.Answers.{typed as typed_by};
+ghost use Rattle.rule_declarations.specs.Names.{named_by, GivesName, new_fault, GivesLastType};
+ghost use Rattle.rule_declarations.specs.State.{start_state, with_names, with_type_line, with_var, body_state, with_parameters};
+ghost use Rattle.rule_declarations.specs.Lines.{lined_by, line_of, GivesLine};
 ghost use Rattle.table_list.specs.Laid.{Laid};
-ghost use Rattle.rule_declarations.specs.Vars.{varsHeld, cellsHeld, varsFit, varEntry, varState, AddsVar, GivesVar};
+ghost use Rattle.rule_declarations.specs.Vars.{vars_held, cells_held, vars_fit, var_entry, var_state, AddsVar, GivesVar};
 
 use leaf_words::words::Word;
 use rule_atoms::{Typed, type_name};
@@ -91,7 +91,7 @@ pub enum Naming {
 
 // The word at p that ends at q, if it is a free name.
 fn name_word(w: Word, p: usize, q: usize) -> Naming
-    ensures { result ≡ named_by (atomOf w) p q }
+    ensures { result ≡ named_by (atom_of w) p q }
 {
     let a = atom_of(w);
     match a {
@@ -118,7 +118,7 @@ pub fn name_at(text: &[u8], at: usize) -> Naming
 
 // A fault, or row 7 where a name that a line declares has a meaning already.
 fn new_fault(f: Fault, m: Meaning) -> Fault
-    ensures { result ≡ newFault f m }
+    ensures { result ≡ new_fault f m }
 {
     match m {
         Meaning::Unknown => f,
@@ -131,7 +131,7 @@ fn new_fault(f: Fault, m: Meaning) -> Fault
 
 // The fault of a line that declares the name at p, f being that of its other parts.
 pub fn named_fault(text: &[u8], work: &[u32], scope: Scope, p: usize, f: Fault) -> Fault
-    ensures { result ≡ newFault f (meaningHere text.now work.now scope p) }
+    ensures { result ≡ new_fault f (meaning_here text.now work.now scope p) }
 {
     let m = meaning_of(text, work, scope, p);
     new_fault(f, m)
@@ -139,7 +139,7 @@ pub fn named_fault(text: &[u8], work: &[u32], scope: Scope, p: usize, f: Fault) 
 
 // An answer for a type's name from its parts.
 fn type_answer(fault: Fault, kind: u32, next: usize) -> Typed
-    ensures { result ≡ typedBy fault kind next }
+    ensures { result ≡ typed_by fault kind next }
 {
     Typed {
         fault: fault,
@@ -166,7 +166,7 @@ pub fn last_type(text: &[u8], work: &[u32], scope: Scope, at: usize) -> Typed
 
 // An answer for a line from its parts.
 pub fn answered(fault: Fault, within: bool, state: State) -> Lined
-    ensures { result ≡ linedBy fault within state }
+    ensures { result ≡ lined_by fault within state }
 {
     Lined {
         fault: fault,
@@ -177,21 +177,21 @@ pub fn answered(fault: Fault, within: bool, state: State) -> Lined
 
 // How many variables there are, with the parameters, which "count among the 128 variables and 2,048 cells".
 fn vars_held(st: State) -> u32
-    ensures { result ≡ varsHeld st }
+    ensures { result ≡ vars_held st }
 {
     st.vars % PARAMETER_NUMBERS + st.parameters % PARAMETER_NUMBERS
 }
 
 // And how many cells.
 fn cells_held(st: State) -> u32
-    ensures { result ≡ cellsHeld st }
+    ensures { result ≡ cells_held st }
 {
     st.cells % CELL_NUMBERS + st.parameters % PARAMETER_NUMBERS
 }
 
 // Whether n variables more, of so many cells together, are within the ceilings of row 9.
 pub fn vars_fit(st: State, n: u32, size: u32) -> bool
-    ensures { result ≡ varsFit st n size }
+    ensures { result ≡ vars_fit st n size }
 {
     if n > MOST_VARS {
         return false;
@@ -214,7 +214,7 @@ pub fn narrow(p: usize) -> u32
 
 // What is held after so many names more, the newest at a place, with the free place then.
 pub fn with_names(st: State, names: u32, newest: u32, top: u32) -> State
-    ensures { result ≡ withNames st names newest top }
+    ensures { result ≡ with_names st names newest top }
 {
     let scope = Scope {
         count: st.scope.count % NAME_NUMBERS + names % NAME_NUMBERS,
@@ -228,7 +228,7 @@ pub fn with_names(st: State, names: u32, newest: u32, top: u32) -> State
 
 // What is held after a `type` line more that makes so many types.
 pub fn with_type_line(st: State, made: u32) -> State
-    ensures { result ≡ withTypeLine st made }
+    ensures { result ≡ with_type_line st made }
 {
     let scope = st.scope;
     State {
@@ -241,7 +241,7 @@ pub fn with_type_line(st: State, made: u32) -> State
 
 // What is held after a variable more of so many cells.
 fn with_var(st: State, size: u32) -> State
-    ensures { result ≡ withVar st size }
+    ensures { result ≡ with_var st size }
 {
     let scope = st.scope;
     State {
@@ -254,7 +254,7 @@ fn with_var(st: State, size: u32) -> State
 
 // What is held after a body more, with the free place then.
 pub fn with_body(st: State, top: u32) -> State
-    ensures { result ≡ bodyState st top }
+    ensures { result ≡ body_state st top }
 {
     let scope = st.scope;
     State {
@@ -267,7 +267,7 @@ pub fn with_body(st: State, top: u32) -> State
 
 // What is held after n parameters more.
 pub fn with_parameters(st: State, n: u32) -> State
-    ensures { result ≡ withParameters st n }
+    ensures { result ≡ with_parameters st n }
 {
     let scope = st.scope;
     State {
@@ -279,7 +279,7 @@ pub fn with_parameters(st: State, n: u32) -> State
 
 // What is held before any line.
 pub fn start_state() -> State
-    ensures { result ≡ startState }
+    ensures { result ≡ start_state }
 {
     let scope = Scope {
         count: 0,
@@ -302,7 +302,7 @@ pub fn start_state() -> State
 
 // What is held after a variable of so many cells and its name, with the free place then.
 fn var_state(st: State, size: u32, top: u32) -> State
-    ensures { result ≡ varState st size top }
+    ensures { result ≡ var_state st size top }
 {
     let named = with_names(st, 1, st.top, top);
     with_var(named, size)
@@ -310,7 +310,7 @@ fn var_state(st: State, size: u32, top: u32) -> State
 
 // Lays the entry of a variable, by its name's number; the free place then.
 fn lay_var(work: &mut [u32], st: State, name: u32, kind: u32) -> u32
-    ensures { Laid (laid (varEntry st name kind) st.top work.old) result work.new }
+    ensures { Laid (laid (var_entry st name kind) st.top work.old) result work.new }
 {
     let sort = 1 + 4 * (st.vars % MOST_VARS);
     let more = kind % TYPE_NUMBERS + TYPE_NUMBERS * (st.cells % CELL_NUMBERS);
@@ -346,7 +346,7 @@ fn var_after(text: &[u8], work: &mut [u32], types: &[u32], st: State, p: usize, 
 
 // A `var` line, past its head word.
 pub fn var_line(text: &[u8], work: &mut [u32], types: &[u32], st: State, at: usize) -> Lined
-    ensures { GivesLine text.now work.old types.now st (line_of isVar 0 (first (stackAt text.now at))) result work.new types.now }
+    ensures { GivesLine text.now work.old types.now st (line_of is_var 0 (first (stack_at text.now at))) result work.new types.now }
 {
     let n = name_at(text, at);
     match n {

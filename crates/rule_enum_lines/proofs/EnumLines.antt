@@ -12,24 +12,24 @@ use lib.Dec.{leb, eqb}
 use lib.ListN.{length, get_or, set, length-append, length-set}
 use Rattle.leaf_bytes.specs.Bytes.{small}
 use Rattle.law.specs.Base.{Name, ◌>>=◌}
-use Rattle.law.specs.Ceilings.{lineBounded, typeBounded}
-use Rattle.law.specs.Environment.{Declared, aProc, a_type, declareLine, extendTypes, declNames, enumNames, typeSortOf}
+use Rattle.law.specs.Ceilings.{line_bounded, type_bounded}
+use Rattle.law.specs.Environment.{Declared, a_proc, a_type, declare_line, extend_types, decl_names, enum_names, type_sort_of}
 use Rattle.law.specs.Forms.{some?}
 use Rattle.code.specs.Layout.{bits}
-use Rattle.code.specs.LayoutSize.{symbolSize, sizeDecl}
+use Rattle.code.specs.LayoutSize.{symbol_size, size_decl}
 use Rattle.law.specs.Names.{entry_of}
-use Rattle.law.specs.Rules.{keepsRules}
-use Rattle.law.specs.Script.{Entry, newType, enum}
+use Rattle.law.specs.Rules.{keeps_rules}
+use Rattle.law.specs.Script.{Entry, new_type, enum}
 use Rattle.rule_stages.specs.Stages.{Staged, wrong, unnamed, fits, staged}
-use Rattle.law.specs.Syntax.{LineForm, TypeForm, typeLine}
+use Rattle.law.specs.Syntax.{LineForm, TypeForm, type_line}
 use Rattle.law.specs.Trees.{Trees, Run, first, later, word_at}
-use Rattle.law_theorems.specs.Readings.{stackAt}
-use Rattle.law.specs.Types.{Types, facts, infoAt, cellsBy, isRecord}
+use Rattle.law_theorems.specs.Readings.{stack_at}
+use Rattle.law.specs.Types.{Types, facts, info_at, cells_by, is_record}
 use Rattle.law_theorems.proofs.Inversion.{and-true}
 use Rattle.code.proofs.LayoutRegions.{Has, lay-g, lay-l}
 use Rattle.code.specs.LayoutRegions.{Same, Room}
 use Rattle.table_names.specs.Keys.{keyed}
-use Rattle.table_names.specs.Chain.{valuesBy, valuesBehind}
+use Rattle.table_names.specs.Chain.{values_by, values_behind}
 use Rattle.table_names.specs.Chained.{Below, Block, one_block, one_entry}
 use Rattle.table_order.specs.Ordered.{Marks, unmarked, marked}
 use Rattle.table_names.proofs.Chained.{called-keyed}
@@ -39,16 +39,16 @@ use Rattle.table_scope.proofs.Within.{chain-told, find-other}
 use Rattle.rule_faults.specs.declared.Fault.{Fault}
 use Rattle.rule_faults.specs.declared.Fault.TheVariants.{Clear, Form}
 use Rattle.rule_faults.specs.declared.Fault.TheVariants as fault
-use Rattle.table_scope.specs.Descriptions.{infoOf, shapeNumber, Tells, EndsBelow}
+use Rattle.table_scope.specs.Descriptions.{info_of, shape_number, Tells, EndsBelow}
 use Rattle.table_scope.specs.Scene.{Scene}
-use Rattle.rule_faults.specs.Got.{isForm, isClear, faultOf}
+use Rattle.rule_faults.specs.Got.{is_form, is_clear, fault_of}
 use Rattle.text_heads.specs.Parts.{closed}
 use Rattle.rule_atoms.proofs.Telling.{fits-inj}
 use Rattle.rule_declarations.specs.State.{scoped, Holds}
-use Rattle.rule_enum_lines.specs.Enums.{enumIn, namesIn, fresh, GivesFresh, counted, NamesTold, names-wrong, names-read}
-use Rattle.rule_declarations.specs.Lines.{entryStaged, linedBy, LineTold}
-use Rattle.rule_type_lines.specs.TypeLines.{madeAfter, linesFit, infoNumbers, typeState, Describes, GivesMade, EndFault, was-form, at-end, before-end}
-use Rattle.rule_enum_lines.specs.Values.{start_of, Values, enumEntry, enumInfo, enumNamed, enumDescribed, AddsEnum, enumFault}
+use Rattle.rule_enum_lines.specs.Enums.{enum_in, names_in, fresh, GivesFresh, counted, NamesTold, names-wrong, names-read}
+use Rattle.rule_declarations.specs.Lines.{entry_staged, lined_by, LineTold}
+use Rattle.rule_type_lines.specs.TypeLines.{made_after, lines_fit, info_numbers, type_state, Describes, GivesMade, EndFault, was-form, at-end, before-end}
+use Rattle.rule_enum_lines.specs.Values.{start_of, Values, enum_entry, enum_info, enum_named, enum_described, AddsEnum, enum_fault}
 use Rattle.rule_declarations.specs.declared.State.{State}
 use Rattle.rule_declarations.specs.declared.Lined.{Lined}
 use Rattle.rule_enum_lines.specs.declared.enums.Counted.{Counted}
@@ -65,9 +65,9 @@ use Rattle.rule_enum_lines.proofs.EnumValues.{values-ordered, values-linked, val
 -- ---- what is held
 
 module _ {s l ts : List ℕ} {st : State} {k : Declared} {bs : List ℕ} (H : Holds s l ts st k bs) (p at : ℕ) (hp : p < length s) (v : Name) (vs : List Name)
-    (hn : namesIn (first (stackAt s at)) ≡ some (v ∷ vs)) (r : Lined) (l' ts' : List ℕ) (A : AddsEnum s l ts st p at (suc (length vs)) r l' ts')
-    (f : LineForm) (e : entry_of k.env f ≡ some (newType (map small (word_at s p)) (enum v vs)))
-    (g : keepsRules k.env.types (newType (map small (word_at s p)) (enum v vs)) ≡ true) (b : lineBounded k (newType (map small (word_at s p)) (enum v vs)) ≡ true)
+    (hn : names_in (first (stack_at s at)) ≡ some (v ∷ vs)) (r : Lined) (l' ts' : List ℕ) (A : AddsEnum s l ts st p at (suc (length vs)) r l' ts')
+    (f : LineForm) (e : entry_of k.env f ≡ some (new_type (map small (word_at s p)) (enum v vs)))
+    (g : keeps_rules k.env.types (new_type (map small (word_at s p)) (enum v vs)) ≡ true) (b : line_bounded k (new_type (map small (word_at s p)) (enum v vs)) ≡ true)
     (room : st.top + (12 + 4 * suc (length vs)) ≤ 16384) (sn nn : ℕ) where
   abbrev w : Name
   w = map small (word_at s p)
@@ -79,46 +79,46 @@ module _ {s l ts : List ℕ} {st : State} {k : Declared} {bs : List ℕ} (H : Ho
   n = suc (length vs)
 
   abbrev t₁ : ℕ
-  t₁ = (enumNamed st (keyed s p) l).top
+  t₁ = (enum_named st (keyed s p) l).top
 
   abbrev l₁ : List ℕ
-  l₁ = (enumNamed st (keyed s p) l).list
+  l₁ = (enum_named st (keyed s p) l).list
 
   abbrev t₂ : ℕ
-  t₂ = (enumDescribed st (keyed s p) n l).top
+  t₂ = (enum_described st (keyed s p) n l).top
 
   abbrev l₂ : List ℕ
-  l₂ = (enumDescribed st (keyed s p) n l).list
+  l₂ = (enum_described st (keyed s p) n l).list
 
   abbrev ks : Declared
-  ks = declareLine k (newType w (enum v vs)) sn nn
+  ks = declare_line k (new_type w (enum v vs)) sn nn
 
   few : n ≤ 256
-  unfolding typeBounded
+  unfolding type_bounded
   few = leb-true n 256 (type-within H w (enum v vs) f e g b sn nn)
 
   number-low : st.types < 66
   number-low = omega (arith, H.few-types, lines-low H w (enum v vs) f e g b sn nn)
 
-  entry-is : enumEntry st (keyed s p) ≡ keyed s p ∷ (4 * st.types) ∷ 0 ∷ (st.top + 12) ∷ []
-  unfolding enumEntry
+  entry-is : enum_entry st (keyed s p) ≡ keyed s p ∷ (4 * st.types) ∷ 0 ∷ (st.top + 12) ∷ []
+  unfolding enum_entry
   entry-is =
       let y : st.types % 128 ≡ st.types = mod-eq_of_lt (omega (arith, number-low)) in
       let z : st.top % 32768 ≡ st.top = mod-eq_of_lt (omega (arith, H.low)) in
       rw (y, z) refl
 
   top₁ : t₁ ≡ st.top + 4
-  unfolding enumEntry
-  top₁ = (lay-l (enumEntry st (keyed s p)) st.top l).top-is (omega arith)
+  unfolding enum_entry
+  top₁ = (lay-l (enum_entry st (keyed s p)) st.top l).top-is (omega arith)
 
   top₂ : t₂ ≡ st.top + 12
-  unfolding infoNumbers
+  unfolding info_numbers
   top₂ =
       let z : t₁ + 8 ≡ st.top + 12 = rw top₁ (omega arith) in
-      (lay-l (infoNumbers (enumInfo st.types n)) t₁ l₁).top-is (rw z (omega arith)) ∙ z
+      (lay-l (info_numbers (enum_info st.types n)) t₁ l₁).top-is (rw z (omega arith)) ∙ z
 
   long₂ : length l₂ ≡ length l
-  long₂ = (lay-g (infoNumbers (enumInfo st.types n)) t₁ l₁).long ∙ (lay-g (enumEntry st (keyed s p)) st.top l).long
+  long₂ = (lay-g (info_numbers (enum_info st.types n)) t₁ l₁).long ∙ (lay-g (enum_entry st (keyed s p)) st.top l).long
 
   laid-values : Values s A.laid st.types st.scope.newest t₂ 0 (v ∷ vs) × (A.free ≡ t₂ + 4 * n)
   laid-values = A.values.values (v ∷ vs) hn refl (omega (arith, number-low)) H.short-text
@@ -135,16 +135,16 @@ module _ {s l ts : List ℕ} {st : State} {k : Declared} {bs : List ℕ} (H : Ho
 
   same₁ : Same 0 t₁ A.laid l₁
   same₁ = record {
-    at = λ i a c. A.values.below.at i a (rw top₂ (omega (arith, top₁))) ∙ (lay-g (infoNumbers (enumInfo st.types n)) t₁ l₁).below i c;
+    at = λ i a c. A.values.below.at i a (rw top₂ (omega (arith, top₁))) ∙ (lay-g (info_numbers (enum_info st.types n)) t₁ l₁).below i c;
   }
 
   same₀ : Same 0 st.top l' l
-  same₀ = record { at = λ i a c. A.in_order.below.at i a c ∙ same₁.at i a (rw top₁ (omega arith)) ∙ (lay-g (enumEntry st (keyed s p)) st.top l).below i c }
+  same₀ = record { at = λ i a c. A.in_order.below.at i a c ∙ same₁.at i a (rw top₁ (omega arith)) ∙ (lay-g (enum_entry st (keyed s p)) st.top l).below i c }
 
   -- the entry of the type's name
   entry-laid : Has (keyed s p ∷ (4 * st.types) ∷ 0 ∷ (st.top + 12) ∷ []) st.top A.laid
-  unfolding enumEntry
-  entry-laid = rw (← entry-is) ((lay-l (enumEntry st (keyed s p)) st.top l).held (record { start = H.start; fits = omega arith; long = H.long-list }) A.laid (record { at = λ i a c. same₁.at i (omega arith) c }))
+  unfolding enum_entry
+  entry-laid = rw (← entry-is) ((lay-l (enum_entry st (keyed s p)) st.top l).held (record { start = H.start; fits = omega arith; long = H.long-list }) A.laid (record { at = λ i a c. same₁.at i (omega arith) c }))
 
   name-held : get_or l' st.top 0 ≡ keyed s p
   name-held =
@@ -158,18 +158,18 @@ module _ {s l ts : List ℕ} {st : State} {k : Declared} {bs : List ℕ} (H : Ho
   next-held = A.in_order.other (st.top + 3) (λ e. omega arith) (λ i e. omega arith) ∙ entry-laid.at 3 (omega arith)
 
   info-room : Room 8 t₁ l₁
-  info-room = record { start = rw top₁ (omega arith); fits = rw top₁ (omega arith); long = rw (lay-g (enumEntry st (keyed s p)) st.top l).long H.long-list }
+  info-room = record { start = rw top₁ (omega arith); fits = rw top₁ (omega arith); long = rw (lay-g (enum_entry st (keyed s p)) st.top l).long H.long-list }
 
-  info-laid : Has (infoNumbers (enumInfo st.types n)) t₁ A.laid
-  unfolding infoNumbers
-  info-laid = (lay-l (infoNumbers (enumInfo st.types n)) t₁ l₁).held info-room A.laid (record { at = λ i a c. A.values.below.at i (omega arith) c })
+  info-laid : Has (info_numbers (enum_info st.types n)) t₁ A.laid
+  unfolding info_numbers
+  info-laid = (lay-l (info_numbers (enum_info st.types n)) t₁ l₁).held info-room A.laid (record { at = λ i a c. A.values.below.at i (omega arith) c })
 
-  info-held : Has (infoNumbers (enumInfo st.types n)) t₁ l'
-  unfolding infoNumbers
+  info-held : Has (info_numbers (enum_info st.types n)) t₁ l'
+  unfolding info_numbers
   info-held = record { later = info-laid.later; at = λ i h. A.in_order.other (t₁ + i) (λ e. omega (arith, top₁)) (λ j e. omega (arith, top₁, h)) ∙ info-laid.at i h }
 
-  described : Describes (enumInfo st.types n) (facts (typeSortOf Γ (enum v vs)))
-  unfolding enumInfo typeSortOf shapeNumber bits
+  described : Describes (enum_info st.types n) (facts (type_sort_of Γ (enum v vs)))
+  unfolding enum_info type_sort_of shape_number bits
   described = record {
     shape_is = refl;
     host-is = H.types_are;
@@ -183,15 +183,15 @@ module _ {s l ts : List ℕ} {st : State} {k : Declared} {bs : List ℕ} (H : Ho
   }
 
   old-chained : Chained s l' st.scope A.free ks.env bs k.env.names
-  unfolding declareLine
+  unfolding declare_line
   old-chained = chained-kept same₀ (rw free-is (omega arith)) (chained-env {σ' = ks.env} (means-same refl) (holds-chained H))
 
-  values-chained : Chained s l' (scoped (n + st.scope.count) (st.top + 12)) A.free ks.env bs (enumNames st.types 0 (v ∷ vs) ++ k.env.names)
+  values-chained : Chained s l' (scoped (n + st.scope.count) (st.top + 12)) A.free ks.env bs (enum_names st.types 0 (v ∷ vs) ++ k.env.names)
   unfolding start_of
   values-chained = chained-values st.types (st.top + 12) 0 (v ∷ vs) (omega (arith, number-low)) values (omega arith) (rw free-is (omega arith)) old-chained
 
-  behind-is : (m : ℕ) → get_or l' (st.top + 2) 0 ≡ m → valuesBehind l' st.top ≡ m
-  unfolding valuesBehind valuesBy
+  behind-is : (m : ℕ) → get_or l' (st.top + 2) 0 ≡ m → values_behind l' st.top ≡ m
+  unfolding values_behind values_by
   behind-is m e = let z : (4 * st.types) % 4 ≡ 0 = omega arith in rw (sort-held, z, e) refl
 
   -- the values are found by halving, or along the chain
@@ -206,20 +206,20 @@ module _ {s l ts : List ℕ} {st : State} {k : Declared} {bs : List ℕ} (H : Ho
           (record { low = omega (arith, H.low); many = behind-is n e; next = next-held; linked = values-linked (st.top + 12) 0 (v ∷ vs) values; found = f })
           (rw (values-last (st.top + 12) 0 v vs values) old-chained.below))
 
-  enum-chained : Chained s l' (scoped (suc (n + st.scope.count)) st.top) A.free ks.env bs ((w, a_type (length Γ)) ∷ (enumNames (length Γ) 0 (v ∷ vs) ++ k.env.names))
-  unfolding declareLine start_of
+  enum-chained : Chained s l' (scoped (suc (n + st.scope.count)) st.top) A.free ks.env bs ((w, a_type (length Γ)) ∷ (enum_names (length Γ) 0 (v ∷ vs) ++ k.env.names))
+  unfolding declare_line start_of
   enum-chained =
       rw (← H.types_are) (chained-one {scope = scoped (n + st.scope.count) (st.top + 12)} st.top w (a_type st.types) H.start head-below (called-keyed s l' st.top p (omega (arith, H.short-text)) name-held)
       (rw sort-held (type-means ks.env bs st.types (get_or l' (st.top + 2) 0))) next-held values-chained)
 
-  told-types : (t : ℕ) → Tells s l' (infoOf l' (set ts (length Γ) t₁) t) (infoAt (Γ ++ (typeSortOf Γ (enum v vs) ∷ [])) t) × EndsBelow A.free (infoOf l' (set ts (length Γ) t₁) t)
-  unfolding enumInfo
-  told-types = types_more H.scene same₀ A.free t₁ (rw free-is (omega arith)) info-room.start (omega (arith, H.types_are, number-low, H.long-notes)) (typeSortOf Γ (enum v vs))
-      (describes-tells s l' (enumInfo st.types n) t₁ (facts (typeSortOf Γ (enum v vs))) described info-held)
-      (rw (read-numbers (enumInfo st.types n) t₁ l' info-held, top₁, free-is) (record { end_below = λ _. omega arith; within = omega arith }))
+  told-types : (t : ℕ) → Tells s l' (info_of l' (set ts (length Γ) t₁) t) (info_at (Γ ++ (type_sort_of Γ (enum v vs) ∷ [])) t) × EndsBelow A.free (info_of l' (set ts (length Γ) t₁) t)
+  unfolding enum_info
+  told-types = types_more H.scene same₀ A.free t₁ (rw free-is (omega arith)) info-room.start (omega (arith, H.types_are, number-low, H.long-notes)) (type_sort_of Γ (enum v vs))
+      (describes-tells s l' (enum_info st.types n) t₁ (facts (type_sort_of Γ (enum v vs))) described info-held)
+      (rw (read-numbers (enum_info st.types n) t₁ l' info-held, top₁, free-is) (record { end_below = λ _. omega arith; within = omega arith }))
 
   enum-scene : Scene s l' (set ts (length Γ) t₁) (scoped (suc (n + st.scope.count)) st.top) A.free ks.env bs
-  unfolding declareLine declNames extendTypes typeSortOf
+  unfolding declare_line decl_names extend_types type_sort_of
   enum-scene =
       let K = type-keeps H w (enum v vs) f e g b sn nn in
       record {
@@ -230,24 +230,24 @@ module _ {s l ts : List ℕ} {st : State} {k : Declared} {bs : List ℕ} (H : Ho
         table = K.table;
         fair = rw H.bodies-are K.names;
         cells = keeps-cells ks K;
-        fieldless = by_number Γ (typeSortOf Γ (enum v vs)) (λ t j. isRecord j.shape ≡ false → j.fields ≡ []) (λ t _. H.scene.fieldless t) (λ _. refl) (λ t _ _. refl);
+        fieldless = by_number Γ (type_sort_of Γ (enum v vs)) (λ t j. is_record j.shape ≡ false → j.fields ≡ []) (λ t _. H.scene.fieldless t) (λ _. refl) (λ t _ _. refl);
         above = λ x c i. values-above (length Γ) k.env.names H.scene.table.two H.scene.above (v ∷ vs) 0 x c
-            (value-find w x (a_type (length Γ)) (enumNames (length Γ) 0 (v ∷ vs) ++ k.env.names) c (type-value (length Γ)) i);
+            (value-find w x (a_type (length Γ)) (enum_names (length Γ) 0 (v ∷ vs) ++ k.env.names) c (type-value (length Γ)) i);
         once = λ x y c i j. values-once (length Γ) k.env.names (value-kind H.scene.fair) H.scene.once (v ∷ vs) 0 x y c
-            (value-find w x (a_type (length Γ)) (enumNames (length Γ) 0 (v ∷ vs) ++ k.env.names) c (type-value (length Γ)) i)
-            (value-find w y (a_type (length Γ)) (enumNames (length Γ) 0 (v ∷ vs) ++ k.env.names) c (type-value (length Γ)) j);
+            (value-find w x (a_type (length Γ)) (enum_names (length Γ) 0 (v ∷ vs) ++ k.env.names) c (type-value (length Γ)) i)
+            (value-find w y (a_type (length Γ)) (enum_names (length Γ) 0 (v ∷ vs) ++ k.env.names) c (type-value (length Γ)) j);
         frames = λ x q us i. tells-frame-kept same₀ (rw free-is (omega arith)) (get_or bs q 0) us (H.scene.frames x q us (procs-old (length Γ) k.env.names (v ∷ vs) 0 x q us
-            (find-other w x (a_type (length Γ)) (aProc q us) (enumNames (length Γ) 0 (v ∷ vs) ++ k.env.names) (type-proc (length Γ) q us) i)));
+            (find-other w x (a_type (length Γ)) (a_proc q us) (enum_names (length Γ) 0 (v ∷ vs) ++ k.env.names) (type-proc (length Γ) q us) i)));
       }
 
-  pub enum_holds : Holds s l' ts' (typeState st (counted n) st.top 1 A.free) ks bs
-  unfolding declareLine declNames extendTypes typeSortOf
+  pub enum_holds : Holds s l' ts' (type_state st (counted n) st.top 1 A.free) ks bs
+  unfolding declare_line decl_names extend_types type_sort_of
   enum_holds =
       let c : suc (n + st.scope.count) ≡ st.scope.count + (n + 1) = omega arith in
-      let m : length (Γ ++ (typeSortOf Γ (enum v vs) ∷ [])) ≡ length Γ + 1 = length-append Γ (typeSortOf Γ (enum v vs) ∷ []) in
+      let m : length (Γ ++ (type_sort_of Γ (enum v vs) ∷ [])) ≡ length Γ + 1 = length-append Γ (type_sort_of Γ (enum v vs) ∷ []) in
       let d : n + 1 ≡ counted n = counted-more n (omega (arith, few)) in
-      rw (A.places, ← d) (subst (λ (m : ℕ). Holds s l' (set ts m t₁) (typeState st (n + 1) st.top 1 A.free) ks bs) (sym H.types_are) (type-holds H w (enum v vs) f e g b sn nn (n + 1) st.top 1 A.free l' (set ts (length Γ) t₁) (omega arith) m (rw c at enum-scene) (rw c at enum-chained.names)
-      (by_number Γ (typeSortOf Γ (enum v vs)) (λ t j. length (cellsBy j.shape t j.cells) ≤ 2048) (λ t _. H.small-types t) (omega arith) (λ t _. omega arith))
+      rw (A.places, ← d) (subst (λ (m : ℕ). Holds s l' (set ts m t₁) (type_state st (n + 1) st.top 1 A.free) ks bs) (sym H.types_are) (type-holds H w (enum v vs) f e g b sn nn (n + 1) st.top 1 A.free l' (set ts (length Γ) t₁) (omega arith) m (rw c at enum-scene) (rw c at enum-chained.names)
+      (by_number Γ (type_sort_of Γ (enum v vs)) (λ t j. length (cells_by j.shape t j.cells) ≤ 2048) (λ t _. H.small-types t) (omega arith) (λ t _. omega arith))
       (rw free-is (omega (arith, H.few-names))) (rw free-is (omega arith)) (rw free-is room) (rw (A.in_order.long, A.values.long, long₂) H.long-list) (rw (length-set ts (length Γ) t₁) H.long-notes)))
 
   pub enum-top : A.free ≡ st.top + (12 + 4 * n)
@@ -257,10 +257,10 @@ module _ {s l ts : List ℕ} {st : State} {k : Declared} {bs : List ℕ} (H : Ho
 
 -- what a line of enumeration says, with its fault and how many names are counted
 data Comes (k : Declared) (us : Trees Run) (w : Name) (o : Option LineForm) (n : ℕ) (f : Fault) : Type 0 where
-  comes-wrong : f ≡ Form → entryStaged k o ≡ wrong → Comes k us w o n f
-  comes-old : f ≡ fault.Name → entryStaged k o ≡ unnamed → Comes k us w o n f
-  comes-fits : (v : Name) (vs : List Name) → f ≡ Clear → namesIn us ≡ some (v ∷ vs) → (suc (length vs) ≤ 256 → n ≡ suc (length vs)) → leb n 256 ≡ leb (suc (length vs)) 256
-      → entryStaged k o ≡ fits (newType w (enum v vs)) → Comes k us w o n f
+  comes-wrong : f ≡ Form → entry_staged k o ≡ wrong → Comes k us w o n f
+  comes-old : f ≡ fault.Name → entry_staged k o ≡ unnamed → Comes k us w o n f
+  comes-fits : (v : Name) (vs : List Name) → f ≡ Clear → names_in us ≡ some (v ∷ vs) → (suc (length vs) ≤ 256 → n ≡ suc (length vs)) → leb n 256 ≡ leb (suc (length vs)) 256
+      → entry_staged k o ≡ fits (new_type w (enum v vs)) → Comes k us w o n f
 
 -- how many names there are, counted up to 1,000
 pub count-bounded : (n m : ℕ) → (m ≤ 1000 → n ≡ m) → (1000 < m → n ≡ 1000) → leb n 256 ≡ leb m 256
@@ -284,29 +284,29 @@ form-end s e q f h (before-end _ _) = refl
 
 module _ (s l ts : List ℕ) (st : State) (p at : ℕ) (own : Bool) (O : GivesFresh s l st.scope p at own) (k : Declared) (bs : List ℕ) (H : Holds s l ts st k bs) where
   abbrev us : Trees Run
-  us = first (stackAt s at)
+  us = first (stack_at s at)
 
   abbrev we : Name
   we = map small (word_at s p)
 
   abbrev after : Option LineForm
-  after = madeAfter we (enumIn us) (first (later (stackAt s at)))
+  after = made_after we (enum_in us) (first (later (stack_at s at)))
 
-  none_after : enumIn us ≡ none → entryStaged k after ≡ wrong
-  unfolding madeAfter entryStaged staged
-  none_after h = rw (bound-none (enumIn us) (λ (t : TypeForm). closed (first (later (stackAt s at))) (typeLine we t)) h) refl
+  none_after : enum_in us ≡ none → entry_staged k after ≡ wrong
+  unfolding made_after entry_staged staged
+  none_after h = rw (bound-none (enum_in us) (λ (t : TypeForm). closed (first (later (stack_at s at))) (type_line we t)) h) refl
 
-  no_names : namesIn us ≡ none → enumIn us ≡ none
+  no_names : names_in us ≡ none → enum_in us ≡ none
   unfolding ◌>>=◌
   no_names h = enum-parts us ∙ rw h refl
 
-  empty-names : namesIn us ≡ some [] → enumIn us ≡ none
+  empty-names : names_in us ≡ some [] → enum_in us ≡ none
   unfolding ◌>>=◌ some?
   empty-names h = enum-parts us ∙ rw h refl
 
   -- the fault of names that are there
-  named-fault : (h : Fault) (n : ℕ) (a b : Bool) → h ≡ cond b Clear fault.Name → (n ≡ 0 → ⊥) → enumFault h n a ≡ cond (a && b) Clear fault.Name
-  unfolding enumFault
+  named-fault : (h : Fault) (n : ℕ) (a b : Bool) → h ≡ cond b Clear fault.Name → (n ≡ 0 → ⊥) → enum_fault h n a ≡ cond (a && b) Clear fault.Name
+  unfolding enum_fault
   named-fault h n true true e z = rw (e, ne_eqb n 0 z) refl
   named-fault h n true false e z = rw (e, ne_eqb n 0 z) refl
   named-fault h n false true e z = rw (e, ne_eqb n 0 z) refl
@@ -316,37 +316,37 @@ module _ (s l ts : List ℕ) (st : State) (p at : ℕ) (own : Bool) (O : GivesFr
   no-form true e = absurd (let z : ◌≡◌ {A = ℕ} 0 1 = cc in omega arith)
   no-form false e = absurd (let z : ◌≡◌ {A = ℕ} 0 1 = cc in omega arith)
 
-  empty-fault : (h : Fault) (n : ℕ) → n ≡ 0 → enumFault h n own ≡ Form
-  unfolding enumFault
-  empty-fault h n z = rw z (go (isForm h))
+  empty-fault : (h : Fault) (n : ℕ) → n ≡ 0 → enum_fault h n own ≡ Form
+  unfolding enum_fault
+  empty-fault h n z = rw z (go (is_form h))
     where
       go : (b : Bool) → cond b Form (cond (eqb 0 0) Form (cond own h fault.Name)) ≡ Form
       go true = refl
       go false = refl
 
-  both-fresh : (v : Name) (vs : List Name) → namesIn us ≡ some (v ∷ vs) → (own && fresh k.env (v ∷ vs)) ≡ fresh k.env (we ∷ v ∷ vs)
+  both-fresh : (v : Name) (vs : List Name) → names_in us ≡ some (v ∷ vs) → (own && fresh k.env (v ∷ vs)) ≡ fresh k.env (we ∷ v ∷ vs)
   unfolding fresh
   both-fresh v vs h = ap (λ (b : Bool). b && fresh k.env (v ∷ vs)) (O.says ts st.top k.env bs H.scene (v ∷ vs) h)
 
   -- past the names, by whether they are new
-  past-names : (v : Name) (vs : List Name) (n q : ℕ) → namesIn us ≡ some (v ∷ vs) → later (stackAt s at) ≡ stackAt s q
+  past-names : (v : Name) (vs : List Name) (n q : ℕ) → names_in us ≡ some (v ∷ vs) → later (stack_at s at) ≡ stack_at s q
       → (suc (length vs) ≤ 1000 → n ≡ suc (length vs)) → (1000 < suc (length vs) → n ≡ 1000)
       → (e f : Fault) → e ≡ cond (fresh k.env (we ∷ v ∷ vs)) Clear fault.Name → EndFault s e q f → Comes k us we after n f
-  unfolding madeAfter entryStaged staged closed
+  unfolding made_after entry_staged staged closed
   past-names v vs n q h a few full e f j (was-form i) = no-form (fresh k.env (we ∷ v ∷ vs)) (sym j ∙ i)
   past-names v vs n q h a few full e f j (before-end i d) =
-      let z : after ≡ none = bound-nones (enumIn us) (λ (t : TypeForm). closed (first (later (stackAt s at))) (typeLine we t)) (λ (t : TypeForm). more-closed (first (later (stackAt s at))) (typeLine we t) (λ y. d (sym (ap first a) ∙ y))) in
+      let z : after ≡ none = bound-nones (enum_in us) (λ (t : TypeForm). closed (first (later (stack_at s at))) (type_line we t)) (λ (t : TypeForm). more-closed (first (later (stack_at s at))) (type_line we t) (λ y. d (sym (ap first a) ∙ y))) in
       comes-wrong refl (rw z refl)
   past-names v vs n q h a few full e f j (at-end i d) =
       go (fresh k.env (we ∷ v ∷ vs)) j
-      (ap (λ (zs : Trees Run). entryStaged k (enumIn us >>= λ (t : TypeForm). closed zs (typeLine we t))) (ap first a ∙ d) ∙ enum-named k we us v vs h)
+      (ap (λ (zs : Trees Run). entry_staged k (enum_in us >>= λ (t : TypeForm). closed zs (type_line we t))) (ap first a ∙ d) ∙ enum-named k we us v vs h)
     where
-      go : (b : Bool) → e ≡ cond b Clear fault.Name → entryStaged k after ≡ cond b (fits (newType we (enum v vs))) unnamed → Comes k us we after n e
+      go : (b : Bool) → e ≡ cond b Clear fault.Name → entry_staged k after ≡ cond b (fits (new_type we (enum v vs))) unnamed → Comes k us we after n e
       go true y x = comes-fits v vs y h (λ c. few (omega arith)) (count-bounded n (suc (length vs)) few full) x
       go false y x = comes-old y x
 
-  comes : (c : Counted) → NamesTold s l st.scope at c → (e f : Fault) → e ≡ enumFault c.fault c.names own → EndFault s e c.next f → Comes k us we after c.names f
-  unfolding enumFault
+  comes : (c : Counted) → NamesTold s l st.scope at c → (e f : Fault) → e ≡ enum_fault c.fault c.names own → EndFault s e c.next f → Comes k us we after c.names f
+  unfolding enum_fault
   comes c (names-wrong h) e f q E = comes-wrong (form-end s e _ f q E) (none_after (no_names h))
   comes c (names-read {f = g} {n} {q = q'} [] h a few full F) e f q E = comes-wrong (form-end s e _ f (q ∙ empty-fault g n (few (omega arith))) E) (none_after (empty-names h))
   comes c (names-read {f = g} {n} {q = q'} (v ∷ vs) h a few full F) e f q E = past-names v vs n q' h a few full e f
@@ -355,53 +355,53 @@ module _ (s l ts : List ℕ) (st : State) (p at : ℕ) (own : Bool) (O : GivesFr
 -- ---- the ways
 
 module _ (s l ts : List ℕ) (st : State) (p at : ℕ) (c : Counted) (N : NamesTold s l st.scope at c) (h : Fault) (hc : h ≡ c.fault)
-    (own : Bool) (O : GivesFresh s l st.scope p at own) (e : Fault) (he : e ≡ enumFault h c.names own) (f : Fault) (E : EndFault s e c.next f)
-    (b : Bool) (i : b ≡ isClear f) where
+    (own : Bool) (O : GivesFresh s l st.scope p at own) (e : Fault) (he : e ≡ enum_fault h c.names own) (f : Fault) (E : EndFault s e c.next f)
+    (b : Bool) (i : b ≡ is_clear f) where
   abbrev line : Option LineForm
-  line = madeAfter (map small (word_at s p)) (enumIn (first (stackAt s at))) (first (later (stackAt s at)))
+  line = made_after (map small (word_at s p)) (enum_in (first (stack_at s at))) (first (later (stack_at s at)))
 
-  come : (k : Declared) (bs : List ℕ) → Holds s l ts st k bs → Comes k (first (stackAt s at)) (map small (word_at s p)) line c.names f
-  come k bs H = comes s l ts st p at own O k bs H c N e f (he ∙ ap (λ (x : Fault). enumFault x c.names own) hc) E
+  come : (k : Declared) (bs : List ℕ) → Holds s l ts st k bs → Comes k (first (stack_at s at)) (map small (word_at s p)) line c.names f
+  come k bs H = comes s l ts st p at own O k bs H c N e f (he ∙ ap (λ (x : Fault). enum_fault x c.names own) hc) E
 
-  line-fault : (k : Declared) (bs : List ℕ) → Holds s l ts st k bs → f ≡ faultOf (entryStaged k line)
+  line-fault : (k : Declared) (bs : List ℕ) → Holds s l ts st k bs → f ≡ fault_of (entry_staged k line)
   line-fault k bs H = go (come k bs H)
     where
-      go : Comes k (first (stackAt s at)) (map small (word_at s p)) line c.names f → f ≡ faultOf (entryStaged k line)
-      go (comes-wrong x y) = x ∙ sym (ap faultOf y)
-      go (comes-old x y) = x ∙ sym (ap faultOf y)
-      go (comes-fits v vs x _ _ _ y) = x ∙ sym (ap faultOf y)
+      go : Comes k (first (stack_at s at)) (map small (word_at s p)) line c.names f → f ≡ fault_of (entry_staged k line)
+      go (comes-wrong x y) = x ∙ sym (ap fault_of y)
+      go (comes-old x y) = x ∙ sym (ap fault_of y)
+      go (comes-fits v vs x _ _ _ y) = x ∙ sym (ap fault_of y)
 
-  line_clear : b ≡ true → (k : Declared) (bs : List ℕ) → Holds s l ts st k bs → (v : Name) × (vs : List Name) × (namesIn (first (stackAt s at)) ≡ some (v ∷ vs))
-      × (suc (length vs) ≤ 256 → c.names ≡ suc (length vs)) × (leb c.names 256 ≡ leb (suc (length vs)) 256) × (entryStaged k line ≡ fits (newType (map small (word_at s p)) (enum v vs)))
+  line_clear : b ≡ true → (k : Declared) (bs : List ℕ) → Holds s l ts st k bs → (v : Name) × (vs : List Name) × (names_in (first (stack_at s at)) ≡ some (v ∷ vs))
+      × (suc (length vs) ≤ 256 → c.names ≡ suc (length vs)) × (leb c.names 256 ≡ leb (suc (length vs)) 256) × (entry_staged k line ≡ fits (new_type (map small (word_at s p)) (enum v vs)))
   line_clear j k bs H = go (come k bs H)
     where
-      go : Comes k (first (stackAt s at)) (map small (word_at s p)) line c.names f → (v : Name) × (vs : List Name) × (namesIn (first (stackAt s at)) ≡ some (v ∷ vs))
-          × (suc (length vs) ≤ 256 → c.names ≡ suc (length vs)) × (leb c.names 256 ≡ leb (suc (length vs)) 256) × (entryStaged k line ≡ fits (newType (map small (word_at s p)) (enum v vs)))
-      go (comes-wrong x y) = absurd (false≢true (sym (ap isClear x) ∙ sym i ∙ j))
-      go (comes-old x y) = absurd (false≢true (sym (ap isClear x) ∙ sym i ∙ j))
+      go : Comes k (first (stack_at s at)) (map small (word_at s p)) line c.names f → (v : Name) × (vs : List Name) × (names_in (first (stack_at s at)) ≡ some (v ∷ vs))
+          × (suc (length vs) ≤ 256 → c.names ≡ suc (length vs)) × (leb c.names 256 ≡ leb (suc (length vs)) 256) × (entry_staged k line ≡ fits (new_type (map small (word_at s p)) (enum v vs)))
+      go (comes-wrong x y) = absurd (false≢true (sym (ap is_clear x) ∙ sym i ∙ j))
+      go (comes-old x y) = absurd (false≢true (sym (ap is_clear x) ∙ sym i ∙ j))
       go (comes-fits v vs x a d g y) = (v, vs, a, d, g, y)
 
-  pub enum-failed : b ≡ false → (r : Lined) → r ≡ linedBy f false st → GivesMade s l ts st p at (enumIn (first (stackAt s at))) r l ts
+  pub enum-failed : b ≡ false → (r : Lined) → r ≡ lined_by f false st → GivesMade s l ts st p at (enum_in (first (stack_at s at))) r l ts
   enum-failed j r q = rw q (record {
     gives = λ hp. record {
       below = record { at = λ _ _ _. refl };
-      told = λ k bs H. failed-told s l ts st k bs (entryStaged k line) f (line-fault k bs H) (sym i ∙ j);
+      told = λ k bs H. failed-told s l ts st k bs (entry_staged k line) f (line-fault k bs H) (sym i ∙ j);
     };
   })
 
-  module _ (j : b ≡ true) (u : Bool) (y : u ≡ linesFit st.lines (leb c.names 256)) where
-    bounded : (k : Declared) (bs : List ℕ) → Holds s l ts st k bs → (w : Name) (v : Name) (vs : List Name) → leb c.names 256 ≡ leb (suc (length vs)) 256 → lineBounded k (newType w (enum v vs)) ≡ u
-    unfolding typeBounded
+  module _ (j : b ≡ true) (u : Bool) (y : u ≡ lines_fit st.lines (leb c.names 256)) where
+    bounded : (k : Declared) (bs : List ℕ) → Holds s l ts st k bs → (w : Name) (v : Name) (vs : List Name) → leb c.names 256 ≡ leb (suc (length vs)) 256 → line_bounded k (new_type w (enum v vs)) ≡ u
+    unfolding type_bounded
     bounded k bs H w v vs g = sym (lines-bounded H w (enum v vs) (leb c.names 256) g) ∙ sym y
 
-    pub enum-past : u ≡ false → (r : Lined) → r ≡ linedBy Clear false st → GivesMade s l ts st p at (enumIn (first (stackAt s at))) r l ts
+    pub enum-past : u ≡ false → (r : Lined) → r ≡ lined_by Clear false st → GivesMade s l ts st p at (enum_in (first (stack_at s at))) r l ts
     enum-past t r q = rw q (record {
       gives = λ hp. record {
         below = record { at = λ _ _ _. refl };
         told = λ k bs H.
             let x = line_clear j k bs H in
-            let z : lineBounded k (newType (map small (word_at s p)) (enum x.0 x.1)) ≡ false = bounded k bs H (map small (word_at s p)) x.0 x.1 x.4 ∙ t in
-            subst (λ (T : Staged Entry). LineTold s st k bs T (linedBy Clear false st) l ts) (sym x.5) (record {
+            let z : line_bounded k (new_type (map small (word_at s p)) (enum x.0 x.1)) ≡ false = bounded k bs H (map small (word_at s p)) x.0 x.1 x.4 ∙ t in
+            subst (λ (T : Staged Entry). LineTold s st k bs T (lined_by Clear false st) l ts) (sym x.5) (record {
               fault-is = refl;
               within-is = λ z₁ a. rw (← fits-inj a) (sym z);
               holds = λ z₁ a. rw (← fits-inj a) (λ b₁ room sn nn. absurd (false≢true (sym z ∙ b₁)));
@@ -411,26 +411,26 @@ module _ (s l ts : List ℕ) (st : State) (p at : ℕ) (c : Counted) (N : NamesT
 
     added-same : (n : ℕ) (r : Lined) (l' ts' : List ℕ) → AddsEnum s l ts st p at n r l' ts' → Same 0 st.top l' l
     added-same n r l' ts' A =
-        let t₁ = (enumNamed st (keyed s p) l).top in
-        let l₁ = (enumNamed st (keyed s p) l).list in
+        let t₁ = (enum_named st (keyed s p) l).top in
+        let l₁ = (enum_named st (keyed s p) l).list in
         record {
           at = λ z a d.
               A.in_order.below.at z a d
-              ∙ A.values.below.at z a (omega (arith, (lay-g (enumEntry st (keyed s p)) st.top l).up, (lay-g (infoNumbers (enumInfo st.types n)) t₁ l₁).up))
-              ∙ (lay-g (infoNumbers (enumInfo st.types n)) t₁ l₁).below z (omega (arith, (lay-g (enumEntry st (keyed s p)) st.top l).up))
-              ∙ (lay-g (enumEntry st (keyed s p)) st.top l).below z d;
+              ∙ A.values.below.at z a (omega (arith, (lay-g (enum_entry st (keyed s p)) st.top l).up, (lay-g (info_numbers (enum_info st.types n)) t₁ l₁).up))
+              ∙ (lay-g (info_numbers (enum_info st.types n)) t₁ l₁).below z (omega (arith, (lay-g (enum_entry st (keyed s p)) st.top l).up))
+              ∙ (lay-g (enum_entry st (keyed s p)) st.top l).below z d;
         }
 
-    pub enum-fits : u ≡ true → (r : Lined) (l' ts' : List ℕ) → AddsEnum s l ts st p at c.names r l' ts' → GivesMade s l ts st p at (enumIn (first (stackAt s at))) r l' ts'
-    unfolding symbolSize sizeDecl typeState typeBounded linesFit
+    pub enum-fits : u ≡ true → (r : Lined) (l' ts' : List ℕ) → AddsEnum s l ts st p at c.names r l' ts' → GivesMade s l ts st p at (enum_in (first (stack_at s at))) r l' ts'
+    unfolding symbol_size size_decl type_state type_bounded lines_fit
     enum-fits t r l' ts' A = record {
       gives = λ hp. record {
         below = added-same c.names r l' ts' A;
         told = λ k bs H.
             let x = line_clear j k bs H in
             let w = map small (word_at s p) in
-            let m = entry-fits k line (newType w (enum x.0 x.1)) x.5 in
-            let z : lineBounded k (newType w (enum x.0 x.1)) ≡ true = bounded k bs H w x.0 x.1 x.4 ∙ t in
+            let m = entry-fits k line (new_type w (enum x.0 x.1)) x.5 in
+            let z : line_bounded k (new_type w (enum x.0 x.1)) ≡ true = bounded k bs H w x.0 x.1 x.4 ∙ t in
             let d : leb (suc (length x.1)) 256 ≡ true = sym x.4 ∙ (and-true (leb (st.lines + 1) 64) (leb c.names 256) (sym y ∙ t)).1 in
             let n : c.names ≡ suc (length x.1) = x.3 (leb-true (suc (length x.1)) 256 d) in
             let B : AddsEnum s l ts st p at (suc (length x.1)) r l' ts' = rw n at A in

@@ -9,12 +9,12 @@ use native.Mathlib.Omega.{arith}
 use Rattle.leaf_bytes.specs.Bytes.{small, same}
 use Rattle.law.specs.Base.{Name, ◌>>=◌, each, find}
 use Rattle.law.specs.Environment.{Environment, NameSort}
-use Rattle.law.specs.Forms.{Item, free, some?, madeType}
-use Rattle.law.specs.Names.{listedIn, isKnown, distinct, noneKnown, newNames}
+use Rattle.law.specs.Forms.{Item, free, some?, made_type}
+use Rattle.law.specs.Names.{listed_in, is_known, distinct, none_known, new_names}
 use Rattle.law.specs.Syntax.{enum}
 use Rattle.law.specs.Trees.{Trees, end, ◌then◌, Run, first, later, list, word_at}
-use Rattle.law_theorems.specs.Readings.{stackAt}
-use Rattle.law.specs.Words.{Word, worded, wordedAll}
+use Rattle.law_theorems.specs.Readings.{stack_at}
+use Rattle.law.specs.Words.{Word, worded, worded_all}
 use Rattle.law_theorems.proofs.Inversion.{none-some, some_inj, bind-some}
 use mir.Syntax.{w32}
 use mir.Val.{Fits}
@@ -28,74 +28,74 @@ use Rattle.table_scope.specs.declared.Scope.{Scope}
 use Rattle.rule_faults.specs.declared.Fault.{Fault}
 use Rattle.rule_faults.specs.declared.Fault.TheVariants as fault
 use Rattle.table_scope.specs.declared.Meaning.{Meaning}
-use Rattle.table_scope.specs.Scene.{Scene, Told, unknown, known, a-type, a-var, a-proc, a-value, meaningHere}
+use Rattle.table_scope.specs.Scene.{Scene, Told, unknown, known, a-type, a-var, a-proc, a-value, meaning_here}
 use Rattle.table_scope.proofs.Telling.{meant}
-use Rattle.text_heads.specs.Parts.{part_of, nameIn}
+use Rattle.text_heads.specs.Parts.{part_of, name_in}
 use Rattle.text_heads.proofs.Walks.{bind-cong, bind_assoc, first_part}
 use Rattle.rule_declarations.specs.Names.{GivesName}
-use Rattle.rule_repeats.specs.Leads.{leads, leadsAt}
+use Rattle.rule_repeats.specs.Leads.{leads, leads_at}
 use Rattle.rule_repeats.specs.Blocks.{apart}
 use Rattle.rule_repeats.proofs.LeadParts.{lead-free}
 use Rattle.rule_repeats.proofs.NamesApart.{distinct_apart}
-use Rattle.rule_enum_lines.specs.Enums.{enumIn, namesIn, many, Listed, freshOne, fresh, GivesNew, GivesFresh, counted, countedBy, isUnknown, NamesTold, names-wrong, names-read, EndsNames, ends-wrong, ends_read}
+use Rattle.rule_enum_lines.specs.Enums.{enum_in, names_in, many, Listed, fresh_one, fresh, GivesNew, GivesFresh, counted, counted_by, is_unknown, NamesTold, names-wrong, names-read, EndsNames, ends-wrong, ends_read}
 use Rattle.rule_enum_lines.specs.declared.enums.Counted.{Counted}
 use Rattle.rule_declarations.specs.declared.Naming.{Naming}
 use Rattle.rule_declarations.specs.declared.Naming.TheVariants as naming
 
 -- ---- all names
 
-names-each : (us : Trees Run) → (wordedAll us >>= λ (vs : Trees Word). each free (list vs)) ≡ namesIn us
-unfolding ◌>>=◌ worded list each namesIn
+names-each : (us : Trees Run) → (worded_all us >>= λ (vs : Trees Word). each free (list vs)) ≡ names_in us
+unfolding ◌>>=◌ worded list each names_in
 names-each end = refl
 names-each (t then ts) =
     first_part (λ (vs : List Item). each free vs) free (λ (n : Name) (vs : List Item). each free vs >>= λ (ns : List Name). some (n ∷ ns)) (λ v vs. refl) t ts
     ∙ bind-cong (worded t >>= free) (λ (n : Name).
-    sym (bind_assoc (wordedAll ts) (λ (vs : Trees Word). each free (list vs)) (λ (ns : List Name). some (n ∷ ns)))
+    sym (bind_assoc (worded_all ts) (λ (vs : Trees Word). each free (list vs)) (λ (ns : List Name). some (n ∷ ns)))
     ∙ ap (λ (o : Option (List Name)). o >>= λ (ns : List Name). some (n ∷ ns)) (names-each ts))
 
-pub enum-parts : (us : Trees Run) → enumIn us ≡ (namesIn us >>= λ (ns : List Name). some? ns >>= λ (p : Name × List Name). some (enum p.0 p.1))
-unfolding enumIn madeType
+pub enum-parts : (us : Trees Run) → enum_in us ≡ (names_in us >>= λ (ns : List Name). some? ns >>= λ (p : Name × List Name). some (enum p.0 p.1))
+unfolding enum_in made_type
 enum-parts us =
-    bind-cong (wordedAll us) (λ (vs : Trees Word). bind_assoc (each free (list vs)) some? (λ (p : Name × List Name). some (enum p.0 p.1)))
-    ∙ sym (bind_assoc (wordedAll us) (λ (vs : Trees Word). each free (list vs)) (λ (ns : List Name). some? ns >>= λ (p : Name × List Name). some (enum p.0 p.1)))
+    bind-cong (worded_all us) (λ (vs : Trees Word). bind_assoc (each free (list vs)) some? (λ (p : Name × List Name). some (enum p.0 p.1)))
+    ∙ sym (bind_assoc (worded_all us) (λ (vs : Trees Word). each free (list vs)) (λ (ns : List Name). some? ns >>= λ (p : Name × List Name). some (enum p.0 p.1)))
     ∙ ap (λ (o : Option (List Name)). o >>= λ (ns : List Name). some? ns >>= λ (p : Name × List Name). some (enum p.0 p.1)) (names-each us)
 
 -- ---- one name, then the others
 
 module _ (s : List ℕ) (p : ℕ) (n : Naming) (N : GivesName s p n) where
-  pub names-called : (y q : ℕ) → n ≡ naming.Called y q → namesIn (first (stackAt s p)) ≡ (namesIn (first (stackAt s q)) >>= λ (ns : List Name). some (map small (word_at s y) ∷ ns))
-  unfolding namesIn nameIn part_of ◌>>=◌
+  pub names-called : (y q : ℕ) → n ≡ naming.Called y q → names_in (first (stack_at s p)) ≡ (names_in (first (stack_at s q)) >>= λ (ns : List Name). some (map small (word_at s y) ∷ ns))
+  unfolding names_in name_in part_of ◌>>=◌
   names-called y q e =
       let g = rw e at N.says in
       let h = g.0.leaf.here in
       let z = rw h at g.2 in
       rw (h, z) refl
 
-  pub names-fewer : (y q : ℕ) → n ≡ naming.Called y q → many (first (stackAt s q)) < many (first (stackAt s p))
+  pub names-fewer : (y q : ℕ) → n ≡ naming.Called y q → many (first (stack_at s q)) < many (first (stack_at s p))
   unfolding many
   names-fewer y q e = let g = rw e at N.says in rw g.0.leaf.here (omega arith)
 
-  pub names-nothing : n ≡ naming.Nothing → (ns : List Name) → namesIn (first (stackAt s p)) ≡ some ns → ns ≡ []
-  unfolding namesIn nameIn part_of ◌>>=◌
-  names-nothing e ns h = go (first (stackAt s p)) (rw e at N.says) h
+  pub names-nothing : n ≡ naming.Nothing → (ns : List Name) → names_in (first (stack_at s p)) ≡ some ns → ns ≡ []
+  unfolding names_in name_in part_of ◌>>=◌
+  names-nothing e ns h = go (first (stack_at s p)) (rw e at N.says) h
     where
-      go : (us : Trees Run) → nameIn us ≡ none → namesIn us ≡ some ns → ns ≡ []
+      go : (us : Trees Run) → name_in us ≡ none → names_in us ≡ some ns → ns ≡ []
       go end f g = sym (some_inj g)
       go (t then us) f g = none-some (rw f at g)
 
-pub listed_more : (σ : Environment) (w v : Name) (vs : List Name) → listedIn σ w (v ∷ vs) ≡ cond (same v w) true (listedIn σ w vs)
-unfolding listedIn
+pub listed_more : (σ : Environment) (w v : Name) (vs : List Name) → listed_in σ w (v ∷ vs) ≡ cond (same v w) true (listed_in σ w vs)
+unfolding listed_in
 listed_more σ w v vs = go (same v w)
   where
-    go : (b : Bool) → elim b [ true ↦ true | false ↦ listedIn σ w vs ] ≡ cond b true (listedIn σ w vs)
+    go : (b : Bool) → elim b [ true ↦ true | false ↦ listed_in σ w vs ] ≡ cond b true (listed_in σ w vs)
     go true = refl
     go false = refl
 
 -- ---- `listed`
 
 pub record Scanning (s : List ℕ) (x at p : ℕ) : Type 0 where
-  pub left : (σ : Environment) (ns : List Name) → namesIn (first (stackAt s at)) ≡ some ns
-      → (ms : List Name) × (namesIn (first (stackAt s p)) ≡ some ms) × (listedIn σ (map small (word_at s x)) ns ≡ listedIn σ (map small (word_at s x)) ms)
+  pub left : (σ : Environment) (ns : List Name) → names_in (first (stack_at s at)) ≡ some ns
+      → (ms : List Name) × (names_in (first (stack_at s p)) ≡ some ms) × (listed_in σ (map small (word_at s x)) ns ≡ listed_in σ (map small (word_at s x)) ms)
 
 module _ (s : List ℕ) (x at : ℕ) where
   pub scan-start : Scanning s x at at
@@ -103,7 +103,7 @@ module _ (s : List ℕ) (x at : ℕ) where
 
   module _ (p : ℕ) (S : Scanning s x at p) (n : Naming) (N : GivesName s p n) where
     pub scan-none : n ≡ naming.Nothing → Listed s x at false
-    unfolding listedIn
+    unfolding listed_in
     scan-none e = record { says = λ σ ns h. let m = S.left σ ns h in let z : m.0 ≡ [] = names-nothing s p n N e m.0 m.1 in sym (m.2 ∙ rw z refl) }
 
     module _ (y q : ℕ) (e : n ≡ naming.Called y q) (b : Bool) (t : b ≡ same (map small (word_at s y)) (map small (word_at s x))) where
@@ -111,14 +111,14 @@ module _ (s : List ℕ) (x at : ℕ) where
       scan-found i = record {
         says = λ σ ns h.
             let m = S.left σ ns h in
-            bind-some (sym (names-called s p n N y q e) ∙ m.1) (λ ms _ g. let z : map small (word_at s y) ∷ ms ≡ m.0 = some_inj g in sym (m.2 ∙ ap (listedIn σ (map small (word_at s x))) (sym z) ∙ listed_more σ (map small (word_at s x)) (map small (word_at s y)) ms ∙ ap (λ (c : Bool). cond c true (listedIn σ (map small (word_at s x)) ms)) (sym t ∙ i)));
+            bind-some (sym (names-called s p n N y q e) ∙ m.1) (λ ms _ g. let z : map small (word_at s y) ∷ ms ≡ m.0 = some_inj g in sym (m.2 ∙ ap (listed_in σ (map small (word_at s x))) (sym z) ∙ listed_more σ (map small (word_at s x)) (map small (word_at s y)) ms ∙ ap (λ (c : Bool). cond c true (listed_in σ (map small (word_at s x)) ms)) (sym t ∙ i)));
       }
 
       pub scan-on : b ≡ false → Scanning s x at q
       scan-on i = record {
         left = λ σ ns h.
             let m = S.left σ ns h in
-            bind-some (sym (names-called s p n N y q e) ∙ m.1) (λ ms u g. let z : map small (word_at s y) ∷ ms ≡ m.0 = some_inj g in (ms, u, m.2 ∙ ap (listedIn σ (map small (word_at s x))) (sym z) ∙ listed_more σ (map small (word_at s x)) (map small (word_at s y)) ms ∙ ap (λ (c : Bool). cond c true (listedIn σ (map small (word_at s x)) ms)) (sym t ∙ i)));
+            bind-some (sym (names-called s p n N y q e) ∙ m.1) (λ ms u g. let z : map small (word_at s y) ∷ ms ≡ m.0 = some_inj g in (ms, u, m.2 ∙ ap (listed_in σ (map small (word_at s x))) (sym z) ∙ listed_more σ (map small (word_at s x)) (map small (word_at s y)) ms ∙ ap (λ (c : Bool). cond c true (listed_in σ (map small (word_at s x)) ms)) (sym t ∙ i)));
       }
 
 pub ruleset scan-laws = (scan-none, scan-found, scan-on)
@@ -126,11 +126,11 @@ pub ruleset scan-laws = (scan-none, scan-found, scan-on)
 -- ---- new names
 
 -- a name with no meaning is not known
-unknown-told : {σ : Environment} {bs : List ℕ} (w : Name) (m : Meaning) → Told σ bs m (find σ.names w) → isUnknown m ≡ not (isKnown σ w)
-unfolding isKnown
+unknown-told : {σ : Environment} {bs : List ℕ} (w : Name) (m : Meaning) → Told σ bs m (find σ.names w) → is_unknown m ≡ not (is_known σ w)
+unfolding is_known
 unknown-told {σ} {bs} w m T = go (find σ.names w) m T
   where
-    go : (o : Option NameSort) (m : Meaning) → Told σ bs m o → isUnknown m ≡ not (elim o [ none ↦ false | some m ↦ true ])
+    go : (o : Option NameSort) (m : Meaning) → Told σ bs m o → is_unknown m ≡ not (elim o [ none ↦ false | some m ↦ true ])
     go _ _ unknown = refl
     go _ _ (known a-type) = refl
     go _ _ (known (a-var v e)) = refl
@@ -138,19 +138,19 @@ unknown-told {σ} {bs} w m T = go (find σ.names w) m T
     go _ _ (known a-value) = refl
 
 module _ (s l : List ℕ) (scope : Scope) (y : ℕ) where
-  pub new_told : (m : Meaning) → m ≡ meaningHere s l scope y → (r : Bool) → r ≡ isUnknown m → GivesNew s l scope y r
+  pub new_told : (m : Meaning) → m ≡ meaning_here s l scope y → (r : Bool) → r ≡ is_unknown m → GivesNew s l scope y r
   new_told m e r g = record {
     says = λ ts top σ bs S.
-        g ∙ ap isUnknown e ∙ unknown-told (map small (word_at s y)) (meaningHere s l scope y) (meant S (map small (word_at s y)));
+        g ∙ ap is_unknown e ∙ unknown-told (map small (word_at s y)) (meaning_here s l scope y) (meant S (map small (word_at s y)));
   }
 
   module _ (q : ℕ) (b : Bool) (L : Listed s y q b) where
     pub fresh-listed : b ≡ true → GivesFresh s l scope y q false
-    unfolding freshOne
+    unfolding fresh_one
     fresh-listed i = record { says = λ ts top σ bs S ms h. rw (sym (L.says σ ms h) ∙ i) refl }
 
     pub fresh-other : b ≡ false → (r : Bool) → GivesNew s l scope y r → GivesFresh s l scope y q r
-    unfolding freshOne
+    unfolding fresh_one
     fresh-other i r N = record { says = λ ts top σ bs S ms h. rw (sym (L.says σ ms h) ∙ i) (N.says ts top σ bs S) }
 
 pub ruleset fresh-laws = (fresh-listed, fresh-other)
@@ -182,10 +182,10 @@ both-none a b e = rw e refl
 pub ruleset both-laws = (both_first, both-none)
 
 module _ (s : List ℕ) (p n : ℕ) (ok : Bool) (e : End) (E : Shuts s p e) (r : Counted) where
-  pub end-past : (q : ℕ) → e ≡ ending.Past q → (o : Bool) → o ≡ ok → (f : Fault) → f ≡ cond o fault.Clear fault.Name → r ≡ countedBy f n q → EndsNames s p n ok r
+  pub end-past : (q : ℕ) → e ≡ ending.Past q → (o : Bool) → o ≡ ok → (f : Fault) → f ≡ cond o fault.Clear fault.Name → r ≡ counted_by f n q → EndsNames s p n ok r
   end-past q g o k f h i = let m : ShutAt s p q = rw g at E.says in rw (i, h, k) (ends_read q m.here m.around)
 
-  pub end_more : e ≡ ending.More → r ≡ countedBy fault.Form 0 p → EndsNames s p n ok r
+  pub end_more : e ≡ ending.More → r ≡ counted_by fault.Form 0 p → EndsNames s p n ok r
   end_more g i = rw i (ends-wrong (rw g at E.says))
 
 pub ruleset end-laws = (end-past, end_more)
@@ -193,18 +193,18 @@ pub ruleset end-laws = (end-past, end_more)
 -- ---- names that differ
 
 -- all parts begin with their names
-pub names-lead : (us : Trees Run) (ns : List Name) → namesIn us ≡ some ns → leads us ≡ ns
-unfolding namesIn leads
+pub names-lead : (us : Trees Run) (ns : List Name) → names_in us ≡ some ns → leads us ≡ ns
+unfolding names_in leads
 names-lead end ns h = some_inj h
 names-lead (t then ts) ns h =
     bind-some h λ n hn g. bind-some g λ ms hm e.
     ap (λ (v : Name). v ∷ leads ts) (lead-free t n hn) ∙ ap (λ (vs : List Name). n ∷ vs) (names-lead ts ms hm) ∙ some_inj e
 
 -- names that are new, one by one or all at once
-pub new-fresh : (σ : Environment) (ns : List Name) → newNames σ ns ≡ fresh σ ns
-unfolding newNames distinct noneKnown fresh freshOne
+pub new-fresh : (σ : Environment) (ns : List Name) → new_names σ ns ≡ fresh σ ns
+unfolding new_names distinct none_known fresh fresh_one
 new-fresh σ [] = refl
-new-fresh σ (w ∷ ws) = go (not (listedIn σ w ws)) (distinct σ ws) (not (isKnown σ w)) (noneKnown σ ws) ∙ ap (λ (b : Bool). (not (listedIn σ w ws) && not (isKnown σ w)) && b) (new-fresh σ ws)
+new-fresh σ (w ∷ ws) = go (not (listed_in σ w ws)) (distinct σ ws) (not (is_known σ w)) (none_known σ ws) ∙ ap (λ (b : Bool). (not (listed_in σ w ws) && not (is_known σ w)) && b) (new-fresh σ ws)
   where
     go : (a b c d : Bool) → ((a && b) && (c && d)) ≡ ((a && c) && (b && d))
     go true true c d = refl
@@ -218,11 +218,11 @@ and-turned true false = refl
 and-turned false true = refl
 and-turned false false = refl
 
-fresh-apart : (σ : Environment) (us : Trees Run) (ns : List Name) → namesIn us ≡ some ns → (noneKnown σ ns && apart (leads us)) ≡ fresh σ ns
-unfolding newNames
+fresh-apart : (σ : Environment) (us : Trees Run) (ns : List Name) → names_in us ≡ some ns → (none_known σ ns && apart (leads us)) ≡ fresh σ ns
+unfolding new_names
 fresh-apart σ us ns h =
-    ap (λ (ms : List Name). noneKnown σ ns && apart ms) (names-lead us ns h) ∙ and-turned (noneKnown σ ns) (apart ns)
-    ∙ ap (λ (b : Bool). b && noneKnown σ ns) (sym (distinct_apart σ ns)) ∙ new-fresh σ ns
+    ap (λ (ms : List Name). none_known σ ns && apart ms) (names-lead us ns h) ∙ and-turned (none_known σ ns) (apart ns)
+    ∙ ap (λ (b : Bool). b && none_known σ ns) (sym (distinct_apart σ ns)) ∙ new-fresh σ ns
 
 -- ---- `enum_names`
 
@@ -232,10 +232,10 @@ pub record Counting (s l : List ℕ) (scope : Scope) (at p n : ℕ) (ok : Bool) 
   pub few : c ≤ 1000 → n ≡ c
   pub full : 1000 < c → n ≡ 1000
   pub small : Fits w32 n
-  pub back : namesIn (first (stackAt s p)) ≡ none → namesIn (first (stackAt s at)) ≡ none
-  pub around : later (stackAt s at) ≡ later (stackAt s p)
-  pub left : (ms : List Name) → namesIn (first (stackAt s p)) ≡ some ms → (ns : List Name) × (namesIn (first (stackAt s at)) ≡ some ns) × (length ns ≡ c + length ms)
-      × ((ts : List ℕ) (top : ℕ) (σ : Environment) (bs : List ℕ) → Scene s l ts scope top σ bs → noneKnown σ ns ≡ (ok && noneKnown σ ms))
+  pub back : names_in (first (stack_at s p)) ≡ none → names_in (first (stack_at s at)) ≡ none
+  pub around : later (stack_at s at) ≡ later (stack_at s p)
+  pub left : (ms : List Name) → names_in (first (stack_at s p)) ≡ some ms → (ns : List Name) × (names_in (first (stack_at s at)) ≡ some ns) × (length ns ≡ c + length ms)
+      × ((ts : List ℕ) (top : ℕ) (σ : Environment) (bs : List ℕ) → Scene s l ts scope top σ bs → none_known σ ns ≡ (ok && none_known σ ms))
 
 pub and_assoc : (a b c : Bool) → (a && (b && c)) ≡ ((a && b) && c)
 and_assoc true b c = refl
@@ -276,7 +276,7 @@ module _ (s l : List ℕ) (scope : Scope) (at : ℕ) where
     module _ (x : Naming) (N : GivesName s p x) where
       pub count-on : (y q : ℕ) → x ≡ naming.Called y q → (b : Bool) → GivesNew s l scope y b → (ok' : Bool) → ok' ≡ (ok && b) → (n' : ℕ) → Fits w32 n' → n' ≡ counted n
           → Counting s l scope at q n' ok'
-      unfolding noneKnown ◌>>=◌
+      unfolding none_known ◌>>=◌
       count-on y q e b G ok' ho n' hf hn = record {
         c = suc S.c;
         few = λ h. hn ∙ (counted-few n S.c S.few S.full).0 h;
@@ -290,28 +290,28 @@ module _ (s l : List ℕ) (scope : Scope) (at : ℕ) where
               m.1,
               m.2 ∙ omega arith,
               λ ts top σ bs C.
-                  m.3 ts top σ bs C ∙ ap (λ (z : Bool). ok && (z && noneKnown σ ms)) (sym (G.says ts top σ bs C)) ∙ and_assoc ok b (noneKnown σ ms) ∙ ap (λ (z : Bool). z && noneKnown σ ms) (sym ho),
+                  m.3 ts top σ bs C ∙ ap (λ (z : Bool). ok && (z && none_known σ ms)) (sym (G.says ts top σ bs C)) ∙ and_assoc ok b (none_known σ ms) ∙ ap (λ (z : Bool). z && none_known σ ms) (sym ho),
             );
       }
 
-      none-names : (us : Trees Run) → nameIn us ≡ none → (us ≡ end → ⊥) → namesIn us ≡ none
-      unfolding namesIn nameIn part_of ◌>>=◌
+      none-names : (us : Trees Run) → name_in us ≡ none → (us ≡ end → ⊥) → names_in us ≡ none
+      unfolding names_in name_in part_of ◌>>=◌
       none-names end f h = absurd (h refl)
       none-names (t then us) f h = rw f refl
 
-      end-names : (us : Trees Run) → us ≡ end → namesIn us ≡ some []
-      unfolding namesIn
+      end-names : (us : Trees Run) → us ≡ end → names_in us ≡ some []
+      unfolding names_in
       end-names us h = rw h refl
 
-      pub count-end : x ≡ naming.Nothing → (r : Counted) → EndsNames s p n (ok && apart (leadsAt s at)) r → NamesTold s l scope at r
-      unfolding noneKnown
-      count-end e r (ends-wrong h) = names-wrong (S.back (none-names (first (stackAt s p)) (rw e at N.says) h))
+      pub count-end : x ≡ naming.Nothing → (r : Counted) → EndsNames s p n (ok && apart (leads_at s at)) r → NamesTold s l scope at r
+      unfolding none_known
+      count-end e r (ends-wrong h) = names-wrong (S.back (none-names (first (stack_at s p)) (rw e at N.says) h))
       count-end e r (ends_read q h a) =
-          let m = S.left [] (end-names (first (stackAt s p)) h) in
+          let m = S.left [] (end-names (first (stack_at s p)) h) in
           let z : length m.0 ≡ S.c = m.2 ∙ omega arith in
           names-read m.0 m.1 (S.around ∙ a) (λ i. S.few (rw z at i) ∙ sym z) (λ i. S.full (rw z at i))
           (λ ts top σ bs C.
           ap (λ (b : Bool). cond b fault.Clear fault.Name)
-          (ap (λ (b : Bool). b && apart (leadsAt s at)) (sym (m.3 ts top σ bs C ∙ and-true-right ok)) ∙ fresh-apart σ (first (stackAt s at)) m.0 m.1))
+          (ap (λ (b : Bool). b && apart (leads_at s at)) (sym (m.3 ts top σ bs C ∙ and-true-right ok)) ∙ fresh-apart σ (first (stack_at s at)) m.0 m.1))
 
 pub ruleset count-laws = (count-on, count-end)

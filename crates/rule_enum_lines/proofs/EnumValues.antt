@@ -14,11 +14,11 @@ use lib.ListN.{length, get_or, set}
 use Rattle.leaf_bytes.specs.Bytes.{small, same}
 use Rattle.leaf_bytes.proofs.Same.{same-equal}
 use Rattle.law.specs.Base.{Name, find}
-use Rattle.law.specs.Environment.{Environment, NameSort, aProc, aValue, enumNames}
+use Rattle.law.specs.Environment.{Environment, NameSort, a_proc, a_value, enum_names}
 use Rattle.code.specs.Layout.{lay}
 use Rattle.law.specs.Script.{Const}
 use Rattle.law.specs.Trees.{first, word_at}
-use Rattle.law_theorems.specs.Readings.{stackAt}
+use Rattle.law_theorems.specs.Readings.{stack_at}
 use Rattle.law.specs.Types.{Types}
 use Rattle.law_theorems.proofs.Inversion.{some_inj, bind-some}
 use Rattle.code.proofs.LayoutRegions.{Has, lay-g, lay-l}
@@ -27,7 +27,7 @@ use Rattle.law_theorems.proofs.LinesKeep.{find-fair}
 use Rattle.law_theorems.specs.LinesKeep.{AllFair, Fair, value}
 use Rattle.table_list.specs.Laid.{Laid}
 use Rattle.table_names.specs.Keys.{keyed}
-use Rattle.table_names.specs.Chain.{entries, Called, name_at, key_at, valuesBy, valuesBehind}
+use Rattle.table_names.specs.Chain.{entries, Called, name_at, key_at, values_by, values_behind}
 use Rattle.table_names.proofs.Chained.{called-keyed}
 use Rattle.table_names.specs.Chained.{Below, one_name, one_entry}
 use Rattle.table_order.specs.Ordered.{Ordered}
@@ -36,15 +36,15 @@ use Rattle.rule_faults.specs.declared.Fault.{Fault}
 use Rattle.rule_faults.specs.declared.Fault.TheVariants as fault
 use Rattle.table_scope.specs.declared.Info.{Info}
 use Rattle.table_scope.proofs.Within.{find-other}
-use Rattle.table_scope.specs.Scene.{Means, a-value, meaningBy, meaningAt}
-use Rattle.table_scope.specs.Descriptions.{ordinalInfo}
-use Rattle.rule_faults.specs.Got.{isForm}
-use Rattle.rule_enum_lines.specs.Enums.{namesIn, counted}
+use Rattle.table_scope.specs.Scene.{Means, a-value, meaning_by, meaning_at}
+use Rattle.table_scope.specs.Descriptions.{ordinal_info}
+use Rattle.rule_faults.specs.Got.{is_form}
+use Rattle.rule_enum_lines.specs.Enums.{names_in, counted}
 use Rattle.rule_declarations.specs.State.{scoped}
-use Rattle.rule_declarations.specs.Lines.{linedBy}
+use Rattle.rule_declarations.specs.Lines.{lined_by}
 use Rattle.rule_declarations.specs.Names.{GivesName}
-use Rattle.rule_type_lines.specs.TypeLines.{infoNumbers, typeState}
-use Rattle.rule_enum_lines.specs.Values.{start_of, Values, no_value, one_value, link_of, valueEntry, LaysValues, enumEntry, enumInfo, LaysDescribed, LaysEnum, AddsEnum, enumFault}
+use Rattle.rule_type_lines.specs.TypeLines.{info_numbers, type_state}
+use Rattle.rule_enum_lines.specs.Values.{start_of, Values, no_value, one_value, link_of, value_entry, LaysValues, enum_entry, enum_info, LaysDescribed, LaysEnum, AddsEnum, enum_fault}
 use Rattle.rule_declarations.specs.declared.State.{State}
 use Rattle.rule_declarations.specs.declared.Lined.{Lined}
 use Rattle.rule_type_lines.specs.declared.Placed.{Placed}
@@ -66,35 +66,35 @@ link-last i n place newest m e h = rw (le-ltb i (n - 1) (omega arith)) refl
 pub ruleset link-laws = (link-next, link-last)
 
 pub value-laid : (kind newest n name i place link : ℕ) → link ≡ link_of i n place newest → (l : List ℕ) (r : ℕ) (l' : List ℕ)
-    → Laid (lay (name ∷ (3 + 4 * (kind % 128)) ∷ i ∷ link ∷ []) place l) r l' → Laid (lay (valueEntry kind newest n name i place) place l) r l'
-unfolding valueEntry
+    → Laid (lay (name ∷ (3 + 4 * (kind % 128)) ∷ i ∷ link ∷ []) place l) r l' → Laid (lay (value_entry kind newest n name i place) place l) r l'
+unfolding value_entry
 value-laid kind newest n name i place link g l r l' L = rw (← g) L
 
 pub enum-name-laid : (st : State) (name : ℕ) (l : List ℕ) (r : ℕ) (l' : List ℕ)
-    → Laid (lay (name ∷ (4 * (st.types % 128)) ∷ 0 ∷ (st.top % 32768 + 12) ∷ []) st.top l) r l' → Laid (lay (enumEntry st name) st.top l) r l'
-unfolding enumEntry
+    → Laid (lay (name ∷ (4 * (st.types % 128)) ∷ 0 ∷ (st.top % 32768 + 12) ∷ []) st.top l) r l' → Laid (lay (enum_entry st name) st.top l) r l'
+unfolding enum_entry
 enum-name-laid st name l r l' L = L
 
-pub enum-info-is : (kind n high : ℕ) (x : Info) → high ≡ n - 1 → x ≡ ordinalInfo kind 0 high → x ≡ enumInfo kind n
-unfolding enumInfo
+pub enum-info-is : (kind n high : ℕ) (x : Info) → high ≡ n - 1 → x ≡ ordinal_info kind 0 high → x ≡ enum_info kind n
+unfolding enum_info
 enum-info-is kind n high x e f = f ∙ rw e refl
 
-module _ (f : Fault) (n : ℕ) (own b : Bool) (i : b ≡ isForm f) where
-  pub enum-fault-form : b ≡ true → fault.Form ≡ enumFault f n own
-  unfolding enumFault
+module _ (f : Fault) (n : ℕ) (own b : Bool) (i : b ≡ is_form f) where
+  pub enum-fault-form : b ≡ true → fault.Form ≡ enum_fault f n own
+  unfolding enum_fault
   enum-fault-form j = rw (sym i ∙ j) refl
 
   module _ (j : b ≡ false) where
-    pub enum-fault-none : n ≡ 0 → fault.Form ≡ enumFault f n own
-    unfolding enumFault
+    pub enum-fault-none : n ≡ 0 → fault.Form ≡ enum_fault f n own
+    unfolding enum_fault
     enum-fault-none e = rw (sym i ∙ j, eq-eqb n 0 e) refl
 
-    pub enum-fault-own : (n ≡ 0 → ⊥) → own ≡ true → f ≡ enumFault f n own
-    unfolding enumFault
+    pub enum-fault-own : (n ≡ 0 → ⊥) → own ≡ true → f ≡ enum_fault f n own
+    unfolding enum_fault
     enum-fault-own e o = rw (sym i ∙ j, ne_eqb n 0 e, o) refl
 
-    pub enum-fault-old : (n ≡ 0 → ⊥) → own ≡ false → fault.Name ≡ enumFault f n own
-    unfolding enumFault
+    pub enum-fault-old : (n ≡ 0 → ⊥) → own ≡ false → fault.Name ≡ enum_fault f n own
+    unfolding enum_fault
     enum-fault-old e o = rw (sym i ∙ j, ne_eqb n 0 e, o) refl
 
 pub ruleset enum-fault-laws = (enum-fault-form, enum-fault-none, enum-fault-own, enum-fault-old)
@@ -109,8 +109,8 @@ pub record LayingValues (s l₀ : List ℕ) (kind newest n top at p i place : �
   pub few : i ≤ n
   pub small_n : Fits w32 n
   pub small-place : Fits w32 place
-  pub left : (ns : List Name) → namesIn (first (stackAt s at)) ≡ some ns → length ns ≡ n → kind < 128 → length s ≤ 32768 → Room (4 * n) top l₀
-      → (ms : List Name) × (namesIn (first (stackAt s p)) ≡ some ms) × (i + length ms ≡ n) × (place ≡ top + 4 * i)
+  pub left : (ns : List Name) → names_in (first (stack_at s at)) ≡ some ns → length ns ≡ n → kind < 128 → length s ≤ 32768 → Room (4 * n) top l₀
+      → (ms : List Name) × (names_in (first (stack_at s p)) ≡ some ms) × (i + length ms ≡ n) × (place ≡ top + 4 * i)
       × ((l' : List ℕ) → Same 0 place l' l → Values s l' kind newest place i ms → Values s l' kind newest top 0 ns)
 
 module _ (s l₀ : List ℕ) (kind newest n top at : ℕ) where
@@ -162,9 +162,9 @@ module _ (s l₀ : List ℕ) (kind newest n top at : ℕ) where
             absurd (omega (arith, y.2));
       }
 
-      module _ (h : i < n) (y q : ℕ) (e : x ≡ naming.Called y q) (name : ℕ) (keyed-is : name ≡ keyed s y) (r : ℕ) (l' : List ℕ) (L : Laid (lay (valueEntry kind newest n name i place) place l) r l') (small_r : Fits w32 r) where
+      module _ (h : i < n) (y q : ℕ) (e : x ≡ naming.Called y q) (name : ℕ) (keyed-is : name ≡ keyed s y) (r : ℕ) (l' : List ℕ) (L : Laid (lay (value_entry kind newest n name i place) place l) r l') (small_r : Fits w32 r) where
         abbrev entry : List ℕ
-        entry = valueEntry kind newest n name i place
+        entry = value_entry kind newest n name i place
 
         value_same : Same 0 place l' l
         value_same = laid_same entry place l l' L.left
@@ -183,7 +183,7 @@ module _ (s l₀ : List ℕ) (kind newest n top at : ℕ) where
         -- one value more, in a list that agrees up to its end
         value-held : (ms : List Name) → i + suc (length ms) ≡ n → kind < 128 → length s ≤ 32768 → Room 4 place l → (m : List ℕ) → Same 0 (place + 4) m l'
             → Values s m kind newest (place + 4) (i + 1) ms → Values s m kind newest place i (map small (word_at s y) ∷ ms)
-        unfolding valueEntry
+        unfolding value_entry
         value-held ms c k hs R m E W =
             let g = rw e at N.says in
             let H : Has entry place l' = (lay-l entry place l).held R l' (record { at = λ j _ _. ap (λ (z : List ℕ). get_or z j 0) L.left }) in
@@ -196,7 +196,7 @@ module _ (s l₀ : List ℕ) (kind newest n top at : ℕ) where
             (E.at (place + 3) (omega arith) (omega arith) ∙ H.at 3 (omega arith) ∙ link-is ms c (omega (arith, R.fits))) W
 
         pub values-on : LayingValues s l₀ kind newest n top at q (i + 1) r l'
-        unfolding valueEntry
+        unfolding value_entry
         values-on = record {
           below = record { at = λ j a b. value_same.at j a (omega (arith, G.up)) ∙ G.below.at j a b };
           long = value-long ∙ G.long;
@@ -223,15 +223,15 @@ module _ (s l₀ : List ℕ) (kind newest n top at : ℕ) where
               ));
         }
           where
-            top-more : (place : ℕ) (l : List ℕ) → place + 4 ≤ 16384 → (lay (valueEntry kind newest n name i place) place l).top ≡ place + 4
-            top-more place l f = (lay-l (valueEntry kind newest n name i place) place l).top-is f
+            top-more : (place : ℕ) (l : List ℕ) → place + 4 ≤ 16384 → (lay (value_entry kind newest n name i place) place l).top ≡ place + 4
+            top-more place l f = (lay-l (value_entry kind newest n name i place) place l).top-is f
 
 pub ruleset values-laws = (values-done, values-short, values-on)
 
 -- ---- `add_enum`
 
-pub lays-described : (l : List ℕ) (st : State) (name n q : ℕ) (m : List ℕ) → Laid (lay (enumEntry st name) st.top l) q m → (x : Info) → x ≡ enumInfo st.types n
-    → (t : ℕ) (m' : List ℕ) → Laid (lay (infoNumbers x) q m) t m' → LaysDescribed l st name n (record { place = q; top = t }) m'
+pub lays-described : (l : List ℕ) (st : State) (name n q : ℕ) (m : List ℕ) → Laid (lay (enum_entry st name) st.top l) q m → (x : Info) → x ≡ enum_info st.types n
+    → (t : ℕ) (m' : List ℕ) → Laid (lay (info_numbers x) q m) t m' → LaysDescribed l st name n (record { place = q; top = t }) m'
 lays-described l st name n q m L x hx t m' M = record {
   place_is = L.free;
   top-is = M.free ∙ rw (hx, L.free, L.left) refl;
@@ -244,14 +244,14 @@ pub lays-enum : (s l : List ℕ) (st : State) (p at n name : ℕ) → name ≡ k
 lays-enum s l st p at n name e q m L free k W l' O = record { laid = k; values = rw (← e, ← L.top-is, ← L.list-is) W; in_order = O; place_is = rw (← e) L.place_is }
 
 pub adds-enum : (s l ts : List ℕ) (st : State) (p at n : ℕ) (q : Placed) (l' : List ℕ) → LaysEnum s l st p at n q l' → (ts' : List ℕ) → ts' ≡ set ts st.types q.place
-    → (c : ℕ) → c ≡ counted n → (st' : State) → st' ≡ typeState st c st.top 1 q.top → (r : Lined) → r ≡ linedBy fault.Clear true st' → AddsEnum s l ts st p at n r l' ts'
+    → (c : ℕ) → c ≡ counted n → (st' : State) → st' ≡ type_state st c st.top 1 q.top → (r : Lined) → r ≡ lined_by fault.Clear true st' → AddsEnum s l ts st p at n r l' ts'
 adds-enum s l ts st p at n q l' L ts' e c hc st' hs r hr = record {
   free = q.top;
   laid = L.laid;
   values = L.values;
   in_order = L.in_order;
   places = e ∙ ap (λ (z : ℕ). set ts st.types z) L.place_is;
-  answer = hr ∙ ap (λ (z : State). linedBy fault.Clear true z) (hs ∙ ap (λ (z : ℕ). typeState st z st.top 1 q.top) hc);
+  answer = hr ∙ ap (λ (z : State). lined_by fault.Clear true z) (hs ∙ ap (λ (z : ℕ). type_state st z st.top 1 q.top) hc);
 }
 
 -- ---- put in order they are the same values
@@ -300,16 +300,16 @@ values-last {l = l} place n w (v ∷ ws) (one_value C a b d W) =
 
 -- an entry that a lookup passes as the chain does, before those that it links to
 pub chained-one : {s l : List ℕ} {scope : Scope} {top : ℕ} {σ : Environment} {bs : List ℕ} {ns : List (Name × NameSort)} (place : ℕ) (w : Name) (m : NameSort)
-    → 1 ≤ place → Below s l top (suc scope.count) place → Called s l place w → Means σ bs (meaningBy (get_or l (place + 1) 0) (get_or l (place + 2) 0)) m → get_or l (place + 3) 0 ≡ scope.newest
+    → 1 ≤ place → Below s l top (suc scope.count) place → Called s l place w → Means σ bs (meaning_by (get_or l (place + 1) 0) (get_or l (place + 2) 0)) m → get_or l (place + 3) 0 ≡ scope.newest
     → Chained s l scope top σ bs ns → Chained s l (scoped (suc scope.count) place) top σ bs ((w, m) ∷ ns)
-unfolding entries meaningAt
+unfolding entries meaning_at
 chained-one {l = l} {scope = scope} place w m h B e M k C = record {
   names = rw k (one_name {w = w} {a = m} h e (record { means = rw (ne_eqb place 0 (λ z. omega arith)) M }) C.names);
   below = B;
 }
 
-pub value-means : (σ : Environment) (bs : List ℕ) (t sort n : ℕ) → t < 128 → sort % 512 ≡ 3 + 4 * t → Means σ bs (meaningBy sort n) (aValue (record { kind = t; value = pos n }))
-unfolding meaningBy
+pub value-means : (σ : Environment) (bs : List ℕ) (t sort n : ℕ) → t < 128 → sort % 512 ≡ 3 + 4 * t → Means σ bs (meaning_by sort n) (a_value (record { kind = t; value = pos n }))
+unfolding meaning_by
 value-means σ bs t sort n h e =
     let a : sort % 4 ≡ 3 = omega arith in
     let c : sort / 4 ≡ t + 128 * (sort / 512) = omega arith in
@@ -317,91 +317,91 @@ value-means σ bs t sort n h e =
     let b : sort / 4 % 128 ≡ t = ap (λ (x : ℕ). x % 128) c ∙ d in
     rw (a, b) a-value
 
-value-alone : (l : List ℕ) (t place : ℕ) → get_or l (place + 1) 0 % 512 ≡ 3 + 4 * t → valuesBehind l place ≡ 0
-unfolding valuesBehind valuesBy
+value-alone : (l : List ℕ) (t place : ℕ) → get_or l (place + 1) 0 % 512 ≡ 3 + 4 * t → values_behind l place ≡ 0
+unfolding values_behind values_by
 value-alone l t place e = let a : get_or l (place + 1) 0 % 4 ≡ 3 = omega arith in rw a refl
 
 pub chained-values : {s l : List ℕ} {scope : Scope} {top : ℕ} {σ : Environment} {bs : List ℕ} {ns : List (Name × NameSort)} (kind place n : ℕ) (ws : List Name) → kind < 128
     → Values s l kind scope.newest place n ws → 1 ≤ place → place + 4 * length ws ≤ top → Chained s l scope top σ bs ns
-    → Chained s l (scoped (length ws + scope.count) (start_of ws place scope.newest)) top σ bs (enumNames kind n ws ++ ns)
-unfolding start_of enumNames
+    → Chained s l (scoped (length ws + scope.count) (start_of ws place scope.newest)) top σ bs (enum_names kind n ws ++ ns)
+unfolding start_of enum_names
 chained-values {s} {l} {scope} {top} {σ} {bs} {ns} kind place n [] q W h g C = let c : scope.count ≡ 0 + scope.count = omega arith in record { names = rw (← c) C.names; below = rw (← c) C.below }
 chained-values {s} {l} {scope} {top} {σ} {bs} {ns} kind place n (w ∷ ws) q (one_value e a b k W) h g C =
     let c : suc (length ws + scope.count) ≡ suc (length ws) + scope.count = omega arith in
     let d : n + 1 ≡ suc n = omega arith in
-    let K : Chained s l (scoped (length ws + scope.count) (start_of ws (place + 4) scope.newest)) top σ bs (enumNames kind (suc n) ws ++ ns) = rw d at (chained-values kind (place + 4) (n + 1) ws q W (omega arith) (omega arith) C) in
+    let K : Chained s l (scoped (length ws + scope.count) (start_of ws (place + 4) scope.newest)) top σ bs (enum_names kind (suc n) ws ++ ns) = rw d at (chained-values kind (place + 4) (n + 1) ws q W (omega arith) (omega arith) C) in
     let B : Below s l top (suc (length ws + scope.count)) place = one_entry {n = length ws + scope.count} {p = place} (omega arith) (value-alone l kind place a) (rw k K.below) in
-    let one = chained-one {scope = scoped (length ws + scope.count) (start_of ws (place + 4) scope.newest)} place w (aValue (record { kind = kind; value = pos n })) h B e (rw b (value-means σ bs kind (get_or l (place + 1) 0) n q a)) k K in
+    let one = chained-one {scope = scoped (length ws + scope.count) (start_of ws (place + 4) scope.newest)} place w (a_value (record { kind = kind; value = pos n })) h B e (rw b (value-means σ bs kind (get_or l (place + 1) 0) n q a)) k K in
     record { names = rw (← c) one.names; below = rw (← c) one.below }
 
 -- ---- an enum value has one name
 
-module _ (t : ℕ) (old : List (Name × NameSort)) (none_old : (w : Name) (c : Const) → find old w ≡ some (aValue c) → c.kind < t) where
-  value_inj : {c d : Const} → some (aValue c) ≡ some (aValue d) → c ≡ d
+module _ (t : ℕ) (old : List (Name × NameSort)) (none_old : (w : Name) (c : Const) → find old w ≡ some (a_value c) → c.kind < t) where
+  value_inj : {c d : Const} → some (a_value c) ≡ some (a_value d) → c ≡ d
   value_inj h = go (some_inj h)
     where
-      go : {c d : Const} → aValue c ≡ aValue d → c ≡ d
+      go : {c d : Const} → a_value c ≡ a_value d → c ≡ d
       go e = cc
 
   -- ordinals from n on
-  value-later : (ws : List Name) (n m : ℕ) (b : Name) → m < n → find (enumNames t n ws ++ old) b ≡ some (aValue (record { kind = t; value = pos m })) → ⊥
-  unfolding enumNames find
+  value-later : (ws : List Name) (n m : ℕ) (b : Name) → m < n → find (enum_names t n ws ++ old) b ≡ some (a_value (record { kind = t; value = pos m })) → ⊥
+  unfolding enum_names find
   value-later [] n m b h e = let z = none_old b (record { kind = t; value = pos m }) e in omega arith
   value-later (w ∷ ws) n m b h e = go (λ g. value-later ws (suc n) m b (omega arith) g) (same w b) e
     where
-      go : (find (enumNames t (suc n) ws ++ old) b ≡ some (aValue (record { kind = t; value = pos m })) → ⊥) → (u : Bool)
-          → elim u [ true ↦ some (aValue (record { kind = t; value = pos n })) | false ↦ find (enumNames t (suc n) ws ++ old) b ] ≡ some (aValue (record { kind = t; value = pos m })) → ⊥
+      go : (find (enum_names t (suc n) ws ++ old) b ≡ some (a_value (record { kind = t; value = pos m })) → ⊥) → (u : Bool)
+          → elim u [ true ↦ some (a_value (record { kind = t; value = pos n })) | false ↦ find (enum_names t (suc n) ws ++ old) b ] ≡ some (a_value (record { kind = t; value = pos m })) → ⊥
       go _ true g = let z : n ≡ m = pos_inj (ap (λ (c : Const). c.value) (value_inj g)) in omega arith
         where
           pos_inj : {a b : ℕ} → pos a ≡ pos b → a ≡ b
           pos_inj q = cc
       go k false g = k g
 
-  pub values-once : ((v w : Name) (c : Const) → find old v ≡ some (aValue c) → find old w ≡ some (aValue c) → same v w ≡ true) → (ws : List Name) (n : ℕ) (a b : Name) (c : Const)
-      → find (enumNames t n ws ++ old) a ≡ some (aValue c) → find (enumNames t n ws ++ old) b ≡ some (aValue c) → same a b ≡ true
-  unfolding enumNames find
+  pub values-once : ((v w : Name) (c : Const) → find old v ≡ some (a_value c) → find old w ≡ some (a_value c) → same v w ≡ true) → (ws : List Name) (n : ℕ) (a b : Name) (c : Const)
+      → find (enum_names t n ws ++ old) a ≡ some (a_value c) → find (enum_names t n ws ++ old) b ≡ some (a_value c) → same a b ≡ true
+  unfolding enum_names find
   values-once O [] n a b c e f = O a b c e f
   values-once O (w ∷ ws) n a b c e f = go (λ g h. values-once O ws (suc n) a b c g h) (same w a) refl (same w b) refl e f
     where
       here : Const
       here = record { kind = t; value = pos n }
 
-      go : (find (enumNames t (suc n) ws ++ old) a ≡ some (aValue c) → find (enumNames t (suc n) ws ++ old) b ≡ some (aValue c) → same a b ≡ true)
-          → (u : Bool) → same w a ≡ u → (v : Bool) → same w b ≡ v → elim u [ true ↦ some (aValue here) | false ↦ find (enumNames t (suc n) ws ++ old) a ] ≡ some (aValue c)
-          → elim v [ true ↦ some (aValue here) | false ↦ find (enumNames t (suc n) ws ++ old) b ] ≡ some (aValue c) → same a b ≡ true
+      go : (find (enum_names t (suc n) ws ++ old) a ≡ some (a_value c) → find (enum_names t (suc n) ws ++ old) b ≡ some (a_value c) → same a b ≡ true)
+          → (u : Bool) → same w a ≡ u → (v : Bool) → same w b ≡ v → elim u [ true ↦ some (a_value here) | false ↦ find (enum_names t (suc n) ws ++ old) a ] ≡ some (a_value c)
+          → elim v [ true ↦ some (a_value here) | false ↦ find (enum_names t (suc n) ws ++ old) b ] ≡ some (a_value c) → same a b ≡ true
       go _ true p true q g h = rw (← same-equal w a p) q
       go _ true p false q g h = absurd (value-later ws (suc n) n b (omega arith) (h ∙ sym g))
       go _ false p true q g h = absurd (value-later ws (suc n) n a (omega arith) (g ∙ sym h))
       go k false p false q g h = k g h
 
 -- procedures stay so
-value-proc : (c : Const) (q : ℕ) (us : List ℕ) → aValue c ≡ aProc q us → ⊥
+value-proc : (c : Const) (q : ℕ) (us : List ℕ) → a_value c ≡ a_proc q us → ⊥
 value-proc c q us h = let z : ◌≡◌ {A = ℕ} 0 1 = cc in omega arith
 
 pub procs-old : (t : ℕ) (old : List (Name × NameSort)) (ws : List Name) (n : ℕ) (a : Name) (q : ℕ) (us : List ℕ)
-    → find (enumNames t n ws ++ old) a ≡ some (aProc q us) → find old a ≡ some (aProc q us)
-unfolding enumNames
+    → find (enum_names t n ws ++ old) a ≡ some (a_proc q us) → find old a ≡ some (a_proc q us)
+unfolding enum_names
 procs-old t old [] n a q us e = e
-procs-old t old (w ∷ ws) n a q us e = procs-old t old ws (suc n) a q us (find-other w a (aValue _) (aProc q us) (enumNames t (suc n) ws ++ old) (value-proc _ q us) e)
+procs-old t old (w ∷ ws) n a q us e = procs-old t old ws (suc n) a q us (find-other w a (a_value _) (a_proc q us) (enum_names t (suc n) ws ++ old) (value-proc _ q us) e)
 
 -- values of a declared kind stay so
-pub values-above : (t : ℕ) (old : List (Name × NameSort)) → 2 ≤ t → ((w : Name) (c : Const) → find old w ≡ some (aValue c) → 2 ≤ c.kind) → (ws : List Name) (n : ℕ) (a : Name) (c : Const)
-    → find (enumNames t n ws ++ old) a ≡ some (aValue c) → 2 ≤ c.kind
-unfolding enumNames find
+pub values-above : (t : ℕ) (old : List (Name × NameSort)) → 2 ≤ t → ((w : Name) (c : Const) → find old w ≡ some (a_value c) → 2 ≤ c.kind) → (ws : List Name) (n : ℕ) (a : Name) (c : Const)
+    → find (enum_names t n ws ++ old) a ≡ some (a_value c) → 2 ≤ c.kind
+unfolding enum_names find
 values-above t old b O [] n a c e = O a c e
 values-above t old b O (w ∷ ws) n a c e = go (λ g. values-above t old b O ws (suc n) a c g) (same w a) e
   where
-    kind-is : {d : Const} → some (aValue (record { kind = t; value = pos n })) ≡ some (aValue d) → t ≡ d.kind
+    kind-is : {d : Const} → some (a_value (record { kind = t; value = pos n })) ≡ some (a_value d) → t ≡ d.kind
     kind-is q = cc
 
-    go : (find (enumNames t (suc n) ws ++ old) a ≡ some (aValue c) → 2 ≤ c.kind) → (u : Bool)
-        → elim u [ true ↦ some (aValue (record { kind = t; value = pos n })) | false ↦ find (enumNames t (suc n) ws ++ old) a ] ≡ some (aValue c) → 2 ≤ c.kind
+    go : (find (enum_names t (suc n) ws ++ old) a ≡ some (a_value c) → 2 ≤ c.kind) → (u : Bool)
+        → elim u [ true ↦ some (a_value (record { kind = t; value = pos n })) | false ↦ find (enum_names t (suc n) ws ++ old) a ] ≡ some (a_value c) → 2 ≤ c.kind
     go _ true g = let z = kind-is g in omega arith
     go k false g = k g
 
 -- the kinds of declared values are types of the table
-pub value-kind : {Γ : Types} {k : ℕ} {ns : List (Name × NameSort)} → AllFair Γ k ns → (w : Name) (c : Const) → find ns w ≡ some (aValue c) → c.kind < length Γ
-value-kind {Γ} {k} A w c h = go (find-fair A w (aValue c) h)
+pub value-kind : {Γ : Types} {k : ℕ} {ns : List (Name × NameSort)} → AllFair Γ k ns → (w : Name) (c : Const) → find ns w ≡ some (a_value c) → c.kind < length Γ
+value-kind {Γ} {k} A w c h = go (find-fair A w (a_value c) h)
   where
-    go : {c : Const} → Fair Γ k (aValue c) → c.kind < length Γ
+    go : {c : Const} → Fair Γ k (a_value c) → c.kind < length Γ
     go (value l _) = l

@@ -1,8 +1,8 @@
 // The names of an enumeration.
 ghost use Rattle.std.specs.Prelude.{◌≡◌, cond, ◌&&◌};
-ghost use Rattle.rule_enum_lines.specs.Enums.{Listed, isUnknown, GivesNew, GivesFresh, counted, countedBy, EndsNames, NamesTold};
+ghost use Rattle.rule_enum_lines.specs.Enums.{Listed, is_unknown, GivesNew, GivesFresh, counted, counted_by, EndsNames, NamesTold};
 ghost use Rattle.rule_faults.specs.declared.Fault.TheVariants.{Clear, Name};
-ghost use Rattle.rule_repeats.specs.Leads.{leadsAt};
+ghost use Rattle.rule_repeats.specs.Leads.{leads_at};
 ghost use Rattle.rule_repeats.specs.Blocks.{apart};
 
 use rule_declarations::{Naming, name_at};
@@ -43,7 +43,7 @@ pub struct Counted {
 
 // Whether a name has no meaning.
 fn is_unknown(m: Meaning) -> bool
-    ensures { result ≡ isUnknown m }
+    ensures { result ≡ is_unknown m }
 {
     match m {
         Meaning::Unknown => true,
@@ -104,7 +104,7 @@ pub fn both(a: bool, b: bool) -> bool
 
 // An answer for names from its parts.
 fn names_answer(fault: Fault, names: u32, next: usize) -> Counted
-    ensures { result ≡ countedBy fault names next }
+    ensures { result ≡ counted_by fault names next }
 {
     Counted {
         fault: fault,
@@ -115,7 +115,7 @@ fn names_answer(fault: Fault, names: u32, next: usize) -> Counted
 
 // The answer for the names from an offset on, which end at p: row 6 where another part comes.
 fn names_end(text: &[u8], at: usize, p: usize, n: u32, ok: bool) -> Counted
-    ensures { EndsNames text.now p n (ok && apart (leadsAt text.now at)) result }
+    ensures { EndsNames text.now p n (ok && apart (leads_at text.now at)) result }
 {
     let e = end_at(text, p);
     match e {

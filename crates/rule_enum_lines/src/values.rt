@@ -2,11 +2,11 @@
 ghost use Rattle.std.specs.Prelude.{◌≡◌, ◌-◌};
 ghost use Rattle.code.specs.Layout.{lay as laid};
 ghost use Rattle.law.specs.Trees.{first};
-ghost use Rattle.law_theorems.specs.Readings.{stackAt};
+ghost use Rattle.law_theorems.specs.Readings.{stack_at};
 ghost use Rattle.table_list.specs.Laid.{Laid};
-ghost use Rattle.rule_enum_lines.specs.Enums.{enumIn};
+ghost use Rattle.rule_enum_lines.specs.Enums.{enum_in};
 ghost use Rattle.rule_type_lines.specs.TypeLines.{GivesMade};
-ghost use Rattle.rule_enum_lines.specs.Values.{link_of, valueEntry, LaysValues, enumEntry, enumInfo, LaysDescribed, LaysEnum, AddsEnum, enumFault};
+ghost use Rattle.rule_enum_lines.specs.Values.{link_of, value_entry, LaysValues, enum_entry, enum_info, LaysDescribed, LaysEnum, AddsEnum, enum_fault};
 
 use crate::enums::{enum_names, is_fresh, one_more};
 use rule_declarations::{Lined, MOST_ENUM_NAMES, Naming, State, answered, name_at};
@@ -43,7 +43,7 @@ fn link_of(i: u32, n: u32, place: u32, newest: u32) -> u32
 
 // Lays the entry of value i of n, by its name's number; the free place then.
 fn lay_value(work: &mut [u32], kind: u32, newest: u32, n: u32, name: u32, i: u32, place: u32) -> u32
-    ensures { Laid (laid (valueEntry kind newest n name i place) place work.old) result work.new }
+    ensures { Laid (laid (value_entry kind newest n name i place) place work.old) result work.new }
 {
     let sort = 3 + 4 * (kind % TYPE_NUMBERS);
     let link = link_of(i, n, place, newest);
@@ -84,7 +84,7 @@ fn lay_values(
 
 // Lays the entry of the type, by its name's number; the free place then.
 fn lay_enum_name(work: &mut [u32], st: State, name: u32) -> u32
-    ensures { Laid (laid (enumEntry st name) st.top work.old) result work.new }
+    ensures { Laid (laid (enum_entry st name) st.top work.old) result work.new }
 {
     let sort = 4 * (st.types % TYPE_NUMBERS);
     let link = st.top % PLACES + 12;
@@ -93,7 +93,7 @@ fn lay_enum_name(work: &mut [u32], st: State, name: u32) -> u32
 
 // The description of an enumeration of n values.
 fn enum_info(kind: u32, n: u32) -> Info
-    ensures { result ≡ enumInfo kind n }
+    ensures { result ≡ enum_info kind n }
 {
     ordinal_info(kind, 0, one_less(n))
 }
@@ -145,7 +145,7 @@ fn add_enum(
 
 // The fault of an enumeration, from that of its names, how many they are, and whether the type's own name is new.
 fn enum_fault(f: Fault, n: u32, own: bool) -> Fault
-    ensures { result ≡ enumFault f n own }
+    ensures { result ≡ enum_fault f n own }
 {
     if is_form(f) {
         return Fault::Form;
@@ -168,7 +168,7 @@ pub fn enum_line(
     p: usize,
     at: usize,
 ) -> Lined
-    ensures { GivesMade text.now work.old types.old st p at (enumIn (first (stackAt text.now at))) result work.new types.new }
+    ensures { GivesMade text.now work.old types.old st p at (enum_in (first (stack_at text.now at))) result work.new types.new }
 {
     let c = enum_names(text, work, st.scope, at);
     let g = c.fault;

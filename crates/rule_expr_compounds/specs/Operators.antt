@@ -7,29 +7,29 @@ use Rattle.table_kinds.specs.declared.Ruling.{Ruling}
 use Rattle.table_kinds.specs.declared.Ruling.TheVariants.{Misfit, Fits}
 use Rattle.rule_faults.specs.declared.Fault.TheVariants.{Kind}
 use Rattle.table_scope.specs.declared.Info.{Info}
-use Rattle.table_scope.specs.Descriptions.{infoOf}
+use Rattle.table_scope.specs.Descriptions.{info_of}
 use Rattle.table_scope.specs.Sides.{side_in}
 use Rattle.rule_faults.specs.declared.Got.{Got}
 use Rattle.rule_faults.specs.Got.{lowest}
-use Rattle.rule_expr_nodes.specs.Nodes.{Made, failedMade, nodeMade, ifClear}
+use Rattle.rule_expr_nodes.specs.Nodes.{Made, failed_made, node_made, if_clear}
 
-unfoldable pub ruledNode : Ruling → ℕ → ℕ → ℕ → ℕ → List ℕ → Made
-ruledNode Misfit x y q t l = failedMade Kind 0 q t l
-ruledNode (Fits n k) x y q t l = nodeMade k q (lay (n ∷ x ∷ y ∷ []) t l)
+unfoldable pub ruled_node : Ruling → ℕ → ℕ → ℕ → ℕ → List ℕ → Made
+ruled_node Misfit x y q t l = failed_made Kind 0 q t l
+ruled_node (Fits n k) x y q t l = node_made k q (lay (n ∷ x ∷ y ∷ []) t l)
 
 unfoldable pub operated : List ℕ → List ℕ → ℕ → Got → Got → Made
-operated l ts op a b = ruledNode (ruling2 op (side_in l ts a.kind) (side_in l ts b.kind)) a.place b.place b.next b.top l
+operated l ts op a b = ruled_node (ruling2 op (side_in l ts a.kind) (side_in l ts b.kind)) a.place b.place b.next b.top l
 
 unfoldable pub paired : List ℕ → List ℕ → ℕ → Got → Got → Made
-paired l ts op a b = ifClear (lowest a.fault b.fault) 0 b.next b.top l (operated l ts op a b)
+paired l ts op a b = if_clear (lowest a.fault b.fault) 0 b.next b.top l (operated l ts op a b)
 
 -- one side; `pred` and `succ`, nodes 38 and 39, have their bounds
-unfoldable pub ruledNode1 : Ruling → Info → ℕ → ℕ → ℕ → List ℕ → Made
-ruledNode1 Misfit i x q t l = failedMade Kind 0 q t l
-ruledNode1 (Fits n k) i x q t l = nodeMade k q (lay (cond (ltb n 38) (n ∷ x ∷ []) (n ∷ x ∷ i.low ∷ i.high ∷ [])) t l)
+unfoldable pub ruled_node1 : Ruling → Info → ℕ → ℕ → ℕ → List ℕ → Made
+ruled_node1 Misfit i x q t l = failed_made Kind 0 q t l
+ruled_node1 (Fits n k) i x q t l = node_made k q (lay (cond (ltb n 38) (n ∷ x ∷ []) (n ∷ x ∷ i.low ∷ i.high ∷ [])) t l)
 
-unfoldable pub appliedClear : List ℕ → List ℕ → ℕ → Got → Made
-appliedClear l ts f a = ruledNode1 (ruling1 f (side_in l ts a.kind)) (infoOf l ts a.kind) a.place a.next a.top l
+unfoldable pub applied_clear : List ℕ → List ℕ → ℕ → Got → Made
+applied_clear l ts f a = ruled_node1 (ruling1 f (side_in l ts a.kind)) (info_of l ts a.kind) a.place a.next a.top l
 
 unfoldable pub applied : List ℕ → List ℕ → ℕ → Got → Made
-applied l ts f a = ifClear a.fault 0 a.next a.top l (appliedClear l ts f a)
+applied l ts f a = if_clear a.fault 0 a.next a.top l (applied_clear l ts f a)

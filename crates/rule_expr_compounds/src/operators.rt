@@ -1,7 +1,7 @@
 // The nodes of operators and functions, from the answers for their sides.
 ghost use Rattle.table_kinds.specs.declared.Ruling.TheVariants.{Fits};
 ghost use Rattle.rule_expr_nodes.specs.Nodes.{Makes};
-ghost use Rattle.rule_expr_compounds.specs.Operators.{operated, paired, ruledNode1, appliedClear, applied};
+ghost use Rattle.rule_expr_compounds.specs.Operators.{operated, paired, ruled_node1, applied_clear, applied};
 
 use rule_expr_nodes::nodes::node;
 use rule_faults::{Fault, Got, failed, is_clear, lowest};
@@ -41,7 +41,7 @@ pub fn pair(work: &mut [u32], types: &[u32], op: usize, a: Got, b: Got) -> Got
 
 // A node of one part: `pred` and `succ` have their bounds.
 fn node_one(work: &mut [u32], i: Info, n: u32, kind: u32, a: Got) -> Got
-    ensures { Makes (ruledNode1 (Fits n kind) i a.place a.next a.top work.old) result work.new }
+    ensures { Makes (ruled_node1 (Fits n kind) i a.place a.next a.top work.old) result work.new }
 {
     if n < code_ops::expr::PRED {
         let ns = [n, a.place];
@@ -53,7 +53,7 @@ fn node_one(work: &mut [u32], i: Info, n: u32, kind: u32, a: Got) -> Got
 
 // A one-sided operator or function whose side has no fault.
 fn operate_one(work: &mut [u32], types: &[u32], f: usize, a: Got) -> Got
-    ensures { Makes (appliedClear work.old types.now f a) result work.new }
+    ensures { Makes (applied_clear work.old types.now f a) result work.new }
 {
     let x = one_sided(f, side_of(work, types, a.kind));
     match x {

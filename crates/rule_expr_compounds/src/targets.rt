@@ -2,9 +2,9 @@
 ghost use Rattle.std.specs.Prelude.{◌≡◌, map};
 ghost use Rattle.leaf_bytes.specs.Bytes.{small};
 ghost use Rattle.law.specs.Trees.{word_at};
-ghost use Rattle.table_scope.specs.Descriptions.{infoOf};
+ghost use Rattle.table_scope.specs.Descriptions.{info_of};
 ghost use Rattle.rule_expr_nodes.specs.Nodes.{Makes};
-ghost use Rattle.rule_expr_compounds.specs.Targets.{loaded, elementKind, element, indexed, fieldMade, Selects};
+ghost use Rattle.rule_expr_compounds.specs.Targets.{loaded, element_kind, element, indexed, field_made, Selects};
 
 use rule_expr_nodes::nodes::node;
 use rule_faults::{Fault, Got, failed, is_clear, lowest};
@@ -27,7 +27,7 @@ pub fn load(work: &mut [u32], types: &[u32], g: Got) -> Got
 
 // The type of an array's element, 0 of any other type.
 fn element_kind(i: Info) -> u32
-    ensures { result ≡ elementKind i }
+    ensures { result ≡ element_kind i }
 {
     if i.shape == 2 {
         return i.element;
@@ -74,7 +74,7 @@ pub fn index(work: &mut [u32], types: &[u32], g: Got, e: Got) -> Got
 
 // The field whose description stands at p.
 fn field_at(work: &mut [u32], p: u32, next: usize, g: Got) -> Got
-    ensures { Makes (fieldMade work.old p next g) result work.new }
+    ensures { Makes (field_made work.old p next g) result work.new }
 {
     let c = g.fault;
     if p == 0 {
@@ -92,7 +92,7 @@ fn field_at(work: &mut [u32], p: u32, next: usize, g: Got) -> Got
 
 // The field of a target that the word at an offset names.
 pub fn select(text: &[u8], work: &mut [u32], types: &[u32], g: Got, name: usize, next: usize) -> Got
-    ensures { Selects text.now work.old (infoOf work.old types.now g.kind) (map small (word_at text.now name)) next g result work.new }
+    ensures { Selects text.now work.old (info_of work.old types.now g.kind) (map small (word_at text.now name)) next g result work.new }
 {
     let i = describe(work, types, g.kind);
     if i.shape == 3 {

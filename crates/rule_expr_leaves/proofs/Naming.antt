@@ -10,11 +10,11 @@ use Rattle.leaf_words.specs.Words.{word_of}
 use Rattle.law.specs.Base as Base
 use Rattle.law.specs.Base.{◌>>=◌}
 use Rattle.law.specs.Trees.{word, Trees, end, ◌then◌, Run, first, later, word_at}
-use Rattle.law_theorems.specs.Readings.{stackAt}
+use Rattle.law_theorems.specs.Readings.{stack_at}
 use Rattle.text_heads.specs.declared.Atom.{Atom}
 use Rattle.text_heads.specs.declared.Atom.TheVariants as AT
-use Rattle.text_heads.specs.Heads.{atomOf, atomName}
-use Rattle.text_heads.specs.Parts.{rest, closed, nameIn, part_of}
+use Rattle.text_heads.specs.Heads.{atom_of, atom_name}
+use Rattle.text_heads.specs.Parts.{rest, closed, name_in, part_of}
 use Rattle.text_heads.proofs.Heads.{name-word}
 use Rattle.text_heads.proofs.Expressions.{name-form}
 use Rattle.text_parts.specs.declared.Part.{Part}
@@ -24,21 +24,21 @@ use Rattle.text_parts.specs.declared.End.TheVariants as ending
 use Rattle.text_parts.specs.Parts.{ShutAt, Stands, Shuts}
 use Rattle.rule_expr_leaves.specs.declared.fields.Sole.{Sole}
 use Rattle.rule_expr_leaves.specs.declared.fields.Sole.TheVariants as sole
-use Rattle.rule_expr_leaves.specs.Fields.{isNamed, SoleWord, SoleName}
+use Rattle.rule_expr_leaves.specs.Fields.{is_named, SoleWord, SoleName}
 
-module _ (s : List ℕ) (w : Word) (p q : ℕ) (a : Atom) (t : Bool) (i : a ≡ atomOf w) (h : t ≡ isNamed a) where
+module _ (s : List ℕ) (w : Word) (p q : ℕ) (a : Atom) (t : Bool) (i : a ≡ atom_of w) (h : t ≡ is_named a) where
   pub sole-past : (n : ℕ) (e : End) → t ≡ true → Shuts s q e → e ≡ ending.Past n → SoleWord s w p q (sole.Name p n)
-  sole-past n e z c f = record { says = (refl, ap isNamed (sym i) ∙ sym h ∙ z, rw f at c.says) }
+  sole-past n e z c f = record { says = (refl, ap is_named (sym i) ∙ sym h ∙ z, rw f at c.says) }
 
   pub sole-more : (e : End) → t ≡ true → Shuts s q e → e ≡ ending.More → SoleWord s w p q sole.Nothing
   sole-more e z c f = record { says = λ g k. (rw f at c.says) k }
 
   pub sole-other : t ≡ false → SoleWord s w p q sole.Nothing
-  sole-other z = record { says = λ g k. true≢false (sym g ∙ ap isNamed (sym i) ∙ sym h ∙ z) }
+  sole-other z = record { says = λ g k. true≢false (sym g ∙ ap is_named (sym i) ∙ sym h ∙ z) }
 
 pub ruleset sole-word-laws = (sole-past, sole-more, sole-other)
 
-named-name : (a : Atom) (n : Base.Name) → isNamed a ≡ true → atomName a n ≡ some n
+named-name : (a : Atom) (n : Base.Name) → is_named a ≡ true → atom_name a n ≡ some n
 named-name (AT.Number z) n h = absurd (true≢false (sym h))
 named-name AT.Named n h = refl
 named-name (AT.Truth b) n h = absurd (true≢false (sym h))
@@ -46,7 +46,7 @@ named-name AT.ErrorNumber n h = absurd (true≢false (sym h))
 named-name (AT.Base k) n h = absurd (true≢false (sym h))
 named-name AT.Nothing n h = absurd (true≢false (sym h))
 
-other_name : (a : Atom) (n : Base.Name) → isNamed a ≡ false → atomName a n ≡ none
+other_name : (a : Atom) (n : Base.Name) → is_named a ≡ false → atom_name a n ≡ none
 other_name (AT.Number z) n h = refl
 other_name AT.Named n h = absurd (true≢false h)
 other_name (AT.Truth b) n h = refl
@@ -70,22 +70,22 @@ module _ (s : List ℕ) (at : ℕ) (x : Part) (c : Stands s at x) where
   sole-leaf w p q (sole.Name p' n) e g =
       let f = rw e at c.says in
       let b = f.0.leaf in
-      let y : isNamed (atomOf (word_of (word_at s p))) ≡ true = rw (← f.1) g.says.1 in
-      record { says = rw (b.here, g.says.0) (name-word (word_at s p) (first (stackAt s q)) ∙ named-name (atomOf (word_of (word_at s p))) (map small (word_at s p)) y, g.says.2.here, b.around ∙ g.says.2.around) }
+      let y : is_named (atom_of (word_of (word_at s p))) ≡ true = rw (← f.1) g.says.1 in
+      record { says = rw (b.here, g.says.0) (name-word (word_at s p) (first (stack_at s q)) ∙ named-name (atom_of (word_of (word_at s p))) (map small (word_at s p)) y, g.says.2.here, b.around ∙ g.says.2.around) }
   sole-leaf w p q sole.Nothing e g =
       let f = rw e at c.says in
       let b = f.0.leaf in
-      record { says = rw b.here (go (isNamed (atomOf w)) refl f.1) }
+      record { says = rw b.here (go (is_named (atom_of w)) refl f.1) }
     where
-      go : (t : Bool) → isNamed (atomOf w) ≡ t → w ≡ word_of (word_at s p) → (nameIn (word (word_at s p) then first (stackAt s q)) >>= λ n. closed (first (stackAt s q)) n) ≡ none
-      go true h k = open-name (nameIn (word (word_at s p) then first (stackAt s q))) (first (stackAt s q)) (λ z. g.says h z)
-      go false h k = rw (name-word (word_at s p) (first (stackAt s q)) ∙ other_name (atomOf (word_of (word_at s p))) (map small (word_at s p)) (rw (← k) h)) (no_name (first (stackAt s q)))
+      go : (t : Bool) → is_named (atom_of w) ≡ t → w ≡ word_of (word_at s p) → (name_in (word (word_at s p) then first (stack_at s q)) >>= λ n. closed (first (stack_at s q)) n) ≡ none
+      go true h k = open-name (name_in (word (word_at s p) then first (stack_at s q))) (first (stack_at s q)) (λ z. g.says h z)
+      go false h k = rw (name-word (word_at s p) (first (stack_at s q)) ∙ other_name (atom_of (word_of (word_at s p))) (map small (word_at s p)) (rw (← k) h)) (no_name (first (stack_at s q)))
 
   pub sole-form : (p : ℕ) → x ≡ part.Form p → SoleName s at sole.Nothing
-  sole-form p e = let f = rw e at c.says in record { says = rw (f.here, name-form (first (stackAt s p)) (first (later (stackAt s p)))) (no_name (first (later (stackAt s p)))) }
+  sole-form p e = let f = rw e at c.says in record { says = rw (f.here, name-form (first (stack_at s p)) (first (later (stack_at s p)))) (no_name (first (later (stack_at s p)))) }
 
   pub sole-shut : (p : ℕ) → x ≡ part.Shut p → SoleName s at sole.Nothing
-  unfolding nameIn part_of ◌>>=◌
+  unfolding name_in part_of ◌>>=◌
   sole-shut p e = let f = rw e at c.says in record { says = rw f.here refl }
 
 pub ruleset sole-name-laws = (sole-leaf, sole-form, sole-shut)

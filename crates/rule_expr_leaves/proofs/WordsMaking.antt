@@ -20,8 +20,8 @@ use Rattle.leaf_words.specs.declared.words.Word.{Word}
 use Rattle.leaf_words.specs.Words.{word_of}
 use Rattle.code.specs.Layout.{lay, flag}
 use Rattle.law.specs.Trees.{end, word, first, later, word_at}
-use Rattle.law_theorems.specs.Readings.{stackAt}
-use Rattle.text_heads.specs.Heads.{atomOf, atomNumber}
+use Rattle.law_theorems.specs.Readings.{stack_at}
+use Rattle.text_heads.specs.Heads.{atom_of, atom_number}
 use Rattle.text_heads.specs.Parts.{rest, number_in, part_of}
 use Rattle.text_heads.specs.declared.Atom.{Atom}
 use Rattle.text_heads.specs.declared.Atom.TheVariants as AT
@@ -33,20 +33,20 @@ use Rattle.rule_faults.specs.declared.Fault.TheVariants.{Clear, Kind, Name, Form
 use Rattle.table_scope.specs.declared.Info.{Info}
 use Rattle.table_scope.specs.declared.Meaning.{Meaning}
 use Rattle.table_scope.specs.declared.Meaning.TheVariants as meaning
-use Rattle.table_scope.specs.Descriptions.{infoOf}
-use Rattle.table_scope.specs.Sides.{hostIn}
+use Rattle.table_scope.specs.Descriptions.{info_of}
+use Rattle.table_scope.specs.Sides.{host_in}
 use Rattle.rule_faults.specs.declared.Got.{Got}
 use Rattle.text_parts.specs.declared.End.{End}
 use Rattle.text_parts.specs.declared.End.TheVariants as ending
 use Rattle.text_parts.specs.declared.Part.{Part}
 use Rattle.text_parts.specs.declared.Part.TheVariants as part
-use Rattle.rule_faults.specs.Got.{failedGot}
+use Rattle.rule_faults.specs.Got.{failed_got}
 use Rattle.text_parts.specs.Parts.{Before, LeafAt, FormAt, ShutAt, Stands, Shuts}
 use Rattle.rule_expr_leaves.specs.declared.words.Alone.{Alone}
 use Rattle.rule_expr_leaves.specs.declared.words.Alone.TheVariants as alone
-use Rattle.rule_expr_nodes.specs.Nodes.{nodeMade, Makes, ifClear, literalMade}
-use Rattle.rule_expr_nodes.specs.Cells.{cellsMade, end_bits}
-use Rattle.rule_expr_leaves.specs.Words.{AfterBy, StandsAloneBy, wholeMade, namedMade, placeMade, endMade, boundMade, Ends, After, StandsAlone}
+use Rattle.rule_expr_nodes.specs.Nodes.{node_made, Makes, if_clear, literal_made}
+use Rattle.rule_expr_nodes.specs.Cells.{cells_made, end_bits}
+use Rattle.rule_expr_leaves.specs.Words.{AfterBy, StandsAloneBy, whole_made, named_made, place_made, end_made, bound_made, Ends, After, StandsAlone}
 
 -- ---- variables
 
@@ -61,76 +61,76 @@ module _ (b : Bool) where
 
 pub ruleset flag-laws = (flag_true, flag-false)
 
-pub whole_is : (l ts : List ℕ) (k a q t : ℕ) (i : Info) (h : ℕ) (r : Got) (l' : List ℕ) → i ≡ infoOf l ts k → h ≡ hostIn l ts k → Makes (cellsMade i.size h a q t l) r l' → Makes (wholeMade l ts k a q t) r l'
-unfolding wholeMade
+pub whole_is : (l ts : List ℕ) (k a q t : ℕ) (i : Info) (h : ℕ) (r : Got) (l' : List ℕ) → i ≡ info_of l ts k → h ≡ host_in l ts k → Makes (cells_made i.size h a q t l) r l' → Makes (whole_made l ts k a q t) r l'
+unfolding whole_made
 whole_is l ts k a q t i h r l' e f m = rw (← e, ← f) m
 
 -- ---- names by their meaning
 
 module _ (l ts : List ℕ) (m : Meaning) (q t : ℕ) (r : Got) where
-  pub named-unknown : m ≡ meaning.Unknown → r ≡ failedGot Name 0 q t → Makes (namedMade l ts m q t) r l
+  pub named-unknown : m ≡ meaning.Unknown → r ≡ failed_got Name 0 q t → Makes (named_made l ts m q t) r l
   named-unknown e f = rw e (record { given = f; left = refl })
 
-  pub named-type : (k : ℕ) → m ≡ meaning.Type k → r ≡ failedGot Name 0 q t → Makes (namedMade l ts m q t) r l
+  pub named-type : (k : ℕ) → m ≡ meaning.Type k → r ≡ failed_got Name 0 q t → Makes (named_made l ts m q t) r l
   named-type k e f = rw e (record { given = f; left = refl })
 
-  pub named-proc : (p : ℕ) → m ≡ meaning.Proc p → r ≡ failedGot Name 0 q t → Makes (namedMade l ts m q t) r l
+  pub named-proc : (p : ℕ) → m ≡ meaning.Proc p → r ≡ failed_got Name 0 q t → Makes (named_made l ts m q t) r l
   named-proc p e f = rw e (record { given = f; left = refl })
 
-  pub named-var : (i k a : ℕ) (l' : List ℕ) → m ≡ meaning.Var i k a → Makes (wholeMade l ts k a q t) r l' → Makes (namedMade l ts m q t) r l'
+  pub named-var : (i k a : ℕ) (l' : List ℕ) → m ≡ meaning.Var i k a → Makes (whole_made l ts k a q t) r l' → Makes (named_made l ts m q t) r l'
   named-var i k a l' e f = rw e f
 
-  pub named_value : (k n : ℕ) (l' : List ℕ) → m ≡ meaning.Value k n → Makes (nodeMade k q (lay (1 ∷ n ∷ []) t l)) r l' → Makes (namedMade l ts m q t) r l'
+  pub named_value : (k n : ℕ) (l' : List ℕ) → m ≡ meaning.Value k n → Makes (node_made k q (lay (1 ∷ n ∷ []) t l)) r l' → Makes (named_made l ts m q t) r l'
   named_value k n l' e f = rw e f
 
 pub ruleset named-laws = (named-unknown, named-type, named-proc, named-var, named_value)
 
 module _ (l : List ℕ) (m : Meaning) (q t : ℕ) (r : Got) where
-  pub place-unknown : m ≡ meaning.Unknown → r ≡ failedGot Name 0 q t → Makes (placeMade l m q t) r l
+  pub place-unknown : m ≡ meaning.Unknown → r ≡ failed_got Name 0 q t → Makes (place_made l m q t) r l
   place-unknown e f = rw e (record { given = f; left = refl })
 
-  pub place-type : (k : ℕ) → m ≡ meaning.Type k → r ≡ failedGot Name 0 q t → Makes (placeMade l m q t) r l
+  pub place-type : (k : ℕ) → m ≡ meaning.Type k → r ≡ failed_got Name 0 q t → Makes (place_made l m q t) r l
   place-type k e f = rw e (record { given = f; left = refl })
 
-  pub place-proc : (p : ℕ) → m ≡ meaning.Proc p → r ≡ failedGot Name 0 q t → Makes (placeMade l m q t) r l
+  pub place-proc : (p : ℕ) → m ≡ meaning.Proc p → r ≡ failed_got Name 0 q t → Makes (place_made l m q t) r l
   place-proc p e f = rw e (record { given = f; left = refl })
 
-  pub place-value : (k n : ℕ) → m ≡ meaning.Value k n → r ≡ failedGot Name 0 q t → Makes (placeMade l m q t) r l
+  pub place-value : (k n : ℕ) → m ≡ meaning.Value k n → r ≡ failed_got Name 0 q t → Makes (place_made l m q t) r l
   place-value k n e f = rw e (record { given = f; left = refl })
 
-  pub place-var : (i k a : ℕ) (l' : List ℕ) → m ≡ meaning.Var i k a → Makes (nodeMade k q (lay (40 ∷ a ∷ []) t l)) r l' → Makes (placeMade l m q t) r l'
+  pub place-var : (i k a : ℕ) (l' : List ℕ) → m ≡ meaning.Var i k a → Makes (node_made k q (lay (40 ∷ a ∷ []) t l)) r l' → Makes (place_made l m q t) r l'
   place-var i k a l' e f = rw e f
 
 pub ruleset place-laws = (place-unknown, place-type, place-proc, place-value, place-var)
 
 -- ---- `first` and `last`
 
-module _ (l ts : List ℕ) (last : Bool) (k q t : ℕ) (i : Info) (e : i ≡ infoOf l ts k) (r : Got) where
-  pub end-ordinal : (h n : ℕ) (l' : List ℕ) → i.shape ≡ 0 → h ≡ hostIn l ts k → n ≡ end_bits last i → Makes (nodeMade h q (lay (1 ∷ n ∷ []) t l)) r l' → Makes (endMade l ts last k q t) r l'
-  unfolding endMade
+module _ (l ts : List ℕ) (last : Bool) (k q t : ℕ) (i : Info) (e : i ≡ info_of l ts k) (r : Got) where
+  pub end-ordinal : (h n : ℕ) (l' : List ℕ) → i.shape ≡ 0 → h ≡ host_in l ts k → n ≡ end_bits last i → Makes (node_made h q (lay (1 ∷ n ∷ []) t l)) r l' → Makes (end_made l ts last k q t) r l'
+  unfolding end_made
   end-ordinal h n l' z f g m = rw (← e, eq-eqb i.shape 0 z, ← f, ← g) m
 
-  pub end-other : ((i.shape ≡ 0) → ⊥) → r ≡ failedGot Kind 0 q t → Makes (endMade l ts last k q t) r l
-  unfolding endMade
+  pub end-other : ((i.shape ≡ 0) → ⊥) → r ≡ failed_got Kind 0 q t → Makes (end_made l ts last k q t) r l
+  unfolding end_made
   end-other z m = rw (← e, ne_eqb i.shape 0 z) (record { given = m; left = refl })
 
 pub ruleset end-laws = (end-ordinal, end-other)
 
 module _ (l ts : List ℕ) (last : Bool) (f : Fault) (k q t : ℕ) (r : Got) where
-  pub bound-clear : (l' : List ℕ) → f ≡ Clear → Makes (endMade l ts last k q t) r l' → Makes (boundMade l ts last f k q t) r l'
-  unfolding boundMade ifClear
+  pub bound-clear : (l' : List ℕ) → f ≡ Clear → Makes (end_made l ts last k q t) r l' → Makes (bound_made l ts last f k q t) r l'
+  unfolding bound_made if_clear
   bound-clear l' e m = rw e m
 
-  pub bound-kind : f ≡ Kind → r ≡ failedGot Kind 0 q t → Makes (boundMade l ts last f k q t) r l
-  unfolding boundMade ifClear
+  pub bound-kind : f ≡ Kind → r ≡ failed_got Kind 0 q t → Makes (bound_made l ts last f k q t) r l
+  unfolding bound_made if_clear
   bound-kind e m = rw e (record { given = m; left = refl })
 
-  pub bound-name : f ≡ Name → r ≡ failedGot Name 0 q t → Makes (boundMade l ts last f k q t) r l
-  unfolding boundMade ifClear
+  pub bound-name : f ≡ Name → r ≡ failed_got Name 0 q t → Makes (bound_made l ts last f k q t) r l
+  unfolding bound_made if_clear
   bound-name e m = rw e (record { given = m; left = refl })
 
-  pub bound-form : f ≡ Form → r ≡ failedGot Form 0 q t → Makes (boundMade l ts last f k q t) r l
-  unfolding boundMade ifClear
+  pub bound-form : f ≡ Form → r ≡ failed_got Form 0 q t → Makes (bound_made l ts last f k q t) r l
+  unfolding bound_made if_clear
   bound-form e m = rw e (record { given = m; left = refl })
 
 pub ruleset bound-of-laws = (bound-clear, bound-kind, bound-name, bound-form)
@@ -146,7 +146,7 @@ module _ (s : List ℕ) (z : ℤ) (at : ℕ) (e : End) (h : Shuts s at e) where
 
 pub ruleset last-laws = (last-past, last_more)
 
-module _ (s : List ℕ) (w : Word) (at : ℕ) (a : Atom) (e : a ≡ atomOf w) where
+module _ (s : List ℕ) (w : Word) (at : ℕ) (a : Atom) (e : a ≡ atom_of w) where
   pub after-number : (z : ℤ) (r : Alone) → a ≡ AT.Number z → SFits w64 z → Ends s (wire z) at r → After s w at r
   after-number z r f p h = record { says = rw (← e, f) (go r (rw (to_z-of_z p) at h)) }
     where
@@ -180,19 +180,19 @@ module _ (s : List ℕ) (at : ℕ) (x : Part) (h : Stands s at x) where
   alone-leaf w p q r e A =
       let g : LeafAt s at p q × (w ≡ word_of (word_at s p)) = rw e at h.says in
       let b : Before s at (word (word_at s p)) q = g.0.leaf in
-      let i : number_in (first (stackAt s at)) ≡ atomNumber (atomOf w) = ap number_in b.here ∙ number_word (word_at s p) (first (stackAt s q)) ∙ ap (λ v. atomNumber (atomOf v)) (sym g.1) in
-      let j : rest (first (stackAt s at)) ≡ first (stackAt s q) = ap rest b.here in
+      let i : number_in (first (stack_at s at)) ≡ atom_number (atom_of w) = ap number_in b.here ∙ number_word (word_at s p) (first (stack_at s q)) ∙ ap (λ v. atom_number (atom_of v)) (sym g.1) in
+      let j : rest (first (stack_at s at)) ≡ first (stack_at s q) = ap rest b.here in
       record { says = go r i j b.around A.says }
     where
-      go : (r : Alone) → number_in (first (stackAt s at)) ≡ atomNumber (atomOf w) → rest (first (stackAt s at)) ≡ first (stackAt s q) → later (stackAt s at) ≡ later (stackAt s q)
-          → AfterBy s (atomOf w) q r → StandsAloneBy s at r
+      go : (r : Alone) → number_in (first (stack_at s at)) ≡ atom_number (atom_of w) → rest (first (stack_at s at)) ≡ first (stack_at s q) → later (stack_at s at) ≡ later (stack_at s q)
+          → AfterBy s (atom_of w) q r → StandsAloneBy s at r
       go (alone.Number z n) i j b a = (i ∙ a.0, j ∙ a.1.here, b ∙ a.1.around)
       go alone.No i j b a = λ k. i ∙ a (sym j ∙ k)
 
   pub alone-form : (p : ℕ) → x ≡ part.Form p → StandsAlone s at alone.No
   alone-form p e =
       let g : FormAt s at p = rw e at h.says in
-      record { says = λ _. ap number_in g.here ∙ number-form (first (stackAt s p)) (first (later (stackAt s p))) }
+      record { says = λ _. ap number_in g.here ∙ number-form (first (stack_at s p)) (first (later (stack_at s p))) }
 
   pub alone-shut : (q : ℕ) → x ≡ part.Shut q → StandsAlone s at alone.No
   alone-shut q e =
@@ -208,7 +208,7 @@ module _ (z : ℤ) (fit : SFits w64 z) (q t : ℕ) (l : List ℕ) (n : Num) (e :
   unfolding exact ranged
   exact-is = rw (to_z-of_z fit) at e
 
-  pub negative-in : (v : ℤ) (l' : List ℕ) → n ≡ Value v → SFits w64 v → Makes (literalMade 0 (wire v) q t l) r l' → Makes (literalMade 0 (neg_ℤ z) q t l) r l'
+  pub negative-in : (v : ℤ) (l' : List ℕ) → n ≡ Value v → SFits w64 v → Makes (literal_made 0 (wire v) q t l) r l' → Makes (literal_made 0 (neg_ℤ z) q t l) r l'
   unfolding pick
   negative-in v l' f p m = let k : v ≡ neg_ℤ z = go (inside least most (neg_ℤ z)) (sym f ∙ exact-is) in rw (← k) (rw (to_z-of_z p) at m)
     where
@@ -216,8 +216,8 @@ module _ (z : ℤ) (fit : SFits w64 z) (q t : ℕ) (l : List ℕ) (n : Num) (e :
       go true h = cc
       go false h = absurd (let u : ◌≡◌ {A = ℕ} 0 1 = cc in omega arith)
 
-  pub negative-out : (f : ArithFault.Fault) → n ≡ Failed f → r ≡ failedGot Kind 0 q t → Makes (literalMade 0 (neg_ℤ z) q t l) r l
-  unfolding pick literalMade
+  pub negative-out : (f : ArithFault.Fault) → n ≡ Failed f → r ≡ failed_got Kind 0 q t → Makes (literal_made 0 (neg_ℤ z) q t l) r l
+  unfolding pick literal_made
   negative-out f g m = let k : inside least most (neg_ℤ z) ≡ false = go (inside least most (neg_ℤ z)) (sym g ∙ exact-is) in rw k (record { given = m; left = refl })
     where
       go : (b : Bool) → Failed f ≡ pick b (Value (neg_ℤ z)) (Failed Overflow) → b ≡ false

@@ -4,18 +4,18 @@ use Rattle.code.specs.Layout.{Out, lay, link}
 use Rattle.rule_faults.specs.declared.Fault.{Fault}
 use Rattle.rule_faults.specs.declared.Fault.TheVariants.{Kind}
 use Rattle.table_scope.specs.declared.Info.{Info}
-use Rattle.table_scope.specs.Descriptions.{infoOf}
+use Rattle.table_scope.specs.Descriptions.{info_of}
 use Rattle.rule_faults.specs.declared.Got.{Got}
 use Rattle.rule_faults.specs.Got.{lowest}
-use Rattle.rule_expr_nodes.specs.Nodes.{Made, failedMade, nodeMade, ifClear}
+use Rattle.rule_expr_nodes.specs.Nodes.{Made, failed_made, node_made, if_clear}
 
 -- a link to p at the free place, and the slot s before it
 unfoldable pub linked : ℕ → ℕ → ℕ → List ℕ → Out
 linked s p t l = link s (lay (p ∷ 0 ∷ []) t l)
 
 -- the set itself, of type t with a fault of its name's; i describes the type
-unfoldable pub setNode : Info → ℕ → ℕ → Got → List ℕ → Made
-setNode i t chain m l = cond (eqb i.shape 1) (nodeMade t m.next (lay (6 ∷ i.low ∷ i.high ∷ chain ∷ []) m.top l)) (failedMade Kind 0 m.next m.top l)
+unfoldable pub set_node : Info → ℕ → ℕ → Got → List ℕ → Made
+set_node i t chain m l = cond (eqb i.shape 1) (node_made t m.next (lay (6 ∷ i.low ∷ i.high ∷ chain ∷ []) m.top l)) (failed_made Kind 0 m.next m.top l)
 
-unfoldable pub setMade : List ℕ → List ℕ → Fault → ℕ → ℕ → Got → Made
-setMade l ts f t chain m = ifClear (lowest f m.fault) 0 m.next m.top l (setNode (infoOf l ts t) t chain m l)
+unfoldable pub set_made : List ℕ → List ℕ → Fault → ℕ → ℕ → Got → Made
+set_made l ts f t chain m = if_clear (lowest f m.fault) 0 m.next m.top l (set_node (info_of l ts t) t chain m l)

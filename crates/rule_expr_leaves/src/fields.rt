@@ -1,6 +1,6 @@
 // A name that is the last part of a form.
 ghost use Rattle.std.specs.Prelude.{◌≡◌};
-ghost use Rattle.rule_expr_leaves.specs.Fields.{isNamed, SoleWord, SoleName};
+ghost use Rattle.rule_expr_leaves.specs.Fields.{is_named, SoleWord, SoleName};
 
 use leaf_words::words::Word;
 use text_heads::{Atom, atom_of};
@@ -15,7 +15,7 @@ pub enum Sole {
 
 // Whether a word is a name that is not reserved.
 fn is_named(a: Atom) -> bool
-    ensures { result ≡ isNamed a }
+    ensures { result ≡ is_named a }
 {
     match a {
         Atom::Number(_) => false,

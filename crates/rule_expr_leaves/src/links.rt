@@ -1,10 +1,10 @@
 // The nodes of `members`: links of its chain, and the set.
 ghost use Rattle.std.specs.Prelude.{◌≡◌, ◌+◌};
 ghost use Rattle.table_list.specs.Laid.{Laid};
-ghost use Rattle.table_scope.specs.Descriptions.{infoOf};
-ghost use Rattle.table_scope.specs.Sides.{hostIn};
+ghost use Rattle.table_scope.specs.Descriptions.{info_of};
+ghost use Rattle.table_scope.specs.Sides.{host_in};
 ghost use Rattle.rule_expr_nodes.specs.Nodes.{Makes};
-ghost use Rattle.rule_expr_leaves.specs.Links.{linked, setNode, setMade};
+ghost use Rattle.rule_expr_leaves.specs.Links.{linked, set_node, set_made};
 
 use rule_expr_nodes::nodes::node;
 use rule_faults::{Fault, Got, failed, is_clear, lowest};
@@ -13,7 +13,7 @@ use table_scope::{Info, describe, host_of};
 
 // The kind of the members of a set of type t.
 pub fn base_of(work: &[u32], types: &[u32], t: u32) -> u32
-    ensures { result ≡ hostIn work.now types.now (infoOf work.now types.now t).element }
+    ensures { result ≡ host_in work.now types.now (info_of work.now types.now t).element }
 {
     let i = describe(work, types, t);
     host_of(work, types, i.element)
@@ -38,7 +38,7 @@ pub fn slot_after(place: u32) -> usize
 
 // A set whose members have no fault, of a type that i describes.
 fn set_node(work: &mut [u32], i: Info, t: u32, chain: u32, m: Got) -> Got
-    ensures { Makes (setNode i t chain m work.old) result work.new }
+    ensures { Makes (set_node i t chain m work.old) result work.new }
 {
     if i.shape == 1 {
         let ns = [code_ops::expr::MAKE_SET, i.low, i.high, chain];
@@ -49,7 +49,7 @@ fn set_node(work: &mut [u32], i: Info, t: u32, chain: u32, m: Got) -> Got
 
 // A set of type t, whose name has the fault f.
 pub fn set_of(work: &mut [u32], types: &[u32], f: Fault, t: u32, chain: u32, m: Got) -> Got
-    ensures { Makes (setMade work.old types.now f t chain m) result work.new }
+    ensures { Makes (set_made work.old types.now f t chain m) result work.new }
 {
     let c = m.fault;
     let g = lowest(f, c);

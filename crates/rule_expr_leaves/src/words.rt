@@ -1,8 +1,8 @@
 // The nodes of words, of `first` and `last` of a type, and of the constant `(- number)`.
 ghost use Rattle.std.specs.Prelude.{◌≡◌, neg_ℤ};
-ghost use Rattle.code.specs.Layout.{flag as flagOf};
-ghost use Rattle.rule_expr_nodes.specs.Nodes.{Makes, literalMade};
-ghost use Rattle.rule_expr_leaves.specs.Words.{wholeMade, namedMade, placeMade, endMade, boundMade, Ends, After, StandsAlone};
+ghost use Rattle.code.specs.Layout.{flag as flag_of};
+ghost use Rattle.rule_expr_nodes.specs.Nodes.{Makes, literal_made};
+ghost use Rattle.rule_expr_leaves.specs.Words.{whole_made, named_made, place_made, end_made, bound_made, Ends, After, StandsAlone};
 
 use leaf_integers::{Num, neg};
 use leaf_words::words::Word;
@@ -22,7 +22,7 @@ pub enum Alone {
 
 // A truth value in 32 bits.
 pub fn flag(b: bool) -> u32
-    ensures { result ≡ flagOf b }
+    ensures { result ≡ flag_of b }
 {
     if b {
         return 1;
@@ -32,7 +32,7 @@ pub fn flag(b: bool) -> u32
 
 // The cells of a variable of type k.
 fn whole(work: &mut [u32], types: &[u32], k: u32, base: u32, next: usize, top: u32) -> Got
-    ensures { Makes (wholeMade work.old types.now k base next top) result work.new }
+    ensures { Makes (whole_made work.old types.now k base next top) result work.new }
 {
     let i = describe(work, types, k);
     let kind = host_of(work, types, k);
@@ -41,7 +41,7 @@ fn whole(work: &mut [u32], types: &[u32], k: u32, base: u32, next: usize, top: u
 
 // A name as an expression, by its meaning.
 pub fn named(work: &mut [u32], types: &[u32], m: Meaning, next: usize, top: u32) -> Got
-    ensures { Makes (namedMade work.old types.now m next top) result work.new }
+    ensures { Makes (named_made work.old types.now m next top) result work.new }
 {
     match m {
         Meaning::Unknown => failed(Fault::Name, 0, next, top),
@@ -57,7 +57,7 @@ pub fn named(work: &mut [u32], types: &[u32], m: Meaning, next: usize, top: u32)
 
 // A name as a target, by its meaning.
 pub fn place(work: &mut [u32], m: Meaning, next: usize, top: u32) -> Got
-    ensures { Makes (placeMade work.old m next top) result work.new }
+    ensures { Makes (place_made work.old m next top) result work.new }
 {
     match m {
         Meaning::Unknown => failed(Fault::Name, 0, next, top),
@@ -73,7 +73,7 @@ pub fn place(work: &mut [u32], m: Meaning, next: usize, top: u32) -> Got
 
 // `first` or `last` of type k.
 fn end_of(work: &mut [u32], types: &[u32], last: bool, k: u32, next: usize, top: u32) -> Got
-    ensures { Makes (endMade work.old types.now last k next top) result work.new }
+    ensures { Makes (end_made work.old types.now last k next top) result work.new }
 {
     let i = describe(work, types, k);
     if i.shape == 0 {
@@ -94,7 +94,7 @@ pub fn bound_of(
     next: usize,
     top: u32,
 ) -> Got
-    ensures { Makes (boundMade work.old types.now last fault k next top) result work.new }
+    ensures { Makes (bound_made work.old types.now last fault k next top) result work.new }
 {
     match fault {
         Fault::Clear => end_of(work, types, last, k, next, top),
@@ -144,7 +144,7 @@ pub fn number_alone(text: &[u8], at: usize) -> Alone
 
 // The constant `(- z)`: a fault of row 8 where it is past the integers.
 pub fn negative(work: &mut [u32], z: i64, next: usize, top: u32) -> Got
-    ensures { Makes (literalMade 0 (neg_ℤ z) next top work.old) result work.new }
+    ensures { Makes (literal_made 0 (neg_ℤ z) next top work.old) result work.new }
 {
     let n = neg(z);
     match n {

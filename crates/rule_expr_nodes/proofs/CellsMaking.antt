@@ -7,8 +7,8 @@ use borrow.Author.Tests.{eq-eqb, ne_eqb, lt-ltb, le-ltb}
 use Rattle.code.specs.Layout.{lay}
 use Rattle.table_scope.specs.declared.Info.{Info}
 use Rattle.rule_faults.specs.declared.Got.{Got}
-use Rattle.rule_expr_nodes.specs.Nodes.{nodeMade, Makes}
-use Rattle.rule_expr_nodes.specs.Cells.{span_of, cellsMade, end_bits}
+use Rattle.rule_expr_nodes.specs.Nodes.{node_made, Makes}
+use Rattle.rule_expr_nodes.specs.Cells.{span_of, cells_made, end_bits}
 
 module _ (a n : ℕ) where
   pub span-base : 65536 ≤ a → ◌≡◌ {A = ℕ} 0 (span_of a n)
@@ -26,12 +26,12 @@ module _ (a n : ℕ) where
 pub ruleset span-laws = (span-base, span-size, span-both)
 
 module _ (n k a q t : ℕ) (l : List ℕ) (r : Got) (l' : List ℕ) where
-  pub cells-one : n ≡ 1 → Makes (nodeMade k q (lay (2 ∷ a ∷ []) t l)) r l' → Makes (cellsMade n k a q t l) r l'
-  unfolding cellsMade
+  pub cells-one : n ≡ 1 → Makes (node_made k q (lay (2 ∷ a ∷ []) t l)) r l' → Makes (cells_made n k a q t l) r l'
+  unfolding cells_made
   cells-one h m = rw (eq-eqb n 1 h) m
 
-  pub cells-more : (x : ℕ) → ((n ≡ 1) → ⊥) → x ≡ span_of a n → Makes (nodeMade k q (lay (3 ∷ x ∷ []) t l)) r l' → Makes (cellsMade n k a q t l) r l'
-  unfolding cellsMade
+  pub cells-more : (x : ℕ) → ((n ≡ 1) → ⊥) → x ≡ span_of a n → Makes (node_made k q (lay (3 ∷ x ∷ []) t l)) r l' → Makes (cells_made n k a q t l) r l'
+  unfolding cells_made
   cells-more x h e m = rw (ne_eqb n 1 h, ← e) m
 
 pub ruleset cells-laws = (cells-one, cells-more)

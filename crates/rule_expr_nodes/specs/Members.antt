@@ -4,8 +4,8 @@ use Rattle.rule_faults.specs.declared.Fault.{Fault}
 use Rattle.rule_faults.specs.declared.Fault.TheVariants.{Clear, Kind, Name, Form}
 
 -- a member's own fault, where the members are of kind k
-unfoldable pub memberFault : Fault → ℕ → ℕ → Fault
-memberFault Clear kind k = cond (eqb kind k) Clear Kind
-memberFault Kind kind k = Kind
-memberFault Name kind k = Name
-memberFault Form kind k = Form
+unfoldable pub member_fault : Fault → ℕ → ℕ → Fault
+member_fault Clear kind k = cond (eqb kind k) Clear Kind
+member_fault Kind kind k = Kind
+member_fault Name kind k = Name
+member_fault Form kind k = Form

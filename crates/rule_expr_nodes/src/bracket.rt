@@ -1,6 +1,6 @@
 // The closing bracket of a form whose last part is answered.
 ghost use Rattle.std.specs.Prelude.{◌≡◌};
-ghost use Rattle.rule_faults.specs.Got.{pastBracket};
+ghost use Rattle.rule_faults.specs.Got.{past_bracket};
 ghost use Rattle.rule_expr_nodes.specs.Bracket.{Closes};
 
 use rule_faults::{Fault, Got, failed};
@@ -8,7 +8,7 @@ use text_parts::{End, end_at};
 
 // The same answer, past the closing bracket.
 fn past_bracket(g: Got, next: usize) -> Got
-    ensures { result ≡ pastBracket g next }
+    ensures { result ≡ past_bracket g next }
 {
     let f = g.fault;
     Got {

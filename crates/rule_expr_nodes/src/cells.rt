@@ -1,7 +1,7 @@
 // The cells of a variable, and an end of a type: nodes and numbers that need no table.
 ghost use Rattle.std.specs.Prelude.{◌≡◌};
 ghost use Rattle.rule_expr_nodes.specs.Nodes.{Makes};
-ghost use Rattle.rule_expr_nodes.specs.Cells.{span_of, cellsMade, end_bits};
+ghost use Rattle.rule_expr_nodes.specs.Cells.{span_of, cells_made, end_bits};
 
 use crate::nodes::node;
 use rule_faults::Got;
@@ -25,7 +25,7 @@ fn span(base: u32, size: u32) -> u32
 
 // So many cells of a kind, from a base on.
 pub fn cells(work: &mut [u32], size: u32, kind: u32, base: u32, next: usize, top: u32) -> Got
-    ensures { Makes (cellsMade size kind base next top work.old) result work.new }
+    ensures { Makes (cells_made size kind base next top work.old) result work.new }
 {
     if size == 1 {
         let ns = [code_ops::expr::LOAD_CELL, base];

@@ -1,6 +1,6 @@
 // A node of the code from its numbers, and constants.
 ghost use Rattle.code.specs.Layout.{lay as laid};
-ghost use Rattle.rule_expr_nodes.specs.Nodes.{Makes, IsBits, nodeMade, literalMade};
+ghost use Rattle.rule_expr_nodes.specs.Nodes.{Makes, IsBits, node_made, literal_made};
 
 use leaf_integers::in_range;
 use leaf_sets::pattern;
@@ -9,7 +9,7 @@ use table_list::lay;
 
 // A node at the free place, with its kind and where the walk goes on.
 pub fn node(work: &mut [u32], kind: u32, next: usize, top: u32, ns: &[u32]) -> Got
-    ensures { Makes (nodeMade kind next (laid ns.now top work.old)) result work.new }
+    ensures { Makes (node_made kind next (laid ns.now top work.old)) result work.new }
 {
     let t = lay(work, top, ns);
     Got {
@@ -33,7 +33,7 @@ pub fn bits_of(z: i64) -> u32
 
 // A constant of a kind.
 pub fn literal(work: &mut [u32], kind: u32, z: i64, next: usize, top: u32) -> Got
-    ensures { Makes (literalMade kind z next top work.old) result work.new }
+    ensures { Makes (literal_made kind z next top work.old) result work.new }
 {
     if in_range(z, -2147483648, 2147483647) {
         let ns = [code_ops::expr::LITERAL, bits_of(z)];

@@ -3,11 +3,11 @@ use Rattle.std.specs.Prelude.{List, ◌≡◌, ℕ}
 use Rattle.std.proofs.Math.Option.{Option, some}
 use Rattle.law.specs.Base.{◌>>=◌}
 use Rattle.law.specs.Environment.{Environment}
-use Rattle.law.specs.Syntax.{Expr, binary, shortCircuit}
+use Rattle.law.specs.Syntax.{Expr, binary, short_circuit}
 use Rattle.law.specs.Trees.{Trees, Run, first}
-use Rattle.law_theorems.specs.Readings.{stackAt}
-use Rattle.table_kinds.specs.Kinds.{TwoSided, strict, lazy, rowNumber}
-use Rattle.text_heads.specs.Parts.{rest, closed, exprIn}
+use Rattle.law_theorems.specs.Readings.{stack_at}
+use Rattle.table_kinds.specs.Kinds.{TwoSided, strict, lazy, row_number}
+use Rattle.text_heads.specs.Parts.{rest, closed, expr_in}
 use Rattle.rule_faults.specs.declared.Got.{Got}
 use Rattle.rule_expr_nodes.specs.Bracket.{Closes}
 use Rattle.rule_expr_nodes.specs.Nodes.{Makes}
@@ -26,15 +26,15 @@ pub record GivesSecond (s l ts : List ℕ) (scope : Scope) (op d : ℕ) (a r : G
   pub makes : Makes (paired list ts op a past) r l'
 
 -- the expression of an operator and two sides
-abbrev pub ofSides : TwoSided → Expr → Expr → Expr
-ofSides (strict o) a b = binary o a b
-ofSides (lazy q) a b = shortCircuit q a b
+abbrev pub of_sides : TwoSided → Expr → Expr → Expr
+of_sides (strict o) a b = binary o a b
+of_sides (lazy q) a b = short_circuit q a b
 
 -- both sides, as the parts of a form, and nothing after them
-abbrev pub twoIn : TwoSided → ℕ → Trees Run → Option Expr
-twoIn o d us = exprIn d us >>= λ a. (exprIn d (rest us) >>= λ b. closed (rest (rest us)) b) >>= λ b. some (ofSides o a b)
+abbrev pub two_in : TwoSided → ℕ → Trees Run → Option Expr
+two_in o d us = expr_in d us >>= λ a. (expr_in d (rest us) >>= λ b. closed (rest (rest us)) b) >>= λ b. some (of_sides o a b)
 
 -- of the operator that has row op in the table of kinds
 pub record GivesTwo (s l ts : List ℕ) (scope : Scope) (op d at top : ℕ) (r : Got) (l' : List ℕ) : Type 0 where
   pub leaves : Leaves s at top l r l'
-  pub says : (o : TwoSided) → op ≡ rowNumber o → (σ : Environment) (bs : List ℕ) → Scene s l ts scope top σ bs → ExprTold σ (twoIn o d (first (stackAt s at))) top l r l'
+  pub says : (o : TwoSided) → op ≡ row_number o → (σ : Environment) (bs : List ℕ) → Scene s l ts scope top σ bs → ExprTold σ (two_in o d (first (stack_at s at))) top l r l'

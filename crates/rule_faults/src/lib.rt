@@ -1,7 +1,7 @@
 // The fault that a part of a line has, the lower of two, and the answer that a walk over a part gives.
 ghost use Rattle.std.specs.Prelude.{◌≡◌};
 ghost use Rattle.rule_faults.specs.declared.Fault.TheVariants.{Kind, Name};
-ghost use Rattle.rule_faults.specs.Got.{lowest as lowestOf, isForm, isClear, failedGot};
+ghost use Rattle.rule_faults.specs.Got.{lowest as lowest_of, is_form, is_clear, failed_got};
 
 // A fault that a part of a line has: of row 8, 7 or 6, or none.
 #[derive(Drop)]
@@ -25,7 +25,7 @@ pub struct Got {
 
 // Whether it is a fault of row 6, which ends the walk.
 pub fn is_form(f: Fault) -> bool
-    ensures { result ≡ isForm f }
+    ensures { result ≡ is_form f }
 {
     match f {
         Fault::Clear => false,
@@ -37,7 +37,7 @@ pub fn is_form(f: Fault) -> bool
 
 // Whether there is no fault.
 pub fn is_clear(f: Fault) -> bool
-    ensures { result ≡ isClear f }
+    ensures { result ≡ is_clear f }
 {
     match f {
         Fault::Clear => true,
@@ -49,7 +49,7 @@ pub fn is_clear(f: Fault) -> bool
 
 // The fault of the lower row, where the first is of row 8.
 fn below_kind(f: Fault) -> Fault
-    ensures { result ≡ lowestOf Kind f }
+    ensures { result ≡ lowest_of Kind f }
 {
     match f {
         Fault::Clear => Fault::Kind,
@@ -61,7 +61,7 @@ fn below_kind(f: Fault) -> Fault
 
 // And where it is of row 7.
 fn below_name(f: Fault) -> Fault
-    ensures { result ≡ lowestOf Name f }
+    ensures { result ≡ lowest_of Name f }
 {
     match f {
         Fault::Clear => Fault::Name,
@@ -73,7 +73,7 @@ fn below_name(f: Fault) -> Fault
 
 // The fault of the lower row.
 pub fn lowest(f: Fault, g: Fault) -> Fault
-    ensures { result ≡ lowestOf f g }
+    ensures { result ≡ lowest_of f g }
 {
     match f {
         Fault::Clear => g,
@@ -85,7 +85,7 @@ pub fn lowest(f: Fault, g: Fault) -> Fault
 
 // An answer that is a fault; the kind matters of targets alone.
 pub fn failed(fault: Fault, kind: u32, next: usize, top: u32) -> Got
-    ensures { result ≡ failedGot fault kind next top }
+    ensures { result ≡ failed_got fault kind next top }
 {
     Got {
         fault: fault,

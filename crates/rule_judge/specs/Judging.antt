@@ -1,9 +1,9 @@
--- What the checker knows after some lines, and what its answer for the next one says of `judgeLine` (law, Verdict).
+-- What the checker knows after some lines, and what its answer for the next one says of `judge_line` (law, Verdict).
 use Rattle.std.specs.Prelude.{Bool, true, false, List, ◌++◌, ◌≡◌, ℕ, ◌+◌, ◌-◌, ◌≤◌, length, get_or, drop}
 use Rattle.law.specs.Code.{BodyCode}
 use Rattle.law.specs.Environment.{Declared}
-use Rattle.code.specs.LayoutSize.{sizeSymbols, sizeBodies}
-use Rattle.law.specs.Verdict.{Judged, good, bad, Read, has, strictly, judgeLine}
+use Rattle.code.specs.LayoutSize.{size_symbols, size_bodies}
+use Rattle.law.specs.Verdict.{Judged, good, bad, Read, has, strictly, judge_line}
 use Rattle.code.specs.LayoutBodies.{Bodies}
 use Rattle.code.specs.LinesMeasured.{Measured}
 use Rattle.code.specs.TextRoom.{Room}
@@ -20,7 +20,7 @@ pub record Standing (s l ts : List ℕ) (kn : Known) (r : Read) (bs : List ℕ) 
   pub ended_is : kn.ended ≡ r.known.ended
   pub measured : Measured r.known r.codes
   pub room : Room r.known r.codes
-  pub top-is : kn.state.top ≡ 1 + sizeSymbols r.known.env + sizeBodies r.codes
+  pub top-is : kn.state.top ≡ 1 + size_symbols r.known.env + size_bodies r.codes
   pub bodies : (other : BodyCode) → Bodies other 1 kn.state.top l bs r.codes
   -- main's body is the last
   pub main-is : r.known.ended ≡ true → kn.main ≡ get_or bs (length bs - 1) 0
@@ -32,4 +32,4 @@ JudgedBy s l' ts' r (good p) j = (j.refusal ≡ 0) × (bs : List ℕ) × Standin
 
 -- the line at an offset, judged
 pub record JudgesLine (s l ts : List ℕ) (kn : Known) (at : ℕ) (j : Judgement) (l' ts' : List ℕ) : Type 0 where
-  pub says : (r : Read) (bs : List ℕ) → Standing s l ts kn r bs → JudgedBy s l' ts' r (judgeLine strictly r.known (line_at (drop at s))) j
+  pub says : (r : Read) (bs : List ℕ) → Standing s l ts kn r bs → JudgedBy s l' ts' r (judge_line strictly r.known (line_at (drop at s))) j

@@ -5,24 +5,24 @@ use Rattle.law.specs.Base.{◌>>=◌}
 use Rattle.law.specs.Code.{BodyCode}
 use Rattle.law.specs.Environment.{Declared}
 use Rattle.law.specs.Forms.{LineHead}
-use Rattle.law_theorems.specs.FormsByDepth.{lineForm, lineBy}
+use Rattle.law_theorems.specs.FormsByDepth.{line_form, line_by}
 use Rattle.law.specs.Names.{entry_of}
-use Rattle.law.specs.Rules.{keepsRules}
+use Rattle.law.specs.Rules.{keeps_rules}
 use Rattle.law.specs.Script.{Entry}
 use Rattle.rule_stages.specs.Stages.{Staged, staged}
 use Rattle.law.specs.Syntax.{LineForm}
 use Rattle.law.specs.Trees.{Tree, Trees, Run, list}
 use Rattle.law.specs.Verdict.{strictly}
-use Rattle.law.specs.Words.{worded, wordedAll}
+use Rattle.law.specs.Words.{worded, worded_all}
 
 -- a line's tree; n statements came before
-unfoldable pub lineIn : ℕ → Tree Run → Option (LineForm × ℕ)
-lineIn n t = worded t >>= lineForm n
+unfoldable pub line_in : ℕ → Tree Run → Option (LineForm × ℕ)
+line_in n t = worded t >>= line_form n
 
 -- the parts after its head word
-unfoldable pub headIn : LineHead → ℕ → Trees Run → Option (LineForm × ℕ)
-headIn h n us = wordedAll us >>= λ vs. lineBy h n (list vs)
+unfoldable pub head_in : LineHead → ℕ → Trees Run → Option (LineForm × ℕ)
+head_in h n us = worded_all us >>= λ vs. line_by h n (list vs)
 
 -- rows 6 to 8
-unfoldable pub wholeStaged : Declared → Option (LineForm × ℕ) → Staged (Entry × List BodyCode)
-wholeStaged k o = staged (o >>= λ p. some p.0) (entry_of k.env) (keepsRules k.env.types) (λ e. strictly k.env e >>= λ cs. some (e, cs))
+unfoldable pub whole_staged : Declared → Option (LineForm × ℕ) → Staged (Entry × List BodyCode)
+whole_staged k o = staged (o >>= λ p. some p.0) (entry_of k.env) (keeps_rules k.env.types) (λ e. strictly k.env e >>= λ cs. some (e, cs))

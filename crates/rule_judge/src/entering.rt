@@ -1,7 +1,7 @@
 // A line's parts after its head word.
 ghost use Rattle.std.specs.Prelude.{◌≡◌};
 ghost use Rattle.text_heads.specs.declared.LineHead.TheVariants.{Main, Proc};
-ghost use Rattle.rule_judge.specs.Answers.{mainEntry, procEntry, failedEntry};
+ghost use Rattle.rule_judge.specs.Answers.{main_entry, proc_entry, failed_entry};
 ghost use Rattle.rule_judge.specs.Entering.{Enters, GivesOpened, ProcEnds, ProcListed, ProcNamed};
 
 use rule_declarations::{BODY_NUMBERS, Naming, name_at, named_fault, var_line, with_body};
@@ -19,7 +19,7 @@ use text_heads::LineHead;
 
 // A line that is faulty.
 pub fn faulty(kn: Known, fault: Fault) -> Entered
-    ensures { result ≡ failedEntry kn fault }
+    ensures { result ≡ failed_entry kn fault }
 {
     let state = kn.state;
     Entered {
@@ -34,7 +34,7 @@ pub fn faulty(kn: Known, fault: Fault) -> Entered
 
 // `main`, by its body's answer.
 fn main_entry(kn: Known, g: Got) -> Entered
-    ensures { result ≡ mainEntry kn g }
+    ensures { result ≡ main_entry kn g }
 {
     let st = kn.state;
     let fault = g.fault;
@@ -72,7 +72,7 @@ fn main_line(text: &[u8], work: &mut [u32], types: &[u32], kn: Known, at: usize)
 
 // A procedure of n parameters, by its body's answer; the free place after its entry is u.
 fn proc_entry(kn: Known, fault: Fault, n: u32, g: Got, u: u32) -> Entered
-    ensures { result ≡ procEntry kn fault n g u }
+    ensures { result ≡ proc_entry kn fault n g u }
 {
     let st = kn.state;
     let state = proc_state(st, n, g.top, u);

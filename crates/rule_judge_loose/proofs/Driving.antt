@@ -8,18 +8,18 @@ use native.Mathlib.Omega.{arith}
 use borrow.Author.Tests.{le-leb, lt-leb}
 use lib.ListN.{length, get_or, drop, drop_of_length-le}
 use Rattle.law.specs.Code.{BodyCode}
-use Rattle.law.specs.Environment.{Declared, nothingDeclared}
-use Rattle.law.specs.Lines.{Line, lines_of, refusedAt}
-use Rattle.law.specs.Verdict.{Verdict, Judged, good, bad, Read, has, accepted, must, onward, opening, loosely, judge, judgeLine, judgeLines}
+use Rattle.law.specs.Environment.{Declared, nothing_declared}
+use Rattle.law.specs.Lines.{Line, lines_of, refused_at}
+use Rattle.law.specs.Verdict.{Verdict, Judged, good, bad, Read, has, accepted, must, onward, opening, loosely, judge, judge_line, judge_lines}
 use Rattle.law_theorems.proofs.TypeSizes.{small-start}
-use Rattle.text_lines.specs.Passes.{line_at, afterLine, lineOr}
+use Rattle.text_lines.specs.Passes.{line_at, after_line, line_or}
 use Rattle.text_lines.proofs.Ties.{lines_at}
-use Rattle.rule_declarations.specs.State.{notes, startState}
+use Rattle.rule_declarations.specs.State.{notes, start_state}
 use Rattle.rule_declarations.proofs.Starting.{holds-start}
 use Rattle.rule_known.specs.declared.Known.{Known}
 use Rattle.rule_known.specs.declared.Judgement.{Judgement}
 use Rattle.rule_texts.specs.declared.Checked.{Checked}
-use Rattle.rule_texts.specs.Answers.{startKnown, refusedBy, endsBy}
+use Rattle.rule_texts.specs.Answers.{start_known, refused_by, ends_by}
 use Rattle.rule_texts.proofs.Driving.{next-less, lines-here}
 use Rattle.rule_texts.proofs.Texts.{none-refused, some-refused}
 use Rattle.rule_judge_loose.specs.Standing.{LooseStanding}
@@ -29,7 +29,7 @@ use Rattle.rule_judge_loose.specs.Texts.{AdmittedBy, AdmitsLines, Admits}
 -- ---- one line's answer
 
 line_refused : (s l ts tb : List ℕ) (J : Judged (Declared × List BodyCode)) (j : Judgement) (n : ℕ) (f : Declared × List BodyCode → Verdict Read)
-    → LooselyBy s l ts tb J j → ((j.refusal ≡ 0) → ⊥) → AdmittedBy s l ts tb (onward J n f) (refusedBy j.refusal n j.known)
+    → LooselyBy s l ts tb J j → ((j.refusal ≡ 0) → ⊥) → AdmittedBy s l ts tb (onward J n f) (refused_by j.refusal n j.known)
 unfolding onward
 line_refused s l ts tb (bad m) j n f h g = (h.0, refl, h.1)
 line_refused s l ts tb (good p) j n f h g = absurd (g h.0)
@@ -38,10 +38,10 @@ line_refused s l ts tb (good p) j n f h g = absurd (g h.0)
 record Next (s l ts tb : List ℕ) (kn : Known) (n : ℕ) (ls : List Line) (v : Verdict Read) : Type 0 where
   read : Read
   standing : LooseStanding s l ts tb kn read.known
-  same : v ≡ judgeLines loosely (suc n) ls read
+  same : v ≡ judge_lines loosely (suc n) ls read
 
 line-passed : (s l ts tb : List ℕ) (r : Read) (J : Judged (Declared × List BodyCode)) (j : Judgement) (n : ℕ) (ls : List Line)
-    → LooselyBy s l ts tb J j → j.refusal ≡ 0 → Next s l ts tb j.known n ls (onward J n λ p. judgeLines loosely (suc n) ls (has p.0 (r.codes ++ p.1)))
+    → LooselyBy s l ts tb J j → j.refusal ≡ 0 → Next s l ts tb j.known n ls (onward J n λ p. judge_lines loosely (suc n) ls (has p.0 (r.codes ++ p.1)))
 unfolding onward
 line-passed s l ts tb r (bad m) j n ls h g = absurd (omega (arith, h.0, h.1))
 line-passed s l ts tb r (good p) j n ls h g = record { read = has p.0 (r.codes ++ p.1); standing = h.1; same = refl }
@@ -52,7 +52,7 @@ line-passed s l ts tb r (good p) j n ls h g = record { read = has p.0 (r.codes +
 pub record Left (s : List ℕ) (n p : ℕ) (kn : Known) (l ts tb : List ℕ) (r : Read) : Type 0 where
   pub read : Read
   pub standing : LooseStanding s l ts tb kn read.known
-  pub same : judgeLines loosely 1 (lines_of s) r ≡ judgeLines loosely n (lines_of (drop p s)) read
+  pub same : judge_lines loosely 1 (lines_of s) r ≡ judge_lines loosely n (lines_of (drop p s)) read
 
 pub record Going (s l₀ ts₀ tb₀ : List ℕ) (kn₀ : Known) (n p : ℕ) (kn : Known) (l ts tb : List ℕ) : Type 0 where
   pub few : n ≤ p + 1
@@ -76,17 +76,17 @@ module _ (s l₀ ts₀ tb₀ : List ℕ) (kn₀ : Known) (n p : ℕ) (kn : Known
 
   module _ (j : Judgement) (l' ts' tb' : List ℕ) (h : p < length s) (L : JudgesLoosely s l ts tb kn p j l' ts' tb') where
     pub drive-refuses : ((j.refusal ≡ 0) → ⊥) → AdmitsLines s l₀ ts₀ tb₀ kn₀ (record { refusal = j.refusal; line = n; known = j.known }) l' ts' tb'
-    unfolding judgeLines
+    unfolding judge_lines
     drive-refuses g = record {
       says = λ r S.
           let K : Left s n p kn l ts tb r = G.left r S in
           rw (K.same, lines-here s p h)
-          (line_refused s l' ts' tb' (judgeLine loosely K.read.known (line_at (drop p s))) j n _ (L.says K.read.known K.standing) g);
+          (line_refused s l' ts' tb' (judge_line loosely K.read.known (line_at (drop p s))) j n _ (L.says K.read.known K.standing) g);
     }
 
-    pub drive-on : (q : ℕ) → j.refusal ≡ 0 → drop q s ≡ afterLine (drop p s) → length l' ≡ length l → length ts' ≡ length ts → length tb' ≡ length tb
+    pub drive-on : (q : ℕ) → j.refusal ≡ 0 → drop q s ≡ after_line (drop p s) → length l' ≡ length l → length ts' ≡ length ts → length tb' ≡ length tb
         → Going s l₀ ts₀ tb₀ kn₀ (n + 1) q j.known l' ts' tb'
-    unfolding judgeLines
+    unfolding judge_lines
     drive-on q g e a b c = record {
       few = let d = next-less s p q h e in omega (arith, G.few);
       as_long = a ∙ G.as_long;
@@ -95,25 +95,25 @@ module _ (s l₀ ts₀ tb₀ : List ℕ) (kn₀ : Known) (n p : ℕ) (kn : Known
       left = λ r S.
           let K : Left s n p kn l ts tb r = G.left r S in
           let N : Next s l' ts' tb' j.known n (lines_of (drop q s))
-          (onward (judgeLine loosely K.read.known (line_at (drop p s))) n λ x. judgeLines loosely (suc n) (lines_of (drop q s)) (has x.0 (K.read.codes ++ x.1)))
-          = line-passed s l' ts' tb' K.read (judgeLine loosely K.read.known (line_at (drop p s))) j n (lines_of (drop q s)) (L.says K.read.known K.standing) g in
+          (onward (judge_line loosely K.read.known (line_at (drop p s))) n λ x. judge_lines loosely (suc n) (lines_of (drop q s)) (has x.0 (K.read.codes ++ x.1)))
+          = line-passed s l' ts' tb' K.read (judge_line loosely K.read.known (line_at (drop p s))) j n (lines_of (drop q s)) (L.says K.read.known K.standing) g in
           record {
             read = N.read;
             standing = N.standing;
-            same = K.same ∙ ap (λ ls. judgeLines loosely n ls K.read) (lines_at s p q h e) ∙ N.same ∙ ap (λ k. judgeLines loosely k (lines_of (drop q s)) N.read) (sym (add-one n));
+            same = K.same ∙ ap (λ ls. judge_lines loosely n ls K.read) (lines_at s p q h e) ∙ N.same ∙ ap (λ k. judge_lines loosely k (lines_of (drop q s)) N.read) (sym (add-one n));
           };
     }
 
   -- after all lines
-  ends : (a b : Bool) (q : Read) → LooseStanding s l ts tb kn q.known → a ≡ b → q.known.ended ≡ b → AdmittedBy s l ts tb (onward (must 6 b) n λ _. accepted q) (endsBy a n kn)
+  ends : (a b : Bool) (q : Read) → LooseStanding s l ts tb kn q.known → a ≡ b → q.known.ended ≡ b → AdmittedBy s l ts tb (onward (must 6 b) n λ _. accepted q) (ends_by a n kn)
   unfolding onward must
   ends true true q S e i = (refl, S, i)
   ends true false q S e i = absurd (let z : ◌≡◌ {A = ℕ} 0 1 = cc in omega arith)
   ends false true q S e i = absurd (let z : ◌≡◌ {A = ℕ} 0 1 = cc in omega arith)
   ends false false q S e i = (refl, refl, omega arith)
 
-  pub drive-ends : (c : Checked) → length s ≤ p → c ≡ endsBy kn.ended n kn → AdmitsLines s l₀ ts₀ tb₀ kn₀ c l ts tb
-  unfolding judgeLines lines_of
+  pub drive-ends : (c : Checked) → length s ≤ p → c ≡ ends_by kn.ended n kn → AdmitsLines s l₀ ts₀ tb₀ kn₀ c l ts tb
+  unfolding judge_lines lines_of
   drive-ends c h e = record {
     says = λ r S.
         let K : Left s n p kn l ts tb r = G.left r S in
@@ -125,8 +125,8 @@ pub ruleset drive-laws = (drive-refuses, drive-on, drive-ends)
 -- ---- before any line
 
 standing-start : (s l ts tb : List ℕ) → length s ≤ 32768 → 16384 ≤ length l → notes ≤ length ts → ((i : ℕ) → get_or ts i 0 ≡ 0) → 264 ≤ length tb
-    → LooseStanding s l ts tb startKnown nothingDeclared
-unfolding startKnown startState
+    → LooseStanding s l ts tb start_known nothing_declared
+unfolding start_known start_state
 standing-start s l ts tb a b c h d = record {
   places = [];
   holds = holds-start s l ts a b c h;
@@ -148,29 +148,29 @@ standing-start s l ts tb a b c h d = record {
 -- ---- the rows in their order
 
 module _ (s l ts tb : List ℕ) (c : Checked) where
-  pub check-bench : length l < 16384 → c ≡ refusedBy 1 0 startKnown → Admits s l ts tb c l ts tb
+  pub check-bench : length l < 16384 → c ≡ refused_by 1 0 start_known → Admits s l ts tb c l ts tb
   unfolding judge opening
   check-bench h e = record { says = λ _ _ _. rw (e, lt-leb 16384 (length l) h) (refl, refl, omega arith) }
 
   module _ (g : 16384 ≤ length l) where
-    pub check-length : 32768 < length s → c ≡ refusedBy 2 0 startKnown → Admits s l ts tb c l ts tb
+    pub check-length : 32768 < length s → c ≡ refused_by 2 0 start_known → Admits s l ts tb c l ts tb
     unfolding judge opening
     check-length h e = record { says = λ _ _ _. rw (e, le-leb 16384 (length l) g, lt-leb (length s) 32768 h) (refl, refl, omega arith) }
 
-    module _ (h : length s ≤ 32768) (n : ℕ) (f : n ≡ lineOr (refusedAt 1 s)) where
-      pub check-byte : ((n ≡ 0) → ⊥) → c ≡ refusedBy 3 n startKnown → Admits s l ts tb c l ts tb
+    module _ (h : length s ≤ 32768) (n : ℕ) (f : n ≡ line_or (refused_at 1 s)) where
+      pub check-byte : ((n ≡ 0) → ⊥) → c ≡ refused_by 3 n start_known → Admits s l ts tb c l ts tb
       unfolding judge opening
       check-byte i e = record {
         says = λ _ _ _.
             rw (e, le-leb 16384 (length l) g, le-leb (length s) 32768 h, some-refused s (λ z. i (f ∙ z))) (refl, f, omega arith);
       }
 
-      pub check-rest : (kn : Known) (l' ts' tb' : List ℕ) → n ≡ 0 → kn ≡ startKnown → AdmitsLines s l ts tb kn c l' ts' tb' → Admits s l ts tb c l' ts' tb'
+      pub check-rest : (kn : Known) (l' ts' tb' : List ℕ) → n ≡ 0 → kn ≡ start_known → AdmitsLines s l ts tb kn c l' ts' tb' → Admits s l ts tb c l' ts' tb'
       unfolding judge opening
       check-rest kn l' ts' tb' i k C = record {
         says = λ a z d.
-            let S : LooseStanding s l ts tb kn nothingDeclared = rw k (standing-start s l ts tb h g a z d) in
-            rw (le-leb 16384 (length l) g, le-leb (length s) 32768 h, none-refused s (sym f ∙ i)) (C.says (has nothingDeclared []) S);
+            let S : LooseStanding s l ts tb kn nothing_declared = rw k (standing-start s l ts tb h g a z d) in
+            rw (le-leb 16384 (length l) g, le-leb (length s) 32768 h, none-refused s (sym f ∙ i)) (C.says (has nothing_declared []) S);
       }
 
 pub ruleset check-laws = (check-bench, check-length, check-byte, check-rest)

@@ -3,10 +3,10 @@
 use Rattle.std.specs.Prelude.{Bool, true, false, List, map, ◌≡◌, ℕ, suc, ◌+◌, ◌-◌, ◌*◌, ◌<◌, ◌≤◌, length, get_or}
 use Rattle.std.proofs.Math.Option.{some}
 use Rattle.law.specs.Base.{Name, find}
-use Rattle.law.specs.Code.{Frame, noFrame}
-use Rattle.law.specs.Environment.{Declared, PlacedBody, aProc, wantOf}
+use Rattle.law.specs.Code.{Frame, no_frame}
+use Rattle.law.specs.Environment.{Declared, PlacedBody, a_proc, want_of}
 use Rattle.law.specs.Types.{Types}
-use Rattle.law_theorems.specs.LinesKeep.{Extends, framesOf}
+use Rattle.law_theorems.specs.LinesKeep.{Extends, frames_of}
 use Rattle.law_theorems.specs.TypeSizes.{SmallTypes}
 use Rattle.rule_declarations.specs.State.{Holds}
 use Rattle.table_bodies.specs.Table.{types_of, BodyStands, NodeStands}
@@ -15,7 +15,7 @@ use Rattle.rule_known.specs.declared.Known.{Known}
 -- procedure p is one of those with the frames qs, and takes parameters of the types us
 pub record CallKept (Γ : Types) (qs : List Frame) (p : ℕ) (us : List ℕ) : Type 0 where
   pub below : p < length qs
-  pub wants-are : (get_or qs p noFrame).wants ≡ map (wantOf Γ) us
+  pub wants-are : (get_or qs p no_frame).wants ≡ map (want_of Γ) us
 
 -- body q stands, below the free place top; its types are the first of the types Γ of the lines so far, whose bodies have the frames qs
 pub record BodyKept (s l ts tb bs : List ℕ) (top : ℕ) (Γ : Types) (qs : List Frame) (pb : PlacedBody) (q : ℕ) : Type 0 where
@@ -24,7 +24,7 @@ pub record BodyKept (s l ts tb bs : List ℕ) (top : ℕ) (Γ : Types) (qs : Lis
   pub types_are : types_of tb q ≡ length pb.types
   pub two : 2 ≤ length pb.types
   pub extends : Extends pb.types Γ
-  pub calls : (w : Name) (p : ℕ) (us : List ℕ) → find stands.env.names w ≡ some (aProc p us) → CallKept stands.env.types qs p us
+  pub calls : (w : Name) (p : ℕ) (us : List ℕ) → find stands.env.names w ≡ some (a_proc p us) → CallKept stands.env.types qs p us
 
 -- the node of procedure q at p, and its frame, stand below the free place
 pub record NodeKept (l : List ℕ) (top p q : ℕ) (f : Frame) : Type 0 where
@@ -33,14 +33,14 @@ pub record NodeKept (l : List ℕ) (top p q : ℕ) (f : Frame) : Type 0 where
   pub frame-low : get_or l (p + 4) 0 + 2 ≤ top
 
 -- how many of n bodies are procedures': all before `main` has come
-abbrev pub procsOf : Bool → ℕ → ℕ
-procsOf false n = n
-procsOf true n = n - 1
+abbrev pub procs_of : Bool → ℕ → ℕ
+procs_of false n = n
+procs_of true n = n - 1
 
 -- all bodies and the nodes of the first n
 pub record AllKept (s l ts tb bs : List ℕ) (top : ℕ) (Γ : Types) (pbs : List PlacedBody) (n : ℕ) : Type 0 where
-  pub each : (none : PlacedBody) (q : ℕ) → q < length pbs → BodyKept s l ts tb bs top Γ (framesOf pbs) (get_or pbs q none) q
-  pub nodes : (q : ℕ) → q < n → NodeKept l top (get_or bs q 0) q (get_or (framesOf pbs) q noFrame)
+  pub each : (none : PlacedBody) (q : ℕ) → q < length pbs → BodyKept s l ts tb bs top Γ (frames_of pbs) (get_or pbs q none) q
+  pub nodes : (q : ℕ) → q < n → NodeKept l top (get_or bs q 0) q (get_or (frames_of pbs) q no_frame)
   pub procs : n ≤ length pbs
   pub most : length pbs ≤ suc n
 
@@ -60,4 +60,4 @@ pub record LooseStanding (s l ts tb : List ℕ) (kn : Known) (k : Declared) : Ty
   pub few-bodies : length k.bodies ≤ 33
   pub main-there : k.ended ≡ true → 1 ≤ length k.bodies
   pub long-table : 264 ≤ length tb
-  pub bodies : AllKept s l ts tb places kn.state.top k.env.types k.bodies (procsOf k.ended (length k.bodies))
+  pub bodies : AllKept s l ts tb places kn.state.top k.env.types k.bodies (procs_of k.ended (length k.bodies))

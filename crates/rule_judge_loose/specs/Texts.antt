@@ -2,7 +2,7 @@
 use Rattle.std.specs.Prelude.{true, List, ◌≡◌, ℕ, ◌≤◌, length, get_or}
 use Rattle.rule_declarations.specs.State.{notes}
 use Rattle.law.specs.Lines.{lines_of}
-use Rattle.law.specs.Verdict.{Verdict, Read, accepted, refused, loosely, judge, judgeLines}
+use Rattle.law.specs.Verdict.{Verdict, Read, accepted, refused, loosely, judge, judge_lines}
 use Rattle.rule_known.specs.declared.Known.{Known}
 use Rattle.rule_texts.specs.declared.Checked.{Checked}
 use Rattle.rule_judge_loose.specs.Standing.{LooseStanding}
@@ -14,7 +14,7 @@ AdmittedBy s l' ts' tb' (accepted q) c = (c.refusal ≡ 0) × LooseStanding s l'
 
 -- the lines of a text, judged from what kn says
 pub record AdmitsLines (s l ts tb : List ℕ) (kn : Known) (c : Checked) (l' ts' tb' : List ℕ) : Type 0 where
-  pub says : (r : Read) → LooseStanding s l ts tb kn r.known → AdmittedBy s l' ts' tb' (judgeLines loosely 1 (lines_of s) r) c
+  pub says : (r : Read) → LooseStanding s l ts tb kn r.known → AdmittedBy s l' ts' tb' (judge_lines loosely 1 (lines_of s) r) c
 
 -- a text, judged with room for the types' places and the bodies' table
 pub record Admits (s l ts tb : List ℕ) (c : Checked) (l' ts' tb' : List ℕ) : Type 0 where

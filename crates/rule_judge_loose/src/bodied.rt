@@ -2,8 +2,8 @@
 ghost use Rattle.std.specs.Prelude.{◌≡◌};
 ghost use Rattle.table_names.specs.Keys.{keyed};
 ghost use Rattle.text_heads.specs.declared.LineHead.TheVariants.{Main, Proc};
-ghost use Rattle.rule_judge.specs.Answers.{failedEntry};
-ghost use Rattle.rule_judge_loose.specs.Entering.{NotesEased, looseMain, looseProc, ProcDeclared, LooseEnters, LooseListed, ProcLoosely};
+ghost use Rattle.rule_judge.specs.Answers.{failed_entry};
+ghost use Rattle.rule_judge_loose.specs.Entering.{NotesEased, loose_main, loose_proc, ProcDeclared, LooseEnters, LooseListed, ProcLoosely};
 
 use crate::easing::{Eased, loose_body, with_fault};
 use rule_body_notes::note_body;
@@ -19,7 +19,7 @@ use table_names::keys::name_number;
 
 // `main`, by its body's answer.
 fn main_entry(kn: Known, b: Eased) -> Entered
-    ensures { result ≡ looseMain kn b }
+    ensures { result ≡ loose_main kn b }
 {
     let st = kn.state;
     let fault = b.fault;
@@ -69,7 +69,7 @@ pub fn main_line(
 
 // A procedure of n parameters, by its body's answer b: the place of its name's entry, and the free place u after that.
 fn proc_entry(kn: Known, n: u32, b: Eased, entry: u32, u: u32) -> Entered
-    ensures { result ≡ looseProc kn n b entry u }
+    ensures { result ≡ loose_proc kn n b entry u }
 {
     let st = kn.state;
     let state = proc_state(st, n, entry, u);

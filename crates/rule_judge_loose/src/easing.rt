@@ -1,6 +1,6 @@
 // A body with its kinds left out.
 ghost use Rattle.std.specs.Prelude.{◌≡◌};
-ghost use Rattle.rule_judge_loose.specs.Easing.{easedBy, withFault, GivesEased};
+ghost use Rattle.rule_judge_loose.specs.Easing.{eased_by, with_fault, GivesEased};
 
 use rule_faults::{Fault, lowest};
 use rule_judge::entering::walk_body;
@@ -17,7 +17,7 @@ pub struct Eased {
 
 // A fault with the kinds left out: row 8 stands where the other rules are not kept.
 fn ease(f: Fault, kept: bool) -> Fault
-    ensures { result ≡ easedBy f kept }
+    ensures { result ≡ eased_by f kept }
 {
     match f {
         Fault::Clear => Fault::Clear,
@@ -29,7 +29,7 @@ fn ease(f: Fault, kept: bool) -> Fault
 
 // The same answer with another fault beside its own.
 pub fn with_fault(b: Eased, f: Fault) -> Eased
-    ensures { result ≡ withFault b f }
+    ensures { result ≡ with_fault b f }
 {
     let g = b.fault;
     Eased {

@@ -7,8 +7,8 @@ use Rattle.rule_known.specs.declared.Known.{Known}
 use Rattle.rule_known.specs.declared.Judgement.{Judgement}
 use Rattle.rule_known.specs.declared.Entered.{Entered}
 
-abbrev pub refusedJudgement : ℕ → Known → Judgement
-refusedJudgement n kn = record { refusal = n; known = kn }
+abbrev pub refused_judgement : ℕ → Known → Judgement
+refused_judgement n kn = record { refusal = n; known = kn }
 
 abbrev pub row_of : Fault → ℕ
 row_of Clear = 0
@@ -17,19 +17,19 @@ row_of Name = 7
 row_of Form = 6
 
 -- n brackets and words more are within their ceiling
-unfoldable pub nodesFit : ℕ → ℕ → Bool
-nodesFit m n = cond (leb n 4096) (leb (m + n) 4096) false
+unfoldable pub nodes_fit : ℕ → ℕ → Bool
+nodes_fit m n = cond (leb n 4096) (leb (m + n) 4096) false
 
 -- the counts are at most 4096 where they fit
-abbrev pub goodJudgement : Known → Entered → ℕ → Judgement
-goodJudgement kn g n = record { refusal = 0; known = record { state = g.state; stmts = g.stmts; nodes = kn.nodes % 4097 + n % 4097; ended = g.ended; main = g.main } }
+abbrev pub good_judgement : Known → Entered → ℕ → Judgement
+good_judgement kn g n = record { refusal = 0; known = record { state = g.state; stmts = g.stmts; nodes = kn.nodes % 4097 + n % 4097; ended = g.ended; main = g.main } }
 
-unfoldable pub ninthJudgement : Known → Entered → ℕ → Judgement
-ninthJudgement kn g n = cond g.within (cond (nodesFit kn.nodes n) (goodJudgement kn g n) (refusedJudgement 9 kn)) (refusedJudgement 9 kn)
+unfoldable pub ninth_judgement : Known → Entered → ℕ → Judgement
+ninth_judgement kn g n = cond g.within (cond (nodes_fit kn.nodes n) (good_judgement kn g n) (refused_judgement 9 kn)) (refused_judgement 9 kn)
 
 unfoldable pub judgement : Known → Entered → ℕ → Judgement
-judgement kn g n = cond (eqb (row_of g.fault) 0) (ninthJudgement kn g n) (refusedJudgement (row_of g.fault) kn)
+judgement kn g n = cond (eqb (row_of g.fault) 0) (ninth_judgement kn g n) (refused_judgement (row_of g.fault) kn)
 
 -- the parts of a line that declares a variable or a type
-abbrev pub declaredEntry : Known → Lined → Entered
-declaredEntry kn r = record { fault = r.fault; within = r.within; state = r.state; stmts = kn.stmts; ended = false; main = 0 }
+abbrev pub declared_entry : Known → Lined → Entered
+declared_entry kn r = record { fault = r.fault; within = r.within; state = r.state; stmts = kn.stmts; ended = false; main = 0 }

@@ -1,6 +1,6 @@
 // From the answer for a line's parts to that for the line: the lowest of rows 6 to 9.
 ghost use Rattle.std.specs.Prelude.{◌≡◌};
-ghost use Rattle.rule_known.specs.Answers.{refusedJudgement, row_of, nodesFit, goodJudgement, ninthJudgement, judgement, declaredEntry};
+ghost use Rattle.rule_known.specs.Answers.{refused_judgement, row_of, nodes_fit, good_judgement, ninth_judgement, judgement, declared_entry};
 
 use crate::{Entered, Judgement, Known};
 use rule_declarations::Lined;
@@ -8,7 +8,7 @@ use rule_faults::Fault;
 
 // A line that is refused.
 pub fn refused(number: u32, kn: Known) -> Judgement
-    ensures { result ≡ refusedJudgement number kn }
+    ensures { result ≡ refused_judgement number kn }
 {
     Judgement {
         refusal: number,
@@ -39,7 +39,7 @@ const NODE_NUMBERS: u32 = NODES_END as u32;
 
 // Whether n brackets and words more are within their ceiling.
 fn nodes_fit(nodes: u32, n: usize) -> bool
-    ensures { result ≡ nodesFit nodes n }
+    ensures { result ≡ nodes_fit nodes n }
 {
     if n > MOST_NODES {
         return false;
@@ -49,7 +49,7 @@ fn nodes_fit(nodes: u32, n: usize) -> bool
 
 // What is known after a line of n brackets and words, where they fit.
 fn good(kn: Known, g: Entered, n: usize) -> Judgement
-    ensures { result ≡ goodJudgement kn g n }
+    ensures { result ≡ good_judgement kn g n }
 {
     let more = (n % NODES_END) as u32;
     let state = g.state;
@@ -67,7 +67,7 @@ fn good(kn: Known, g: Entered, n: usize) -> Judgement
 
 // Row 9.
 fn ninth(kn: Known, g: Entered, n: usize) -> Judgement
-    ensures { result ≡ ninthJudgement kn g n }
+    ensures { result ≡ ninth_judgement kn g n }
 {
     if g.within {
         if nodes_fit(kn.nodes, n) {
@@ -92,7 +92,7 @@ pub fn judge(kn: Known, g: Entered, n: usize) -> Judgement
 
 // A line that declares a variable or a type.
 pub fn declared(kn: Known, r: Lined) -> Entered
-    ensures { result ≡ declaredEntry kn r }
+    ensures { result ≡ declared_entry kn r }
 {
     let fault = r.fault;
     let state = r.state;

@@ -15,20 +15,20 @@ use Rattle.leaf_integers.proofs.Machine.{wire}
 use Rattle.leaf_bytes.specs.Bytes.{small}
 use Rattle.law.specs.Base.{each}
 use Rattle.law.specs.Calculate.{truth}
-use Rattle.law.specs.Environment.{Environment, NameSort, aValue}
-use Rattle.law.specs.Names.{asValue, constant_of, arms_of}
-use Rattle.law.specs.Rules.{plain, allPlain, differ, labelsOf}
+use Rattle.law.specs.Environment.{Environment, NameSort, a_value}
+use Rattle.law.specs.Names.{as_value, constant_of, arms_of}
+use Rattle.law.specs.Rules.{plain, all_plain, differ, labels_of}
 use Rattle.law.specs.Script as Script
 use Rattle.law.specs.Script.{Const}
 use Rattle.law.specs.Syntax.{Constant, Arms}
 use Rattle.law.specs.Trees.{first, word_at}
-use Rattle.law_theorems.specs.Readings.{stackAt}
+use Rattle.law_theorems.specs.Readings.{stack_at}
 use Rattle.law_theorems.proofs.Inversion.{none-some, some_inj, bind-some, and-true}
-use Rattle.text_words.specs.Passes.{nodesAll}
-use Rattle.text_heads.specs.Parts.{armsIn}
+use Rattle.text_words.specs.Passes.{nodes_all}
+use Rattle.text_heads.specs.Parts.{arms_in}
 use Rattle.table_scope.specs.declared.Scope.{Scope}
 use Rattle.table_scope.specs.declared.Meaning.{Meaning}
-use Rattle.table_scope.specs.Scene.{Means, a-type, a-var, a-proc, a-value, Told, unknown, known, meaningHere}
+use Rattle.table_scope.specs.Scene.{Means, a-type, a-var, a-proc, a-value, Told, unknown, known, meaning_here}
 use Rattle.table_scope.proofs.Telling.{meant}
 use Rattle.rule_labels.specs.declared.Mark.{Mark}
 use Rattle.rule_labels.specs.declared.Mark.TheVariants as mark
@@ -36,43 +36,43 @@ use Rattle.rule_labels.specs.declared.Next.{Next}
 use Rattle.rule_labels.specs.declared.Next.TheVariants as next
 use Rattle.rule_labels.specs.declared.Hop.{Hop}
 use Rattle.rule_labels.specs.declared.Hop.TheVariants as hop
-use Rattle.rule_labels.specs.Marks.{marksOf}
+use Rattle.rule_labels.specs.Marks.{marks_of}
 use Rattle.rule_labels.specs.Hops.{MarkIs, a-number, a-truth, a-name, left_at, EntersArm, Nexts}
-use Rattle.rule_labels.specs.Blocks.{ordinalIn, value_at, among, apart, meets, Held}
+use Rattle.rule_labels.specs.Blocks.{ordinal_in, value_at, among, apart, meets, Held}
 use Rattle.rule_labels.proofs.Marking.{marks-arms, labels-known}
 use Rattle.rule_labels.proofs.Telling.{value-told}
 use Rattle.rule_labels.proofs.Differing.{apart-append}
 use Rattle.rule_labels.specs.declared.loose.NextKey.{NextKey}
 use Rattle.rule_labels.specs.declared.loose.NextKey.TheVariants as next-key
 use Rattle.rule_labels.specs.declared.loose.Filled.{Filled}
-use Rattle.rule_labels.specs.Keys.{kindIn, kind_at, keyBy, key_at, keys_of, Keys, NextKeys, Fills, ComesAgain, Recurs, DiffersFrom}
+use Rattle.rule_labels.specs.Keys.{kind_in, kind_at, key_by, key_at, keys_of, Keys, NextKeys, Fills, ComesAgain, Recurs, DiffersFrom}
 use Rattle.rule_labels.specs.Differ.{Differs}
 use Rattle.rule_labels.proofs.Keying.{differ-apart}
 
 -- ---- the key of a label
 
-pub name-key : (x : Meaning) (j : ℕ) (n r : ℤ) → j ≡ kindIn x → n ≡ ordinalIn x → SFits w64 n → r ≡ keyBy j (wire n) → SFits w64 r → wire r ≡ keyBy (kindIn x) (ordinalIn x)
-name-key x j n r e f p g q = to_z-of_z q ∙ g ∙ ap (keyBy j) (to_z-of_z p ∙ f) ∙ ap (λ (k : ℕ). keyBy k (ordinalIn x)) e
+pub name-key : (x : Meaning) (j : ℕ) (n r : ℤ) → j ≡ kind_in x → n ≡ ordinal_in x → SFits w64 n → r ≡ key_by j (wire n) → SFits w64 r → wire r ≡ key_by (kind_in x) (ordinal_in x)
+name-key x j n r e f p g q = to_z-of_z q ∙ g ∙ ap (key_by j) (to_z-of_z p ∙ f) ∙ ap (λ (k : ℕ). key_by k (ordinal_in x)) e
 
 module _ (s l : List ℕ) (scope : Scope) (m : Mark) (r : ℤ) (q : SFits w64 r) where
-  pub mark-number : (z : ℤ) → m ≡ mark.Number z → SFits w64 z → r ≡ keyBy 0 (wire z) → wire r ≡ key_at s l scope m
-  mark-number z e p g = let i = to_z-of_z q ∙ g ∙ ap (keyBy 0) (to_z-of_z p) in rw e i
+  pub mark-number : (z : ℤ) → m ≡ mark.Number z → SFits w64 z → r ≡ key_by 0 (wire z) → wire r ≡ key_at s l scope m
+  mark-number z e p g = let i = to_z-of_z q ∙ g ∙ ap (key_by 0) (to_z-of_z p) in rw e i
 
-  pub mark-truth : (b : Bool) (n : ℤ) → m ≡ mark.Truth b → n ≡ truth b → SFits w64 n → r ≡ keyBy 1 (wire n) → wire r ≡ key_at s l scope m
-  mark-truth b n e f p g = let i = to_z-of_z q ∙ g ∙ ap (keyBy 1) (to_z-of_z p ∙ f) in rw e i
+  pub mark-truth : (b : Bool) (n : ℤ) → m ≡ mark.Truth b → n ≡ truth b → SFits w64 n → r ≡ key_by 1 (wire n) → wire r ≡ key_at s l scope m
+  mark-truth b n e f p g = let i = to_z-of_z q ∙ g ∙ ap (key_by 1) (to_z-of_z p ∙ f) in rw e i
 
-  pub mark-name : (p : ℕ) (x : Meaning) → m ≡ mark.Named p → x ≡ meaningHere s l scope p → r ≡ keyBy (kindIn x) (ordinalIn x) → wire r ≡ key_at s l scope m
-  mark-name p x e f g = let i = to_z-of_z q ∙ g ∙ ap (λ (y : Meaning). keyBy (kindIn y) (ordinalIn y)) f in rw e i
+  pub mark-name : (p : ℕ) (x : Meaning) → m ≡ mark.Named p → x ≡ meaning_here s l scope p → r ≡ key_by (kind_in x) (ordinal_in x) → wire r ≡ key_at s l scope m
+  mark-name p x e f g = let i = to_z-of_z q ∙ g ∙ ap (λ (y : Meaning). key_by (kind_in y) (ordinal_in y)) f in rw e i
 
 pub ruleset mark-laws = (mark-number, mark-truth, mark-name)
 
-kind-means : {σ : Environment} {bs : List ℕ} {y : Meaning} {n : NameSort} (x : Const) → Means σ bs y n → n ≡ aValue x → kindIn y ≡ x.kind
-kind-means x a-type e = none-some (ap asValue e)
-kind-means x (a-var v h) e = none-some (ap asValue e)
-kind-means x a-proc e = none-some (ap asValue e)
-kind-means x (a-value {k} {n}) e = ap (λ (c : Const). c.kind) (some_inj (ap asValue e))
+kind-means : {σ : Environment} {bs : List ℕ} {y : Meaning} {n : NameSort} (x : Const) → Means σ bs y n → n ≡ a_value x → kind_in y ≡ x.kind
+kind-means x a-type e = none-some (ap as_value e)
+kind-means x (a-var v h) e = none-some (ap as_value e)
+kind-means x a-proc e = none-some (ap as_value e)
+kind-means x (a-value {k} {n}) e = ap (λ (c : Const). c.kind) (some_inj (ap as_value e))
 
-kind-of-told : {σ : Environment} {bs : List ℕ} {y : Meaning} {o : Option NameSort} (x : Const) → Told σ bs y o → o ≡ some (aValue x) → kindIn y ≡ x.kind
+kind-of-told : {σ : Environment} {bs : List ℕ} {y : Meaning} {o : Option NameSort} (x : Const) → Told σ bs y o → o ≡ some (a_value x) → kind_in y ≡ x.kind
 kind-of-told x unknown e = none-some e
 kind-of-told x (known M) e = kind-means x M (some_inj e)
 
@@ -82,8 +82,8 @@ kind-told H (a-truth b) = refl
 kind-told {s} H (a-name p x h) = kind-of-told x (meant H.scene (map small (word_at s p))) h
 
 -- the key by the tables is that of the label
-key-told : {s l : List ℕ} {scope : Scope} {σ : Environment} {m : Mark} {x : Const} → Held s l scope σ → MarkIs s σ m x → key_at s l scope m ≡ keyBy x.kind x.value
-key-told {s} {l} {scope} {σ} {m} {x} H M = ap (λ (k : ℕ). keyBy k (value_at s l scope m)) (kind-told H M) ∙ ap (keyBy x.kind) (value-told H M)
+key-told : {s l : List ℕ} {scope : Scope} {σ : Environment} {m : Mark} {x : Const} → Held s l scope σ → MarkIs s σ m x → key_at s l scope m ≡ key_by x.kind x.value
+key-told {s} {l} {scope} {σ} {m} {x} H M = ap (λ (k : ℕ). key_by k (value_at s l scope m)) (kind-told H M) ∙ ap (key_by x.kind) (value-told H M)
 
 -- ---- labels that are known
 
@@ -96,18 +96,18 @@ module _ (σ : Environment) where
   pub record Split (c : Constant) (cs : List Constant) (zs : List ℤ) : Type 0 where
     pub x : Const
     pub ys : List ℤ
-    pub all : zs ≡ (keyBy x.kind x.value ∷ ys)
+    pub all : zs ≡ (key_by x.kind x.value ∷ ys)
     pub first-known : constant_of σ c ≡ some x
     pub first-inside : plain x ≡ true
     pub others : Keys σ cs ys
 
   keys-split : (c : Constant) (cs : List Constant) (zs : List ℤ) → Keys σ (c ∷ cs) zs → Split c cs zs
-  unfolding each allPlain keys_of
+  unfolding each all_plain keys_of
   keys-split c cs zs Y =
       bind-some Y.known λ x hx h. bind-some h λ xs hy e.
       let a : (x ∷ xs) ≡ Y.consts = some_inj e in
-      let i : (plain x && allPlain xs) ≡ true = ap allPlain a ∙ Y.inside in
-      let g = and-true (plain x) (allPlain xs) i in
+      let i : (plain x && all_plain xs) ≡ true = ap all_plain a ∙ Y.inside in
+      let g = and-true (plain x) (all_plain xs) i in
       record {
         x = x;
         ys = keys_of xs;
@@ -132,7 +132,7 @@ module _ (s l : List ℕ) (scope : Scope) (at : ℕ) (x : Next) (N : Nexts s at 
 
 pub ruleset next-laws = (key-done, key-next)
 
-pub key-falls : (s l : List ℕ) (scope : Scope) (p q : ℕ) (x : NextKey) (z : ℤ) → NextKeys s l scope p x → x ≡ next-key.Key z q → nodesAll (stackAt s q) < nodesAll (stackAt s p)
+pub key-falls : (s l : List ℕ) (scope : Scope) (p q : ℕ) (x : NextKey) (z : ℤ) → NextKeys s l scope p x → x ≡ next-key.Key z q → nodes_all (stack_at s q) < nodes_all (stack_at s p)
 key-falls s l scope p q x z N e = let g = rw e at N.says in g.1.nearer
 
 -- the key of the next label before the others
@@ -153,7 +153,7 @@ module _ (s l : List ℕ) (scope : Scope) (p : ℕ) (x : NextKey) (N : NextKeys 
 pub record Filling (s l : List ℕ) (scope : Scope) (b₀ : List ℤ) (at : ℕ) (b : List ℤ) (n p : ℕ) : Type 0 where
   pub long : length b ≡ length b₀
   pub within : n ≤ length b
-  pub moved : nodesAll (stackAt s p) + n ≤ nodesAll (stackAt s at)
+  pub moved : nodes_all (stack_at s p) + n ≤ nodes_all (stack_at s at)
   pub filled : (σ : Environment) → Held s l scope σ → (zs : List ℤ) → Keys σ (left_at s at) zs → (ys : List ℤ) × (Keys σ (left_at s p) ys × (zs ≡ (take n b ++ ys)))
 
 pub fill_start : (s l : List ℕ) (scope : Scope) (b : List ℤ) (at : ℕ) → Filling s l scope b at b 0 at
@@ -253,7 +253,7 @@ clear-start s l scope b at = record { long = refl; cleared = λ σ H zs Y. (zs, 
 pub block-part : (s l : List ℕ) (scope : Scope) (p : ℕ) (r : Filled) (b : List ℤ) → Fills s l scope p r b → r.size ≡ length (take r.size b)
 block-part s l scope p r b F = sym (length-take-le r.size b F.within)
 
-pub block_falls : (s l : List ℕ) (scope : Scope) (p : ℕ) (r : Filled) (b : List ℤ) → Fills s l scope p r b → (r.size ≡ 0 → ⊥) → nodesAll (stackAt s r.next) < nodesAll (stackAt s p)
+pub block_falls : (s l : List ℕ) (scope : Scope) (p : ℕ) (r : Filled) (b : List ℤ) → Fills s l scope p r b → (r.size ≡ 0 → ⊥) → nodes_all (stack_at s r.next) < nodes_all (stack_at s p)
 block_falls s l scope p r b F h = let m = F.moved in omega arith
 
 module _ (s l : List ℕ) (scope : Scope) (b₀ : List ℤ) (at : ℕ) (b : List ℤ) (p : ℕ) (I : Clearing s l scope b₀ at b p) (r : Filled) (b' : List ℤ) (F : Fills s l scope p r b') (e : length b' ≡ length b) where
@@ -288,11 +288,11 @@ pub ruleset clear-laws = (clear-end, clear-found, clear-on)
 -- ---- the arms that are read
 
 -- the keys of their labels tell whether these differ
-told-arms : (s : List ℕ) (at : ℕ) (r : Bool) (σ : Environment) (d n : ℕ) (a : Arms × ℕ) (b : Script.Arms) → armsIn d n (first (stackAt s at)) ≡ some a → arms_of σ a.0 ≡ some b → allPlain (labelsOf b) ≡ true
-    → (cs : List Constant) → marksOf (first (stackAt s at)) ≡ cs → ((zs : List ℤ) → Keys σ cs zs → r ≡ apart zs) → r ≡ differ (labelsOf b)
+told-arms : (s : List ℕ) (at : ℕ) (r : Bool) (σ : Environment) (d n : ℕ) (a : Arms × ℕ) (b : Script.Arms) → arms_in d n (first (stack_at s at)) ≡ some a → arms_of σ a.0 ≡ some b → all_plain (labels_of b) ≡ true
+    → (cs : List Constant) → marks_of (first (stack_at s at)) ≡ cs → ((zs : List ℤ) → Keys σ cs zs → r ≡ apart zs) → r ≡ differ (labels_of b)
 told-arms s at r σ d n a b i k p cs g f =
-    f (keys_of (labelsOf b)) (rw (← g, marks-arms d n (first (stackAt s at)) a i) (record { consts = labelsOf b; known = labels-known σ a.0 b k; inside = p; keys = refl }))
-    ∙ sym (differ-apart (labelsOf b) p)
+    f (keys_of (labels_of b)) (rw (← g, marks-arms d n (first (stack_at s at)) a i) (record { consts = labels_of b; known = labels-known σ a.0 b k; inside = p; keys = refl }))
+    ∙ sym (differ-apart (labels_of b) p)
 
 module _ (s l : List ℕ) (scope : Scope) (at : ℕ) (h : Hop) (A : EntersArm s at h) where
   pub arms-label : (m : Mark) (q : ℕ) → h ≡ hop.Label m q → Differs s l scope at true

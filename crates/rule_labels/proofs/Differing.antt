@@ -7,14 +7,14 @@ use Prim.Native.Nat.{ℕ}
 use borrow.Author.Tests.{eq-eqb, eqb-true}
 use lib.Dec.{eqb}
 use lib.IntN.{ℤ}
-use Rattle.law.specs.Calculate.{equalZ}
+use Rattle.law.specs.Calculate.{equal_z}
 use Rattle.law.specs.Code.{Cases}
-use Rattle.law.specs.Elaborate.{elabLabels, elabArms}
-use Rattle.law.specs.Rules.{labelled, differ, labelsOf}
-use Rattle.law.specs.Script.{Const, Arms, arm, elseArm, noElse}
+use Rattle.law.specs.Elaborate.{elab_labels, elab_arms}
+use Rattle.law.specs.Rules.{labelled, differ, labels_of}
+use Rattle.law.specs.Script.{Const, Arms, arm, else_arm, no_else}
 use Rattle.law.specs.Types.{Types, Vars}
-use Rattle.law_theorems.proofs.Inversion.{bind-some, both_some, given-some, and-true, and_both}
-use Rattle.rule_labels.specs.Blocks.{among, apart, meets, numbersOf}
+use Rattle.law_theorems.proofs.Inversion.{bind-some, both_some, given-some, and-true, and-both}
+use Rattle.rule_labels.specs.Blocks.{among, apart, meets, numbers_of}
 use Rattle.rule_labels.proofs.Telling.{equal-self, equal_is}
 
 -- ---- integers
@@ -24,11 +24,11 @@ both_ways true b f g = sym (f refl)
 both_ways false true f g = absurd (false≢true (g refl))
 both_ways false false f g = refl
 
-equal-turned : (x y : ℤ) → equalZ x y ≡ true → equalZ y x ≡ true
+equal-turned : (x y : ℤ) → equal_z x y ≡ true → equal_z y x ≡ true
 equal-turned x y h = let e : x ≡ y = equal_is x y h in rw e (equal-self y)
 
-equal-sym : (x y : ℤ) → equalZ x y ≡ equalZ y x
-equal-sym x y = both_ways (equalZ x y) (equalZ y x) (equal-turned x y) (equal-turned y x)
+equal-sym : (x y : ℤ) → equal_z x y ≡ equal_z y x
+equal-sym x y = both_ways (equal_z x y) (equal_z y x) (equal-turned x y) (equal-turned y x)
 
 pub or_assoc : (a b c : Bool) → (a || (b || c)) ≡ ((a || b) || c)
 or_assoc true b c = refl
@@ -43,7 +43,7 @@ or_swap false false c d = refl
 among-append : (z : ℤ) (xs ys : List ℤ) → among z (xs ++ ys) ≡ (among z xs || among z ys)
 unfolding among
 among-append z [] ys = refl
-among-append z (x ∷ xs) ys = ap (λ (b : Bool). equalZ z x || b) (among-append z xs ys) ∙ or_assoc (equalZ z x) (among z xs) (among z ys)
+among-append z (x ∷ xs) ys = ap (λ (b : Bool). equal_z z x || b) (among-append z xs ys) ∙ or_assoc (equal_z z x) (among z xs) (among z ys)
 
 meets-none : (zs : List ℤ) → meets zs [] ≡ false
 unfolding meets among
@@ -54,8 +54,8 @@ meets-more : (zs : List ℤ) (b : ℤ) (bs : List ℤ) → meets zs (b ∷ bs) �
 unfolding meets among
 meets-more [] b bs = refl
 meets-more (z ∷ zs) b bs =
-    ap (λ (t : Bool). (equalZ z b || among z bs) || t) (meets-more zs b bs)
-    ∙ or_swap (equalZ z b) (among z bs) (among b zs) (meets zs bs) ∙ ap (λ (t : Bool). (t || among b zs) || (among z bs || meets zs bs)) (equal-sym z b)
+    ap (λ (t : Bool). (equal_z z b || among z bs) || t) (meets-more zs b bs)
+    ∙ or_swap (equal_z z b) (among z bs) (among b zs) (meets zs bs) ∙ ap (λ (t : Bool). (t || among b zs) || (among z bs || meets zs bs)) (equal-sym z b)
 
 apart-bits : (p q a m z : Bool) → (not (p || q) && ((a && not m) && z)) ≡ (((not p && a) && not (q || m)) && z)
 apart-bits true q a m z = refl
@@ -82,34 +82,34 @@ all_of k (c ∷ cs) = eqb k c.kind && all_of k cs
 all_append : (k : ℕ) (xs ys : List Const) → all_of k xs ≡ true → all_of k ys ≡ true → all_of k (xs ++ ys) ≡ true
 unfolding all_of
 all_append k [] ys h i = i
-all_append k (x ∷ xs) ys h i = let g = and-true (eqb k x.kind) (all_of k xs) h in and_both (eqb k x.kind) (all_of k (xs ++ ys)) g.0 (all_append k xs ys g.1 i)
+all_append k (x ∷ xs) ys h i = let g = and-true (eqb k x.kind) (all_of k xs) h in and-both (eqb k x.kind) (all_of k (xs ++ ys)) g.0 (all_append k xs ys g.1 i)
 
 same_kind : (k : ℕ) (x y : Const) → eqb k x.kind ≡ true → eqb k y.kind ≡ true → eqb x.kind y.kind ≡ true
 same_kind k x y h i = eq-eqb x.kind y.kind (sym (eqb-true k x.kind h) ∙ eqb-true k y.kind i)
 
-labelled-among : (k : ℕ) (x : Const) (xs : List Const) → eqb k x.kind ≡ true → all_of k xs ≡ true → labelled x xs ≡ among x.value (numbersOf xs)
-unfolding all_of labelled among numbersOf
+labelled-among : (k : ℕ) (x : Const) (xs : List Const) → eqb k x.kind ≡ true → all_of k xs ≡ true → labelled x xs ≡ among x.value (numbers_of xs)
+unfolding all_of labelled among numbers_of
 labelled-among k x [] h i = refl
 labelled-among k x (y ∷ ys) h i =
     let g = and-true (eqb k y.kind) (all_of k ys) i in
-    ap (λ (t : Bool). (t && equalZ x.value y.value) || labelled x ys) (same_kind k x y h g.0) ∙ ap (λ (t : Bool). equalZ x.value y.value || t) (labelled-among k x ys h g.1)
+    ap (λ (t : Bool). (t && equal_z x.value y.value) || labelled x ys) (same_kind k x y h g.0) ∙ ap (λ (t : Bool). equal_z x.value y.value || t) (labelled-among k x ys h g.1)
 
-pub differ-apart : (k : ℕ) (xs : List Const) → all_of k xs ≡ true → differ xs ≡ apart (numbersOf xs)
-unfolding all_of differ apart numbersOf
+pub differ-apart : (k : ℕ) (xs : List Const) → all_of k xs ≡ true → differ xs ≡ apart (numbers_of xs)
+unfolding all_of differ apart numbers_of
 differ-apart k [] i = refl
 differ-apart k (x ∷ xs) i =
     let g = and-true (eqb k x.kind) (all_of k xs) i in
-    ap (λ (t : Bool). not t && differ xs) (labelled-among k x xs g.0 g.1) ∙ ap (λ (t : Bool). not (among x.value (numbersOf xs)) && t) (differ-apart k xs g.1)
+    ap (λ (t : Bool). not t && differ xs) (labelled-among k x xs g.0 g.1) ∙ ap (λ (t : Bool). not (among x.value (numbers_of xs)) && t) (differ-apart k xs g.1)
 
 module _ (Γ : Types) (Δ : Vars) (k : ℕ) where
-  labels-kind : (cs : List Const) (zs : List ℤ) → elabLabels Γ Δ k cs ≡ some zs → all_of k cs ≡ true
-  unfolding all_of elabLabels
+  labels-kind : (cs : List Const) (zs : List ℤ) → elab_labels Γ Δ k cs ≡ some zs → all_of k cs ≡ true
+  unfolding all_of elab_labels
   labels-kind [] zs h = refl
-  labels-kind (c ∷ cs) zs h = both_some h λ y ys hy hs e. given-some hy λ t q. and_both (eqb k c.kind) (all_of k cs) t (labels-kind cs ys hs)
+  labels-kind (c ∷ cs) zs h = both_some h λ y ys hy hs e. given-some hy λ t q. and-both (eqb k c.kind) (all_of k cs) t (labels-kind cs ys hs)
 
   -- the labels of arms that fit are of the selector's kind
-  pub arms-kind : (b : Arms) (c : Cases) → elabArms Γ Δ k b ≡ some c → all_of k (labelsOf b) ≡ true
-  unfolding all_of elabArms labelsOf
-  arms-kind (elseArm s) c h = refl
-  arms-kind noElse c h = refl
-  arms-kind (arm cs s bs) c h = both_some h λ zs x hz hx e. bind-some e λ y hy q. all_append k cs (labelsOf bs) (labels-kind cs zs hz) (arms-kind bs y hy)
+  pub arms-kind : (b : Arms) (c : Cases) → elab_arms Γ Δ k b ≡ some c → all_of k (labels_of b) ≡ true
+  unfolding all_of elab_arms labels_of
+  arms-kind (else_arm s) c h = refl
+  arms-kind no_else c h = refl
+  arms-kind (arm cs s bs) c h = both_some h λ zs x hz hx e. bind-some e λ y hy q. all_append k cs (labels_of bs) (labels-kind cs zs hz) (arms-kind bs y hy)

@@ -13,28 +13,28 @@ use mir.Facts.{to_z-of_z}
 use mir.Syntax.{w64}
 use Rattle.leaf_integers.proofs.Machine.{wire}
 use Rattle.law.specs.Base.{each}
-use Rattle.law.specs.Calculate.{equalZ}
+use Rattle.law.specs.Calculate.{equal_z}
 use Rattle.law.specs.Code.{Cases}
-use Rattle.law.specs.Elaborate.{elabArms}
+use Rattle.law.specs.Elaborate.{elab_arms}
 use Rattle.law.specs.Environment.{Environment}
 use Rattle.law.specs.Names.{constant_of, arms_of}
-use Rattle.law.specs.Rules.{plain, allPlain, differ, labelsOf, keptStmt, keptArms}
+use Rattle.law.specs.Rules.{plain, all_plain, differ, labels_of, kept_stmt, kept_arms}
 use Rattle.law.specs.Script as Script
-use Rattle.law.specs.Script.{Const, arm, elseArm, noElse}
-use Rattle.rule_stages.specs.Stages.{fits, ruled, named, staged, armsStaged}
+use Rattle.law.specs.Script.{Const, arm, else_arm, no_else}
+use Rattle.rule_stages.specs.Stages.{fits, ruled, named, staged, arms_staged}
 use Rattle.law.specs.Syntax.{Constant, Arms}
 use Rattle.law.specs.Trees.{first}
-use Rattle.law_theorems.specs.Readings.{stackAt}
-use Rattle.law_theorems.proofs.Inversion.{some_inj, bind-some, and-true, and_both}
-use Rattle.text_words.specs.Passes.{nodesAll}
-use Rattle.text_heads.specs.Parts.{armsIn}
+use Rattle.law_theorems.specs.Readings.{stack_at}
+use Rattle.law_theorems.proofs.Inversion.{some_inj, bind-some, and-true, and-both}
+use Rattle.text_words.specs.Passes.{nodes_all}
+use Rattle.text_heads.specs.Parts.{arms_in}
 use Rattle.table_scope.specs.declared.Scope.{Scope}
 use Rattle.rule_faults.specs.declared.Fault.{Fault}
 use Rattle.rule_faults.specs.declared.Fault.TheVariants.{Clear, Kind}
-use Rattle.rule_faults.specs.Got.{isClear, lowest}
+use Rattle.rule_faults.specs.Got.{is_clear, lowest}
 use Rattle.rule_atoms.proofs.Telling.{unnamed-fits, unfit-fits}
-use Rattle.rule_labels.specs.Marks.{marksOf}
-use Rattle.rule_labels.specs.Repeating.{labelsDiffer, Repeating}
+use Rattle.rule_labels.specs.Marks.{marks_of}
+use Rattle.rule_labels.specs.Repeating.{labels_differ, Repeating}
 use Rattle.rule_labels.specs.declared.Mark.{Mark}
 use Rattle.rule_labels.specs.declared.Hop.{Hop}
 use Rattle.rule_labels.specs.declared.Hop.TheVariants as hop
@@ -44,7 +44,7 @@ use Rattle.rule_labels.specs.declared.NextValue.{NextValue}
 use Rattle.rule_labels.specs.declared.NextValue.TheVariants as next-value
 use Rattle.rule_labels.specs.declared.Filled.{Filled}
 use Rattle.rule_labels.specs.Hops.{left_at, EntersArm, Nexts}
-use Rattle.rule_labels.specs.Blocks.{value_at, among, apart, meets, Held, numbersOf, Values, NextValues, Fills, ComesAgain, Recurs, Doubled}
+use Rattle.rule_labels.specs.Blocks.{value_at, among, apart, meets, Held, numbers_of, Values, NextValues, Fills, ComesAgain, Recurs, Doubled}
 use Rattle.rule_labels.proofs.Marking.{marks-arms, labels-known}
 use Rattle.rule_labels.proofs.Telling.{value-told}
 use Rattle.rule_labels.proofs.Differing.{or_assoc, apart-append, all_of, differ-apart, arms-kind}
@@ -73,10 +73,10 @@ module _ (b : List ℤ) (z : ℤ) (any : Bool) (i : ℕ) (p : SFits w64 z) (I : 
   unfolding among
   hold-end h = sym (whole ∙ ap (λ (zs : List ℤ). any || among z zs) (drop_of_length-le b h) ∙ or-none any)
 
-  pub hold-on : i < length b → (t : Bool) → SFits w64 (get_or b i (pos 0)) → t ≡ equalZ (wire z) (wire (get_or b i (pos 0))) → (u : Bool) → u ≡ (any || t) → Holding b (wire z) u (i + 1)
+  pub hold-on : i < length b → (t : Bool) → SFits w64 (get_or b i (pos 0)) → t ≡ equal_z (wire z) (wire (get_or b i (pos 0))) → (u : Bool) → u ≡ (any || t) → Holding b (wire z) u (i + 1)
   unfolding among
   hold-on l t q e u f = let j = to_z-of_z p in let k = to_z-of_z q in
-      let same : equalZ z (get_or b i (pos 0)) ≡ t = sym (e ∙ ap (λ (y : ℤ). equalZ y (wire (get_or b i (pos 0)))) j ∙ ap (λ (y : ℤ). equalZ z y) k) in
+      let same : equal_z z (get_or b i (pos 0)) ≡ t = sym (e ∙ ap (λ (y : ℤ). equal_z y (wire (get_or b i (pos 0)))) j ∙ ap (λ (y : ℤ). equal_z z y) k) in
       rw (to_z-of_z p) (record {
         left = whole ∙ ap (λ (zs : List ℤ). any || among z zs) (drop-next b i l) ∙ ap (λ (v : Bool). any || (v || among z (drop (i + 1) b))) same
             ∙ or_assoc any t (among z (drop (i + 1) b)) ∙ ap (λ (v : Bool). v || among z (drop (i + 1) b)) (sym f);
@@ -117,8 +117,8 @@ pub ruleset differ-laws = (differ-end, differ-found, differ-on)
 
 module _ (σ : Environment) where
   values-none : (zs : List ℤ) → Values σ [] zs → zs ≡ []
-  unfolding each numbersOf
-  values-none zs Y = sym (ap numbersOf (some_inj Y.known) ∙ Y.values)
+  unfolding each numbers_of
+  values-none zs Y = sym (ap numbers_of (some_inj Y.known) ∙ Y.values)
 
   -- the first of them, and the rest
   pub record Split (c : Constant) (cs : List Constant) (zs : List ℤ) : Type 0 where
@@ -130,16 +130,16 @@ module _ (σ : Environment) where
     pub others : Values σ cs ys
 
   values-split : (c : Constant) (cs : List Constant) (zs : List ℤ) → Values σ (c ∷ cs) zs → Split c cs zs
-  unfolding each allPlain numbersOf
+  unfolding each all_plain numbers_of
   values-split c cs zs Y =
       bind-some Y.known λ x hx h. bind-some h λ xs hy e.
       let a : (x ∷ xs) ≡ Y.consts = some_inj e in
-      let i : (plain x && allPlain xs) ≡ true = ap allPlain a ∙ Y.inside in
-      let g = and-true (plain x) (allPlain xs) i in
+      let i : (plain x && all_plain xs) ≡ true = ap all_plain a ∙ Y.inside in
+      let g = and-true (plain x) (all_plain xs) i in
       record {
         x = x;
-        ys = numbersOf xs;
-        all = sym (ap numbersOf a ∙ Y.values);
+        ys = numbers_of xs;
+        all = sym (ap numbers_of a ∙ Y.values);
         first-known = hx;
         first-inside = g.0;
         others = record { consts = xs; known = hy; inside = g.1; values = refl };
@@ -160,7 +160,7 @@ module _ (s l : List ℕ) (scope : Scope) (at : ℕ) (x : Next) (N : Nexts s at 
 
 pub ruleset next-laws = (value-done, value-next)
 
-pub value-falls : (s l : List ℕ) (scope : Scope) (p q : ℕ) (x : NextValue) (z : ℤ) → NextValues s l scope p x → x ≡ next-value.Value z q → nodesAll (stackAt s q) < nodesAll (stackAt s p)
+pub value-falls : (s l : List ℕ) (scope : Scope) (p q : ℕ) (x : NextValue) (z : ℤ) → NextValues s l scope p x → x ≡ next-value.Value z q → nodes_all (stack_at s q) < nodes_all (stack_at s p)
 value-falls s l scope p q x z N e = let g = rw e at N.says in g.1.nearer
 
 -- the value of the next label before the others
@@ -181,7 +181,7 @@ module _ (s l : List ℕ) (scope : Scope) (p : ℕ) (x : NextValue) (N : NextVal
 pub record Filling (s l : List ℕ) (scope : Scope) (b₀ : List ℤ) (at : ℕ) (b : List ℤ) (n p : ℕ) : Type 0 where
   pub long : length b ≡ length b₀
   pub within : n ≤ length b
-  pub moved : nodesAll (stackAt s p) + n ≤ nodesAll (stackAt s at)
+  pub moved : nodes_all (stack_at s p) + n ≤ nodes_all (stack_at s at)
   pub filled : (σ : Environment) → Held s l scope σ → (zs : List ℤ) → Values σ (left_at s at) zs → (ys : List ℤ) × (Values σ (left_at s p) ys × (zs ≡ (take n b ++ ys)))
 
 pub fill_start : (s l : List ℕ) (scope : Scope) (b : List ℤ) (at : ℕ) → Filling s l scope b at b 0 at
@@ -296,7 +296,7 @@ block-part s l scope p r b F = sym (length-take-le r.size b F.within)
 
 module _ (s l : List ℕ) (scope : Scope) (b₀ : List ℤ) (at : ℕ) (b : List ℤ) (p : ℕ) (I : Clearing s l scope b₀ at b p) (r : Filled) (b' : List ℤ) (F : Fills s l scope p r b') (e : length b' ≡ length b) where
   -- a full block holds a label
-  pub block_falls : 0 < length b₀ → length b' ≤ r.size → nodesAll (stackAt s r.next) < nodesAll (stackAt s p)
+  pub block_falls : 0 < length b₀ → length b' ≤ r.size → nodes_all (stack_at s r.next) < nodes_all (stack_at s p)
   block_falls h k = let m = F.moved in let u = I.long in omega arith
 
   -- a block that is not full holds all labels that are left
@@ -328,29 +328,29 @@ pub ruleset clear-laws = (clear-last, clear-found, clear-on)
 
 -- ---- the arms that are read
 
-plain-append : (xs ys : List Const) → allPlain xs ≡ true → allPlain ys ≡ true → allPlain (xs ++ ys) ≡ true
-unfolding allPlain
+plain-append : (xs ys : List Const) → all_plain xs ≡ true → all_plain ys ≡ true → all_plain (xs ++ ys) ≡ true
+unfolding all_plain
 plain-append [] ys h k = k
-plain-append (x ∷ xs) ys h k = let g = and-true (plain x) (allPlain xs) h in and_both (plain x) (allPlain (xs ++ ys)) g.0 (plain-append xs ys g.1 k)
+plain-append (x ∷ xs) ys h k = let g = and-true (plain x) (all_plain xs) h in and-both (plain x) (all_plain (xs ++ ys)) g.0 (plain-append xs ys g.1 k)
 
-pub arms-plain : (b : Script.Arms) (js : List ℕ) → keptArms b js ≡ true → allPlain (labelsOf b) ≡ true
-unfolding keptArms labelsOf allPlain
-arms-plain (elseArm s) js h = refl
-arms-plain noElse js h = refl
+pub arms-plain : (b : Script.Arms) (js : List ℕ) → kept_arms b js ≡ true → all_plain (labels_of b) ≡ true
+unfolding kept_arms labels_of all_plain
+arms-plain (else_arm s) js h = refl
+arms-plain no_else js h = refl
 arms-plain (arm cs s bs) js h =
-    let g = and-true (allPlain cs && keptStmt s js) (keptArms bs js) h in
-    let k = and-true (allPlain cs) (keptStmt s js) g.0 in
-    plain-append cs (labelsOf bs) k.0 (arms-plain bs js g.1)
+    let g = and-true (all_plain cs && kept_stmt s js) (kept_arms bs js) h in
+    let k = and-true (all_plain cs) (kept_stmt s js) g.0 in
+    plain-append cs (labels_of bs) k.0 (arms-plain bs js g.1)
 
 -- arms that fit have names that are known, keep the rules and have labels of the kind k
 pub record FitArms (σ : Environment) (js : List ℕ) (k : ℕ) (a : Arms) : Type 0 where
   pub read : Script.Arms
   pub known : arms_of σ a ≡ some read
-  pub kept : keptArms read js ≡ true
-  pub alike : all_of k (labelsOf read) ≡ true
+  pub kept : kept_arms read js ≡ true
+  pub alike : all_of k (labels_of read) ≡ true
 
-fit-arms : (σ : Environment) (js : List ℕ) (k : ℕ) (a : Arms) (c : Cases) → armsStaged σ js k (some a) ≡ fits c → FitArms σ js k a
-unfolding armsStaged staged named ruled
+fit-arms : (σ : Environment) (js : List ℕ) (k : ℕ) (a : Arms) (c : Cases) → arms_staged σ js k (some a) ≡ fits c → FitArms σ js k a
+unfolding arms_staged staged named ruled
 fit-arms σ js k a c h = go (arms_of σ a) refl h
   where
     rules : (t : Bool) (o : Option Cases) → ruled t o ≡ fits c → t ≡ true
@@ -362,29 +362,29 @@ fit-arms σ js k a c h = go (arms_of σ a) refl h
     kinds true (some d) h = (d, refl)
     kinds false o h = unfit-fits h
 
-    go : (o : Option Script.Arms) → arms_of σ a ≡ o → named o (λ bs. keptArms bs js) (elabArms σ.types σ.vars k) ≡ fits c → FitArms σ js k a
+    go : (o : Option Script.Arms) → arms_of σ a ≡ o → named o (λ bs. kept_arms bs js) (elab_arms σ.types σ.vars k) ≡ fits c → FitArms σ js k a
     go none e h = unnamed-fits h
     go (some b) e h =
-        let d = kinds (keptArms b js) (elabArms σ.types σ.vars k b) h in
-        record { read = b; known = e; kept = rules (keptArms b js) (elabArms σ.types σ.vars k b) h; alike = arms-kind σ.types σ.vars k b d.0 d.1 }
+        let d = kinds (kept_arms b js) (elab_arms σ.types σ.vars k b) h in
+        record { read = b; known = e; kept = rules (kept_arms b js) (elab_arms σ.types σ.vars k b) h; alike = arms-kind σ.types σ.vars k b d.0 d.1 }
 
-differ-known : (σ : Environment) (a : Arms) (b : Script.Arms) → arms_of σ a ≡ some b → labelsDiffer σ (some a) ≡ differ (labelsOf b)
-unfolding labelsDiffer
-differ-known σ a b h = ap (λ (o : Option Script.Arms). elim o [ none ↦ true | some b ↦ differ (labelsOf b) ]) h
+differ-known : (σ : Environment) (a : Arms) (b : Script.Arms) → arms_of σ a ≡ some b → labels_differ σ (some a) ≡ differ (labels_of b)
+unfolding labels_differ
+differ-known σ a b h = ap (λ (o : Option Script.Arms). elim o [ none ↦ true | some b ↦ differ (labels_of b) ]) h
 
 -- the labels of arms in the text, in the environment of the line
-told-arms : (s : List ℕ) (at : ℕ) (w : Fault) (σ : Environment) (js : List ℕ) (k d n : ℕ) (a : Arms × ℕ) (c : Cases) → armsIn d n (first (stackAt s at)) ≡ some a → armsStaged σ js k (some a.0) ≡ fits c
-    → ((zs : List ℤ) → Values σ (marksOf (first (stackAt s at))) zs → w ≡ cond (apart zs) Clear Kind) → w ≡ cond (labelsDiffer σ (some a.0)) Clear Kind
+told-arms : (s : List ℕ) (at : ℕ) (w : Fault) (σ : Environment) (js : List ℕ) (k d n : ℕ) (a : Arms × ℕ) (c : Cases) → arms_in d n (first (stack_at s at)) ≡ some a → arms_staged σ js k (some a.0) ≡ fits c
+    → ((zs : List ℤ) → Values σ (marks_of (first (stack_at s at))) zs → w ≡ cond (apart zs) Clear Kind) → w ≡ cond (labels_differ σ (some a.0)) Clear Kind
 told-arms s at w σ js k d n a c h i f =
     let b = fit-arms σ js k a.0 c i in
-    f (numbersOf (labelsOf b.read))
-    (rw (marks-arms d n (first (stackAt s at)) a h) (record { consts = labelsOf b.read; known = labels-known σ a.0 b.read b.known; inside = arms-plain b.read js b.kept; values = refl }))
-    ∙ ap (λ (t : Bool). cond t Clear Kind) (sym (differ-known σ a.0 b.read b.known ∙ differ-apart k (labelsOf b.read) b.alike))
+    f (numbers_of (labels_of b.read))
+    (rw (marks-arms d n (first (stack_at s at)) a h) (record { consts = labels_of b.read; known = labels-known σ a.0 b.read b.known; inside = arms-plain b.read js b.kept; values = refl }))
+    ∙ ap (λ (t : Bool). cond t Clear Kind) (sym (differ-known σ a.0 b.read b.known ∙ differ-apart k (labels_of b.read) b.alike))
 
-clear-is : (f : Fault) → f ≡ Clear → isClear f ≡ true
-clear-is f h = ap isClear h
+clear-is : (f : Fault) → f ≡ Clear → is_clear f ≡ true
+clear-is f h = ap is_clear h
 
-module _ (s l : List ℕ) (scope : Scope) (at : ℕ) (f : Fault) (t : Bool) (e : t ≡ isClear f) where
+module _ (s l : List ℕ) (scope : Scope) (at : ℕ) (f : Fault) (t : Bool) (e : t ≡ is_clear f) where
   pub fault-before : t ≡ false → Repeating s l scope at f Clear
   fault-before h = record { small = refl; says = λ i. absurd (true≢false (sym (clear-is f i) ∙ sym e ∙ h)) }
 

@@ -12,20 +12,20 @@ use Rattle.law.specs.Base.{◌>>=◌}
 use Rattle.law.specs.Forms.{constant}
 use Rattle.law.specs.Syntax.{Constant}
 use Rattle.law.specs.Trees.{Tree, word, form, Trees, end, ◌then◌, Run, first, later, word_at}
-use Rattle.law_theorems.specs.Readings.{stackAt}
+use Rattle.law_theorems.specs.Readings.{stack_at}
 use Rattle.law.specs.Words.{worded}
-use Rattle.text_words.specs.Passes.{nodesAll}
-use Rattle.text_heads.specs.Heads.{atomOf, atomConstant}
-use Rattle.text_heads.specs.Parts.{part_of, constantIn}
+use Rattle.text_words.specs.Passes.{nodes_all}
+use Rattle.text_heads.specs.Heads.{atom_of, atom_constant}
+use Rattle.text_heads.specs.Parts.{part_of, constant_in}
 use Rattle.text_heads.proofs.Heads.{constant-word}
 use Rattle.text_parts.specs.Parts.{Before, LeafAt, FormAt, ShutAt, Stands, Shuts}
 use Rattle.text_parts.specs.declared.Part.{Part}
 use Rattle.text_parts.specs.declared.Part.TheVariants as part
 use Rattle.text_parts.specs.declared.End.{End}
 use Rattle.text_parts.specs.declared.End.TheVariants as ending
-use Rattle.rule_atoms.specs.Contracts.{minusForm}
+use Rattle.rule_atoms.specs.Answering.{minus_form}
 use Rattle.text_skips.specs.Skips.{Past}
-use Rattle.rule_labels.specs.Marks.{withMark, marksIn, marksOf}
+use Rattle.rule_labels.specs.Marks.{with_mark, marks_in, marks_of}
 use Rattle.rule_labels.specs.declared.Mark.{Mark}
 use Rattle.rule_labels.specs.declared.Hop.{Hop}
 use Rattle.rule_labels.specs.declared.Hop.TheVariants as hop
@@ -50,34 +50,34 @@ pub ruleset pass-laws = (pass-last, pass-marked)
 
 module _ (s : List ℕ) (p : ℕ) (x : Part) (S : Stands s p x) where
   pub enter-leaf : (w : Word) (o q : ℕ) → x ≡ part.Leaf w o q → EntersForm s p (hop.Over q)
-  unfolding marksOf
+  unfolding marks_of
   enter-leaf w o q e =
       let g : LeafAt s p o q × (w ≡ word_of (word_at s o)) = rw e at S.says in
-      record { says = (λ ts. ap (λ (us : Trees Run). marksOf (form us then ts)) g.0.leaf.here, (g.0.leaf.around, record { nearer = before-fewer s p q _ g.0.leaf })) }
+      record { says = (λ ts. ap (λ (us : Trees Run). marks_of (form us then ts)) g.0.leaf.here, (g.0.leaf.around, record { nearer = before-fewer s p q _ g.0.leaf })) }
 
   pub enter-form : (q : ℕ) → x ≡ part.Form q → EntersForm s p hop.End
-  unfolding marksOf
+  unfolding marks_of
   enter-form q e =
       let g : FormAt s p q = rw e at S.says in
-      record { says = λ ts. ap (λ (us : Trees Run). marksOf (form us then ts)) g.here }
+      record { says = λ ts. ap (λ (us : Trees Run). marks_of (form us then ts)) g.here }
 
   pub enter-shut : (q : ℕ) → x ≡ part.Shut q → EntersForm s p hop.End
-  unfolding marksOf
+  unfolding marks_of
   enter-shut q e =
       let g : ShutAt s p q = rw e at S.says in
-      record { says = λ ts. ap (λ (us : Trees Run). marksOf (form us then ts)) g.here }
+      record { says = λ ts. ap (λ (us : Trees Run). marks_of (form us then ts)) g.here }
 
   pub arms-leaf : (w : Word) (o q : ℕ) → x ≡ part.Leaf w o q → EntersArm s p hop.End
-  unfolding marksOf
+  unfolding marks_of
   arms-leaf w o q e =
       let g : LeafAt s p o q × (w ≡ word_of (word_at s o)) = rw e at S.says in
-      record { says = ap marksOf g.0.leaf.here }
+      record { says = ap marks_of g.0.leaf.here }
 
   pub arms-shut : (q : ℕ) → x ≡ part.Shut q → EntersArm s p hop.End
-  unfolding marksOf
+  unfolding marks_of
   arms-shut q e =
       let g : ShutAt s p q = rw e at S.says in
-      record { says = ap marksOf g.here }
+      record { says = ap marks_of g.here }
 
   pub arms-form : (q : ℕ) (h : Hop) → x ≡ part.Form q → EntersForm s q h → EntersArm s p h
   unfolding left_at
@@ -86,13 +86,13 @@ module _ (s : List ℕ) (p : ℕ) (x : Part) (S : Stands s p x) where
       let g : FormAt s p q = rw e at S.says in
       record {
         says = (
-          ap marksOf g.here ∙ E.says.0 (first (later (stackAt s q))) ∙ ap (λ (k : List (Trees Run)). marksIn (first (stackAt s r)) ++ marksOf (first k)) E.says.1.0,
+          ap marks_of g.here ∙ E.says.0 (first (later (stack_at s q))) ∙ ap (λ (k : List (Trees Run)). marks_in (first (stack_at s r)) ++ marks_of (first k)) E.says.1.0,
           record { nearer = let a = E.says.1.1.nearer in let b = form-fewer s p q g in omega arith },
         );
       }
   arms-form q hop.End e E =
       let g : FormAt s p q = rw e at S.says in
-      record { says = ap marksOf g.here ∙ E.says (first (later (stackAt s q))) }
+      record { says = ap marks_of g.here ∙ E.says (first (later (stack_at s q))) }
 
 pub ruleset enter-laws = (enter-leaf, enter-form, enter-shut)
 
@@ -101,8 +101,8 @@ pub ruleset arms-laws = (arms-leaf, arms-form, arms-shut)
 -- ---- one hop
 
 -- the labels in parts of which the first is no last one
-marks-more : (t : Tree Run) (us : Trees Run) → (us ≡ end → ⊥) → marksIn (t then us) ≡ withMark (worded t >>= constant) (marksIn us)
-unfolding marksIn
+marks-more : (t : Tree Run) (us : Trees Run) → (us ≡ end → ⊥) → marks_in (t then us) ≡ with_mark (worded t >>= constant) (marks_in us)
+unfolding marks_in
 marks-more t end h = absurd (h refl)
 marks-more t (u then us) h = refl
 
@@ -113,77 +113,77 @@ no_end h = subst more? h tt
     more? end = ⊥
     more? (t then ts) = Unit {0}
 
-marks-last : (t : Tree Run) (us : Trees Run) → us ≡ end → marksIn (t then us) ≡ marksIn us
-unfolding marksIn
+marks-last : (t : Tree Run) (us : Trees Run) → us ≡ end → marks_in (t then us) ≡ marks_in us
+unfolding marks_in
 marks-last t end h = refl
 marks-last t (u then us) h = absurd (no_end h)
 
-marks-none : (t : Tree Run) (us : Trees Run) → (worded t >>= constant) ≡ none → marksIn (t then us) ≡ marksIn us
-unfolding marksIn withMark
+marks-none : (t : Tree Run) (us : Trees Run) → (worded t >>= constant) ≡ none → marks_in (t then us) ≡ marks_in us
+unfolding marks_in with_mark
 marks-none t end h = refl
 marks-none t (u then us) h = rw h refl
 
 module _ (s : List ℕ) (at q : ℕ) (t : Tree Run) (B : Before s at t q) where
-  left_is : left_at s at ≡ (marksIn (t then first (stackAt s q)) ++ marksOf (first (later (stackAt s q))))
+  left_is : left_at s at ≡ (marks_in (t then first (stack_at s q)) ++ marks_of (first (later (stack_at s q))))
   unfolding left_at
-  left_is = ap (λ (us : Trees Run). marksIn us ++ marksOf (first (later (stackAt s at)))) B.here ∙ ap (λ (k : List (Trees Run)). marksIn (t then first (stackAt s q)) ++ marksOf (first k)) B.around
+  left_is = ap (λ (us : Trees Run). marks_in us ++ marks_of (first (later (stack_at s at)))) B.here ∙ ap (λ (k : List (Trees Run)). marks_in (t then first (stack_at s q)) ++ marks_of (first k)) B.around
 
-  left_over : marksIn (t then first (stackAt s q)) ≡ marksIn (first (stackAt s q)) → left_at s at ≡ left_at s q
+  left_over : marks_in (t then first (stack_at s q)) ≡ marks_in (first (stack_at s q)) → left_at s at ≡ left_at s q
   unfolding left_at
-  left_over h = left_is ∙ ap (λ (cs : List Constant). cs ++ marksOf (first (later (stackAt s q)))) h
+  left_over h = left_is ∙ ap (λ (cs : List Constant). cs ++ marks_of (first (later (stack_at s q)))) h
 
-  left-label : (c : Constant) → marksIn (t then first (stackAt s q)) ≡ (c ∷ marksIn (first (stackAt s q))) → left_at s at ≡ (c ∷ left_at s q)
+  left-label : (c : Constant) → marks_in (t then first (stack_at s q)) ≡ (c ∷ marks_in (first (stack_at s q))) → left_at s at ≡ (c ∷ left_at s q)
   unfolding left_at
-  left-label c h = left_is ∙ ap (λ (cs : List Constant). cs ++ marksOf (first (later (stackAt s q)))) h
+  left-label c h = left_is ∙ ap (λ (cs : List Constant). cs ++ marks_of (first (later (stack_at s q)))) h
 
   passed-hop : (o : Option Constant) (h : Hop) → (worded t >>= constant) ≡ o → Passes s o q h → Hops s at h
-  unfolding withMark
+  unfolding with_mark
   passed-hop o (hop.Label m p) k P =
       let c = P.says.1.1.0 in
       rw P.says.0 (record {
         says = (
-          (c, (left-label c (marks-more t (first (stackAt s q)) P.says.1.0 ∙ ap (λ (z : Option Constant). withMark z (marksIn (first (stackAt s q)))) (k ∙ P.says.1.1.1.0)), P.says.1.1.1.1)),
+          (c, (left-label c (marks-more t (first (stack_at s q)) P.says.1.0 ∙ ap (λ (z : Option Constant). with_mark z (marks_in (first (stack_at s q)))) (k ∙ P.says.1.1.1.0)), P.says.1.1.1.1)),
           record { nearer = before-fewer s at q t B },
         );
       })
   passed-hop o (hop.Over p) k P = rw P.says.0 (record { says = (left_over (same-marks P.says.1), record { nearer = before-fewer s at q t B }) })
     where
-      same-marks : (first (stackAt s q) ≡ end) ⊎ (o ≡ none) → marksIn (t then first (stackAt s q)) ≡ marksIn (first (stackAt s q))
-      same-marks (inl h) = marks-last t (first (stackAt s q)) h
-      same-marks (inr h) = marks-none t (first (stackAt s q)) (k ∙ h)
+      same-marks : (first (stack_at s q) ≡ end) ⊎ (o ≡ none) → marks_in (t then first (stack_at s q)) ≡ marks_in (first (stack_at s q))
+      same-marks (inl h) = marks-last t (first (stack_at s q)) h
+      same-marks (inr h) = marks-none t (first (stack_at s q)) (k ∙ h)
   passed-hop o hop.End k P = absurd P.says
 
-word-constant : (w : Run) → (worded (word w) >>= constant) ≡ atomConstant (atomOf (word_of w)) (map small w)
-unfolding constantIn part_of
+word-constant : (w : Run) → (worded (word w) >>= constant) ≡ atom_constant (atom_of (word_of w)) (map small w)
+unfolding constant_in part_of
 word-constant w = constant-word w end
 
-form-constant : (us : Trees Run) → (worded (form us) >>= constant) ≡ minusForm us
-unfolding minusForm constantIn part_of
+form-constant : (us : Trees Run) → (worded (form us) >>= constant) ≡ minus_form us
+unfolding minus_form constant_in part_of
 form-constant us = refl
 
 module _ (s : List ℕ) (at : ℕ) (x : Part) (S : Stands s at x) where
-  pub hop-leaf : (w : Word) (p q : ℕ) (h : Hop) → x ≡ part.Leaf w p q → Passes s (atomConstant (atomOf w) (map small (word_at s p))) q h → Hops s at h
+  pub hop-leaf : (w : Word) (p q : ℕ) (h : Hop) → x ≡ part.Leaf w p q → Passes s (atom_constant (atom_of w) (map small (word_at s p))) q h → Hops s at h
   hop-leaf w p q h e P =
       let g : LeafAt s at p q × (w ≡ word_of (word_at s p)) = rw e at S.says in
-      passed-hop s at q (word (word_at s p)) g.0.leaf _ h (word-constant (word_at s p) ∙ ap (λ (u : Word). atomConstant (atomOf u) (map small (word_at s p))) (sym g.1)) P
+      passed-hop s at q (word (word_at s p)) g.0.leaf _ h (word-constant (word_at s p) ∙ ap (λ (u : Word). atom_constant (atom_of u) (map small (word_at s p))) (sym g.1)) P
 
-  pub hop-form : (p q : ℕ) (h : Hop) → x ≡ part.Form p → Past s p q → Passes s (minusForm (first (stackAt s p))) q h → Hops s at h
+  pub hop-form : (p q : ℕ) (h : Hop) → x ≡ part.Form p → Past s p q → Passes s (minus_form (first (stack_at s p))) q h → Hops s at h
   hop-form p q h e G P =
       let g : FormAt s at p = rw e at S.says in
-      passed-hop s at q (form (first (stackAt s p))) (passed-form s at p q g G) _ h (form-constant (first (stackAt s p))) P
+      passed-hop s at q (form (first (stack_at s p))) (passed-form s at p q g G) _ h (form-constant (first (stack_at s p))) P
 
   pub hop-shut : (q : ℕ) (h : Hop) → x ≡ part.Shut q → EntersArm s q h → Hops s at h
-  unfolding left_at marksIn
+  unfolding left_at marks_in
   hop-shut q (hop.Label m r) e A = absurd A.says
   hop-shut q (hop.Over r) e A =
       let g : ShutAt s at q = rw e at S.says in
       record { says = (shut-left g ∙ A.says.0, record { nearer = let a = A.says.1.nearer in let b = shut-nodes s at q g in omega arith }) }
     where
-      shut-left : ShutAt s at q → left_at s at ≡ marksOf (first (stackAt s q))
-      shut-left g = ap (λ (us : Trees Run). marksIn us ++ marksOf (first (later (stackAt s at)))) g.here ∙ ap (λ (k : List (Trees Run)). marksOf (first k)) g.around
+      shut-left : ShutAt s at q → left_at s at ≡ marks_of (first (stack_at s q))
+      shut-left g = ap (λ (us : Trees Run). marks_in us ++ marks_of (first (later (stack_at s at)))) g.here ∙ ap (λ (k : List (Trees Run)). marks_of (first k)) g.around
   hop-shut q hop.End e A =
       let g : ShutAt s at q = rw e at S.says in
-      record { says = ap (λ (us : Trees Run). marksIn us ++ marksOf (first (later (stackAt s at)))) g.here ∙ ap (λ (k : List (Trees Run)). marksOf (first k)) g.around ∙ A.says }
+      record { says = ap (λ (us : Trees Run). marks_in us ++ marks_of (first (later (stack_at s at)))) g.here ∙ ap (λ (k : List (Trees Run)). marks_of (first k)) g.around ∙ A.says }
 
 pub ruleset hop-laws = (hop-leaf, hop-form, hop-shut)
 
@@ -192,13 +192,13 @@ pub ruleset hop-laws = (hop-leaf, hop-form, hop-shut)
 -- from `at` to p no label stands
 pub record Seeking (s : List ℕ) (at p : ℕ) : Type 0 where
   pub same_left : left_at s at ≡ left_at s p
-  pub fewer : nodesAll (stackAt s p) ≤ nodesAll (stackAt s at)
+  pub fewer : nodes_all (stack_at s p) ≤ nodes_all (stack_at s at)
 
 pub seek-start : (s : List ℕ) (at : ℕ) → Seeking s at at
 seek-start s at = record { same_left = refl; fewer = omega arith }
 
 module _ (s : List ℕ) (p : ℕ) (h : Hop) (H : Hops s p h) where
-  pub seek-falls : (q : ℕ) → h ≡ hop.Over q → nodesAll (stackAt s q) < nodesAll (stackAt s p)
+  pub seek-falls : (q : ℕ) → h ≡ hop.Over q → nodes_all (stack_at s q) < nodes_all (stack_at s p)
   seek-falls q e = let g = rw e at H.says in g.1.nearer
 
   pub seek-on : (at q : ℕ) → Seeking s at p → h ≡ hop.Over q → Seeking s at q

@@ -14,13 +14,13 @@ use mir.Syntax.{w64}
 use Rattle.leaf_integers.specs.Integers.{least, most, inside}
 use Rattle.leaf_integers.proofs.Machine.{wire, fits-mag}
 use Rattle.leaf_integers.proofs.Ranges.{Narrow, inside-mag}
-use Rattle.law.specs.Calculate.{equalZ}
-use Rattle.law.specs.Rules.{plain, allPlain, sameConst, labelled, differ}
+use Rattle.law.specs.Calculate.{equal_z}
+use Rattle.law.specs.Rules.{plain, all_plain, same_const, labelled, differ}
 use Rattle.law.specs.Script.{Const}
-use Rattle.law_theorems.proofs.Inversion.{and-true, and_both}
+use Rattle.law_theorems.proofs.Inversion.{and-true, and-both}
 use Rattle.rule_labels.specs.Blocks.{among, apart}
 use Rattle.rule_labels.proofs.Telling.{equal-self, equal_is, wide_is}
-use Rattle.rule_labels.specs.Keys.{keyBy, keys_of}
+use Rattle.rule_labels.specs.Keys.{key_by, keys_of}
 
 -- ---- the number of a kind and a value
 
@@ -104,22 +104,22 @@ number_fits k z h i = rw (numbered k z i) (below-fits (k * 4294967296 + place_of
 
 -- ---- one number for one kind and one value
 
-pub key_in : (k : ℕ) (z : ℤ) → inside least most z ≡ true → keyBy k z ≡ (pos k -ℤ pos 2147483648) *ℤ pos 4294967296 +ℤ (z +ℤ pos 2147483648)
-unfolding keyBy
-key_in k z h = ap (λ (t : Bool). cond t ((pos k -ℤ pos 2147483648) *ℤ pos 4294967296 +ℤ (z +ℤ pos 2147483648)) (pos 0)) h
+pub key-in : (k : ℕ) (z : ℤ) → inside least most z ≡ true → key_by k z ≡ (pos k -ℤ pos 2147483648) *ℤ pos 4294967296 +ℤ (z +ℤ pos 2147483648)
+unfolding key_by
+key-in k z h = ap (λ (t : Bool). cond t ((pos k -ℤ pos 2147483648) *ℤ pos 4294967296 +ℤ (z +ℤ pos 2147483648)) (pos 0)) h
 
-pub key-out : (k : ℕ) (z : ℤ) → inside least most z ≡ false → keyBy k z ≡ pos 0
-unfolding keyBy
+pub key-out : (k : ℕ) (z : ℤ) → inside least most z ≡ false → key_by k z ≡ pos 0
+unfolding key_by
 key-out k z h = ap (λ (t : Bool). cond t ((pos k -ℤ pos 2147483648) *ℤ pos 4294967296 +ℤ (z +ℤ pos 2147483648)) (pos 0)) h
 
 less_one : (m n : ℕ) (c : ℤ) → pos m -ℤ c ≡ pos n -ℤ c → m ≡ n
 less_one m n c e = ap nat_abs (sym (-ℤ-+ℤ_cancel (pos m) c) ∙ ap (λ (z : ℤ). z +ℤ c) e ∙ -ℤ-+ℤ_cancel (pos n) c)
 
-module _ (j k : ℕ) (y z : ℤ) (p : inside least most y ≡ true) (q : inside least most z ≡ true) (e : keyBy j y ≡ keyBy k z) where
+module _ (j k : ℕ) (y z : ℤ) (p : inside least most y ≡ true) (q : inside least most z ≡ true) (e : key_by j y ≡ key_by k z) where
   one_number : j * 4294967296 + place_of y ≡ k * 4294967296 + place_of z
   one_number =
       less_one (j * 4294967296 + place_of y) (k * 4294967296 + place_of z) (pos 9223372036854775808)
-      (sym (key_in j y p ∙ numbered j y (narrow y p)) ∙ e ∙ key_in k z q ∙ numbered k z (narrow z q))
+      (sym (key-in j y p ∙ numbered j y (narrow y p)) ∙ e ∙ key-in k z q ∙ numbered k z (narrow z q))
 
   one-kind : j ≡ k
   one-kind = let m = place-small y (narrow y p) in let n = place-small z (narrow z q) in let i = one_number in omega arith
@@ -132,40 +132,40 @@ both_ways true b f g = sym (f refl)
 both_ways false true f g = absurd (false≢true (g refl))
 both_ways false false f g = refl
 
-same_key : (x y : Const) → plain x ≡ true → plain y ≡ true → sameConst x y ≡ equalZ (keyBy x.kind x.value) (keyBy y.kind y.value)
+same_key : (x y : Const) → plain x ≡ true → plain y ≡ true → same_const x y ≡ equal_z (key_by x.kind x.value) (key_by y.kind y.value)
 unfolding plain
-same_key x y p q = both_ways (sameConst x y) (equalZ (keyBy x.kind x.value) (keyBy y.kind y.value)) to from
+same_key x y p q = both_ways (same_const x y) (equal_z (key_by x.kind x.value) (key_by y.kind y.value)) to from
   where
-    to : sameConst x y ≡ true → equalZ (keyBy x.kind x.value) (keyBy y.kind y.value) ≡ true
+    to : same_const x y ≡ true → equal_z (key_by x.kind x.value) (key_by y.kind y.value) ≡ true
     to h =
-        let g = and-true (eqb x.kind y.kind) (equalZ x.value y.value) h in
+        let g = and-true (eqb x.kind y.kind) (equal_z x.value y.value) h in
         let i : x.kind ≡ y.kind = eqb-true x.kind y.kind g.0 in
         let j : x.value ≡ y.value = equal_is x.value y.value g.1 in
-        let e : keyBy x.kind x.value ≡ keyBy y.kind y.value = ap (λ (k : ℕ). keyBy k x.value) i ∙ ap (λ (z : ℤ). keyBy y.kind z) j in
-        rw e (equal-self (keyBy y.kind y.value))
+        let e : key_by x.kind x.value ≡ key_by y.kind y.value = ap (λ (k : ℕ). key_by k x.value) i ∙ ap (λ (z : ℤ). key_by y.kind z) j in
+        rw e (equal-self (key_by y.kind y.value))
 
-    from : equalZ (keyBy x.kind x.value) (keyBy y.kind y.value) ≡ true → sameConst x y ≡ true
+    from : equal_z (key_by x.kind x.value) (key_by y.kind y.value) ≡ true → same_const x y ≡ true
     from h =
-        let e = equal_is (keyBy x.kind x.value) (keyBy y.kind y.value) h in
+        let e = equal_is (key_by x.kind x.value) (key_by y.kind y.value) h in
         let j : x.value ≡ y.value = one_value x.kind y.kind x.value y.value p q e in
-        and_both (eqb x.kind y.kind) (equalZ x.value y.value) (eq-eqb x.kind y.kind (one-kind x.kind y.kind x.value y.value p q e))
+        and-both (eqb x.kind y.kind) (equal_z x.value y.value) (eq-eqb x.kind y.kind (one-kind x.kind y.kind x.value y.value p q e))
         (rw j (equal-self y.value))
 
 -- ---- labels and their keys
 
-labelled-among : (x : Const) (xs : List Const) → plain x ≡ true → allPlain xs ≡ true → labelled x xs ≡ among (keyBy x.kind x.value) (keys_of xs)
-unfolding allPlain labelled among keys_of
+labelled-among : (x : Const) (xs : List Const) → plain x ≡ true → all_plain xs ≡ true → labelled x xs ≡ among (key_by x.kind x.value) (keys_of xs)
+unfolding all_plain labelled among keys_of
 labelled-among x [] p h = refl
 labelled-among x (y ∷ ys) p h =
-    let g = and-true (plain y) (allPlain ys) h in
-    ap (λ (t : Bool). t || labelled x ys) (same_key x y p g.0) ∙ ap (λ (t : Bool). equalZ (keyBy x.kind x.value) (keyBy y.kind y.value) || t) (labelled-among x ys p g.1)
+    let g = and-true (plain y) (all_plain ys) h in
+    ap (λ (t : Bool). t || labelled x ys) (same_key x y p g.0) ∙ ap (λ (t : Bool). equal_z (key_by x.kind x.value) (key_by y.kind y.value) || t) (labelled-among x ys p g.1)
 
-pub differ-apart : (xs : List Const) → allPlain xs ≡ true → differ xs ≡ apart (keys_of xs)
-unfolding allPlain differ apart keys_of
+pub differ-apart : (xs : List Const) → all_plain xs ≡ true → differ xs ≡ apart (keys_of xs)
+unfolding all_plain differ apart keys_of
 differ-apart [] h = refl
 differ-apart (x ∷ xs) h =
-    let g = and-true (plain x) (allPlain xs) h in
-    ap (λ (t : Bool). not t && differ xs) (labelled-among x xs g.0 g.1) ∙ ap (λ (t : Bool). not (among (keyBy x.kind x.value) (keys_of xs)) && t) (differ-apart xs g.1)
+    let g = and-true (plain x) (all_plain xs) h in
+    ap (λ (t : Bool). not t && differ xs) (labelled-among x xs g.0 g.1) ∙ ap (λ (t : Bool). not (among (key_by x.kind x.value) (keys_of xs)) && t) (differ-apart xs g.1)
 
 -- ---- the laws of `key`, with each number as its local holds it
 
@@ -192,7 +192,7 @@ module _ (z : ℤ) (p : SFits w64 z) (t : Bool) (e : t ≡ inside least most (wi
   place_is : t ≡ true → wire (wire z +ℤ pos 2147483648) ≡ z +ℤ pos 2147483648
   place_is f = to_z-of_z (value-more f) ∙ ap (λ (x : ℤ). x +ℤ pos 2147483648) (to_z-of_z p)
 
-  pub key-past : (k : ℕ) → t ≡ false → pos 0 ≡ keyBy k z
+  pub key-past : (k : ℕ) → t ≡ false → pos 0 ≡ key_by k z
   key-past k f = sym (key-out k z (ap (inside least most) (sym (to_z-of_z p)) ∙ sym e ∙ f))
 
   module _ (k : ℕ) (h : k < 4294967296) (f : t ≡ true) where
@@ -202,7 +202,7 @@ module _ (z : ℤ) (p : SFits w64 z) (t : Bool) (e : t ≡ inside least most (wi
     pub key-sum : SFits w64 (wire (wire (to_z w64 k -ℤ pos 2147483648) *ℤ pos 4294967296) +ℤ wire (wire z +ℤ pos 2147483648))
     key-sum = subst (λ (x : ℤ). SFits w64 x) (sym sum_is) (number_fits k z h (narrow z (within f)))
 
-    pub key-within : wire (wire (wire (to_z w64 k -ℤ pos 2147483648) *ℤ pos 4294967296) +ℤ wire (wire z +ℤ pos 2147483648)) ≡ keyBy k z
-    key-within = to_z-of_z key-sum ∙ sum_is ∙ sym (key_in k z (within f))
+    pub key-within : wire (wire (wire (to_z w64 k -ℤ pos 2147483648) *ℤ pos 4294967296) +ℤ wire (wire z +ℤ pos 2147483648)) ≡ key_by k z
+    key-within = to_z-of_z key-sum ∙ sum_is ∙ sym (key-in k z (within f))
 
 pub ruleset key_laws = (kind-less, kind-times, value-more, key-sum, key-past, key-within)

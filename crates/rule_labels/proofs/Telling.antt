@@ -17,18 +17,18 @@ use Rattle.leaf_bytes.specs.Bytes.{small}
 use Rattle.leaf_words.specs.Words.{word_of}
 use Rattle.leaf_words.specs.declared.words.Word.{Word}
 use Rattle.law.specs.Base.{◌>>=◌}
-use Rattle.law.specs.Calculate.{truth, equalZ}
-use Rattle.law.specs.Environment.{Environment, NameSort, a_type, aVar, aProc, aValue}
-use Rattle.law.specs.Names.{constant_of, const_of, asValue}
+use Rattle.law.specs.Calculate.{truth, equal_z}
+use Rattle.law.specs.Environment.{Environment, NameSort, a_type, a_var, a_proc, a_value}
+use Rattle.law.specs.Names.{constant_of, const_of, as_value}
 use Rattle.law.specs.Rules.{plain}
 use Rattle.law.specs.Script.{Const}
 use Rattle.rule_stages.specs.Stages.{fits, ruled, named, staged}
 use Rattle.law.specs.Syntax as Syntax
 use Rattle.law.specs.Syntax.{Constant, number, minus}
 use Rattle.law.specs.Trees.{word, form, Trees, end, ◌then◌, Run, first, word_at}
-use Rattle.law_theorems.specs.Readings.{stackAt}
+use Rattle.law_theorems.specs.Readings.{stack_at}
 use Rattle.law_theorems.proofs.Inversion.{none-some, some_inj, bind-some}
-use Rattle.text_heads.specs.Heads.{atomOf, atomConstant, exprHeadOf, minusPick}
+use Rattle.text_heads.specs.Heads.{atom_of, atom_constant, expr_head_of, minus_pick}
 use Rattle.text_heads.specs.Parts.{rest, closed, number_in, constant_by}
 use Rattle.text_heads.specs.declared.Atom.{Atom}
 use Rattle.text_heads.specs.declared.Atom.TheVariants as AT
@@ -38,26 +38,26 @@ use Rattle.text_heads.proofs.Expressions.{constant-form, constant-empty, constan
 use Rattle.table_scope.specs.declared.Scope.{Scope}
 use Rattle.table_scope.specs.declared.Meaning.{Meaning}
 use Rattle.table_scope.specs.declared.Meaning.TheVariants as meaning
-use Rattle.table_scope.specs.Scene.{Means, a-type, a-var, a-proc, a-value, Told, unknown, known, meaningHere}
+use Rattle.table_scope.specs.Scene.{Means, a-type, a-var, a-proc, a-value, Told, unknown, known, meaning_here}
 use Rattle.table_scope.proofs.Telling.{meant}
-use Rattle.rule_faults.specs.Got.{isForm, faultOf}
+use Rattle.rule_faults.specs.Got.{is_form, fault_of}
 use Rattle.rule_atoms.specs.declared.Valued.{Valued}
-use Rattle.rule_atoms.specs.Contracts.{GivesMinus, minusForm}
+use Rattle.rule_atoms.specs.Answering.{GivesMinus, minus_form}
 use Rattle.rule_labels.specs.declared.Mark.{Mark}
 use Rattle.rule_labels.specs.declared.Mark.TheVariants as mark
 use Rattle.rule_labels.specs.declared.Hop.TheVariants as hop
 use Rattle.rule_labels.specs.Hops.{MarkIs, a-number, a-truth, a-name, Tells, Marked}
-use Rattle.rule_labels.specs.Blocks.{ordinalIn, value_at, Held}
+use Rattle.rule_labels.specs.Blocks.{ordinal_in, value_at, Held}
 
 -- ---- integers
 
 less-self : (x : ℤ) → x -ℤ x ≡ pos 0
 less-self x = +ℤ_invr x
 
-pub equal-self : (x : ℤ) → equalZ x x ≡ true
+pub equal-self : (x : ℤ) → equal_z x x ≡ true
 equal-self x = is-zero (x -ℤ x) (less-self x)
 
-pub equal_is : (x y : ℤ) → equalZ x y ≡ true → x ≡ y
+pub equal_is : (x y : ℤ) → equal_z x y ≡ true → x ≡ y
 unfolding is_zero
 equal_is x y h = sym (-ℤ-+ℤ_cancel x y) ∙ ap (λ (z : ℤ). z +ℤ y) (zero_is (x -ℤ y) h) ∙ +ℤ_idl y
   where
@@ -65,13 +65,13 @@ equal_is x y h = sym (-ℤ-+ℤ_cancel x y) ∙ ap (λ (z : ℤ). z +ℤ y) (zer
     zero_is (pos n) h = ap pos (eqb-true n 0 h)
     zero_is (negsuc n) h = absurd (false≢true h)
 
-equal-not : (x y : ℤ) → (x ≡ y → ⊥) → equalZ x y ≡ false
+equal-not : (x y : ℤ) → (x ≡ y → ⊥) → equal_z x y ≡ false
 equal-not x y h = not-zero (x -ℤ y) (λ e. h (sym (-ℤ-+ℤ_cancel x y) ∙ ap (λ (z : ℤ). z +ℤ y) e ∙ +ℤ_idl y))
 
-pub number_same : (x y : ℤ) → SFits w64 x → SFits w64 y → of_z w64 x ≡ of_z w64 y → true ≡ equalZ x y
+pub number_same : (x y : ℤ) → SFits w64 x → SFits w64 y → of_z w64 x ≡ of_z w64 y → true ≡ equal_z x y
 number_same x y p q e = let h : x ≡ y = same_bits x y p q e in sym (rw h (equal-self y))
 
-pub number-other : (x y : ℤ) → (of_z w64 x ≡ of_z w64 y → ⊥) → false ≡ equalZ x y
+pub number-other : (x y : ℤ) → (of_z w64 x ≡ of_z w64 y → ⊥) → false ≡ equal_z x y
 number-other x y h = sym (equal-not x y (λ e. h (ap (of_z w64) e)))
 
 pub ruleset number-laws = (number_same, number-other)
@@ -95,19 +95,19 @@ pub wide_is : (n : ℕ) → n < 4294967296 → to_z w64 n ≡ pos n
 wide_is n h = to_z-of_z {w = w64} {z = pos n} (record { sfits = omega arith })
 
 module _ (m : Meaning) where
-  pub ordinal-unknown : m ≡ meaning.Unknown → pos 0 ≡ ordinalIn m
+  pub ordinal-unknown : m ≡ meaning.Unknown → pos 0 ≡ ordinal_in m
   ordinal-unknown e = rw e refl
 
-  pub ordinal-type : (t : ℕ) → m ≡ meaning.Type t → pos 0 ≡ ordinalIn m
+  pub ordinal-type : (t : ℕ) → m ≡ meaning.Type t → pos 0 ≡ ordinal_in m
   ordinal-type t e = rw e refl
 
-  pub ordinal-var : (i t a : ℕ) → m ≡ meaning.Var i t a → pos 0 ≡ ordinalIn m
+  pub ordinal-var : (i t a : ℕ) → m ≡ meaning.Var i t a → pos 0 ≡ ordinal_in m
   ordinal-var i t a e = rw e refl
 
-  pub ordinal-proc : (p : ℕ) → m ≡ meaning.Proc p → pos 0 ≡ ordinalIn m
+  pub ordinal-proc : (p : ℕ) → m ≡ meaning.Proc p → pos 0 ≡ ordinal_in m
   ordinal-proc p e = rw e refl
 
-  pub ordinal-is : (r : ℤ) (k n : ℕ) → m ≡ meaning.Value k n → r ≡ pos n → SFits w64 r → wire r ≡ ordinalIn m
+  pub ordinal-is : (r : ℤ) (k n : ℕ) → m ≡ meaning.Value k n → r ≡ pos n → SFits w64 r → wire r ≡ ordinal_in m
   ordinal-is r k n e f p = let i = to_z-of_z p in rw e (i ∙ f)
 
 pub ruleset ordinal-laws = (ordinal-unknown, ordinal-type, ordinal-var, ordinal-proc, ordinal-is)
@@ -119,19 +119,19 @@ module _ (s l : List ℕ) (scope : Scope) (m : Mark) where
   pub value-truth : (b : Bool) (r : ℤ) → m ≡ mark.Truth b → r ≡ truth b → SFits w64 r → wire r ≡ value_at s l scope m
   value-truth b r e f p = let i = to_z-of_z p in rw e (i ∙ f)
 
-  pub value-name : (p : ℕ) (x : Meaning) (r : ℤ) → m ≡ mark.Named p → x ≡ meaningHere s l scope p → r ≡ ordinalIn x → SFits w64 r → wire r ≡ value_at s l scope m
-  value-name p x r e f g q = let i = to_z-of_z q in rw e (i ∙ g ∙ ap ordinalIn f)
+  pub value-name : (p : ℕ) (x : Meaning) (r : ℤ) → m ≡ mark.Named p → x ≡ meaning_here s l scope p → r ≡ ordinal_in x → SFits w64 r → wire r ≡ value_at s l scope m
+  value-name p x r e f g q = let i = to_z-of_z q in rw e (i ∙ g ∙ ap ordinal_in f)
 
 pub ruleset value-laws = (value-number, value-truth, value-name)
 
 -- the meaning of an enum name in the tables has its ordinal
-ordinal-means : {σ : Environment} {bs : List ℕ} {y : Meaning} {n : NameSort} (x : Const) → Means σ bs y n → n ≡ aValue x → ordinalIn y ≡ x.value
-ordinal-means x a-type e = none-some (ap asValue e)
-ordinal-means x (a-var v h) e = none-some (ap asValue e)
-ordinal-means x a-proc e = none-some (ap asValue e)
-ordinal-means x (a-value {k} {n}) e = ap (λ (c : Const). c.value) (some_inj (ap asValue e))
+ordinal-means : {σ : Environment} {bs : List ℕ} {y : Meaning} {n : NameSort} (x : Const) → Means σ bs y n → n ≡ a_value x → ordinal_in y ≡ x.value
+ordinal-means x a-type e = none-some (ap as_value e)
+ordinal-means x (a-var v h) e = none-some (ap as_value e)
+ordinal-means x a-proc e = none-some (ap as_value e)
+ordinal-means x (a-value {k} {n}) e = ap (λ (c : Const). c.value) (some_inj (ap as_value e))
 
-ordinal-told : {σ : Environment} {bs : List ℕ} {y : Meaning} {o : Option NameSort} (x : Const) → Told σ bs y o → o ≡ some (aValue x) → ordinalIn y ≡ x.value
+ordinal-told : {σ : Environment} {bs : List ℕ} {y : Meaning} {o : Option NameSort} (x : Const) → Told σ bs y o → o ≡ some (a_value x) → ordinal_in y ≡ x.value
 ordinal-told x unknown e = none-some e
 ordinal-told x (known M) e = ordinal-means x M (some_inj e)
 
@@ -155,27 +155,27 @@ tells-name : (s : List ℕ) (p : ℕ) → Tells s (mark.Named p) (Syntax.named (
 unfolding constant_of
 tells-name s p = record { tells = λ σ x h i. bind-some h λ m hm e. a-name p x (hm ∙ ap some (value-of m x e)) }
   where
-    value-of : (m : NameSort) (x : Const) → asValue m ≡ some x → m ≡ aValue x
+    value-of : (m : NameSort) (x : Const) → as_value m ≡ some x → m ≡ a_value x
     value-of (a_type t) x e = none-some e
-    value-of (aVar i) x e = none-some e
-    value-of (aProc q ts) x e = none-some e
-    value-of (aValue c) x e = ap aValue (some_inj e)
+    value-of (a_var i) x e = none-some e
+    value-of (a_proc q ts) x e = none-some e
+    value-of (a_value c) x e = ap a_value (some_inj e)
 
-module _ (s : List ℕ) (w : Word) (p q : ℕ) (a : Atom) (e : a ≡ atomOf w) where
-  pub word_number : (z : ℤ) → a ≡ AT.Number z → SFits w64 z → Marked s (atomConstant (atomOf w) (map small (word_at s p))) q (hop.Label (mark.Number (wire z)) q)
+module _ (s : List ℕ) (w : Word) (p q : ℕ) (a : Atom) (e : a ≡ atom_of w) where
+  pub word_number : (z : ℤ) → a ≡ AT.Number z → SFits w64 z → Marked s (atom_constant (atom_of w) (map small (word_at s p))) q (hop.Label (mark.Number (wire z)) q)
   word_number z f h = rw (← e, f, to_z-of_z h) (record { says = (refl, (number z, (refl, tells-number s z))) })
 
-  pub word-name : a ≡ AT.Named → Marked s (atomConstant (atomOf w) (map small (word_at s p))) q (hop.Label (mark.Named p) q)
+  pub word-name : a ≡ AT.Named → Marked s (atom_constant (atom_of w) (map small (word_at s p))) q (hop.Label (mark.Named p) q)
   word-name f = rw (← e, f) (record { says = (refl, (Syntax.named (map small (word_at s p)), (refl, tells-name s p))) })
 
-  pub word-truth : (b : Bool) → a ≡ AT.Truth b → Marked s (atomConstant (atomOf w) (map small (word_at s p))) q (hop.Label (mark.Truth b) q)
+  pub word-truth : (b : Bool) → a ≡ AT.Truth b → Marked s (atom_constant (atom_of w) (map small (word_at s p))) q (hop.Label (mark.Truth b) q)
   word-truth b f = rw (← e, f) (record { says = (refl, (Syntax.truth b, (refl, tells-truth s b))) })
 
 pub ruleset word_laws = (word_number, word-name, word-truth)
 
 -- ---- `(- number)` as a label
 
-minus-picked : (o : Option Constant) (h : ExprHead) (c : Constant) → minusPick o h ≡ some c → o ≡ some c
+minus-picked : (o : Option Constant) (h : ExprHead) (c : Constant) → minus_pick o h ≡ some c → o ≡ some c
 minus-picked o EH.At c e = none-some e
 minus-picked o EH.Dot c e = none-some e
 minus-picked o EH.Members c e = none-some e
@@ -191,15 +191,15 @@ unfolding closed
 closed_is end a b h = some_inj h
 closed_is (t then ts) a b h = none-some h
 
-minus-only : (us : Trees Run) (c : Constant) → minusForm us ≡ some c → (z : ℤ) × (minus z ≡ c)
-unfolding minusForm constant_by
+minus-only : (us : Trees Run) (c : Constant) → minus_form us ≡ some c → (z : ℤ) × (minus z ≡ c)
+unfolding minus_form constant_by
 minus-only end c h = none-some (sym (constant-empty end) ∙ h)
 minus-only (form us then vs) c h = none-some (sym (constant-headless us vs end) ∙ h)
 minus-only (word w then us) c h =
-    bind-some (minus-picked (number_in us >>= λ z. closed (rest us) (minus z)) (exprHeadOf (word_of w)) c (sym (constant-form w us end) ∙ h))
+    bind-some (minus-picked (number_in us >>= λ z. closed (rest us) (minus z)) (expr_head_of (word_of w)) c (sym (constant-form w us end) ∙ h))
     λ z hz e. (z, closed_is (rest us) (minus z) c e)
 
-minus-kind : (σ : Environment) (us : Trees Run) (c : Constant) (x : Const) → minusForm us ≡ some c → constant_of σ c ≡ some x → x.kind ≡ 0
+minus-kind : (σ : Environment) (us : Trees Run) (c : Constant) (x : Const) → minus_form us ≡ some c → constant_of σ c ≡ some x → x.kind ≡ 0
 unfolding constant_of
 minus-kind σ us c x h k =
     let g = minus-only us c h in
@@ -210,12 +210,12 @@ staged-fits : (σ : Environment) (o : Option Constant) (c : Constant) (x : Const
 unfolding staged named ruled
 staged-fits σ o c x e h k = rw (e, h, k) refl
 
-module _ (s : List ℕ) (p q : ℕ) (v : Valued) (G : GivesMinus s p (minusForm (first (stackAt s p))) v) (t : Bool) (e : t ≡ isForm v.fault) where
-  minus-tells : (c : Constant) → minusForm (first (stackAt s p)) ≡ some c → Tells s (mark.Number v.value) c
+module _ (s : List ℕ) (p q : ℕ) (v : Valued) (G : GivesMinus s p (minus_form (first (stack_at s p))) v) (t : Bool) (e : t ≡ is_form v.fault) where
+  minus-tells : (c : Constant) → minus_form (first (stack_at s p)) ≡ some c → Tells s (mark.Number v.value) c
   minus-tells c h = record {
     tells = λ σ x k i.
-        let g = (G.says σ).value-is x (staged-fits σ (minusForm (first (stackAt s p))) c x h k i) in
-        let j : const_of 0 v.value ≡ x = const-is (const_of 0 v.value) x (sym (minus-kind σ (first (stackAt s p)) c x h k)) g.1 in
+        let g = (G.says σ).value-is x (staged-fits σ (minus_form (first (stack_at s p))) c x h k i) in
+        let j : const_of 0 v.value ≡ x = const-is (const_of 0 v.value) x (sym (minus-kind σ (first (stack_at s p)) c x h k)) g.1 in
         subst (MarkIs s σ (mark.Number v.value)) j (a-number v.value);
   }
 
@@ -223,28 +223,28 @@ module _ (s : List ℕ) (p q : ℕ) (v : Valued) (G : GivesMinus s p (minusForm 
   abbrev nobody : Environment
   nobody = record { names = []; types = []; vars = []; parameters = [] }
 
-  staged-wrong : (o : Option Constant) → isForm (faultOf (staged o (constant_of nobody) plain some)) ≡ true → o ≡ none
+  staged-wrong : (o : Option Constant) → is_form (fault_of (staged o (constant_of nobody) plain some)) ≡ true → o ≡ none
   unfolding staged named ruled
   staged-wrong none h = refl
   staged-wrong (some c) h = absurd (go (constant_of nobody c) h)
     where
-      ruled-not : (b : Bool) (x : Const) → isForm (faultOf (ruled b (some x))) ≡ true → ⊥
+      ruled-not : (b : Bool) (x : Const) → is_form (fault_of (ruled b (some x))) ≡ true → ⊥
       ruled-not true x h = false≢true h
       ruled-not false x h = false≢true h
 
-      go : (u : Option Const) → isForm (faultOf (named u plain some)) ≡ true → ⊥
+      go : (u : Option Const) → is_form (fault_of (named u plain some)) ≡ true → ⊥
       go none h = false≢true h
       go (some x) h = ruled-not (plain x) x h
 
-  pub minus-over : t ≡ true → Marked s (minusForm (first (stackAt s p))) q (hop.Over q)
-  minus-over h = record { says = (refl, staged-wrong (minusForm (first (stackAt s p))) (sym (ap isForm (G.says nobody).fault-is) ∙ sym e ∙ h)) }
+  pub minus-over : t ≡ true → Marked s (minus_form (first (stack_at s p))) q (hop.Over q)
+  minus-over h = record { says = (refl, staged-wrong (minus_form (first (stack_at s p))) (sym (ap is_form (G.says nobody).fault-is) ∙ sym e ∙ h)) }
 
-  pub minus-label : t ≡ false → SFits w64 v.value → Marked s (minusForm (first (stackAt s p))) q (hop.Label (mark.Number (wire v.value)) q)
+  pub minus-label : t ≡ false → SFits w64 v.value → Marked s (minus_form (first (stack_at s p))) q (hop.Label (mark.Number (wire v.value)) q)
   unfolding staged
-  minus-label h i = rw (to_z-of_z i) (go (minusForm (first (stackAt s p))) refl)
+  minus-label h i = rw (to_z-of_z i) (go (minus_form (first (stack_at s p))) refl)
     where
-      go : (o : Option Constant) → minusForm (first (stackAt s p)) ≡ o → Marked s o q (hop.Label (mark.Number v.value) q)
-      go none k = absurd (true≢false (sym (ap isForm ((G.says nobody).fault-is ∙ ap (λ (o : Option Constant). faultOf (staged o (constant_of nobody) plain some)) k)) ∙ sym e ∙ h))
+      go : (o : Option Constant) → minus_form (first (stack_at s p)) ≡ o → Marked s o q (hop.Label (mark.Number v.value) q)
+      go none k = absurd (true≢false (sym (ap is_form ((G.says nobody).fault-is ∙ ap (λ (o : Option Constant). fault_of (staged o (constant_of nobody) plain some)) k)) ∙ sym e ∙ h))
       go (some c) k = record { says = (refl, (c, (refl, minus-tells c k))) }
 
 pub ruleset minus-laws = (minus-over, minus-label)

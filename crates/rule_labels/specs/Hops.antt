@@ -4,15 +4,15 @@ use Rattle.std.proofs.Math.Option.{Option, none, some}
 use Rattle.leaf_bytes.specs.Bytes.{small}
 use Rattle.law.specs.Base.{find}
 use Rattle.law.specs.Calculate.{truth}
-use Rattle.law.specs.Environment.{Environment, aValue}
+use Rattle.law.specs.Environment.{Environment, a_value}
 use Rattle.law.specs.Names.{constant_of, const_of}
 use Rattle.law.specs.Rules.{plain}
 use Rattle.law.specs.Script.{Const}
 use Rattle.law.specs.Syntax.{Constant}
 use Rattle.law.specs.Trees.{form, Trees, end, ◌then◌, Run, first, later, word_at}
-use Rattle.law_theorems.specs.Readings.{stackAt}
-use Rattle.text_words.specs.Passes.{nodesAll}
-use Rattle.rule_labels.specs.Marks.{marksIn, marksOf}
+use Rattle.law_theorems.specs.Readings.{stack_at}
+use Rattle.text_words.specs.Passes.{nodes_all}
+use Rattle.rule_labels.specs.Marks.{marks_in, marks_of}
 use Rattle.rule_labels.specs.declared.Mark.{Mark}
 use Rattle.rule_labels.specs.declared.Mark.TheVariants as mark
 use Rattle.rule_labels.specs.declared.Hop.{Hop}
@@ -26,7 +26,7 @@ use Rattle.rule_labels.specs.declared.Next.TheVariants as next
 pub data MarkIs (s : List ℕ) (σ : Environment) : Mark → Const → Type 0 where
   a-number : (z : ℤ) → MarkIs s σ (mark.Number z) (const_of 0 z)
   a-truth : (b : Bool) → MarkIs s σ (mark.Truth b) (const_of 1 (truth b))
-  a-name : (p : ℕ) (x : Const) → find σ.names (map small (word_at s p)) ≡ some (aValue x) → MarkIs s σ (mark.Named p) x
+  a-name : (p : ℕ) (x : Const) → find σ.names (map small (word_at s p)) ≡ some (a_value x) → MarkIs s σ (mark.Named p) x
 
 -- the mark of a constant, where that is in the integers
 pub record Tells (s : List ℕ) (m : Mark) (c : Constant) : Type 0 where
@@ -36,11 +36,11 @@ pub record Tells (s : List ℕ) (m : Mark) (c : Constant) : Type 0 where
 
 -- the labels from there on, of this arm and of those after it
 unfoldable pub left_at : List ℕ → ℕ → List Constant
-left_at s p = marksIn (first (stackAt s p)) ++ marksOf (first (later (stackAt s p)))
+left_at s p = marks_in (first (stack_at s p)) ++ marks_of (first (later (stack_at s p)))
 
 -- at q fewer brackets and words are left, by which the loops are measured
 pub record Nearer (s : List ℕ) (at q : ℕ) : Type 0 where
-  pub nearer : nodesAll (stackAt s q) < nodesAll (stackAt s at)
+  pub nearer : nodes_all (stack_at s q) < nodes_all (stack_at s at)
 
 -- a part before q that is the constant o, or none, and not the last of its arm: as a label
 abbrev pub MarkedBy : List ℕ → Option Constant → ℕ → Hop → Type 0
@@ -53,8 +53,8 @@ pub record Marked (s : List ℕ) (o : Option Constant) (q : ℕ) (h : Hop) : Typ
 
 -- the same of any part of an arm: the last one, its statement, is no label
 abbrev pub PassesBy : List ℕ → Option Constant → ℕ → Hop → Type 0
-PassesBy s o q (hop.Label m p) = (p ≡ q) × ((first (stackAt s q) ≡ end → ⊥) × ((c : Constant) × ((o ≡ some c) × Tells s m c)))
-PassesBy s o q (hop.Over p) = (p ≡ q) × ((first (stackAt s q) ≡ end) ⊎ (o ≡ none))
+PassesBy s o q (hop.Label m p) = (p ≡ q) × ((first (stack_at s q) ≡ end → ⊥) × ((c : Constant) × ((o ≡ some c) × Tells s m c)))
+PassesBy s o q (hop.Over p) = (p ≡ q) × ((first (stack_at s q) ≡ end) ⊎ (o ≡ none))
 PassesBy s o q hop.End = ⊥
 
 pub record Passes (s : List ℕ) (o : Option Constant) (q : ℕ) (h : Hop) : Type 0 where
@@ -63,8 +63,8 @@ pub record Passes (s : List ℕ) (o : Option Constant) (q : ℕ) (h : Hop) : Typ
 -- into the next arm, whose parts begin at p: past its head, or there are no labels
 abbrev pub EntersFormBy : List ℕ → ℕ → Hop → Type 0
 EntersFormBy s p (hop.Label m q) = ⊥
-EntersFormBy s p (hop.Over q) = ((ts : Trees Run) → marksOf (form (first (stackAt s p)) then ts) ≡ (marksIn (first (stackAt s q)) ++ marksOf ts)) × ((later (stackAt s p) ≡ later (stackAt s q)) × Nearer s p q)
-EntersFormBy s p hop.End = (ts : Trees Run) → marksOf (form (first (stackAt s p)) then ts) ≡ []
+EntersFormBy s p (hop.Over q) = ((ts : Trees Run) → marks_of (form (first (stack_at s p)) then ts) ≡ (marks_in (first (stack_at s q)) ++ marks_of ts)) × ((later (stack_at s p) ≡ later (stack_at s q)) × Nearer s p q)
+EntersFormBy s p hop.End = (ts : Trees Run) → marks_of (form (first (stack_at s p)) then ts) ≡ []
 
 pub record EntersForm (s : List ℕ) (p : ℕ) (h : Hop) : Type 0 where
   pub says : EntersFormBy s p h
@@ -72,8 +72,8 @@ pub record EntersForm (s : List ℕ) (p : ℕ) (h : Hop) : Type 0 where
 -- the same from an offset where arms stand
 abbrev pub EntersArmBy : List ℕ → ℕ → Hop → Type 0
 EntersArmBy s at (hop.Label m q) = ⊥
-EntersArmBy s at (hop.Over q) = (marksOf (first (stackAt s at)) ≡ left_at s q) × Nearer s at q
-EntersArmBy s at hop.End = marksOf (first (stackAt s at)) ≡ []
+EntersArmBy s at (hop.Over q) = (marks_of (first (stack_at s at)) ≡ left_at s q) × Nearer s at q
+EntersArmBy s at hop.End = marks_of (first (stack_at s at)) ≡ []
 
 pub record EntersArm (s : List ℕ) (at : ℕ) (h : Hop) : Type 0 where
   pub says : EntersArmBy s at h

@@ -3,14 +3,14 @@ pub mod loose;
 
 ghost use Rattle.std.specs.Prelude.{◌≡◌, cond, not, ◌||◌, map, ◌<◌, pos, length};
 ghost use Rattle.leaf_bytes.specs.Bytes.{small};
-ghost use Rattle.law.specs.Calculate.{equalZ, truth};
+ghost use Rattle.law.specs.Calculate.{equal_z, truth};
 ghost use Rattle.law.specs.Trees.{first, word_at};
-ghost use Rattle.law_theorems.specs.Readings.{stackAt};
-ghost use Rattle.text_heads.specs.Heads.{atomOf, atomConstant};
+ghost use Rattle.law_theorems.specs.Readings.{stack_at};
+ghost use Rattle.text_heads.specs.Heads.{atom_of, atom_constant};
 ghost use Rattle.rule_faults.specs.declared.Fault.TheVariants.{Clear, Kind};
-ghost use Rattle.rule_atoms.specs.Contracts.{minusForm};
+ghost use Rattle.rule_atoms.specs.Answering.{minus_form};
 ghost use Rattle.rule_labels.specs.Hops.{Marked, Passes, EntersForm, EntersArm, Hops, Nexts};
-ghost use Rattle.rule_labels.specs.Blocks.{ordinalIn, value_at, among, apart, NextValues, Fills, ComesAgain, Recurs, Doubled};
+ghost use Rattle.rule_labels.specs.Blocks.{ordinal_in, value_at, among, apart, NextValues, Fills, ComesAgain, Recurs, Doubled};
 ghost use Rattle.rule_labels.specs.Repeating.{Repeating};
 
 use leaf_words::words::Word;
@@ -63,7 +63,7 @@ pub struct Filled {
 
 // A word at p that is not the last part, as a label; the next part stands at q.
 fn word_mark(text: &[u8], w: Word, p: usize, q: usize) -> Hop
-    ensures { Marked text.now (atomConstant (atomOf w) (map small (word_at text.now p))) q result }
+    ensures { Marked text.now (atom_constant (atom_of w) (map small (word_at text.now p))) q result }
 {
     let a = atom_of(w);
     match a {
@@ -78,7 +78,7 @@ fn word_mark(text: &[u8], w: Word, p: usize, q: usize) -> Hop
 
 // The same of a form whose parts begin at p.
 fn form_mark(text: &[u8], p: usize, q: usize) -> Hop
-    ensures { Marked text.now (minusForm (first (stackAt text.now p))) q result }
+    ensures { Marked text.now (minus_form (first (stack_at text.now p))) q result }
 {
     let v = minus_form(text, p);
     let f = v.fault;
@@ -90,7 +90,7 @@ fn form_mark(text: &[u8], p: usize, q: usize) -> Hop
 
 // Past a word of an arm: its last part is no label.
 fn leaf_hop(text: &[u8], w: Word, p: usize, q: usize) -> Hop
-    ensures { Passes text.now (atomConstant (atomOf w) (map small (word_at text.now p))) q result }
+    ensures { Passes text.now (atom_constant (atom_of w) (map small (word_at text.now p))) q result }
 {
     let e = end_at(text, q);
     match e {
@@ -101,7 +101,7 @@ fn leaf_hop(text: &[u8], w: Word, p: usize, q: usize) -> Hop
 
 // Past a form of an arm.
 fn form_hop(text: &[u8], p: usize, q: usize) -> Hop
-    ensures { Passes text.now (minusForm (first (stackAt text.now p))) q result }
+    ensures { Passes text.now (minus_form (first (stack_at text.now p))) q result }
 {
     let e = end_at(text, q);
     match e {
@@ -186,7 +186,7 @@ pub fn truth_value(b: bool) -> i64
 
 // The ordinal of an enum name, 0 for what is none.
 pub fn ordinal_in(m: Meaning) -> i64
-    ensures { result ≡ ordinalIn m }
+    ensures { result ≡ ordinal_in m }
 {
     match m {
         Meaning::Unknown => 0,
@@ -221,7 +221,7 @@ fn next_value(text: &[u8], work: &[u32], scope: Scope, at: usize) -> NextValue
 
 // Whether two integers are the same.
 pub fn same_number(x: i64, y: i64) -> bool
-    ensures { result ≡ equalZ x y }
+    ensures { result ≡ equal_z x y }
 {
     if x == y {
         return true;

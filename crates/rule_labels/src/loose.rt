@@ -1,7 +1,7 @@
 // Whether the labels of a `case` differ, be they of one kind or of several: kind and value make one number, and these are compared block by block.
 ghost use Rattle.std.specs.Prelude.{◌≡◌, ◌<◌, length};
-ghost use Rattle.rule_labels.specs.Blocks.{ordinalIn};
-ghost use Rattle.rule_labels.specs.Keys.{kindIn, keyBy, key_at, NextKeys, Fills, ComesAgain, Recurs, DiffersFrom};
+ghost use Rattle.rule_labels.specs.Blocks.{ordinal_in};
+ghost use Rattle.rule_labels.specs.Keys.{kind_in, key_by, key_at, NextKeys, Fills, ComesAgain, Recurs, DiffersFrom};
 ghost use Rattle.rule_labels.specs.Differ.{Differs};
 
 use crate::{
@@ -26,7 +26,7 @@ pub struct Filled {
 
 // The kind of an enum name, 0 for what is none.
 fn kind_in(m: Meaning) -> u32
-    ensures { result ≡ kindIn m }
+    ensures { result ≡ kind_in m }
 {
     match m {
         Meaning::Unknown => 0,
@@ -39,7 +39,7 @@ fn kind_in(m: Meaning) -> u32
 
 // The key of a kind and a value, 0 for a value past the integers.
 fn key(k: u32, z: i64) -> i64
-    ensures { result ≡ keyBy k z }
+    ensures { result ≡ key_by k z }
 {
     if in_range(z, -2147483648, 2147483647) {
         return (k as i64 - 2147483648) * 4294967296 + (z + 2147483648);
@@ -49,7 +49,7 @@ fn key(k: u32, z: i64) -> i64
 
 // The key of an enum name.
 fn name_key(m: Meaning) -> i64
-    ensures { result ≡ keyBy (kindIn m) (ordinalIn m) }
+    ensures { result ≡ key_by (kind_in m) (ordinal_in m) }
 {
     key(kind_in(m), ordinal_in(m))
 }

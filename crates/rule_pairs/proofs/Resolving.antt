@@ -7,16 +7,16 @@ use Prim.Native.Nat.{ℕ, suc}
 use lib.ListN.{length}
 use Rattle.law.specs.Base.{Name, ◌>>=◌, each}
 use Rattle.law.specs.Environment.{Environment}
-use Rattle.law.specs.Names.{type_of, fieldNames}
+use Rattle.law.specs.Names.{type_of, field_names}
 use Rattle.law.specs.Syntax.{TypeName}
-use Rattle.rule_pairs.specs.Pairs.{firsts, resolve, knownType, typesKnown}
+use Rattle.rule_pairs.specs.Pairs.{firsts, resolve, known_type, types_known}
 
 pub data Good (σ : Environment) (fs : List (Name × TypeName)) : Type 0 where
-  good-yes : (gs : List (Name × ℕ)) → resolve σ fs ≡ some gs → fieldNames σ gs ≡ firsts fs → length gs ≡ length fs → typesKnown σ fs ≡ true → Good σ fs
-  good-no : resolve σ fs ≡ none → typesKnown σ fs ≡ false → Good σ fs
+  good-yes : (gs : List (Name × ℕ)) → resolve σ fs ≡ some gs → field_names σ gs ≡ firsts fs → length gs ≡ length fs → types_known σ fs ≡ true → Good σ fs
+  good-no : resolve σ fs ≡ none → types_known σ fs ≡ false → Good σ fs
 
 pub good-told : (σ : Environment) (fs : List (Name × TypeName)) → Good σ fs
-unfolding resolve each fieldNames firsts typesKnown ◌>>=◌ knownType
+unfolding resolve each field_names firsts types_known ◌>>=◌ known_type
 good-told σ [] = good-yes [] refl refl refl refl
 good-told σ (f ∷ fs) = go (type_of σ f.1) refl (good-told σ fs)
   where

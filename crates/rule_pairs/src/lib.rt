@@ -1,10 +1,10 @@
 // Pairs `(N T)` of a name and a type's name, as the fields of a record are written: one pair, and all from an offset on.
 ghost use Rattle.std.specs.Prelude.{◌≡◌, cond, ◌&&◌, eqb};
 ghost use Rattle.rule_faults.specs.declared.Fault.TheVariants.{Form};
-ghost use Rattle.table_scope.specs.Descriptions.{infoOf};
-ghost use Rattle.rule_repeats.specs.Leads.{leadsAt};
+ghost use Rattle.table_scope.specs.Descriptions.{info_of};
+ghost use Rattle.rule_repeats.specs.Leads.{leads_at};
 ghost use Rattle.rule_repeats.specs.Blocks.{apart};
-ghost use Rattle.rule_pairs.specs.Pairs.{pairGiven, GivesParts, GivesPair, addSize, pairsGiven, EndsPairs, GivesPairs};
+ghost use Rattle.rule_pairs.specs.Pairs.{pair_given, GivesParts, GivesPair, add_size, pairs_given, EndsPairs, GivesPairs};
 
 use rule_atoms::Typed;
 use rule_declarations::{MOST_CELLS, Naming, last_type, name_at};
@@ -36,7 +36,7 @@ pub struct Pairs {
 
 // An answer for a pair from its parts.
 fn pair_answer(fault: Fault, name: usize, kind: u32, next: usize) -> Pair
-    ensures { result ≡ pairGiven fault name kind next }
+    ensures { result ≡ pair_given fault name kind next }
 {
     Pair {
         fault: fault,
@@ -48,7 +48,7 @@ fn pair_answer(fault: Fault, name: usize, kind: u32, next: usize) -> Pair
 
 // An answer for a pair whose name is at y, from that for its type.
 fn pair_typed(t: Typed, y: usize) -> Pair
-    ensures { result ≡ pairGiven t.fault y t.kind t.next }
+    ensures { result ≡ pair_given t.fault y t.kind t.next }
 {
     let f = t.fault;
     pair_answer(f, y, t.kind, t.next)
@@ -82,7 +82,7 @@ const TOO_MANY: u32 = MOST_CELLS + 1;
 
 // A sum of cells; any number past 2,048 where it is past that.
 pub fn add_size(a: u32, b: u32) -> u32
-    ensures { result ≡ addSize a b }
+    ensures { result ≡ add_size a b }
 {
     if a <= MOST_CELLS {
         if b <= MOST_CELLS {
@@ -95,7 +95,7 @@ pub fn add_size(a: u32, b: u32) -> u32
 
 // The same with the cells of a type.
 pub fn add_type_size(work: &[u32], types: &[u32], a: u32, kind: u32) -> u32
-    ensures { result ≡ addSize a (infoOf work.now types.now kind).size }
+    ensures { result ≡ add_size a (info_of work.now types.now kind).size }
 {
     let x = describe(work, types, kind);
     add_size(a, x.size)
@@ -113,7 +113,7 @@ fn some_fault(n: u32, f: Fault) -> Fault
 
 // An answer for all pairs from its parts.
 fn pairs_answer(fault: Fault, names: u32, size: u32, next: usize) -> Pairs
-    ensures { result ≡ pairsGiven fault names size next }
+    ensures { result ≡ pairs_given fault names size next }
 {
     Pairs {
         fault: fault,
@@ -125,7 +125,7 @@ fn pairs_answer(fault: Fault, names: u32, size: u32, next: usize) -> Pairs
 
 // The answer for the pairs from an offset on, which end at p: row 6 where another part comes.
 fn pairs_end(text: &[u8], at: usize, p: usize, n: u32, size: u32, ok: bool) -> Pairs
-    ensures { EndsPairs text.now p n size (ok && apart (leadsAt text.now at)) result }
+    ensures { EndsPairs text.now p n size (ok && apart (leads_at text.now at)) result }
 {
     let e = end_at(text, p);
     match e {

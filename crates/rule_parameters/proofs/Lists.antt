@@ -13,72 +13,72 @@ use Rattle.leaf_bytes.specs.Bytes.{small, same}
 use Rattle.leaf_integers.proofs.Order.{le-or-lt}
 use Rattle.law.specs.Base.{Name, ◌>>=◌, each, given}
 use Rattle.law.specs.Environment.{Environment}
-use Rattle.law.specs.Names.{distinct, fieldNames, isKnown, listedIn, noneKnown, pair_of, type_of}
-use Rattle.law.specs.Rules.{keptParameters}
+use Rattle.law.specs.Names.{distinct, field_names, is_known, listed_in, none_known, pair_of, type_of}
+use Rattle.law.specs.Rules.{kept_parameters}
 use Rattle.law.specs.Syntax.{TypeName}
 use Rattle.law.specs.Trees.{Trees, word, form, end, ◌then◌, Run, first, later, word_at}
-use Rattle.law_theorems.specs.Readings.{stackAt}
-use Rattle.law.specs.Types.{Shape, ordinalShape, setShape, arrayShape, recordShape, infoAt, isOrdinal, is_set, ordinal?, set?}
+use Rattle.law_theorems.specs.Readings.{stack_at}
+use Rattle.law.specs.Types.{Shape, ordinal_shape, set_shape, array_shape, record_shape, info_at, is_ordinal, is_set, ordinal?, set?}
 use Rattle.law_theorems.proofs.Inversion.{none-some, some_inj, bind-some, and-true}
 use Rattle.law_theorems.proofs.Reading.{none-stack}
 use Rattle.rule_stages.specs.Stages.{unnamed, unfit, fits, named, ruled}
 use Rattle.rule_faults.specs.declared.Fault.{Fault}
 use Rattle.rule_faults.specs.declared.Fault.TheVariants.{Clear, Kind, Name as Unnamed, Form}
-use Rattle.rule_faults.specs.Got.{faultOf, lowest, isClear, isForm}
+use Rattle.rule_faults.specs.Got.{fault_of, lowest, is_clear, is_form}
 use Rattle.rule_faults.proofs.Order.{lowest-assoc, lowest-clear}
 use Rattle.table_scope.specs.declared.Info.{Info}
 use Rattle.table_scope.specs.declared.Scope.{Scope}
-use Rattle.table_scope.specs.Descriptions.{infoOf, shapeNumber}
-use Rattle.table_scope.specs.Scene.{Scene, meaningHere}
+use Rattle.table_scope.specs.Descriptions.{info_of, shape_number}
+use Rattle.table_scope.specs.Scene.{Scene, meaning_here}
 use Rattle.table_scope.proofs.Telling.{meant}
 use Rattle.text_heads.specs.Parts.{rest}
 use Rattle.text_words.specs.declared.sight.Sight.{Sight}
 use Rattle.text_words.specs.declared.sight.Sight.TheVariants as sight
 use Rattle.text_words.specs.Sights.{Looks}
-use Rattle.rule_declarations.specs.Names.{newFault}
+use Rattle.rule_declarations.specs.Names.{new_fault}
 use Rattle.rule_declarations.proofs.VarLines.{clear-is, fault-new}
 use Rattle.rule_enum_lines.specs.Enums.{many}
-use Rattle.rule_pairs.specs.Pairs.{pairsIn, pairBy, firsts, resolve, knownType, typesKnown, pairsGood, GivesPair, PairsTold, pairs-wrong, pairs-empty, pairs-read, GivesPairs}
+use Rattle.rule_pairs.specs.Pairs.{pairs_in, pair_by, firsts, resolve, known_type, types_known, pairs_good, GivesPair, PairsTold, pairs-wrong, pairs-empty, pairs-read, GivesPairs}
 use Rattle.rule_pairs.proofs.Resolving.{Good, good-yes, good-no, good-told}
 use Rattle.rule_pairs.specs.declared.Pair.{Pair}
 use Rattle.rule_pairs.specs.declared.Pairs.{Pairs}
 use Rattle.rule_pairs.proofs.PairParts.{pairs-fewer, pairs-more, pairs-nothing}
-use Rattle.rule_parameters.specs.Listing.{list_of, parametersBy, parametersIn, listAfter, StartsList, no-list, a-list, listNew, listStaged, kindFault, pairFault, faultsFrom, faultBy, GivesFaults, noList, listedBy, ListTold, list-none, list-wrong, list_read, GivesList}
+use Rattle.rule_parameters.specs.Listing.{list_of, parameters_by, parameters_in, list_after, StartsList, no-list, a-list, list_new, list_staged, kind_fault, pair_fault, faults_from, fault_by, GivesFaults, no_list, listed_by, ListTold, list-none, list-wrong, list_read, GivesList}
 use Rattle.rule_parameters.specs.declared.listing.Listed.{Listed}
 
 -- ---- `list_in`
 
-module _ (s : List ℕ) (p : ℕ) (x : Sight) (L : Looks s (stackAt s p) x) where
-  pub in-form : (a : ℕ) → x ≡ sight.Form a → p ≡ listAfter (first (stackAt s p)) p
-  unfolding listAfter
-  in-form a e = let g = rw e at L.says in sym (ap (λ (k : List (Trees Run)). listAfter (first k) p) g)
+module _ (s : List ℕ) (p : ℕ) (x : Sight) (L : Looks s (stack_at s p) x) where
+  pub in-form : (a : ℕ) → x ≡ sight.Form a → p ≡ list_after (first (stack_at s p)) p
+  unfolding list_after
+  in-form a e = let g = rw e at L.says in sym (ap (λ (k : List (Trees Run)). list_after (first k) p) g)
 
-  pub in_leaf : (a : ℕ) → x ≡ sight.Leaf a → 0 ≡ listAfter (first (stackAt s p)) p
-  unfolding listAfter
-  in_leaf a e = let g = rw e at L.says in sym (ap (λ (k : List (Trees Run)). listAfter (first k) p) g.0)
+  pub in_leaf : (a : ℕ) → x ≡ sight.Leaf a → 0 ≡ list_after (first (stack_at s p)) p
+  unfolding list_after
+  in_leaf a e = let g = rw e at L.says in sym (ap (λ (k : List (Trees Run)). list_after (first k) p) g.0)
 
-  pub in-shut : (a : ℕ) → x ≡ sight.Shut a → 0 ≡ listAfter (first (stackAt s p)) p
-  unfolding listAfter
-  in-shut a e = let g = rw e at L.says in sym (ap (λ (us : Trees Run). listAfter us p) g.0)
+  pub in-shut : (a : ℕ) → x ≡ sight.Shut a → 0 ≡ list_after (first (stack_at s p)) p
+  unfolding list_after
+  in-shut a e = let g = rw e at L.says in sym (ap (λ (us : Trees Run). list_after us p) g.0)
 
 pub ruleset in-laws = (in-form, in_leaf, in-shut)
 
 -- ---- `list_at`
 
 -- a form that begins with a form is a list
-starts : (s : List ℕ) (at p : ℕ) → 1 ≤ p → p ≤ length s → (us : Trees Run) → first (stackAt s p) ≡ us
-    → first (stackAt s at) ≡ (form us then first (later (stackAt s p))) → later (stackAt s at) ≡ later (later (stackAt s p)) → StartsList s at (listAfter us p)
-unfolding listAfter list_of
+starts : (s : List ℕ) (at p : ℕ) → 1 ≤ p → p ≤ length s → (us : Trees Run) → first (stack_at s p) ≡ us
+    → first (stack_at s at) ≡ (form us then first (later (stack_at s p))) → later (stack_at s at) ≡ later (later (stack_at s p)) → StartsList s at (list_after us p)
+unfolding list_after list_of
 starts s at p o h end e f g = no-list refl (rw f refl)
 starts s at p o h (word x then ts) e f g = no-list refl (rw f refl)
 starts s at p o h (form vs then ts) e f g = a-list o h (rw (f, e) refl) (ap rest f) g
 
-module _ (s : List ℕ) (at : ℕ) (x : Sight) (L : Looks s (stackAt s at) x) where
-  pub at-form : (p : ℕ) → x ≡ sight.Form p → (r : ℕ) → r ≡ listAfter (first (stackAt s p)) p → StartsList s at r
+module _ (s : List ℕ) (at : ℕ) (x : Sight) (L : Looks s (stack_at s at) x) where
+  pub at-form : (p : ℕ) → x ≡ sight.Form p → (r : ℕ) → r ≡ list_after (first (stack_at s p)) p → StartsList s at r
   at-form p e r h =
       let g = rw e at L.says in
       let b = rw e at L.past in
-      rw h (starts s at p b.0 b.1 (first (stackAt s p)) refl (ap first g) (ap later g))
+      rw h (starts s at p b.0 b.1 (first (stack_at s p)) refl (ap first g) (ap later g))
 
   pub at_leaf : (p : ℕ) → x ≡ sight.Leaf p → StartsList s at 0
   unfolding list_of
@@ -92,51 +92,51 @@ pub ruleset at-laws = (at-form, at_leaf, at-shut)
 
 -- ---- `kind_fault`, `pair_fault`
 
-module _ (l ts : List ℕ) (kind : ℕ) (x : Info) (e : x ≡ infoOf l ts kind) where
-  pub kind_fits : x.shape < 2 → Clear ≡ kindFault (ltb (infoOf l ts kind).shape 2)
-  unfolding kindFault
-  kind_fits h = let b : ltb (infoOf l ts kind).shape 2 ≡ true = ap (λ (y : Info). ltb y.shape 2) (sym e) ∙ lt-ltb x.shape 2 h in rw b refl
+module _ (l ts : List ℕ) (kind : ℕ) (x : Info) (e : x ≡ info_of l ts kind) where
+  pub kind_fits : x.shape < 2 → Clear ≡ kind_fault (ltb (info_of l ts kind).shape 2)
+  unfolding kind_fault
+  kind_fits h = let b : ltb (info_of l ts kind).shape 2 ≡ true = ap (λ (y : Info). ltb y.shape 2) (sym e) ∙ lt-ltb x.shape 2 h in rw b refl
 
-  pub kind-unfit : 2 ≤ x.shape → Kind ≡ kindFault (ltb (infoOf l ts kind).shape 2)
-  unfolding kindFault
-  kind-unfit h = let b : ltb (infoOf l ts kind).shape 2 ≡ false = ap (λ (y : Info). ltb y.shape 2) (sym e) ∙ le-ltb x.shape 2 h in rw b refl
+  pub kind-unfit : 2 ≤ x.shape → Kind ≡ kind_fault (ltb (info_of l ts kind).shape 2)
+  unfolding kind_fault
+  kind-unfit h = let b : ltb (info_of l ts kind).shape 2 ≡ false = ap (λ (y : Info). ltb y.shape 2) (sym e) ∙ le-ltb x.shape 2 h in rw b refl
 
 pub ruleset kind-laws = (kind_fits, kind-unfit)
 
-module _ (s l ts : List ℕ) (scope : Scope) (own : ℕ) (x : Pair) (f : Fault) (F : f ≡ kindFault (ltb (infoOf l ts x.kind).shape 2))
+module _ (s l ts : List ℕ) (scope : Scope) (own : ℕ) (x : Pair) (f : Fault) (F : f ≡ kind_fault (ltb (info_of l ts x.kind).shape 2))
     (b : Bool) (B : b ≡ same (map small (word_at s x.name)) (map small (word_at s own))) (r : Fault) where
-  pub fault-own : b ≡ true → r ≡ lowest f Unnamed → r ≡ faultBy s l ts scope own x
-  unfolding faultBy
+  pub fault-own : b ≡ true → r ≡ lowest f Unnamed → r ≡ fault_by s l ts scope own x
+  unfolding fault_by
   fault-own h e = e ∙ rw (F, sym B ∙ h) refl
 
-  pub fault-other : b ≡ false → r ≡ newFault f (meaningHere s l scope x.name) → r ≡ faultBy s l ts scope own x
-  unfolding faultBy
+  pub fault-other : b ≡ false → r ≡ new_fault f (meaning_here s l scope x.name) → r ≡ fault_by s l ts scope own x
+  unfolding fault_by
   fault-other h e = e ∙ rw (F, sym B ∙ h) refl
 
 pub ruleset fault-laws = (fault-own, fault-other)
 
 -- by the definitions
-shape-fits : (h : Shape) → ltb (shapeNumber h) 2 ≡ (isOrdinal h || is_set h)
-unfolding shapeNumber
-shape-fits ordinalShape = refl
-shape-fits setShape = refl
-shape-fits arrayShape = refl
-shape-fits recordShape = refl
+shape-fits : (h : Shape) → ltb (shape_number h) 2 ≡ (is_ordinal h || is_set h)
+unfolding shape_number
+shape-fits ordinal_shape = refl
+shape-fits set_shape = refl
+shape-fits array_shape = refl
+shape-fits record_shape = refl
 
-kind-named : (b : Bool) → lowest (kindFault b) Unnamed ≡ Unnamed
-unfolding kindFault
+kind-named : (b : Bool) → lowest (kind_fault b) Unnamed ≡ Unnamed
+unfolding kind_fault
 kind-named true = refl
 kind-named false = refl
 
 pub fault-told : {s l ts : List ℕ} {scope : Scope} {top : ℕ} {σ : Environment} {bs : List ℕ} → Scene s l ts scope top σ bs → (own : ℕ) (x : Pair) (n : Name) (k : ℕ)
-    → n ≡ map small (word_at s x.name) → x.kind ≡ k → faultBy s l ts scope own x ≡ pairFault σ (map small (word_at s own)) (n, k)
-unfolding faultBy pairFault
+    → n ≡ map small (word_at s x.name) → x.kind ≡ k → fault_by s l ts scope own x ≡ pair_fault σ (map small (word_at s own)) (n, k)
+unfolding fault_by pair_fault
 fault-told {s} {l} {ts} {scope} {top} {σ} {bs} S own x n k e h =
-    let b : ltb (infoOf l ts x.kind).shape 2 ≡ (ordinal? σ.types k || set? σ.types k) =
-    ap (λ (i : ℕ). ltb (infoOf l ts i).shape 2) h ∙ ap (λ (i : ℕ). ltb i 2) (S.types k).shape_is ∙ shape-fits (infoAt σ.types k).shape in
-    let m : newFault (kindFault (ordinal? σ.types k || set? σ.types k)) (meaningHere s l scope x.name) ≡ cond (isKnown σ n) (lowest (kindFault (ordinal? σ.types k || set? σ.types k)) Unnamed) (kindFault (ordinal? σ.types k || set? σ.types k)) =
-    rw e (fault-new (map small (word_at s x.name)) (kindFault (ordinal? σ.types k || set? σ.types k)) (meaningHere s l scope x.name) (meant S (map small (word_at s x.name)))) in
-    rw (b, m, ← e, kind-named (ordinal? σ.types k || set? σ.types k)) (go (same n (map small (word_at s own))) (isKnown σ n) (kindFault (ordinal? σ.types k || set? σ.types k)))
+    let b : ltb (info_of l ts x.kind).shape 2 ≡ (ordinal? σ.types k || set? σ.types k) =
+    ap (λ (i : ℕ). ltb (info_of l ts i).shape 2) h ∙ ap (λ (i : ℕ). ltb i 2) (S.types k).shape_is ∙ shape-fits (info_at σ.types k).shape in
+    let m : new_fault (kind_fault (ordinal? σ.types k || set? σ.types k)) (meaning_here s l scope x.name) ≡ cond (is_known σ n) (lowest (kind_fault (ordinal? σ.types k || set? σ.types k)) Unnamed) (kind_fault (ordinal? σ.types k || set? σ.types k)) =
+    rw e (fault-new (map small (word_at s x.name)) (kind_fault (ordinal? σ.types k || set? σ.types k)) (meaning_here s l scope x.name) (meant S (map small (word_at s x.name)))) in
+    rw (b, m, ← e, kind-named (ordinal? σ.types k || set? σ.types k)) (go (same n (map small (word_at s own))) (is_known σ n) (kind_fault (ordinal? σ.types k || set? σ.types k)))
   where
     go : (a b : Bool) (f : Fault) → cond a Unnamed (cond b Unnamed f) ≡ cond (a || b) Unnamed f
     go true b f = refl
@@ -146,9 +146,9 @@ fault-told {s} {l} {ts} {scope} {top} {σ} {bs} S own x n k e h =
 -- ---- `pair_faults`
 
 pub record Judging (s l ts : List ℕ) (scope : Scope) (own at p : ℕ) (f : Fault) : Type 0 where
-  pub left : (top : ℕ) (σ : Environment) (bs : List ℕ) → Scene s l ts scope top σ bs → (ps : List (Name × TypeName)) (qs : List (Name × ℕ)) → pairsIn (first (stackAt s at)) ≡ some ps → each (pair_of σ) ps ≡ some qs
-      → (ms : List (Name × TypeName)) × (rs : List (Name × ℕ)) × (pairsIn (first (stackAt s p)) ≡ some ms) × (each (pair_of σ) ms ≡ some rs)
-      × (faultsFrom σ (map small (word_at s own)) f rs ≡ faultsFrom σ (map small (word_at s own)) Clear qs)
+  pub left : (top : ℕ) (σ : Environment) (bs : List ℕ) → Scene s l ts scope top σ bs → (ps : List (Name × TypeName)) (qs : List (Name × ℕ)) → pairs_in (first (stack_at s at)) ≡ some ps → each (pair_of σ) ps ≡ some qs
+      → (ms : List (Name × TypeName)) × (rs : List (Name × ℕ)) × (pairs_in (first (stack_at s p)) ≡ some ms) × (each (pair_of σ) ms ≡ some rs)
+      × (faults_from σ (map small (word_at s own)) f rs ≡ faults_from σ (map small (word_at s own)) Clear qs)
 
 pub judge-start : (s l ts : List ℕ) (scope : Scope) (own at : ℕ) → Judging s l ts scope own at at Clear
 judge-start s l ts scope own at = record { left = λ top σ bs S ps qs h g. (ps, qs, h, g, refl) }
@@ -169,9 +169,9 @@ pub each_none : (σ : Environment) (hs : List (Name × ℕ)) → each (pair_of �
 unfolding each
 each_none σ hs h = sym (some_inj h)
 
-module _ (s l ts : List ℕ) (scope : Scope) (own at p : ℕ) (f : Fault) (J : Judging s l ts scope own at p f) (x : Pair) (G : GivesPair s l scope p x) (g : Fault) (hg : g ≡ x.fault) (b : Bool) (i : b ≡ isForm g) where
-  pub judge-on : b ≡ false → (e : Fault) → e ≡ faultBy s l ts scope own x → (f₀ : Fault) → f₀ ≡ f → (h : Fault) → h ≡ lowest f₀ e → Judging s l ts scope own at x.next h
-  unfolding faultsFrom ◌>>=◌
+module _ (s l ts : List ℕ) (scope : Scope) (own at p : ℕ) (f : Fault) (J : Judging s l ts scope own at p f) (x : Pair) (G : GivesPair s l scope p x) (g : Fault) (hg : g ≡ x.fault) (b : Bool) (i : b ≡ is_form g) where
+  pub judge-on : b ≡ false → (e : Fault) → e ≡ fault_by s l ts scope own x → (f₀ : Fault) → f₀ ≡ f → (h : Fault) → h ≡ lowest f₀ e → Judging s l ts scope own at x.next h
+  unfolding faults_from ◌>>=◌
   judge-on j e E f₀ F h H = record {
     left = λ top σ bs S ps qs hp hq.
         let z = J.left top σ bs S ps qs hp hq in
@@ -179,21 +179,21 @@ module _ (s l ts : List ℕ) (scope : Scope) (own at p : ℕ) (f : Fault) (J : J
         bind-some (sym u.1 ∙ z.2) λ ns hn q.
         let c : (map small (word_at s x.name), u.0) ∷ ns ≡ z.0 = some_inj q in
         let v = each-inv σ (map small (word_at s x.name)) u.0 ns z.1 (ap (each (pair_of σ)) c ∙ z.3) in
-        let y : e ≡ pairFault σ (map small (word_at s own)) (map small (word_at s x.name), v.0) = E ∙ fault-told S own x (map small (word_at s x.name)) v.0 refl (u.4 v.0 v.2) in
-        (ns, v.1, hn, v.3, rw (H, F, y) (ap (faultsFrom σ (map small (word_at s own)) f) (sym v.4) ∙ z.4));
+        let y : e ≡ pair_fault σ (map small (word_at s own)) (map small (word_at s x.name), v.0) = E ∙ fault-told S own x (map small (word_at s x.name)) v.0 refl (u.4 v.0 v.2) in
+        (ns, v.1, hn, v.3, rw (H, F, y) (ap (faults_from σ (map small (word_at s own)) f) (sym v.4) ∙ z.4));
   }
 
   pub judge-end : b ≡ true → GivesFaults s l ts scope own at f
-  unfolding faultsFrom
+  unfolding faults_from
   judge-end j = record {
     says = λ top σ bs S ps qs hp hq.
         let z = J.left top σ bs S ps qs hp hq in
         let n : z.0 ≡ [] = pairs-nothing s l scope p x G g hg b i j ts top σ bs S z.0 z.2 in
         let m : z.1 ≡ [] = each_none σ z.1 (rw n at z.3) in
-        ap (faultsFrom σ (map small (word_at s own)) f) (sym m) ∙ z.4;
+        ap (faults_from σ (map small (word_at s own)) f) (sym m) ∙ z.4;
   }
 
-pub judge-falls : (s l : List ℕ) (scope : Scope) (p : ℕ) (x : Pair) → GivesPair s l scope p x → (g : Fault) → g ≡ x.fault → (b : Bool) → b ≡ isForm g → b ≡ false → many (first (stackAt s x.next)) < many (first (stackAt s p))
+pub judge-falls : (s l : List ℕ) (scope : Scope) (p : ℕ) (x : Pair) → GivesPair s l scope p x → (g : Fault) → g ≡ x.fault → (b : Bool) → b ≡ is_form g → b ≡ false → many (first (stack_at s x.next)) < many (first (stack_at s p))
 judge-falls s l scope p x G g hg b i j = pairs-fewer s l scope p x G g hg b i j
 
 pub ruleset judge-laws = (judge-on, judge-end)
@@ -201,15 +201,15 @@ pub ruleset judge-laws = (judge-on, judge-end)
 -- ---- the faults of all pairs and the stages
 
 -- whether a name is the procedure's or known
-anyOld : Environment → Name → List Name → Bool
-anyOld σ w [] = false
-anyOld σ w (n ∷ ns) = (same n w || isKnown σ n) || anyOld σ w ns
+any_old : Environment → Name → List Name → Bool
+any_old σ w [] = false
+any_old σ w (n ∷ ns) = (same n w || is_known σ n) || any_old σ w ns
 
-abbrev faultFor : Bool → Bool → Fault
-faultFor old kept = cond old Unnamed (kindFault kept)
+abbrev fault_for : Bool → Bool → Fault
+fault_for old kept = cond old Unnamed (kind_fault kept)
 
-both-faults : (a b c d : Bool) → lowest (faultFor a c) (faultFor b d) ≡ faultFor (a || b) (c && d)
-unfolding kindFault
+both-faults : (a b c d : Bool) → lowest (fault_for a c) (fault_for b d) ≡ fault_for (a || b) (c && d)
+unfolding kind_fault
 both-faults true true c d = refl
 both-faults true false c true = refl
 both-faults true false c false = refl
@@ -219,17 +219,17 @@ both-faults false false true d = refl
 both-faults false false false true = refl
 both-faults false false false false = refl
 
-from_is : (σ : Environment) (w : Name) (f : Fault) (qs : List (Name × ℕ)) → faultsFrom σ w f qs ≡ lowest f (faultFor (anyOld σ w (fieldNames σ qs)) (keptParameters σ.types qs))
-unfolding faultsFrom anyOld fieldNames keptParameters kindFault pairFault
+from_is : (σ : Environment) (w : Name) (f : Fault) (qs : List (Name × ℕ)) → faults_from σ w f qs ≡ lowest f (fault_for (any_old σ w (field_names σ qs)) (kept_parameters σ.types qs))
+unfolding faults_from any_old field_names kept_parameters kind_fault pair_fault
 from_is σ w f [] = sym (lowest-clear f)
 from_is σ w f (q ∷ qs) =
-    from_is σ w (lowest f (pairFault σ w q)) qs ∙ sym (lowest-assoc f (pairFault σ w q) (faultFor (anyOld σ w (fieldNames σ qs)) (keptParameters σ.types qs)))
-    ∙ ap (lowest f) (both-faults (same q.0 w || isKnown σ q.0) (anyOld σ w (fieldNames σ qs)) (ordinal? σ.types q.1 || set? σ.types q.1) (keptParameters σ.types qs))
+    from_is σ w (lowest f (pair_fault σ w q)) qs ∙ sym (lowest-assoc f (pair_fault σ w q) (fault_for (any_old σ w (field_names σ qs)) (kept_parameters σ.types qs)))
+    ∙ ap (lowest f) (both-faults (same q.0 w || is_known σ q.0) (any_old σ w (field_names σ qs)) (ordinal? σ.types q.1 || set? σ.types q.1) (kept_parameters σ.types qs))
 
-none_old : (σ : Environment) (w : Name) (ns : List Name) → (not (listedIn σ w ns) && noneKnown σ ns) ≡ not (anyOld σ w ns)
-unfolding listedIn noneKnown anyOld
+none_old : (σ : Environment) (w : Name) (ns : List Name) → (not (listed_in σ w ns) && none_known σ ns) ≡ not (any_old σ w ns)
+unfolding listed_in none_known any_old
 none_old σ w [] = refl
-none_old σ w (n ∷ ns) = go (same n w) (isKnown σ n) (listedIn σ w ns) (noneKnown σ ns) (anyOld σ w ns) (none_old σ w ns)
+none_old σ w (n ∷ ns) = go (same n w) (is_known σ n) (listed_in σ w ns) (none_known σ ns) (any_old σ w ns) (none_old σ w ns)
   where
     go : (a b c d e : Bool) → (not c && d) ≡ not e → (not (elim a [ true ↦ true | false ↦ c ]) && (not b && d)) ≡ not ((a || b) || e)
     go true b c d e h = refl
@@ -238,86 +238,86 @@ none_old σ w (n ∷ ns) = go (same n w) (isKnown σ n) (listedIn σ w ns) (none
     go false false c d e h = h
 
 -- names that differ
-new_is : (σ : Environment) (w : Name) (qs : List (Name × ℕ)) → distinct σ (fieldNames σ qs) ≡ true → listNew σ w qs ≡ not (anyOld σ w (fieldNames σ qs))
-unfolding listNew distinct
-new_is σ w qs h = rw h (go (listedIn σ w (fieldNames σ qs)) (noneKnown σ (fieldNames σ qs)) ∙ none_old σ w (fieldNames σ qs))
+new_is : (σ : Environment) (w : Name) (qs : List (Name × ℕ)) → distinct σ (field_names σ qs) ≡ true → list_new σ w qs ≡ not (any_old σ w (field_names σ qs))
+unfolding list_new distinct
+new_is σ w qs h = rw h (go (listed_in σ w (field_names σ qs)) (none_known σ (field_names σ qs)) ∙ none_old σ w (field_names σ qs))
   where
     go : (a b : Bool) → ((not a && true) && b) ≡ (not a && b)
     go true b = refl
     go false b = refl
 
-staged-fault : (σ : Environment) (w : Name) (ps : List (Name × TypeName)) (qs : List (Name × ℕ)) → each (pair_of σ) ps ≡ some qs → distinct σ (fieldNames σ qs) ≡ true
-    → faultsFrom σ w Clear qs ≡ faultOf (listStaged σ w ps)
-unfolding listStaged ◌>>=◌ given named kindFault ruled
-staged-fault σ w ps qs h d = from_is σ w Clear qs ∙ rw (h, new_is σ w qs d) (go (anyOld σ w (fieldNames σ qs)) (keptParameters σ.types qs) refl)
+staged-fault : (σ : Environment) (w : Name) (ps : List (Name × TypeName)) (qs : List (Name × ℕ)) → each (pair_of σ) ps ≡ some qs → distinct σ (field_names σ qs) ≡ true
+    → faults_from σ w Clear qs ≡ fault_of (list_staged σ w ps)
+unfolding list_staged ◌>>=◌ given named kind_fault ruled
+staged-fault σ w ps qs h d = from_is σ w Clear qs ∙ rw (h, new_is σ w qs d) (go (any_old σ w (field_names σ qs)) (kept_parameters σ.types qs) refl)
   where
-    go : (a b : Bool) → keptParameters σ.types qs ≡ b → faultFor a b ≡ faultOf (named (given (not a) qs) (keptParameters σ.types) some)
+    go : (a b : Bool) → kept_parameters σ.types qs ≡ b → fault_for a b ≡ fault_of (named (given (not a) qs) (kept_parameters σ.types) some)
     go true b e = refl
     go false true e = rw (e, ruled) refl
     go false false e = rw (e, ruled) refl
 
 -- pairs whose types are not known, or whose names repeat
-bad-staged : (σ : Environment) (w : Name) (ps : List (Name × TypeName)) → pairsGood σ ps ≡ false → listStaged σ w ps ≡ unnamed
-unfolding listStaged pairsGood ◌>>=◌ given named listNew distinct resolve
+bad-staged : (σ : Environment) (w : Name) (ps : List (Name × TypeName)) → pairs_good σ ps ≡ false → list_staged σ w ps ≡ unnamed
+unfolding list_staged pairs_good ◌>>=◌ given named list_new distinct resolve
 bad-staged σ w ps h = go (good-told σ ps)
   where
     no : (a b : Bool) → ((not a && false) && b) ≡ false
     no true b = refl
     no false b = refl
 
-    go : Good σ ps → named (each (pair_of σ) ps >>= λ qs. given (listNew σ w qs) qs) (keptParameters σ.types) some ≡ unnamed
+    go : Good σ ps → named (each (pair_of σ) ps >>= λ qs. given (list_new σ w qs) qs) (kept_parameters σ.types) some ≡ unnamed
     go (good-no a b) = rw a refl
     go (good-yes gs a b _ d) =
-        let e : distinct σ (fieldNames σ gs) ≡ false = ap (distinct σ) b ∙ sym (ap (λ (t : Bool). t && distinct σ (firsts ps)) d) ∙ h in
-        rw (a, e, no (listedIn σ w (fieldNames σ gs)) (noneKnown σ (fieldNames σ gs))) refl
+        let e : distinct σ (field_names σ gs) ≡ false = ap (distinct σ) b ∙ sym (ap (λ (t : Bool). t && distinct σ (firsts ps)) d) ∙ h in
+        rw (a, e, no (listed_in σ w (field_names σ gs)) (none_known σ (field_names σ gs))) refl
 
-good-staged : (σ : Environment) (w : Name) (ps : List (Name × TypeName)) → pairsGood σ ps ≡ true → (qs : List (Name × ℕ)) × (each (pair_of σ) ps ≡ some qs) × (faultsFrom σ w Clear qs ≡ faultOf (listStaged σ w ps))
-unfolding pairsGood resolve
+good-staged : (σ : Environment) (w : Name) (ps : List (Name × TypeName)) → pairs_good σ ps ≡ true → (qs : List (Name × ℕ)) × (each (pair_of σ) ps ≡ some qs) × (faults_from σ w Clear qs ≡ fault_of (list_staged σ w ps))
+unfolding pairs_good resolve
 good-staged σ w ps h = go (good-told σ ps)
   where
-    go : Good σ ps → (qs : List (Name × ℕ)) × (each (pair_of σ) ps ≡ some qs) × (faultsFrom σ w Clear qs ≡ faultOf (listStaged σ w ps))
-    go (good-no a b) = absurd (false≢true (sym b ∙ (and-true (typesKnown σ ps) (distinct σ (firsts ps)) h).0))
-    go (good-yes gs a b _ d) = (gs, a, staged-fault σ w ps gs a (ap (distinct σ) b ∙ (and-true (typesKnown σ ps) (distinct σ (firsts ps)) h).1))
+    go : Good σ ps → (qs : List (Name × ℕ)) × (each (pair_of σ) ps ≡ some qs) × (faults_from σ w Clear qs ≡ fault_of (list_staged σ w ps))
+    go (good-no a b) = absurd (false≢true (sym b ∙ (and-true (types_known σ ps) (distinct σ (firsts ps)) h).0))
+    go (good-yes gs a b _ d) = (gs, a, staged-fault σ w ps gs a (ap (distinct σ) b ∙ (and-true (types_known σ ps) (distinct σ (firsts ps)) h).1))
 
 -- ---- `parameters_at`
 
 -- a list has a pair at least
-no-empty : (us vs : Trees Run) → list_of us ≡ some vs → pairsIn vs ≡ some [] → ⊥
-unfolding list_of pairsIn
+no-empty : (us vs : Trees Run) → list_of us ≡ some vs → pairs_in vs ≡ some [] → ⊥
+unfolding list_of pairs_in
 no-empty end vs e h = none-some e
 no-empty (word x then ts) vs e h = none-some e
 no-empty (form end then ts) vs e h = none-some e
 no-empty (form (word x then us) then ts) vs e h = none-some e
 no-empty (form (form vs₀ then us) then ts) vs e h =
-    let z : (pairBy (form vs₀) >>= λ f. pairsIn us >>= λ fs. some (f ∷ fs)) ≡ some [] = ap pairsIn (some_inj e) ∙ h in
+    let z : (pair_by (form vs₀) >>= λ f. pairs_in us >>= λ fs. some (f ∷ fs)) ≡ some [] = ap pairs_in (some_inj e) ∙ h in
     bind-some z λ f hf g. bind-some g λ fs hs q. not-empty f fs (some_inj q)
   where
     not-empty : (f : Name × TypeName) (fs : List (Name × TypeName)) → (f ∷ fs) ≡ [] → ⊥
     not-empty f fs q = let z : ◌≡◌ {A = ℕ} 0 1 = cc in omega arith
 
 module _ (s l ts : List ℕ) (scope : Scope) (own at q : ℕ) (Q : StartsList s at q) where
-  pub no-parameters : q ≡ 0 → (c : Listed) → c ≡ noList at → GivesList s l ts scope own at c
+  pub no-parameters : q ≡ 0 → (c : Listed) → c ≡ no_list at → GivesList s l ts scope own at c
   no-parameters e c h = record { says = λ top σ bs S. go Q }
     where
       go : {σ : Environment} → StartsList s at q → ListTold s σ (map small (word_at s own)) at c
       go (no-list _ n) = list-none n h
       go (a-list o _ _ _ _) = absurd (omega (arith, o, e))
 
-  module _ (c : Pairs) (P : GivesPairs s l ts scope q c) (f : Fault) (hf : f ≡ c.fault) (b : Bool) (i : b ≡ isClear f) (no : (q ≡ 0) → ⊥) where
+  module _ (c : Pairs) (P : GivesPairs s l ts scope q c) (f : Fault) (hf : f ≡ c.fault) (b : Bool) (i : b ≡ is_clear f) (no : (q ≡ 0) → ⊥) where
     read_told : (σ : Environment) → (g : Fault) → PairsTold s σ q c
-        → ((p : Name × TypeName) (ps : List (Name × TypeName)) → pairsIn (first (stackAt s q)) ≡ some (p ∷ ps) → c.fault ≡ cond (pairsGood σ (p ∷ ps)) Clear Unnamed → g ≡ faultOf (listStaged σ (map small (word_at s own)) (p ∷ ps)))
-        → (c.fault ≡ Form → g ≡ Form) → StartsList s at q → ListTold s σ (map small (word_at s own)) at (listedBy c g q)
-    unfolding parametersBy
+        → ((p : Name × TypeName) (ps : List (Name × TypeName)) → pairs_in (first (stack_at s q)) ≡ some (p ∷ ps) → c.fault ≡ cond (pairs_good σ (p ∷ ps)) Clear Unnamed → g ≡ fault_of (list_staged σ (map small (word_at s own)) (p ∷ ps)))
+        → (c.fault ≡ Form → g ≡ Form) → StartsList s at q → ListTold s σ (map small (word_at s own)) at (listed_by c g q)
+    unfolding parameters_by
     read_told σ g T k m (no-list z _) = absurd (no z)
     read_told σ g (pairs-wrong e n) k m (a-list o h a r y) = list-wrong (rw a n) (m e)
-    read_told σ g (pairs-empty e n) k m (a-list o h a r y) = absurd (no-empty (first (stackAt s at)) (first (stackAt s q)) a n)
+    read_told σ g (pairs-empty e n) k m (a-list o h a r y) = absurd (no-empty (first (stack_at s at)) (first (stack_at s q)) a n)
     read_told σ g (pairs-read p ps n d few full e tr) k m (a-list o h a r y) =
         list_read p ps a n o h (ap first (sym d) ∙ sym r) (y ∙ ap later d) few full (k p ps n e)
 
-    pub some-clear : b ≡ true → (g : Fault) → GivesFaults s l ts scope own q g → (r : Listed) → r ≡ listedBy c g q → GivesList s l ts scope own at r
+    pub some-clear : b ≡ true → (g : Fault) → GivesFaults s l ts scope own q g → (r : Listed) → r ≡ listed_by c g q → GivesList s l ts scope own at r
     some-clear j g G r h = rw h (record {
       says = λ top σ bs S. read_told σ g (P.says top σ bs S)
-          (λ p ps n e. let y = good-staged σ (map small (word_at s own)) (p ∷ ps) (clear-good (pairsGood σ (p ∷ ps)) (sym e ∙ clear)) in G.says top σ bs S (p ∷ ps) y.0 n y.1 ∙ y.2)
+          (λ p ps n e. let y = good-staged σ (map small (word_at s own)) (p ∷ ps) (clear-good (pairs_good σ (p ∷ ps)) (sym e ∙ clear)) in G.says top σ bs S (p ∷ ps) y.0 n y.1 ∙ y.2)
           (λ e. absurd (not-form (sym e ∙ clear))) Q;
     })
       where
@@ -331,15 +331,15 @@ module _ (s l ts : List ℕ) (scope : Scope) (own at q : ℕ) (Q : StartsList s 
         not-form : Form ≡ Clear → ⊥
         not-form e = let z : ◌≡◌ {A = ℕ} 0 1 = cc in omega arith
 
-    pub some-fault : b ≡ false → (r : Listed) → r ≡ listedBy c f q → GivesList s l ts scope own at r
+    pub some-fault : b ≡ false → (r : Listed) → r ≡ listed_by c f q → GivesList s l ts scope own at r
     some-fault j r h = rw h (record {
       says = λ top σ bs S. read_told σ f (P.says top σ bs S)
-          (λ p ps n e. bad σ p ps (pairsGood σ (p ∷ ps)) refl (hf ∙ e)) (λ e. hf ∙ e) Q;
+          (λ p ps n e. bad σ p ps (pairs_good σ (p ∷ ps)) refl (hf ∙ e)) (λ e. hf ∙ e) Q;
     })
       where
-        bad : (σ : Environment) (p : Name × TypeName) (ps : List (Name × TypeName)) (t : Bool) → pairsGood σ (p ∷ ps) ≡ t → f ≡ cond (pairsGood σ (p ∷ ps)) Clear Unnamed
-            → f ≡ faultOf (listStaged σ (map small (word_at s own)) (p ∷ ps))
-        bad σ p ps true e g = absurd (false≢true (sym (sym i ∙ j) ∙ ap isClear (g ∙ ap (λ (t : Bool). cond t Clear Unnamed) e)))
+        bad : (σ : Environment) (p : Name × TypeName) (ps : List (Name × TypeName)) (t : Bool) → pairs_good σ (p ∷ ps) ≡ t → f ≡ cond (pairs_good σ (p ∷ ps)) Clear Unnamed
+            → f ≡ fault_of (list_staged σ (map small (word_at s own)) (p ∷ ps))
+        bad σ p ps true e g = absurd (false≢true (sym (sym i ∙ j) ∙ ap is_clear (g ∙ ap (λ (t : Bool). cond t Clear Unnamed) e)))
         bad σ p ps false e g = g ∙ rw (e, bad-staged σ (map small (word_at s own)) (p ∷ ps) e) refl
 
 pub ruleset list-laws = (no-parameters, some-clear, some-fault)

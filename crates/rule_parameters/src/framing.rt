@@ -2,8 +2,8 @@
 ghost use Rattle.std.specs.Prelude.{◌≡◌};
 ghost use Rattle.code.specs.Layout.{lay as laid};
 ghost use Rattle.table_list.specs.Laid.{Laid};
-ghost use Rattle.table_scope.specs.Scene.{withPairs};
-ghost use Rattle.rule_parameters.specs.Framing.{letsIn, scopeAfter, wantBy, LaysTypes, LaysWants, base_of, LaysFrame, parametersFit, procFits, FramesList, nothingFramed, procState, Opens, openedMain};
+ghost use Rattle.table_scope.specs.Scene.{with_pairs};
+ghost use Rattle.rule_parameters.specs.Framing.{lets_in, scope_after, want_by, LaysTypes, LaysWants, base_of, LaysFrame, parameters_fit, proc_fits, FramesList, nothing_framed, proc_state, Opens, opened_main};
 
 use crate::listing::Listed;
 use rule_declarations::{MOST_PROCS, State, vars_fit, with_body, with_names, with_parameters};
@@ -32,7 +32,7 @@ pub struct Framed {
 // Whether the names in a list are known to be new: then they are known in the body. Where they are not, the line is refused by row 6 or 7 whatever
 // they mean.
 fn lets_in(f: Fault) -> bool
-    ensures { result ≡ letsIn f }
+    ensures { result ≡ lets_in f }
 {
     match f {
         Fault::Clear => true,
@@ -44,7 +44,7 @@ fn lets_in(f: Fault) -> bool
 
 // What is known in the body after a list with no fault of rows 6 and 7.
 fn scope_with(st: State, pairs: usize) -> Scope
-    ensures { result ≡ withPairs st.scope pairs st.vars st.parameters }
+    ensures { result ≡ with_pairs st.scope pairs st.vars st.parameters }
 {
     Scope {
         count: st.scope.count,
@@ -57,7 +57,7 @@ fn scope_with(st: State, pairs: usize) -> Scope
 
 // What is known in the body after a list.
 fn scope_after(st: State, c: Listed) -> Scope
-    ensures { result ≡ scopeAfter st c }
+    ensures { result ≡ scope_after st c }
 {
     let f = c.fault;
     if c.pairs == 0 {
@@ -84,7 +84,7 @@ fn lay_types(text: &[u8], work: &mut [u32], scope: Scope, n: u32, at: usize, top
 
 // Lays what a parameter takes whose type x describes: an ordinal's bounds, or of a set what no bounds are.
 fn lay_want(work: &mut [u32], x: Info, top: u32) -> u32
-    ensures { Laid (laid (wantBy x) top work.old) result work.new }
+    ensures { Laid (laid (want_by x) top work.old) result work.new }
 {
     if x.shape == 0 {
         let ns = [x.low, x.high];
@@ -135,7 +135,7 @@ fn lay_frame(text: &[u8], work: &mut [u32], types: &[u32], st: State, n: u32, at
 
 // No frame.
 fn no_frame(st: State) -> Framed
-    ensures { result ≡ nothingFramed st }
+    ensures { result ≡ nothing_framed st }
 {
     Framed {
         place: 0,
@@ -162,7 +162,7 @@ fn frame_after(text: &[u8], work: &mut [u32], types: &[u32], st: State, c: Liste
 
 // Whether n parameters more are within the ceilings of row 9.
 fn parameters_fit(st: State, n: u32) -> bool
-    ensures { result ≡ parametersFit st n }
+    ensures { result ≡ parameters_fit st n }
 {
     if n > MOST_PARAMETERS {
         return false;
@@ -172,7 +172,7 @@ fn parameters_fit(st: State, n: u32) -> bool
 
 // Whether a procedure of n parameters is within the ceilings of row 9.
 pub fn proc_fits(st: State, n: u32) -> bool
-    ensures { result ≡ procFits st n }
+    ensures { result ≡ proc_fits st n }
 {
     if st.procs < MOST_PROCS {
         return parameters_fit(st, n);
@@ -182,7 +182,7 @@ pub fn proc_fits(st: State, n: u32) -> bool
 
 // What is held after a procedure of n parameters: its entry stands at a place, the free place then is u.
 pub fn proc_state(st: State, n: u32, entry: u32, u: u32) -> State
-    ensures { result ≡ procState st n entry u }
+    ensures { result ≡ proc_state st n entry u }
 {
     let named = with_names(st, 1, entry, u);
     let bodied = with_body(named, u);
@@ -204,7 +204,7 @@ pub fn open_body(text: &[u8], work: &mut [u32], types: &[u32], st: State, c: Lis
 
 // The body of `main`, whose parts begin at an offset.
 pub fn open_main(st: State, at: usize) -> Opened
-    ensures { result ≡ openedMain st at }
+    ensures { result ≡ opened_main st at }
 {
     let scope = st.scope;
     Opened {

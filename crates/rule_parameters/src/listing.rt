@@ -1,9 +1,9 @@
 // The list of a `proc` line's parameters: what it is, and its faults.
 ghost use Rattle.std.specs.Prelude.{◌≡◌, ltb};
 ghost use Rattle.law.specs.Trees.{first};
-ghost use Rattle.law_theorems.specs.Readings.{stackAt};
-ghost use Rattle.table_scope.specs.Descriptions.{infoOf};
-ghost use Rattle.rule_parameters.specs.Listing.{listAfter, StartsList, kindFault, faultBy, GivesFaults, noList, listedBy, GivesList};
+ghost use Rattle.law_theorems.specs.Readings.{stack_at};
+ghost use Rattle.table_scope.specs.Descriptions.{info_of};
+ghost use Rattle.rule_parameters.specs.Listing.{list_after, StartsList, kind_fault, fault_by, GivesFaults, no_list, listed_by, GivesList};
 
 use rule_declarations::named_fault;
 use rule_faults::{Fault, is_clear, is_form, lowest};
@@ -24,7 +24,7 @@ pub struct Listed {
 
 // The offset p past a bracket, if the form there begins with a form; else 0.
 fn list_in(text: &[u8], p: usize) -> usize
-    ensures { result ≡ listAfter (first (stackAt text.now p)) p }
+    ensures { result ≡ list_after (first (stack_at text.now p)) p }
 {
     let s = look(text, p);
     match s {
@@ -48,7 +48,7 @@ fn list_at(text: &[u8], at: usize) -> usize
 
 // The fault of a parameter's type: it is no ordinal and no set.
 fn kind_fault(work: &[u32], types: &[u32], kind: u32) -> Fault
-    ensures { result ≡ kindFault (ltb (infoOf work.now types.now kind).shape 2) }
+    ensures { result ≡ kind_fault (ltb (info_of work.now types.now kind).shape 2) }
 {
     let x = describe(work, types, kind);
     if x.shape < 2 {
@@ -60,7 +60,7 @@ fn kind_fault(work: &[u32], types: &[u32], kind: u32) -> Fault
 // The fault of a pair whose form is right and whose type is known: the type is no ordinal and no set, or the name is known or the procedure's, which
 // stands at `own`.
 fn pair_fault(text: &[u8], work: &[u32], types: &[u32], scope: Scope, own: usize, x: Pair) -> Fault
-    ensures { result ≡ faultBy text.now work.now types.now scope own x }
+    ensures { result ≡ fault_by text.now work.now types.now scope own x }
 {
     let f = kind_fault(work, types, x.kind);
     if same_word(text, x.name, own) {
@@ -96,7 +96,7 @@ fn pair_faults(
 
 // The answer where there is no list.
 fn no_list(at: usize) -> Listed
-    ensures { result ≡ noList at }
+    ensures { result ≡ no_list at }
 {
     Listed {
         fault: Fault::Clear,
@@ -108,7 +108,7 @@ fn no_list(at: usize) -> Listed
 
 // The answer for the list whose pairs begin at q, from theirs.
 fn list_answer(c: Pairs, fault: Fault, q: usize) -> Listed
-    ensures { result ≡ listedBy c fault q }
+    ensures { result ≡ listed_by c fault q }
 {
     Listed {
         fault: fault,

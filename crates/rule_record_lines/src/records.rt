@@ -2,10 +2,10 @@
 ghost use Rattle.std.specs.Prelude.{◌≡◌};
 ghost use Rattle.code.specs.Layout.{lay as laid};
 ghost use Rattle.law.specs.Trees.{first};
-ghost use Rattle.law_theorems.specs.Readings.{stackAt};
+ghost use Rattle.law_theorems.specs.Readings.{stack_at};
 ghost use Rattle.table_list.specs.Laid.{Laid};
 ghost use Rattle.rule_type_lines.specs.TypeLines.{GivesMade};
-ghost use Rattle.rule_record_lines.specs.Records.{recordIn, fieldEntry, LaysFields, recordInfo, LaysRecord, AddsRecord, recordFits};
+ghost use Rattle.rule_record_lines.specs.Records.{record_in, field_entry, LaysFields, record_info, LaysRecord, AddsRecord, record_fits};
 
 use rule_declarations::{Lined, MOST_CELLS, MOST_FIELDS, State, answered, named_fault, narrow};
 use rule_faults::{Fault, is_clear};
@@ -18,7 +18,7 @@ use table_scope::{Info, Scope};
 
 // Lays a field whose name is at y; the free place then.
 fn lay_field(work: &mut [u32], y: usize, kind: u32, offset: u32, place: u32) -> u32
-    ensures { Laid (laid (fieldEntry y kind offset) place work.old) result work.new }
+    ensures { Laid (laid (field_entry y kind offset) place work.old) result work.new }
 {
     let name = narrow(y);
     declare(work, place, name, kind, offset, 0)
@@ -53,7 +53,7 @@ fn lay_fields(
 
 // The description of a record.
 fn record_info(n: u32, size: u32) -> Info
-    ensures { result ≡ recordInfo n size }
+    ensures { result ≡ record_info n size }
 {
     Info {
         shape: 3,
@@ -112,7 +112,7 @@ fn add_record(
 
 // Whether a record of n fields is within the ceilings of row 9.
 fn record_fits(n: u32, size: u32) -> bool
-    ensures { result ≡ recordFits n size }
+    ensures { result ≡ record_fits n size }
 {
     if n <= MOST_FIELDS {
         return size <= MOST_CELLS;
@@ -129,7 +129,7 @@ pub fn record_line(
     p: usize,
     at: usize,
 ) -> Lined
-    ensures { GivesMade text.now work.old types.old st p at (recordIn (first (stackAt text.now at))) result work.new types.new }
+    ensures { GivesMade text.now work.old types.old st p at (record_in (first (stack_at text.now at))) result work.new types.new }
 {
     let c = pairs_from(text, work, types, st.scope, at);
     let g = c.fault;

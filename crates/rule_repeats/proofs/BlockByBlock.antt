@@ -14,12 +14,12 @@ use Rattle.rule_repeats.specs.declared.leads.Next.TheVariants as next
 use Rattle.rule_repeats.specs.declared.blocks.Filled.{Filled}
 use Rattle.rule_repeats.specs.declared.blocks.Filled.TheVariants as filled
 use Rattle.rule_repeats.specs.Keys.{low_of, high_of, name_at}
-use Rattle.rule_repeats.specs.Leads.{leadsAt, LeadIs, Nexts}
+use Rattle.rule_repeats.specs.Leads.{leads_at, LeadIs, Nexts}
 use Rattle.rule_repeats.specs.Blocks.{among, apart, meets, Block, Meets, Held, Fills, ComesAgain}
 use Rattle.rule_repeats.proofs.NamesApart.{apart-append}
 
 -- each name makes those that are left one fewer
-pub names-fewer : (s : List ℕ) (p : ℕ) (y : Next) → Nexts s p y → (x : Lead) (q : ℕ) → y ≡ next.Name x q → length (leadsAt s q) < length (leadsAt s p)
+pub names-fewer : (s : List ℕ) (p : ℕ) (y : Next) → Nexts s p y → (x : Lead) (q : ℕ) → y ≡ next.Name x q → length (leads_at s q) < length (leads_at s p)
 names-fewer s p y N x q e = let g = rw e at N.says in let z = ap length g.0 in omega arith
 
 -- ---- `fill_block`
@@ -53,7 +53,7 @@ more-keys f ls n v ws h g e j l = go (dec_lt j n)
 
 module _ (s : List ℕ) (at : ℕ) (ls hs : List ℕ) (n p : ℕ) (I : Filling s at ls hs n p) where
   abbrev ns : List Name
-  ns = leadsAt s at
+  ns = leads_at s at
 
   pub fill-full : 256 ≤ n → Fills s at (filled.Up n p) ls hs
   fill-full h = record { long-lows = I.long-lows; long-highs = I.long-highs; says = (I.held, λ e. absurd (omega arith)) }
@@ -70,7 +70,7 @@ module _ (s : List ℕ) (at : ℕ) (ls hs : List ℕ) (n p : ℕ) (I : Filling s
       abbrev w : Name
       w = name_at s x.at
 
-      rest : drop n ns ≡ (w ∷ leadsAt s q)
+      rest : drop n ns ≡ (w ∷ leads_at s q)
       rest = let g = rw e at N.says in I.held.split ∙ g.0
 
       lead : LeadIs s x
@@ -85,7 +85,7 @@ module _ (s : List ℕ) (at : ℕ) (ls hs : List ℕ) (n p : ℕ) (I : Filling s
       here : get_or ns n [] ≡ w
       here = let z : n + 0 ≡ n = omega arith in sym (get_or-drop n ns 0 [] ∙ ap (λ (i : ℕ). get_or ns i []) z) ∙ ap (λ (ws : List Name). get_or ws 0 []) rest
 
-      whole : ns ≡ (take n ns ++ (w ∷ leadsAt s q))
+      whole : ns ≡ (take n ns ++ (w ∷ leads_at s q))
       whole = sym (take-append-drop n ns) ∙ ap (λ (ws : List Name). take n ns ++ ws) rest
 
       again-bits : (a b : Bool) → ((a && not true) && b) ≡ false
@@ -97,9 +97,9 @@ module _ (s : List ℕ) (at : ℕ) (ls hs : List ℕ) (n p : ℕ) (I : Filling s
       fill-again h = record {
         long-lows = I.long-lows;
         long-highs = I.long-highs;
-        says = ap apart whole ∙ apart-append (take n ns) (w ∷ leadsAt s q)
-            ∙ ap (λ (b : Bool). (apart (take n ns) && not (b || meets (leadsAt s q) (take n ns))) && apart (w ∷ leadsAt s q)) (sym among-is ∙ h)
-            ∙ again-bits (apart (take n ns)) (apart (w ∷ leadsAt s q));
+        says = ap apart whole ∙ apart-append (take n ns) (w ∷ leads_at s q)
+            ∙ ap (λ (b : Bool). (apart (take n ns) && not (b || meets (leads_at s q) (take n ns))) && apart (w ∷ leads_at s q)) (sym among-is ∙ h)
+            ∙ again-bits (apart (take n ns)) (apart (w ∷ leads_at s q));
       }
 
       one_more : take (n + 1) ns ≡ (take n ns ++ (w ∷ []))
@@ -129,30 +129,30 @@ pub ruleset fill-laws = (fill-full, fill_end, fill-again, fill_on)
 
 -- no name from `at` to p is one of the block
 pub record Seeking (s ls hs : List ℕ) (from n at p : ℕ) : Type 0 where
-  pub sought : Block s from n ls hs → meets (leadsAt s at) (take n (leadsAt s from)) ≡ meets (leadsAt s p) (take n (leadsAt s from))
+  pub sought : Block s from n ls hs → meets (leads_at s at) (take n (leads_at s from)) ≡ meets (leads_at s p) (take n (leads_at s from))
 
 pub seek-start : (s ls hs : List ℕ) (from n at : ℕ) → Seeking s ls hs from n at at
 seek-start s ls hs from n at = record { sought = λ B. refl }
 
 module _ (s ls hs : List ℕ) (from n at p : ℕ) (I : Seeking s ls hs from n at p) (y : Next) (N : Nexts s p y) where
   abbrev bs : List Name
-  bs = take n (leadsAt s from)
+  bs = take n (leads_at s from)
 
   pub seek-end : y ≡ next.Done → ComesAgain s ls hs from n at false
   unfolding meets
   seek-end e = let g = rw e at N.says in record { says = λ B. sym (I.sought B ∙ ap (λ (ws : List Name). meets ws bs) g) }
 
   module _ (x : Lead) (q : ℕ) (e : y ≡ next.Name x q) (t : Bool) (M : Meets s ls hs from n x t) where
-    seen : Block s from n ls hs → meets (leadsAt s at) bs ≡ (t || meets (leadsAt s q) bs)
+    seen : Block s from n ls hs → meets (leads_at s at) bs ≡ (t || meets (leads_at s q) bs)
     unfolding meets
     seen B = let g = rw e at N.says in
-        I.sought B ∙ ap (λ (ws : List Name). meets ws bs) g.0 ∙ ap (λ (b : Bool). b || meets (leadsAt s q) bs) (sym (M.says B g.1))
+        I.sought B ∙ ap (λ (ws : List Name). meets ws bs) g.0 ∙ ap (λ (b : Bool). b || meets (leads_at s q) bs) (sym (M.says B g.1))
 
     pub seek_found : t ≡ true → ComesAgain s ls hs from n at true
-    seek_found h = record { says = λ B. sym (seen B ∙ ap (λ (b : Bool). b || meets (leadsAt s q) bs) h) }
+    seek_found h = record { says = λ B. sym (seen B ∙ ap (λ (b : Bool). b || meets (leads_at s q) bs) h) }
 
     pub seek-on : t ≡ false → Seeking s ls hs from n at q
-    seek-on h = record { sought = λ B. seen B ∙ ap (λ (b : Bool). b || meets (leadsAt s q) bs) h }
+    seek-on h = record { sought = λ B. seen B ∙ ap (λ (b : Bool). b || meets (leads_at s q) bs) h }
 
 pub ruleset seek-laws = (seek-end, seek_found, seek-on)
 
@@ -161,7 +161,7 @@ pub ruleset seek-laws = (seek-end, seek_found, seek-on)
 -- the names from p on tell whether those from `at` on differ
 pub record Clearing (s : List ℕ) (at : ℕ) (ls hs : List ℕ) (p : ℕ) : Type 0 where
   pub long : (length ls ≡ 256) × (length hs ≡ 256)
-  pub cleared : apart (leadsAt s at) ≡ apart (leadsAt s p)
+  pub cleared : apart (leads_at s at) ≡ apart (leads_at s p)
 
 pub clear-start : (s : List ℕ) (at : ℕ) (ls hs : List ℕ) → (length ls ≡ 256) × (length hs ≡ 256) → Clearing s at ls hs at
 clear-start s at ls hs h = record { long = h; cleared = refl }
@@ -171,18 +171,18 @@ module _ (s : List ℕ) (at : ℕ) (ls hs : List ℕ) (p : ℕ) (I : Clearing s 
   clear-long = I.long
 
   module _ (f : Filled) (ls' hs' : List ℕ) (F : Fills s p f ls' hs') where
-    pub clear-again : f ≡ filled.Again → false ≡ apart (leadsAt s at)
+    pub clear-again : f ≡ filled.Again → false ≡ apart (leads_at s at)
     clear-again e = let g = rw e at F.says in sym (I.cleared ∙ g)
 
     module _ (n q : ℕ) (e : f ≡ filled.Up n q) where
-      pub clear-end : n ≡ 0 → true ≡ apart (leadsAt s at)
+      pub clear-end : n ≡ 0 → true ≡ apart (leads_at s at)
       unfolding apart
       clear-end h = let g = rw e at F.says in sym (I.cleared ∙ ap apart (g.1 h))
 
       -- a block that is not empty makes the names that are left fewer
-      pub clear-fewer : (n ≡ 0 → ⊥) → length (leadsAt s q) < length (leadsAt s p)
+      pub clear-fewer : (n ≡ 0 → ⊥) → length (leads_at s q) < length (leads_at s p)
       clear-fewer h = let g = rw e at F.says in
-          let z = sym (length-drop n (leadsAt s p)) ∙ ap length g.0.split in
+          let z = sym (length-drop n (leads_at s p)) ∙ ap length g.0.split in
           omega (arith, g.0.within)
 
       module _ (t : Bool) (C : ComesAgain s ls' hs' p n q t) where
@@ -190,18 +190,18 @@ module _ (s : List ℕ) (at : ℕ) (ls hs : List ℕ) (p : ℕ) (I : Clearing s 
         bits true b c h = refl
         bits false b c h = absurd (let z : ◌≡◌ {A = ℕ} 0 1 = cc in omega arith)
 
-        after : apart (leadsAt s at) ≡ (not t && apart (leadsAt s q))
+        after : apart (leads_at s at) ≡ (not t && apart (leads_at s q))
         after = let g = rw e at F.says in
-            let whole = sym (take-append-drop n (leadsAt s p)) ∙ ap (λ (ws : List Name). take n (leadsAt s p) ++ ws) g.0.split in
-            I.cleared ∙ ap apart whole ∙ apart-append (take n (leadsAt s p)) (leadsAt s q)
-            ∙ bits (apart (take n (leadsAt s p))) (not (meets (leadsAt s q) (take n (leadsAt s p)))) (apart (leadsAt s q)) g.0.once
-            ∙ ap (λ (b : Bool). not b && apart (leadsAt s q)) (sym (C.says g.0.block))
+            let whole = sym (take-append-drop n (leads_at s p)) ∙ ap (λ (ws : List Name). take n (leads_at s p) ++ ws) g.0.split in
+            I.cleared ∙ ap apart whole ∙ apart-append (take n (leads_at s p)) (leads_at s q)
+            ∙ bits (apart (take n (leads_at s p))) (not (meets (leads_at s q) (take n (leads_at s p)))) (apart (leads_at s q)) g.0.once
+            ∙ ap (λ (b : Bool). not b && apart (leads_at s q)) (sym (C.says g.0.block))
 
-        pub clear-found : t ≡ true → false ≡ apart (leadsAt s at)
-        clear-found h = sym (after ∙ ap (λ (b : Bool). not b && apart (leadsAt s q)) h)
+        pub clear-found : t ≡ true → false ≡ apart (leads_at s at)
+        clear-found h = sym (after ∙ ap (λ (b : Bool). not b && apart (leads_at s q)) h)
 
         pub clear-on : t ≡ false → Clearing s at ls' hs' q
-        clear-on h = record { long = (F.long-lows, F.long-highs); cleared = after ∙ ap (λ (b : Bool). not b && apart (leadsAt s q)) h }
+        clear-on h = record { long = (F.long-lows, F.long-highs); cleared = after ∙ ap (λ (b : Bool). not b && apart (leads_at s q)) h }
 
 pub ruleset clear-laws = (clear-again, clear-end, clear-found, clear-on)
 

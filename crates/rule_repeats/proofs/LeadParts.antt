@@ -11,8 +11,8 @@ use Rattle.leaf_words.specs.Words.{word_of}
 use Rattle.law.specs.Base.{Name, ◌>>=◌}
 use Rattle.law.specs.Forms.{free}
 use Rattle.law.specs.Trees.{Tree, word, form, Trees, Run, first, later, word_at}
-use Rattle.law_theorems.specs.Readings.{stackAt}
-use Rattle.law.specs.Words.{Word, wordBy, worded, wordedAll}
+use Rattle.law_theorems.specs.Readings.{stack_at}
+use Rattle.law.specs.Words.{Word, word_by, worded, worded_all}
 use Rattle.law_theorems.proofs.Inversion.{none-some, some_inj}
 use Rattle.law_theorems.proofs.Reading.{none-word}
 use Rattle.text_words.specs.Sights.{Looks}
@@ -23,24 +23,24 @@ use Rattle.rule_repeats.specs.declared.keys.Keyed.{Keyed}
 use Rattle.rule_repeats.specs.declared.leads.Lead.{Lead}
 use Rattle.rule_repeats.specs.declared.leads.Next.TheVariants as next
 use Rattle.rule_repeats.specs.Keys.{KeyedAt}
-use Rattle.rule_repeats.specs.Leads.{leadIn, leadOf, leads, leadBy, LeadsIn, Nexts}
+use Rattle.rule_repeats.specs.Leads.{lead_in, lead_of, leads, lead_by, LeadsIn, Nexts}
 
-module _ (s : List ℕ) (at : ℕ) (v : Sight) (L : Looks s (stackAt s at) v) where
+module _ (s : List ℕ) (at : ℕ) (v : Sight) (L : Looks s (stack_at s at) v) where
   -- ---- `lead_in`
 
   pub in_leaf : (p : ℕ) → v ≡ sight.Leaf p → LeadsIn s at p
-  unfolding leadIn
-  in_leaf p e = let g = rw e at L.says in record { name-is = sym (ap (λ (k : List (Trees Run)). leadIn (first k)) g.0) }
+  unfolding lead_in
+  in_leaf p e = let g = rw e at L.says in record { name-is = sym (ap (λ (k : List (Trees Run)). lead_in (first k)) g.0) }
 
   pub in-form : (p : ℕ) → v ≡ sight.Form p → LeadsIn s at (length s)
-  unfolding leadIn
+  unfolding lead_in
   in-form p e = let g = rw e at L.says in record {
-    name-is = ap (map small) (none-word s (length s) (omega arith)) ∙ sym (ap (λ (k : List (Trees Run)). leadIn (first k)) g);
+    name-is = ap (map small) (none-word s (length s) (omega arith)) ∙ sym (ap (λ (k : List (Trees Run)). lead_in (first k)) g);
   }
 
   pub in-shut : (q : ℕ) → v ≡ sight.Shut q → LeadsIn s at (length s)
-  unfolding leadIn
-  in-shut q e = let g = rw e at L.says in record { name-is = ap (map small) (none-word s (length s) (omega arith)) ∙ sym (ap leadIn g.0) }
+  unfolding lead_in
+  in-shut q e = let g = rw e at L.says in record { name-is = ap (map small) (none-word s (length s) (omega arith)) ∙ sym (ap lead_in g.0) }
 
   -- ---- `next_name`
 
@@ -49,8 +49,8 @@ module _ (s : List ℕ) (at : ℕ) (v : Sight) (L : Looks s (stackAt s at) v) wh
   next-done q e = let g = rw e at L.says in record { says = ap leads g.0 }
 
   module _ (p : ℕ) (k : Keyed) (x : Lead) where
-    pub next-leaf : v ≡ sight.Leaf p → KeyedAt s p k → x ≡ leadBy p k → Nexts s at (next.Name x k.next)
-    unfolding leads leadOf
+    pub next-leaf : v ≡ sight.Leaf p → KeyedAt s p k → x ≡ lead_by p k → Nexts s at (next.Name x k.next)
+    unfolding leads lead_of
     next-leaf e K m = let g = rw e at L.says in rw m (record {
       says = (
         ap (λ (z : List (Trees Run)). leads (first z)) g.0 ∙ ap (λ (z : List (Trees Run)). map small (word_at s p) ∷ leads (first z)) (sym K.rest),
@@ -58,11 +58,11 @@ module _ (s : List ℕ) (at : ℕ) (v : Sight) (L : Looks s (stackAt s at) v) wh
       );
     })
 
-    pub next-form : (y q : ℕ) → v ≡ sight.Form p → LeadsIn s p y → KeyedAt s y k → x ≡ leadBy y k → Past s p q → Nexts s at (next.Name x q)
-    unfolding leads leadOf
+    pub next-form : (y q : ℕ) → v ≡ sight.Form p → LeadsIn s p y → KeyedAt s y k → x ≡ lead_by y k → Past s p q → Nexts s at (next.Name x q)
+    unfolding leads lead_of
     next-form y q e I K m P = let g = rw e at L.says in rw m (record {
       says = (
-        ap (λ (z : List (Trees Run)). leads (first z)) g ∙ ap (λ (w : Name). w ∷ leads (first (later (stackAt s p)))) (sym I.name-is)
+        ap (λ (z : List (Trees Run)). leads (first z)) g ∙ ap (λ (w : Name). w ∷ leads (first (later (stack_at s p)))) (sym I.name-is)
             ∙ ap (λ (z : List (Trees Run)). map small (word_at s y) ∷ leads (first z)) P.beyond,
         record { low-is = K.low-is; high_is = K.high_is },
       );
@@ -74,8 +74,8 @@ pub ruleset next-laws = (next-done, next-leaf, next-form)
 
 -- ---- a part that is a free name begins with it
 
-word-free : (k : Kind.Word) (x : Run) (n : Name) → ((wordBy k x >>= λ (v : Word). some (word v)) >>= free) ≡ some n → map small x ≡ n
-unfolding wordBy ◌>>=◌ free
+word-free : (k : Kind.Word) (x : Run) (n : Name) → ((word_by k x >>= λ (v : Word). some (word v)) >>= free) ≡ some n → map small x ≡ n
+unfolding word_by ◌>>=◌ free
 word-free (Kind.TheVariants.Number z) x n h = none-some h
 word-free Kind.TheVariants.Name x n h = some_inj h
 word-free (Kind.TheVariants.Reserved k) x n h = none-some h
@@ -84,13 +84,13 @@ word-free Kind.TheVariants.Unknown x n h = none-some h
 
 pub form-free {ℓ} : {X : Type ℓ} (us : Trees Run) (n : Name) → (worded (form us) >>= free) ≡ some n → X
 unfolding worded ◌>>=◌ free
-form-free {X = X} us n h = go (wordedAll us) h
+form-free {X = X} us n h = go (worded_all us) h
   where
     go : (o : Option (Trees Word)) → ((o >>= λ (vs : Trees Word). some (form vs)) >>= free) ≡ some n → X
     go none h₁ = none-some h₁
     go (some vs) h₁ = none-some h₁
 
-pub lead-free : (t : Tree Run) (n : Name) → (worded t >>= free) ≡ some n → leadOf t ≡ n
-unfolding worded leadOf
+pub lead-free : (t : Tree Run) (n : Name) → (worded t >>= free) ≡ some n → lead_of t ≡ n
+unfolding worded lead_of
 lead-free (word x) n h = word-free (word_of x) x n h
 lead-free (form us) n h = form-free us n h

@@ -6,7 +6,7 @@ use Rattle.leaf_bytes.specs.Bytes.{same}
 use Rattle.leaf_bytes.proofs.Same.{same-equal, same_self}
 use Rattle.law.specs.Base.{Name}
 use Rattle.law.specs.Environment.{Environment}
-use Rattle.law.specs.Names.{listedIn, distinct}
+use Rattle.law.specs.Names.{listed_in, distinct}
 use Rattle.rule_repeats.specs.Blocks.{among, apart, meets}
 
 both_ways : (a b : Bool) → (a ≡ true → b ≡ true) → (b ≡ true → a ≡ true) → a ≡ b
@@ -65,12 +65,12 @@ apart-append (b ∷ bs) ws =
 
 -- ---- row 7
 
-listed-among : (σ : Environment) (w : Name) (vs : List Name) → listedIn σ w vs ≡ among w vs
-unfolding listedIn among
+listed-among : (σ : Environment) (w : Name) (vs : List Name) → listed_in σ w vs ≡ among w vs
+unfolding listed_in among
 listed-among σ w [] = refl
 listed-among σ w (v ∷ vs) = go (same v w) (listed-among σ w vs)
   where
-    go : (b : Bool) → listedIn σ w vs ≡ among w vs → elim b [ true ↦ true | false ↦ listedIn σ w vs ] ≡ (b || among w vs)
+    go : (b : Bool) → listed_in σ w vs ≡ among w vs → elim b [ true ↦ true | false ↦ listed_in σ w vs ] ≡ (b || among w vs)
     go true e = refl
     go false e = e
 

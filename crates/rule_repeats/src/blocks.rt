@@ -1,8 +1,8 @@
 // Names that differ: the keys of 256 of them at a time are kept, and each name after these is read once and its key looked for among them.
 // Names themselves are compared where keys agree.
 ghost use Rattle.std.specs.Prelude.{◌≡◌, ◌&&◌, ◌||◌, length};
-ghost use Rattle.rule_repeats.specs.Leads.{leadsAt};
-ghost use Rattle.rule_repeats.specs.Blocks.{apart, hasTo, hasBothTo, Listed, Meets, Fills, ComesAgain};
+ghost use Rattle.rule_repeats.specs.Leads.{leads_at};
+ghost use Rattle.rule_repeats.specs.Blocks.{apart, has_to, has_both_to, Listed, Meets, Fills, ComesAgain};
 
 use crate::leads::{Lead, Next, next_name};
 use table_names::same_word;
@@ -42,7 +42,7 @@ fn both(a: bool, b: bool) -> bool
 
 // Whether a number stands in a block. The loop has no way out, so that the compiler compares several at once.
 fn has(keys: &Block, a: u32) -> bool
-    ensures { result ≡ hasTo 256 a keys.now }
+    ensures { result ≡ has_to 256 a keys.now }
 {
     let mut any = false;
     let mut i = 0;
@@ -55,7 +55,7 @@ fn has(keys: &Block, a: u32) -> bool
 
 // Whether two numbers stand at the same place of two blocks.
 fn has_both(lows: &Block, highs: &Block, a: u32, b: u32) -> bool
-    ensures { result ≡ hasBothTo 256 a b lows.now highs.now }
+    ensures { result ≡ has_both_to 256 a b lows.now highs.now }
 {
     let mut any = false;
     let mut i = 0;
@@ -68,7 +68,7 @@ fn has_both(lows: &Block, highs: &Block, a: u32, b: u32) -> bool
 
 // Whether a key stands in a block: few names have the low number of another.
 fn agrees(lows: &Block, highs: &Block, x: Lead) -> bool
-    ensures { result ≡ hasBothTo 256 x.low x.high lows.now highs.now }
+    ensures { result ≡ has_both_to 256 x.low x.high lows.now highs.now }
 {
     if has(lows, x.low) {
         return has_both(lows, highs, x.low, x.high);
@@ -161,7 +161,7 @@ fn comes_again(text: &[u8], lows: &Block, highs: &Block, from: usize, n: usize, 
 // Whether the names from an offset on differ, block by block.
 fn differ_from(text: &[u8], lows: &mut Block, highs: &mut Block, at: usize) -> bool
     requires { (length lows.old ≡ 256) × (length highs.old ≡ 256) }
-    ensures { result ≡ apart (leadsAt text.now at) }
+    ensures { result ≡ apart (leads_at text.now at) }
 {
     let mut p = at;
     loop {
@@ -185,7 +185,7 @@ fn differ_from(text: &[u8], lows: &mut Block, highs: &mut Block, at: usize) -> b
 
 // Whether the parts from an offset on begin with names that differ.
 pub fn names_differ(text: &[u8], at: usize) -> bool
-    ensures { result ≡ apart (leadsAt text.now at) }
+    ensures { result ≡ apart (leads_at text.now at) }
 {
     let mut lows = [0u32; BLOCK];
     let mut highs = [0u32; BLOCK];
@@ -194,7 +194,7 @@ pub fn names_differ(text: &[u8], at: usize) -> bool
 
 // Whether that is so, and something else holds.
 pub fn differ_too(text: &[u8], at: usize, ok: bool) -> bool
-    ensures { result ≡ (ok && apart (leadsAt text.now at)) }
+    ensures { result ≡ (ok && apart (leads_at text.now at)) }
 {
     if ok {
         return names_differ(text, at);

@@ -1,6 +1,6 @@
 // The key of a word, two numbers of 32 bits: words whose keys differ are not the same.
 ghost use Rattle.std.specs.Prelude.{◌≡◌};
-ghost use Rattle.rule_repeats.specs.Keys.{keyWith, lowFactor, highFactor, keyedBy, KeyedAt};
+ghost use Rattle.rule_repeats.specs.Keys.{key_with, low_factor, high_factor, keyed_by, KeyedAt};
 
 use leaf_bytes::bytes::{Class, class_of, small_of};
 
@@ -14,21 +14,21 @@ pub struct Keyed {
 
 // The low number with one more letter.
 fn low_with(k: u32, b: u8) -> u32
-    ensures { result ≡ keyWith lowFactor k b }
+    ensures { result ≡ key_with low_factor k b }
 {
     ((k as u64 * 75 + b as u64) % 4294967296) as u32
 }
 
 // The high number with one more letter.
 fn high_with(k: u32, b: u8) -> u32
-    ensures { result ≡ keyWith highFactor k b }
+    ensures { result ≡ key_with high_factor k b }
 {
     ((k as u64 * 2654435769 + b as u64) % 4294967296) as u32
 }
 
 // A key from its numbers.
 fn key_made(low: u32, high: u32, next: usize) -> Keyed
-    ensures { result ≡ keyedBy low high next }
+    ensures { result ≡ keyed_by low high next }
 {
     Keyed {
         low: low,

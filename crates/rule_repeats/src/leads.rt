@@ -1,6 +1,6 @@
 // The names with which the parts of a form begin: a word itself, or the first word of a form.
 ghost use Rattle.std.specs.Prelude.{◌≡◌};
-ghost use Rattle.rule_repeats.specs.Leads.{leadBy, LeadsIn, Nexts};
+ghost use Rattle.rule_repeats.specs.Leads.{lead_by, LeadsIn, Nexts};
 
 use crate::keys::{Keyed, key_at};
 use text_skips::past_form;
@@ -23,7 +23,7 @@ pub enum Next {
 
 // A name at an offset from its key.
 fn lead_at(at: usize, k: Keyed) -> Lead
-    ensures { result ≡ leadBy at k }
+    ensures { result ≡ lead_by at k }
 {
     Lead {
         at: at,

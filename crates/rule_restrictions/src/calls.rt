@@ -1,8 +1,8 @@
 // The arguments of a call: none has a constant past the integers, and there are as many as parameters.
 ghost use Rattle.std.specs.Prelude.{◌≡◌};
 ghost use Rattle.law.specs.Trees.{first};
-ghost use Rattle.law_theorems.specs.Readings.{stackAt};
-ghost use Rattle.rule_restrictions.specs.Calls.{countBy, plainCount, KeepsCall};
+ghost use Rattle.law_theorems.specs.Readings.{stack_at};
+ghost use Rattle.rule_restrictions.specs.Calls.{count_by, plain_count, KeepsCall};
 
 use rule_constants::plain_part;
 use table_scope::frames::frame_of;
@@ -12,7 +12,7 @@ use text_skips::skip;
 
 // How many parameters a procedure has by its name's meaning, 0 of any other.
 fn parameters_of(work: &[u32], m: Meaning) -> u32
-    ensures { result ≡ countBy work.now m }
+    ensures { result ≡ count_by work.now m }
 {
     match m {
         Meaning::Unknown => 0,
@@ -25,7 +25,7 @@ fn parameters_of(work: &[u32], m: Meaning) -> u32
 
 // Whether the parts from an offset on are n, with no constant past the integers.
 fn plain_parts(text: &[u8], n: u32, at: usize) -> bool
-    ensures { result ≡ plainCount n (first (stackAt text.now at)) }
+    ensures { result ≡ plain_count n (first (stack_at text.now at)) }
 {
     let mut left = n;
     let mut p = at;

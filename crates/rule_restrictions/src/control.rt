@@ -1,7 +1,7 @@
 // The variables of an assignment and of a `for`: none that a loop around steps.
 ghost use Rattle.std.specs.Prelude.{◌≡◌, not};
-ghost use Rattle.table_scope.specs.Loops.{loopsOver};
-ghost use Rattle.rule_restrictions.specs.Control.{freeBy, PlainTwo, SkipsTwo, Free, Bounded, StartsBy, Starts};
+ghost use Rattle.table_scope.specs.Loops.{loops_over};
+ghost use Rattle.rule_restrictions.specs.Control.{free_by, PlainTwo, SkipsTwo, Free, Bounded, StartsBy, Starts};
 ghost use Rattle.rule_restrictions.specs.Walks.{KeepsAssign};
 
 use rule_constants::plain_part;
@@ -37,7 +37,7 @@ fn skip_two(text: &[u8], at: usize) -> usize
 
 // Whether no loop around steps variable i.
 fn unstepped(loops: Loops, i: u32) -> bool
-    ensures { result ≡ not (loopsOver loops i) }
+    ensures { result ≡ not (loops_over loops i) }
 {
     if loops_over(loops, i) {
         return false;
@@ -47,7 +47,7 @@ fn unstepped(loops: Loops, i: u32) -> bool
 
 // Whether a name that means m is no variable that a loop around steps.
 fn free_by(loops: Loops, m: Meaning) -> bool
-    ensures { result ≡ freeBy loops m }
+    ensures { result ≡ free_by loops m }
 {
     match m {
         Meaning::Unknown => true,

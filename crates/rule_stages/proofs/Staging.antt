@@ -5,7 +5,7 @@ use mathlib.Core.Option.{Option, none, some}
 use Prim.Native.Nat.{ℕ}
 use Rattle.law.specs.Base.{◌>>=◌, both}
 use Rattle.law.specs.Elaborate.{Elaborated}
-use Rattle.rule_stages.specs.Stages.{Staged, wrong, unnamed, unfit, fits, ruled, named, staged, join, orUnfit, onFits, selected, keptIf, unknown}
+use Rattle.rule_stages.specs.Stages.{Staged, wrong, unnamed, unfit, fits, ruled, named, staged, join, or_unfit, on_fits, selected, kept_if, unknown}
 
 -- ---- binding
 
@@ -54,9 +54,9 @@ module _ {A₁ A₂ A B₁ B₂ B C₁ C₂ C : Type 0}
     (hn : (a : A₁) (b : A₂) → n (c a b) ≡ (n₁ a >>= λ x. n₂ b >>= λ y. some (c' x y)))
     (hr : (x : B₁) (y : B₂) → r (c' x y) ≡ (r₁ x && r₂ y))
     (he : (x : B₁) (y : B₂) → e (c' x y) ≡ both (e₁ x) (e₂ y) g) where
-  two-ruled : (p q : Bool) (u : Option C₁) (v : Option C₂) → ruled (p && q) (both u v g) ≡ join (ruled p u) (ruled q v) (λ x y. orUnfit (g x y))
-  unfolding ruled both join orUnfit
-  two-ruled false q u v = sym (unfit-ruled (λ x y. orUnfit (g x y)) q v)
+  two-ruled : (p q : Bool) (u : Option C₁) (v : Option C₂) → ruled (p && q) (both u v g) ≡ join (ruled p u) (ruled q v) (λ x y. or_unfit (g x y))
+  unfolding ruled both join or_unfit
+  two-ruled false q u v = sym (unfit-ruled (λ x y. or_unfit (g x y)) q v)
   two-ruled true false none v = refl
   two-ruled true false (some x) v = refl
   two-ruled true true none none = refl
@@ -64,22 +64,22 @@ module _ {A₁ A₂ A B₁ B₂ B C₁ C₂ C : Type 0}
   two-ruled true true (some x) none = refl
   two-ruled true true (some x) (some y) = last (g x y)
     where
-      last : (o : Option C) → ruled true o ≡ orUnfit o
+      last : (o : Option C) → ruled true o ≡ or_unfit o
       last none = refl
       last (some z) = refl
 
-  two-named : (u : Option B₁) (v : Option B₂) → named (u >>= λ x. v >>= λ y. some (c' x y)) r e ≡ join (named u r₁ e₁) (named v r₂ e₂) (λ x y. orUnfit (g x y))
+  two-named : (u : Option B₁) (v : Option B₂) → named (u >>= λ x. v >>= λ y. some (c' x y)) r e ≡ join (named u r₁ e₁) (named v r₂ e₂) (λ x y. or_unfit (g x y))
   unfolding named ◌>>=◌ join
   two-named none none = refl
-  two-named none (some y) = sym (unnamed-ruled (λ x y. orUnfit (g x y)) (r₂ y) (e₂ y))
-  two-named (some x) none = sym (ruled-unnamed (λ x y. orUnfit (g x y)) (r₁ x) (e₁ x))
+  two-named none (some y) = sym (unnamed-ruled (λ x y. or_unfit (g x y)) (r₂ y) (e₂ y))
+  two-named (some x) none = sym (ruled-unnamed (λ x y. or_unfit (g x y)) (r₁ x) (e₁ x))
   two-named (some x) (some y) = rw (hr x y, he x y) (two-ruled (r₁ x) (r₂ y) (e₁ x) (e₂ y))
 
   pub staged-two : (o₁ : Option A₁) (o₂ : Option A₂)
-      → staged (o₁ >>= λ a. o₂ >>= λ b. some (c a b)) n r e ≡ join (staged o₁ n₁ r₁ e₁) (staged o₂ n₂ r₂ e₂) (λ x y. orUnfit (g x y))
+      → staged (o₁ >>= λ a. o₂ >>= λ b. some (c a b)) n r e ≡ join (staged o₁ n₁ r₁ e₁) (staged o₂ n₂ r₂ e₂) (λ x y. or_unfit (g x y))
   unfolding staged ◌>>=◌ join
   staged-two none o₂ = refl
-  staged-two (some a) none = sym (join-wrong (λ x y. orUnfit (g x y)) (named (n₁ a) r₁ e₁))
+  staged-two (some a) none = sym (join-wrong (λ x y. or_unfit (g x y)) (named (n₁ a) r₁ e₁))
   staged-two (some a) (some b) = rw (hn a b) (two-named (n₁ a) (n₂ b))
 
 -- two parts that never fit together
@@ -178,23 +178,23 @@ module _ {A₁ A₂ A₃ A B₁ B₂ B₃ B C₁ C₂ C₃ C : Type 0}
       go (some x) (some y) (some z) = refl
 
   pub staged-three : (o₁ : Option A₁) (o₂ : Option A₂) (o₃ : Option A₃) → staged (o₁ >>= λ a. o₂ >>= λ b. o₃ >>= λ d. some (c a b d)) n r e
-      ≡ join (join (staged o₁ n₁ r₁ e₁) (staged o₂ n₂ r₂ e₂) (λ x y. orUnfit (some (pair x y)))) (staged o₃ n₃ r₃ e₃) (λ p z. orUnfit (g p.0 p.1 z))
+      ≡ join (join (staged o₁ n₁ r₁ e₁) (staged o₂ n₂ r₂ e₂) (λ x y. or_unfit (some (pair x y)))) (staged o₃ n₃ r₃ e₃) (λ p z. or_unfit (g p.0 p.1 z))
   staged-three o₁ o₂ o₃ =
       ap (λ (o : Option A). staged o n r e) (parse o₁ o₂ o₃)
       ∙ staged-two n₁₂ r₁₂ e₁₂ n₃ r₃ e₃ n r e (λ p d. c p.0 p.1 d) (λ q z. c' q.0 q.1 z) (λ w v. g w.0 w.1 v)
       names (λ q z. hr q.0 q.1 z) kinds (o₁ >>= λ a. o₂ >>= λ b. some (pair a b)) o₃
-      ∙ ap (λ (s : Staged (C₁ × C₂)). join s (staged o₃ n₃ r₃ e₃) (λ p z. orUnfit (g p.0 p.1 z)))
+      ∙ ap (λ (s : Staged (C₁ × C₂)). join s (staged o₃ n₃ r₃ e₃) (λ p z. or_unfit (g p.0 p.1 z)))
       (staged-two n₁ r₁ e₁ n₂ r₂ e₂ n₁₂ r₁₂ e₁₂ (λ a b. pair a b) (λ x y. pair x y) (λ u v. some (pair u v)) (λ a b. refl) (λ x y. refl) (λ x y. refl) o₁ o₂)
 
 -- ---- one part
 
-pub one-ruled : {C₁ C : Type 0} (g : C₁ → Option C) (p : Bool) (u : Option C₁) → ruled p (u >>= g) ≡ onFits (ruled p u) (λ x. orUnfit (g x))
-unfolding ruled ◌>>=◌ onFits orUnfit
+pub one-ruled : {C₁ C : Type 0} (g : C₁ → Option C) (p : Bool) (u : Option C₁) → ruled p (u >>= g) ≡ on_fits (ruled p u) (λ x. or_unfit (g x))
+unfolding ruled ◌>>=◌ on_fits or_unfit
 one-ruled g false u = refl
 one-ruled g true none = refl
 one-ruled {C} g true (some x) = last (g x)
   where
-    last : (o : Option C) → ruled true o ≡ orUnfit o
+    last : (o : Option C) → ruled true o ≡ or_unfit o
     last none = refl
     last (some z) = refl
 
@@ -205,32 +205,32 @@ module _ {A₁ A B₁ B C₁ C : Type 0}
     (hn : (a : A₁) → n (c a) ≡ (n₁ a >>= λ x. some (c' x)))
     (hr : (x : B₁) → r (c' x) ≡ r₁ x)
     (he : (x : B₁) → e (c' x) ≡ (e₁ x >>= g)) where
-  one-named : (u : Option B₁) → named (u >>= λ x. some (c' x)) r e ≡ onFits (named u r₁ e₁) (λ x. orUnfit (g x))
-  unfolding named ◌>>=◌ onFits
+  one-named : (u : Option B₁) → named (u >>= λ x. some (c' x)) r e ≡ on_fits (named u r₁ e₁) (λ x. or_unfit (g x))
+  unfolding named ◌>>=◌ on_fits
   one-named none = refl
   one-named (some x) = rw (hr x, he x) (one-ruled g (r₁ x) (e₁ x))
 
-  pub staged-one : (o₁ : Option A₁) → staged (o₁ >>= λ a. some (c a)) n r e ≡ onFits (staged o₁ n₁ r₁ e₁) (λ x. orUnfit (g x))
-  unfolding staged ◌>>=◌ onFits
+  pub staged-one : (o₁ : Option A₁) → staged (o₁ >>= λ a. some (c a)) n r e ≡ on_fits (staged o₁ n₁ r₁ e₁) (λ x. or_unfit (g x))
+  unfolding staged ◌>>=◌ on_fits
   staged-one none = refl
   staged-one (some a) = rw (hn a) (one-named (n₁ a))
 
 -- ---- a part of which more is asked
 
 module _ {A B C D : Type 0} (n : A → Option B) (r : B → Bool) (e : B → Option C) (g : C → Option D) where
-  pub staged-then : (o : Option A) → staged o n r (λ x. e x >>= g) ≡ onFits (staged o n r e) (λ x. orUnfit (g x))
-  unfolding staged named onFits
+  pub staged-then : (o : Option A) → staged o n r (λ x. e x >>= g) ≡ on_fits (staged o n r e) (λ x. or_unfit (g x))
+  unfolding staged named on_fits
   staged-then none = refl
   staged-then (some a) = go (n a)
     where
-      go : (u : Option B) → named u r (λ x. e x >>= g) ≡ onFits (named u r e) (λ x. orUnfit (g x))
+      go : (u : Option B) → named u r (λ x. e x >>= g) ≡ on_fits (named u r e) (λ x. or_unfit (g x))
       go none = refl
       go (some b) = one-ruled g (r b) (e b)
 
 -- ---- one more rule; a name that is not known
 
-pub kept-ruled : {C : Type 0} (p t : Bool) (u : Option C) → ruled (p && t) u ≡ keptIf t (ruled p u)
-unfolding ruled keptIf
+pub kept-ruled : {C : Type 0} (p t : Bool) (u : Option C) → ruled (p && t) u ≡ kept_if t (ruled p u)
+unfolding ruled kept_if
 kept-ruled false t u = refl
 kept-ruled true true none = refl
 kept-ruled true true (some c) = refl
@@ -241,12 +241,12 @@ module _ {A₁ A B₁ B C : Type 0} (n₁ : A₁ → Option B₁) (r₁ : B₁ �
     (c : A₁ → A) (c' : B₁ → B) (t : Bool)
     (hn : (a : A₁) → n (c a) ≡ (n₁ a >>= λ x. some (c' x)))
     (hr : (x : B₁) → r (c' x) ≡ (r₁ x && t)) where
-  pub staged-kept : (o : Option A₁) → staged (o >>= λ a. some (c a)) n r e ≡ keptIf t (staged o n₁ r₁ (λ x. e (c' x)))
-  unfolding staged named keptIf ◌>>=◌
+  pub staged-kept : (o : Option A₁) → staged (o >>= λ a. some (c a)) n r e ≡ kept_if t (staged o n₁ r₁ (λ x. e (c' x)))
+  unfolding staged named kept_if ◌>>=◌
   staged-kept none = refl
   staged-kept (some a) = rw (hn a) (go (n₁ a))
     where
-      go : (u : Option B₁) → named (u >>= λ x. some (c' x)) r e ≡ keptIf t (named u r₁ (λ x. e (c' x)))
+      go : (u : Option B₁) → named (u >>= λ x. some (c' x)) r e ≡ kept_if t (named u r₁ (λ x. e (c' x)))
       go none = refl
       go (some x) = rw (hr x) (kept-ruled (r₁ x) t (e (c' x)))
 
@@ -270,7 +270,7 @@ module _ {A₁ A B₁ B C₁ C : Type 0} (n₁ : A₁ → Option B₁) (r₁ : B
 -- ---- two parts of which the second depends on the first one's kind
 
 sel-wrong : {B C : Type 0} (g : Elaborated → B → Staged C) (s : Staged Elaborated) → selected s (λ k. wrong) g ≡ wrong
-unfolding selected join onFits
+unfolding selected join on_fits
 sel-wrong g wrong = refl
 sel-wrong g unnamed = refl
 sel-wrong g unfit = refl
@@ -285,7 +285,7 @@ module _ {A₁ A₂ A B₁ B₂ B C₂ C : Type 0}
     (hr : (x : B₁) (y : B₂) → r (c' x y) ≡ (r₁ x && r₂ y))
     (he : (x : B₁) (y : B₂) → e (c' x y) ≡ (e₁ x >>= λ u. e₂ u.kind y >>= λ v. g u v)) where
   abbrev G : Elaborated → C₂ → Staged C
-  G u v = orUnfit (g u v)
+  G u v = or_unfit (g u v)
 
   sel-ruled : (p q : Bool) (u : Option Elaborated) (y : B₂) → ruled (p && q) (u >>= λ w. e₂ w.kind y >>= λ v. g w v) ≡ selected (ruled p u) (λ k. ruled q (e₂ k y)) G
   unfolding selected ruled ◌>>=◌
@@ -295,7 +295,7 @@ module _ {A₁ A₂ A B₁ B₂ B C₂ C : Type 0}
   sel-ruled true q (some w) y = one-ruled (g w) q (e₂ w.kind y)
 
   sel-unnamed : (p : Bool) (u : Option Elaborated) → unnamed ≡ selected (ruled p u) (λ k. unnamed) G
-  unfolding selected ruled join onFits
+  unfolding selected ruled join on_fits
   sel-unnamed false u = refl
   sel-unnamed true none = refl
   sel-unnamed true (some w) = refl

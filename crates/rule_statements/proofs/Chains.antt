@@ -9,20 +9,20 @@ use lib.ListN.{get_or, set}
 use lib.Seq.{get_or-set_other}
 use Rattle.law.specs.Base.{◌>>=◌}
 use Rattle.law.specs.Code.{Act, Acts, ◌also◌, stop, sequence}
-use Rattle.law.specs.Elaborate.{elabStmts}
+use Rattle.law.specs.Elaborate.{elab_stmts}
 use Rattle.law.specs.Environment.{Environment}
-use Rattle.code.specs.Layout.{Out, out, lay, link, layAct, layActs}
-use Rattle.law.specs.Names.{stmtsOf}
-use Rattle.law.specs.Rules.{keptStmts}
-use Rattle.rule_stages.specs.Stages.{Staged, fits, staged, named, ruled, join, onFits, orUnfit, stmtStaged, stmtsStaged}
+use Rattle.code.specs.Layout.{Out, out, lay, link, lay_act, lay_acts}
+use Rattle.law.specs.Names.{stmts_of}
+use Rattle.law.specs.Rules.{kept_stmts}
+use Rattle.rule_stages.specs.Stages.{Staged, fits, staged, named, ruled, join, on_fits, or_unfit, stmt_staged, stmts_staged}
 use Rattle.law.specs.Syntax as Syntax
-use Rattle.law.specs.Trees.{Tree, Trees, end, ◌then◌, Run, first, nodesIn}
-use Rattle.law_theorems.specs.Readings.{stackAt}
+use Rattle.law.specs.Trees.{Tree, Trees, end, ◌then◌, Run, first, nodes_in}
+use Rattle.law_theorems.specs.Readings.{stack_at}
 use Rattle.law_theorems.proofs.Inversion.{none-some, some_inj, bind-some}
 use Rattle.code.proofs.LayoutRegions.{lay-g}
 use Rattle.code.specs.LayoutRegions.{Same}
 use Rattle.rule_stages.proofs.OnePassStmts.{stmts-staged, begin-staged}
-use Rattle.text_heads.specs.Parts.{part_of, rest, stmtIn, stmtsIn}
+use Rattle.text_heads.specs.Parts.{part_of, rest, stmt_in, stmts_in}
 use Rattle.table_scope.specs.declared.Scope.{Scope}
 use Rattle.rule_faults.specs.declared.Fault.{Fault}
 use Rattle.rule_faults.specs.declared.Fault.TheVariants.{Clear, Form}
@@ -32,14 +32,14 @@ use Rattle.table_list.specs.Laid.{Laid}
 use Rattle.rule_faults.specs.declared.Got.{Got}
 use Rattle.text_parts.specs.declared.End.{End}
 use Rattle.text_parts.specs.declared.End.TheVariants as ending
-use Rattle.rule_faults.specs.Got.{lowest, isForm, faultOf}
+use Rattle.rule_faults.specs.Got.{lowest, is_form, fault_of}
 use Rattle.rule_faults.proofs.Order.{lowest-assoc, lowest-clear}
 use Rattle.text_parts.specs.Parts.{Shuts, ShutAt}
 use Rattle.rule_expressions.proofs.Joining.{wrong-fits, fits-inj}
-use Rattle.rule_stmt_nodes.specs.Nodes.{linked, skipGot}
+use Rattle.rule_stmt_nodes.specs.Nodes.{linked, skip_got}
 use Rattle.rule_statements.specs.Walks.{bare, ActTold, ActsTold, Around, GivesStmt, GivesActs}
 use Rattle.rule_statements.specs.Chains.{many, LeftTold, Doing}
-use Rattle.rule_statements.proofs.Faults.{lowest-form, join-fault, Both, join-fits, on-fault, Only, on_fits, Node, form-is, form-none, same_refl, same-trans}
+use Rattle.rule_statements.proofs.Faults.{lowest-form, join-fault, Both, join-fits, on-fault, Only, on-fits, Node, form-is, form-none, same_refl, same-trans}
 use Rattle.rule_statements.proofs.Acts.{some_of}
 use Rattle.rule_statements.proofs.Shapes.{stmt-count}
 
@@ -53,22 +53,22 @@ bare-next (some a) none = refl
 bare-next (some a) (some b) = refl
 
 -- a first statement p, then the others
-stmts-first : (d n : ℕ) (t : Tree Run) (ts us : Trees Run) (p : Syntax.Stmt × ℕ) → us ≡ (t then ts) → stmtIn d n us ≡ some p
-    → stmtsIn d n us ≡ (stmtIn d n us >>= λ a. stmtsIn d p.1 ts >>= λ b. some (Syntax.◌next◌ a.0 b.0, b.1))
-unfolding stmtsIn stmtIn part_of ◌>>=◌
+stmts-first : (d n : ℕ) (t : Tree Run) (ts us : Trees Run) (p : Syntax.Stmt × ℕ) → us ≡ (t then ts) → stmt_in d n us ≡ some p
+    → stmts_in d n us ≡ (stmt_in d n us >>= λ a. stmts_in d p.1 ts >>= λ b. some (Syntax.◌next◌ a.0 b.0, b.1))
+unfolding stmts_in stmt_in part_of ◌>>=◌
 stmts-first d n t ts us p e h = rw e (go (rw e at h))
   where
-    go : stmtIn d n (t then ts) ≡ some p → stmtsIn d n (t then ts) ≡ (stmtIn d n (t then ts) >>= λ a. stmtsIn d p.1 ts >>= λ b. some (Syntax.◌next◌ a.0 b.0, b.1))
+    go : stmt_in d n (t then ts) ≡ some p → stmts_in d n (t then ts) ≡ (stmt_in d n (t then ts) >>= λ a. stmts_in d p.1 ts >>= λ b. some (Syntax.◌next◌ a.0 b.0, b.1))
     go h = rw h refl
 
-stmts-none : (d n : ℕ) (us : Trees Run) → (us ≡ end → ⊥) → stmtIn d n us ≡ none → stmtsIn d n us ≡ none
-unfolding stmtsIn stmtIn part_of ◌>>=◌
+stmts-none : (d n : ℕ) (us : Trees Run) → (us ≡ end → ⊥) → stmt_in d n us ≡ none → stmts_in d n us ≡ none
+unfolding stmts_in stmt_in part_of ◌>>=◌
 stmts-none d n end h e = absurd (h refl)
 stmts-none d n (t then ts) h e = rw e refl
 
-pub link-lay : (bs : List ℕ) (x : Act) (y : Acts) (slot top : ℕ) (l : List ℕ) (p u : ℕ) (l₂ : List ℕ) (t : ℕ) (l₃ : List ℕ) → out p u l₂ ≡ layAct bs x top l → Laid (linked slot p u l₂) t l₃
-    → layActs bs (x also y) slot top l ≡ layActs bs y (u + 1) t l₃
-unfolding layAct linked link lay
+pub link-lay : (bs : List ℕ) (x : Act) (y : Acts) (slot top : ℕ) (l : List ℕ) (p u : ℕ) (l₂ : List ℕ) (t : ℕ) (l₃ : List ℕ) → out p u l₂ ≡ lay_act bs x top l → Laid (linked slot p u l₂) t l₃
+    → lay_acts bs (x also y) slot top l ≡ lay_acts bs y (u + 1) t l₃
+unfolding lay_act linked link lay
 link-lay bs x y slot top l p u l₂ t l₃ e k = rw (← e, k.free, k.left) refl
 
 module _ {σ : Environment} {bs js : List ℕ} {o : Option (Syntax.Stmts × ℕ)} {slot top : ℕ} {l : List ℕ} {f : Fault} {slot' top' : ℕ} {l' : List ℕ} where
@@ -76,15 +76,15 @@ module _ {σ : Environment} {bs js : List ℕ} {o : Option (Syntax.Stmts × ℕ)
       → r ≡ (p >>= λ a. q >>= λ b. some (Syntax.◌next◌ a.0 b.0, b.1)) → LeftTold σ bs js o slot top l f r slot' top' l'
       → ActTold σ bs js p top' l' g l₂ → Laid (linked slot' g.place g.top l₂) t l₃ → LeftTold σ bs js o slot top l (lowest f g.fault) q (g.top + 1) t l₃
   left-next p q r g l₂ t l₃ e L A K =
-      let S : stmtsStaged σ js (bare r) ≡ join (stmtStaged σ js (bare p)) (stmtsStaged σ js (bare q)) (λ x y. orUnfit (some (x also y)))
-      = ap (λ u. stmtsStaged σ js (bare u)) e ∙ ap (stmtsStaged σ js) (bare-next p q) ∙ stmts-staged σ js (bare p) (bare q) in
+      let S : stmts_staged σ js (bare r) ≡ join (stmt_staged σ js (bare p)) (stmts_staged σ js (bare q)) (λ x y. or_unfit (some (x also y)))
+      = ap (λ u. stmts_staged σ js (bare u)) e ∙ ap (stmts_staged σ js) (bare-next p q) ∙ stmts-staged σ js (bare p) (bare q) in
       record {
-        fault-is = L.fault-is ∙ ap (lowest f) (ap faultOf S ∙ join-fault (λ (x : Act) (y : Acts). x also y) (stmtStaged σ js (bare p)) (stmtsStaged σ js (bare q)))
-            ∙ rw A.fault-is (lowest-assoc f (faultOf (stmtStaged σ js (bare p))) (faultOf (stmtsStaged σ js (bare q))));
+        fault-is = L.fault-is ∙ ap (lowest f) (ap fault_of S ∙ join-fault (λ (x : Act) (y : Acts). x also y) (stmt_staged σ js (bare p)) (stmts_staged σ js (bare q)))
+            ∙ rw A.fault-is (lowest-assoc f (fault_of (stmt_staged σ js (bare p))) (fault_of (stmts_staged σ js (bare q))));
         laid = λ a h.
             let b = L.laid a h in
-            let z = join-fits (λ (x : Act) (y : Acts). x also y) (stmtStaged σ js (bare p)) (stmtsStaged σ js (bare q)) b.0 (sym S ∙ b.1.0) in
-            (z.two, (z.two_fits, b.1.1 ∙ ap (λ (x : Acts). layActs bs x slot' top' l') (sym z.made) ∙ link-lay bs z.one z.two slot' top' l' g.place g.top l₂ t l₃ (A.laid z.one z.one-fits) K));
+            let z = join-fits (λ (x : Act) (y : Acts). x also y) (stmt_staged σ js (bare p)) (stmts_staged σ js (bare q)) b.0 (sym S ∙ b.1.0) in
+            (z.two, (z.two_fits, b.1.1 ∙ ap (λ (x : Acts). lay_acts bs x slot' top' l') (sym z.made) ∙ link-lay bs z.one z.two slot' top' l' g.place g.top l₂ t l₃ (A.laid z.one z.one-fits) K));
         number = λ u h.
             let v = L.number u h in
             bind-some (sym e ∙ v.1.0) λ a ha h'. bind-some h' λ b hb i. (b, (hb, v.1.1 ∙ ap (λ (x : Syntax.Stmts × ℕ). x.1) (sym (some_inj i))));
@@ -92,18 +92,18 @@ module _ {σ : Environment} {bs js : List ℕ} {o : Option (Syntax.Stmts × ℕ)
 
   left_end : (n : ℕ) (q : ℕ) → LeftTold σ bs js o slot top l f (some (Syntax.done, n)) slot' top' l'
       → ActsTold σ bs js o slot top l (record { fault = f; kind = n; place = 0; next = q; top = top' }) l'
-  unfolding stmtsStaged staged named ruled stmtsOf keptStmts elabStmts layAct ◌>>=◌
+  unfolding stmts_staged staged named ruled stmts_of kept_stmts elab_stmts lay_act ◌>>=◌
   left_end n q L = record {
     fault-is = sym (L.fault-is ∙ lowest-clear f);
     laid = λ a h.
         let b = L.laid a h in
-        let E : layActs bs a slot top l ≡ out slot' top' l' = b.1.1 ∙ ap (λ (x : Acts). layActs bs x slot' top' l') (sym (fits-inj b.1.0)) in
+        let E : lay_acts bs a slot top l ≡ out slot' top' l' = b.1.1 ∙ ap (λ (x : Acts). lay_acts bs x slot' top' l') (sym (fits-inj b.1.0)) in
         (ap (λ (x : Out). x.top) (sym E), ap (λ (x : Out). x.list) (sym E));
     number = λ p h. let v = L.number p h in ap (λ (x : Syntax.Stmts × ℕ). x.1) (some_inj v.1.0) ∙ sym v.1.1;
   }
 
   left-wrong : (r : Option (Syntax.Stmts × ℕ)) (g : Got) (l₂ : List ℕ) → r ≡ none → g.fault ≡ Form → LeftTold σ bs js o slot top l f r slot' top' l' → ActsTold σ bs js o slot top l g l₂
-  unfolding stmtsStaged staged ◌>>=◌
+  unfolding stmts_staged staged ◌>>=◌
   left-wrong r g l₂ e h L = record {
     fault-is = h ∙ sym (L.fault-is ∙ rw e (lowest-form f));
     laid = λ a k. let b = L.laid a k in absurd (wrong-fits (rw e at b.1.0));
@@ -111,7 +111,7 @@ module _ {σ : Environment} {bs js : List ℕ} {o : Option (Syntax.Stmts × ℕ)
   }
 
 pub none_of : {σ : Environment} {bs js : List ℕ} {top : ℕ} {l : List ℕ} {g : Got} {l' : List ℕ} (o : Option (Syntax.Stmt × ℕ)) → ActTold σ bs js o top l g l' → g.fault ≡ Form → o ≡ none
-unfolding stmtStaged ◌>>=◌
+unfolding stmt_staged ◌>>=◌
 none_of none A h = refl
 none_of (some p) A h = absurd (some-none (form-none (bare (some p)) _ _ _ (sym A.fault-is ∙ h)))
   where
@@ -121,7 +121,7 @@ none_of (some p) A h = absurd (some-none (form-none (bare (some p)) _ _ _ (sym A
 -- ---- the loop
 
 module _ (s l ts : List ℕ) (scope : Scope) (loops : Loops) (d n slot at top : ℕ) where
-  pub acts-start : (g : Got) → g ≡ skipGot n at top → Doing s l ts scope loops d n slot at top g slot l
+  pub acts-start : (g : Got) → g ≡ skip_got n at top → Doing s l ts scope loops d n slot at top g slot l
   acts-start g e = rw e (record {
     around = refl;
     keeps = λ h. same_refl;
@@ -142,7 +142,7 @@ module _ (s l ts : List ℕ) (scope : Scope) (loops : Loops) (d n slot at top : 
 
     pub acts-end : (e : End) (q : ℕ) (r : Got) → Shuts s x.next e → e ≡ ending.Past q → r ≡ record { fault = x.fault; kind = x.kind; place = 0; next = q; top = x.top }
         → GivesActs s l ts scope loops d n slot at top r l₁
-    unfolding stmtsIn
+    unfolding stmts_in
     acts-end e q r h z k =
         let S : ShutAt s x.next q = rw z at h.says in
         rw k (record {
@@ -152,7 +152,7 @@ module _ (s l ts : List ℕ) (scope : Scope) (loops : Loops) (d n slot at top : 
           says = λ σ bs js A i. left_end x.kind q (rw S.here at (D.says σ bs js A i));
         })
 
-    module _ (e : End) (h : Shuts s x.next e) (z : e ≡ ending.More) (g : Got) (l₂ : List ℕ) (G : GivesStmt s l₁ ts scope loops d x.kind x.next x.top g l₂) (t : Bool) (k : t ≡ isForm g.fault) where
+    module _ (e : End) (h : Shuts s x.next e) (z : e ≡ ending.More) (g : Got) (l₂ : List ℕ) (G : GivesStmt s l₁ ts scope loops d x.kind x.next x.top g l₂) (t : Bool) (k : t ≡ is_form g.fault) where
       kept₂ : slot ≤ top → Same 0 slot l₂ l
       kept₂ i = record { at = λ j a b. G.moves.keeps.at j a (let y = D.grows in omega arith) ∙ (D.keeps i).at j a b }
 
@@ -163,15 +163,15 @@ module _ (s l ts : List ℕ) (scope : Scope) (loops : Loops) (d n slot at top : 
         grows = let y = D.grows in let u = G.moves.grows in omega arith;
         says = λ σ bs js A j.
             let f = form-is g.fault (sym k ∙ i) in
-            left-wrong (stmtsIn d x.kind (first (stackAt s x.next))) g l₂
-            (stmts-none d x.kind (first (stackAt s x.next)) (rw z at h.says) (none_of (stmtIn d x.kind (first (stackAt s x.next))) (G.says σ bs js (inside σ bs js A j)) f)) f (D.says σ bs js A j);
+            left-wrong (stmts_in d x.kind (first (stack_at s x.next))) g l₂
+            (stmts-none d x.kind (first (stack_at s x.next)) (rw z at h.says) (none_of (stmt_in d x.kind (first (stack_at s x.next))) (G.says σ bs js (inside σ bs js A j)) f)) f (D.says σ bs js A j);
       }
 
       module _ (i : t ≡ false) where
-        parts : (u : Tree Run) × (first (stackAt s x.next) ≡ (u then first (stackAt s g.next)))
+        parts : (u : Tree Run) × (first (stack_at s x.next) ≡ (u then first (stack_at s g.next)))
         parts = let b = G.moves.goes (sym k ∙ i) in (b.0, b.1.here)
 
-        pub acts-falls : many (first (stackAt s g.next)) < many (first (stackAt s x.next))
+        pub acts-falls : many (first (stack_at s g.next)) < many (first (stack_at s x.next))
         unfolding many
         acts-falls = rw parts.1 (omega arith)
 
@@ -189,16 +189,16 @@ module _ (s l ts : List ℕ) (scope : Scope) (loops : Loops) (d n slot at top : 
               grows = let b = D.grows in let m = G.moves.grows in let v = G₁.up in rw K.free (omega arith);
               few-left = λ σ bs js A j.
                   let T = G.says σ bs js (inside σ bs js A j) in
-                  let p = some_of (stmtIn d x.kind (first (stackAt s x.next))) T (sym k ∙ i) in
-                  let m = stmt-count d x.kind (first (stackAt s x.next)) p.0 p.1 in
+                  let p = some_of (stmt_in d x.kind (first (stack_at s x.next))) T (sym k ∙ i) in
+                  let m = stmt-count d x.kind (first (stack_at s x.next)) p.0 p.1 in
                   let b = D.few-left σ bs js A j in
                   let c = T.number p.0 p.1 in
-                  let v : nodesIn (rest (first (stackAt s x.next))) ≡ nodesIn (first (stackAt s g.next)) = ap (λ (a : Trees Run). nodesIn (rest a)) parts.1 in
+                  let v : nodes_in (rest (first (stack_at s x.next))) ≡ nodes_in (first (stack_at s g.next)) = ap (λ (a : Trees Run). nodes_in (rest a)) parts.1 in
                   omega arith;
               says = λ σ bs js A j.
                   let T = G.says σ bs js (inside σ bs js A j) in
-                  let p = some_of (stmtIn d x.kind (first (stackAt s x.next))) T (sym k ∙ i) in
-                  let q : stmtsIn d x.kind (first (stackAt s x.next)) ≡ (stmtIn d x.kind (first (stackAt s x.next)) >>= λ a. stmtsIn d g.kind (first (stackAt s g.next)) >>= λ b. some (Syntax.◌next◌ a.0 b.0, b.1))
-                  = rw (T.number p.0 p.1) (stmts-first d x.kind parts.0 (first (stackAt s g.next)) (first (stackAt s x.next)) p.0 parts.1 p.1) in
-                  left-next (stmtIn d x.kind (first (stackAt s x.next))) (stmtsIn d g.kind (first (stackAt s g.next))) (stmtsIn d x.kind (first (stackAt s x.next))) g l₂ u l₃ q (D.says σ bs js A j) T K;
+                  let p = some_of (stmt_in d x.kind (first (stack_at s x.next))) T (sym k ∙ i) in
+                  let q : stmts_in d x.kind (first (stack_at s x.next)) ≡ (stmt_in d x.kind (first (stack_at s x.next)) >>= λ a. stmts_in d g.kind (first (stack_at s g.next)) >>= λ b. some (Syntax.◌next◌ a.0 b.0, b.1))
+                  = rw (T.number p.0 p.1) (stmts-first d x.kind parts.0 (first (stack_at s g.next)) (first (stack_at s x.next)) p.0 parts.1 p.1) in
+                  left-next (stmt_in d x.kind (first (stack_at s x.next))) (stmts_in d g.kind (first (stack_at s g.next))) (stmts_in d x.kind (first (stack_at s x.next))) g l₂ u l₃ q (D.says σ bs js A j) T K;
             })

@@ -1,6 +1,6 @@
 // The labels of an arm of a `case`.
 ghost use Rattle.std.specs.Prelude.{◌≡◌};
-ghost use Rattle.rule_statements.specs.Cases.{labelledGot, countedGot, LinksLabel, GivesLabels};
+ghost use Rattle.rule_statements.specs.Cases.{labelled_got, counted_got, LinksLabel, GivesLabels};
 
 use rule_atoms::{Valued, constant};
 use rule_expr_nodes::members::member_fault;
@@ -12,7 +12,7 @@ use text_parts::{End, end_at};
 
 // The answer with one label more, laid up to t; labels are of kind k.
 fn labelled(g: Got, v: Valued, k: u32, t: u32) -> Got
-    ensures { result ≡ labelledGot g v k t }
+    ensures { result ≡ labelled_got g v k t }
 {
     let f = g.fault;
     let h = v.fault;
@@ -27,7 +27,7 @@ fn labelled(g: Got, v: Valued, k: u32, t: u32) -> Got
 
 // The answer for all labels: a fault of row 6 where there is none.
 fn counted(g: Got) -> Got
-    ensures { result ≡ countedGot g }
+    ensures { result ≡ counted_got g }
 {
     if g.kind == 0 {
         return failed(Fault::Form, 0, g.next, g.top);

@@ -2,7 +2,7 @@
 ghost use Rattle.std.specs.Prelude.{◌≡◌, cond, eqb, ◌+◌};
 ghost use Rattle.rule_faults.specs.declared.Fault.TheVariants.{Clear, Kind};
 ghost use Rattle.rule_expr_nodes.specs.Nodes.{Makes};
-ghost use Rattle.rule_statements.specs.Cases.{ArmComes, ArmInside, armMade, selectedKind, FirstArm, caseMade, CaseEnds};
+ghost use Rattle.rule_statements.specs.Cases.{ArmComes, ArmInside, arm_made, selected_kind, FirstArm, case_made, CaseEnds};
 
 use rule_faults::{Fault, Got, is_clear, lowest};
 use rule_labels::repeat_fault;
@@ -54,7 +54,7 @@ pub fn arm_at(text: &[u8], at: usize) -> NextArm
 
 // An arm's link, with the slot of its labels, and the slot before it: g is the answer for what comes before the statement, b for that.
 pub fn link_arm(work: &mut [u32], slot: usize, head: u32, g: Got, b: Got) -> Got
-    ensures { Makes (armMade work.old slot head g b) result work.new }
+    ensures { Makes (arm_made work.old slot head g b) result work.new }
 {
     let ns = [head, b.place, 0];
     let t = lay(work, b.top, &ns);
@@ -79,7 +79,7 @@ pub fn arm_slot(p: u32) -> usize
 
 // The kind of a selector, 0 where it has a fault.
 pub fn selector_kind(x: Got) -> u32
-    ensures { result ≡ selectedKind x }
+    ensures { result ≡ selected_kind x }
 {
     let f = x.fault;
     if is_clear(f) {
@@ -113,7 +113,7 @@ fn ordinal_fault(i: Info) -> Fault
 
 // The node of a case, where i describes the selector's kind, f is the fault of the first arm and w that of the labels.
 fn case_node(work: &mut [u32], i: Info, n: u32, x: Got, m: Got, f: Fault, w: Fault) -> Got
-    ensures { Makes (caseMade work.old i n x m f w) result work.new }
+    ensures { Makes (case_made work.old i n x m f w) result work.new }
 {
     let a = x.fault;
     let b = m.fault;

@@ -9,27 +9,27 @@ use Rattle.rule_faults.specs.declared.Fault.TheVariants.{Kind}
 use Rattle.table_scope.specs.declared.Loops.{Loops}
 use Rattle.table_scope.specs.declared.Meaning.{Meaning}
 use Rattle.table_scope.specs.declared.Meaning.TheVariants as meaning
-use Rattle.table_scope.specs.Loops.{loopsOver}
+use Rattle.table_scope.specs.Loops.{loops_over}
 use Rattle.rule_faults.specs.declared.Got.{Got}
-use Rattle.rule_faults.specs.Got.{lowest, isClear, failedGot}
-use Rattle.rule_expr_nodes.specs.Nodes.{Makes, nodeMade}
+use Rattle.rule_faults.specs.Got.{lowest, is_clear, failed_got}
+use Rattle.rule_expr_nodes.specs.Nodes.{Makes, node_made}
 use Rattle.rule_expr_nodes.proofs.Making.{if-clear, if-fault}
-use Rattle.rule_stmt_nodes.specs.BaseNodes.{withFault, nodeIf, steered}
+use Rattle.rule_stmt_nodes.specs.BaseNodes.{with_fault, node_if, steered}
 
-module _ (f : Fault) (k q : ℕ) (ns : List ℕ) (t : ℕ) (l : List ℕ) (b : Bool) (e : b ≡ isClear f) (r : Got) where
-  pub node-clear : (l' : List ℕ) → b ≡ true → Makes (nodeMade k q (lay ns t l)) r l' → Makes (nodeIf f k q ns t l) r l'
-  unfolding nodeIf
-  node-clear l' h m = if-clear f k q t l (nodeMade k q (lay ns t l)) b e h r l' m
+module _ (f : Fault) (k q : ℕ) (ns : List ℕ) (t : ℕ) (l : List ℕ) (b : Bool) (e : b ≡ is_clear f) (r : Got) where
+  pub node-clear : (l' : List ℕ) → b ≡ true → Makes (node_made k q (lay ns t l)) r l' → Makes (node_if f k q ns t l) r l'
+  unfolding node_if
+  node-clear l' h m = if-clear f k q t l (node_made k q (lay ns t l)) b e h r l' m
 
-  pub node-fault : b ≡ false → r ≡ failedGot f k q t → Makes (nodeIf f k q ns t l) r l
-  unfolding nodeIf
-  node-fault h m = if-fault f k q t l (nodeMade k q (lay ns t l)) b e h r m
+  pub node-fault : b ≡ false → r ≡ failed_got f k q t → Makes (node_if f k q ns t l) r l
+  unfolding node_if
+  node-fault h m = if-fault f k q t l (node_made k q (lay ns t l)) b e h r m
 
 pub ruleset node_laws = (node-clear, node-fault)
 
-module _ (w : Loops) (i k a : ℕ) (g : Got) (b : Bool) (e : b ≡ loopsOver w i) where
-  pub steer-over : (f : Fault) (r : Got) → b ≡ true → f ≡ lowest g.fault Kind → r ≡ withFault g f → r ≡ steered w (meaning.Var i k a) g
-  steer-over f r h m d = rw (sym e ∙ h) (d ∙ ap (withFault g) m)
+module _ (w : Loops) (i k a : ℕ) (g : Got) (b : Bool) (e : b ≡ loops_over w i) where
+  pub steer-over : (f : Fault) (r : Got) → b ≡ true → f ≡ lowest g.fault Kind → r ≡ with_fault g f → r ≡ steered w (meaning.Var i k a) g
+  steer-over f r h m d = rw (sym e ∙ h) (d ∙ ap (with_fault g) m)
 
   pub steer-free : b ≡ false → g ≡ steered w (meaning.Var i k a) g
   steer-free h = rw (sym e ∙ h) refl

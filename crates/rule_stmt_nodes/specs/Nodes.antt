@@ -7,73 +7,73 @@ use Rattle.table_scope.specs.declared.Info.{Info}
 use Rattle.table_scope.specs.declared.Loops.{Loops}
 use Rattle.table_scope.specs.declared.Meaning.{Meaning}
 use Rattle.table_scope.specs.declared.Meaning.TheVariants as meaning
-use Rattle.table_scope.specs.Descriptions.{infoOf}
-use Rattle.table_scope.specs.Loops.{loopsOver}
-use Rattle.table_scope.specs.Sides.{hostIn}
+use Rattle.table_scope.specs.Descriptions.{info_of}
+use Rattle.table_scope.specs.Loops.{loops_over}
+use Rattle.table_scope.specs.Sides.{host_in}
 use Rattle.rule_faults.specs.declared.Got.{Got}
-use Rattle.rule_faults.specs.Got.{lowest, failedGot}
-use Rattle.rule_expr_nodes.specs.Nodes.{Made, failedMade, nodeMade, ifClear}
-use Rattle.rule_stmt_nodes.specs.BaseNodes.{withFault, nodeIf}
+use Rattle.rule_faults.specs.Got.{lowest, failed_got}
+use Rattle.rule_expr_nodes.specs.Nodes.{Made, failed_made, node_made, if_clear}
+use Rattle.rule_stmt_nodes.specs.BaseNodes.{with_fault, node_if}
 use Rattle.text_heads.specs.declared.Atom.{Atom}
 use Rattle.text_heads.specs.declared.Atom.TheVariants as AT
 use Rattle.rule_stmt_nodes.specs.declared.last.Head.{Head}
 use Rattle.rule_stmt_nodes.specs.declared.nodes.Control.{Control}
 
 -- the number after n; the last of 32 bits is its own
-unfoldable pub nextNumber : ℕ → ℕ
-nextNumber n = cond (ltb n 4294967295) (n + 1) n
+unfoldable pub next_number : ℕ → ℕ
+next_number n = cond (ltb n 4294967295) (n + 1) n
 
 -- an expression of which kind k is wanted
-unfoldable pub wantedGot : ℕ → Got → Got
-wantedGot k g = cond (eqb k g.kind) g (withFault g (lowest g.fault Kind))
+unfoldable pub wanted_got : ℕ → Got → Got
+wanted_got k g = cond (eqb k g.kind) g (with_fault g (lowest g.fault Kind))
 
 -- ---- the verbs; n is the statement's number, and the last part's kind that of the last statement read
 
 unfoldable pub raised : List ℕ → ℕ → Got → Made
-raised l n c = nodeIf c.fault n c.next (51 ∷ n ∷ c.place ∷ []) c.top l
+raised l n c = node_if c.fault n c.next (51 ∷ n ∷ c.place ∷ []) c.top l
 
 unfoldable pub looped : List ℕ → ℕ → Got → Got → Made
-looped l n c b = nodeIf (lowest c.fault b.fault) b.kind b.next (47 ∷ n ∷ c.place ∷ b.place ∷ []) b.top l
+looped l n c b = node_if (lowest c.fault b.fault) b.kind b.next (47 ∷ n ∷ c.place ∷ b.place ∷ []) b.top l
 
 unfoldable pub branched : List ℕ → ℕ → Got → Got → Got → Made
-branched l n c a b = nodeIf (lowest (lowest c.fault a.fault) b.fault) b.kind b.next (46 ∷ n ∷ c.place ∷ a.place ∷ b.place ∷ []) b.top l
+branched l n c a b = node_if (lowest (lowest c.fault a.fault) b.fault) b.kind b.next (46 ∷ n ∷ c.place ∷ a.place ∷ b.place ∷ []) b.top l
 
 -- the missing third part of an `if`
-abbrev pub skipGot : ℕ → ℕ → ℕ → Got
-skipGot n q t = record { fault = Clear; kind = n; place = 0; next = q; top = t }
+abbrev pub skip_got : ℕ → ℕ → ℕ → Got
+skip_got n q t = record { fault = Clear; kind = n; place = 0; next = q; top = t }
 
 -- an assignment to a target of a type that i describes, whose kind is k
 unfoldable pub stored : List ℕ → Info → ℕ → ℕ → Got → Got → Made
 stored l i k n g e = cond (eqb k e.kind)
-    (nodeMade n e.next (lay (cond (eqb i.shape 0) (43 ∷ n ∷ g.place ∷ e.place ∷ i.low ∷ i.high ∷ []) (cond (eqb i.shape 1) (44 ∷ n ∷ g.place ∷ e.place ∷ []) (52 ∷ n ∷ g.place ∷ e.place ∷ []))) e.top l))
-    (failedMade Kind n e.next e.top l)
+    (node_made n e.next (lay (cond (eqb i.shape 0) (43 ∷ n ∷ g.place ∷ e.place ∷ i.low ∷ i.high ∷ []) (cond (eqb i.shape 1) (44 ∷ n ∷ g.place ∷ e.place ∷ []) (52 ∷ n ∷ g.place ∷ e.place ∷ []))) e.top l))
+    (failed_made Kind n e.next e.top l)
 
 unfoldable pub assigned : List ℕ → List ℕ → ℕ → Got → Got → Made
-assigned l ts n g e = ifClear (lowest g.fault e.fault) n e.next e.top l (stored l (infoOf l ts g.kind) (hostIn l ts g.kind) n g e)
+assigned l ts n g e = if_clear (lowest g.fault e.fault) n e.next e.top l (stored l (info_of l ts g.kind) (host_in l ts g.kind) n g e)
 
 -- the control variable of a `for`
-abbrev pub controlIs : Fault → ℕ → ℕ → ℕ → Control
-controlIs f i k a = record { fault = f; number = i; kind = k; base = a }
+abbrev pub control_is : Fault → ℕ → ℕ → ℕ → Control
+control_is f i k a = record { fault = f; number = i; kind = k; base = a }
 
-abbrev pub controlBy : Meaning → Control
-controlBy meaning.Unknown = controlIs Name 0 0 0
-controlBy (meaning.Type k) = controlIs Name 0 0 0
-controlBy (meaning.Var i k a) = controlIs Clear i k a
-controlBy (meaning.Proc p) = controlIs Name 0 0 0
-controlBy (meaning.Value k v) = controlIs Name 0 0 0
+abbrev pub control_by : Meaning → Control
+control_by meaning.Unknown = control_is Name 0 0 0
+control_by (meaning.Type k) = control_is Name 0 0 0
+control_by (meaning.Var i k a) = control_is Clear i k a
+control_by (meaning.Proc p) = control_is Name 0 0 0
+control_by (meaning.Value k v) = control_is Name 0 0 0
 
 -- its fault where all parts fit; i describes its type
-unfoldable pub controlFault : Bool → Info → Fault
-controlFault over i = cond over Kind (cond (eqb i.shape 0) Clear Kind)
+unfoldable pub control_fault : Bool → Info → Fault
+control_fault over i = cond over Kind (cond (eqb i.shape 0) Clear Kind)
 
 unfoldable pub repeated : List ℕ → Info → Fault → ℕ → Control → Got → Got → Got → Made
 repeated l i f n v x y z =
-    nodeIf (lowest (lowest v.fault (lowest (lowest x.fault y.fault) z.fault)) f) z.kind z.next
+    node_if (lowest (lowest v.fault (lowest (lowest x.fault y.fault) z.fault)) f) z.kind z.next
     (48 ∷ n ∷ v.base ∷ i.low ∷ i.high ∷ x.place ∷ y.place ∷ z.place ∷ []) z.top l
 
 -- by the control variables in force
-unfoldable pub repeatedBy : List ℕ → Info → Loops → ℕ → Control → Got → Got → Got → Made
-repeatedBy l i m n v x y z = repeated l i (controlFault (loopsOver m v.number) i) n v x y z
+unfoldable pub repeated_by : List ℕ → Info → Loops → ℕ → Control → Got → Got → Got → Made
+repeated_by l i m n v x y z = repeated l i (control_fault (loops_over m v.number) i) n v x y z
 
 -- ---- chains of statements
 
@@ -82,30 +82,30 @@ unfoldable pub linked : ℕ → ℕ → ℕ → List ℕ → Out
 linked slot p t l = link slot (lay (p ∷ 0 ∷ []) t l)
 
 unfoldable pub sequenced : List ℕ → ℕ → ℕ → Got → Made
-sequenced l n slot m = nodeIf m.fault m.kind m.next (45 ∷ n ∷ slot ∷ []) m.top l
+sequenced l n slot m = node_if m.fault m.kind m.next (45 ∷ n ∷ slot ∷ []) m.top l
 
 -- the answer for a chain with one statement more, laid up to t; and past the closing bracket
-abbrev pub joinedGot : Got → Got → ℕ → Got
-joinedGot g a t = record { fault = lowest g.fault a.fault; kind = a.kind; place = 0; next = a.next; top = t }
+abbrev pub joined_got : Got → Got → ℕ → Got
+joined_got g a t = record { fault = lowest g.fault a.fault; kind = a.kind; place = 0; next = a.next; top = t }
 
-abbrev pub finishedGot : Got → ℕ → Got
-finishedGot g q = record { fault = g.fault; kind = g.kind; place = 0; next = q; top = g.top }
+abbrev pub finished_got : Got → ℕ → Got
+finished_got g q = record { fault = g.fault; kind = g.kind; place = 0; next = q; top = g.top }
 
 -- a word that is a name
-abbrev pub isNamed : Atom → Bool
-isNamed (AT.Number z) = false
-isNamed AT.Named = true
-isNamed (AT.Truth b) = false
-isNamed AT.ErrorNumber = false
-isNamed (AT.Base k) = false
-isNamed AT.Nothing = false
+abbrev pub is_named : Atom → Bool
+is_named (AT.Number z) = false
+is_named AT.Named = true
+is_named (AT.Truth b) = false
+is_named AT.ErrorNumber = false
+is_named (AT.Base k) = false
+is_named AT.Nothing = false
 
 -- ---- bodies; g is the answer for the statements before the handler, from the slot `start` on
 
-unfoldable pub plainMade : List ℕ → Head → ℕ → Got → ℕ → Made
-plainMade l h start g q =
-    nodeIf g.fault g.kind q (h.number ∷ start ∷ 0 ∷ g.top ∷ h.frame ∷ []) (lay (0 ∷ []) g.top l).top (lay (0 ∷ []) g.top l).list
+unfoldable pub plain_made : List ℕ → Head → ℕ → Got → ℕ → Made
+plain_made l h start g q =
+    node_if g.fault g.kind q (h.number ∷ start ∷ 0 ∷ g.top ∷ h.frame ∷ []) (lay (0 ∷ []) g.top l).top (lay (0 ∷ []) g.top l).list
 
 -- with a handler, whose answer is b
-unfoldable pub handledMade : List ℕ → Head → ℕ → Got → Got → Made
-handledMade l h start g b = nodeIf (lowest g.fault b.fault) b.kind b.next (h.number ∷ start ∷ 1 ∷ g.top ∷ h.frame ∷ []) b.top l
+unfoldable pub handled_made : List ℕ → Head → ℕ → Got → Got → Made
+handled_made l h start g b = node_if (lowest g.fault b.fault) b.kind b.next (h.number ∷ start ∷ 1 ∷ g.top ∷ h.frame ∷ []) b.top l

@@ -2,7 +2,7 @@
 ghost use Rattle.std.specs.Prelude.{◌≡◌};
 ghost use Rattle.rule_expr_nodes.specs.Nodes.{Makes};
 ghost use Rattle.table_scope.specs.declared.Meaning.TheVariants.{Var};
-ghost use Rattle.rule_stmt_nodes.specs.BaseNodes.{withFault, nodeIf, steered};
+ghost use Rattle.rule_stmt_nodes.specs.BaseNodes.{with_fault, node_if, steered};
 
 use rule_expr_nodes::nodes::node;
 use rule_faults::{Fault, Got, failed, is_clear, lowest};
@@ -10,7 +10,7 @@ use table_scope::{Loops, Meaning, loops_over};
 
 // The same answer with another fault.
 pub fn with_fault(g: Got, f: Fault) -> Got
-    ensures { result ≡ withFault g f }
+    ensures { result ≡ with_fault g f }
 {
     Got {
         fault: f,
@@ -23,7 +23,7 @@ pub fn with_fault(g: Got, f: Fault) -> Got
 
 // A node where no fault has come; `kind` is the number of the last statement read.
 pub fn node_if(work: &mut [u32], fault: Fault, kind: u32, next: usize, top: u32, ns: &[u32]) -> Got
-    ensures { Makes (nodeIf fault kind next ns.now top work.old) result work.new }
+    ensures { Makes (node_if fault kind next ns.now top work.old) result work.new }
 {
     if is_clear(fault) {
         return node(work, kind, next, top, ns);

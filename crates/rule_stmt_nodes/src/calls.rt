@@ -1,7 +1,7 @@
 // A call: the procedure that it names, its arguments' faults, and its node.
 ghost use Rattle.std.specs.Prelude.{◌≡◌};
 ghost use Rattle.rule_expr_nodes.specs.Nodes.{Makes};
-ghost use Rattle.rule_stmt_nodes.specs.Calls.{calleeIs, noCallee, callee_by, argumentFault, argumentGot, fewFault, called};
+ghost use Rattle.rule_stmt_nodes.specs.Calls.{callee_is, no_callee, callee_by, argument_fault, argument_got, few_fault, called};
 
 use crate::base::node_if;
 use crate::nodes::next_number;
@@ -20,7 +20,7 @@ pub struct Callee {
 
 // A callee from its parts.
 fn callee_from(fault: Fault, place: u32, frame: Frame) -> Callee
-    ensures { result ≡ calleeIs fault place frame }
+    ensures { result ≡ callee_is fault place frame }
 {
     Callee {
         fault,
@@ -31,7 +31,7 @@ fn callee_from(fault: Fault, place: u32, frame: Frame) -> Callee
 
 // What stands for a name that means no procedure.
 fn no_callee() -> Callee
-    ensures { result ≡ noCallee }
+    ensures { result ≡ no_callee }
 {
     let frame = Frame {
         count: 0,
@@ -56,7 +56,7 @@ pub fn callee_of(work: &[u32], m: Meaning) -> Callee
 
 // The fault of argument j, whose answer is a: where there is no parameter for it, one of row 8 at least.
 fn argument_fault(work: &[u32], types: &[u32], x: Frame, j: u32, a: Got) -> Fault
-    ensures { result ≡ argumentFault work.now types.now x j a }
+    ensures { result ≡ argument_fault work.now types.now x j a }
 {
     let f = a.fault;
     if j < x.count {
@@ -68,7 +68,7 @@ fn argument_fault(work: &[u32], types: &[u32], x: Frame, j: u32, a: Got) -> Faul
 
 // The answer for a call's arguments with one more, laid up to t; its kind is their count.
 pub fn with_argument(work: &[u32], types: &[u32], x: Frame, g: Got, a: Got, t: u32) -> Got
-    ensures { result ≡ argumentGot work.now types.now x g a t }
+    ensures { result ≡ argument_got work.now types.now x g a t }
 {
     let f = g.fault;
     Got {
@@ -82,7 +82,7 @@ pub fn with_argument(work: &[u32], types: &[u32], x: Frame, g: Got, a: Got, t: u
 
 // The fault of fewer arguments than parameters; one past the last parameter has its own.
 fn few_fault(x: Frame, n: u32) -> Fault
-    ensures { result ≡ fewFault x n }
+    ensures { result ≡ few_fault x n }
 {
     if n < x.count {
         return Fault::Kind;

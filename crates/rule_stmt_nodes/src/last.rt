@@ -1,6 +1,6 @@
 // A body's parts: what comes next, and the node of a body.
 ghost use Rattle.rule_expr_nodes.specs.Nodes.{Makes};
-ghost use Rattle.rule_stmt_nodes.specs.Nodes.{plainMade, handledMade};
+ghost use Rattle.rule_stmt_nodes.specs.Nodes.{plain_made, handled_made};
 ghost use Rattle.rule_stmt_nodes.specs.Handlers.{Comes, HandlerIn};
 
 use crate::base::node_if;
@@ -55,7 +55,7 @@ pub struct Head {
 
 // A body with no handler.
 pub fn plain_node(work: &mut [u32], h: Head, start: u32, g: Got, q: usize) -> Got
-    ensures { Makes (plainMade work.old h start g q) result work.new }
+    ensures { Makes (plain_made work.old h start g q) result work.new }
 {
     let t = slot(work, g.top);
     let f = g.fault;
@@ -65,7 +65,7 @@ pub fn plain_node(work: &mut [u32], h: Head, start: u32, g: Got, q: usize) -> Go
 
 // A body with a handler, whose answer is b.
 pub fn handled_node(work: &mut [u32], h: Head, start: u32, g: Got, b: Got) -> Got
-    ensures { Makes (handledMade work.old h start g b) result work.new }
+    ensures { Makes (handled_made work.old h start g b) result work.new }
 {
     let f = g.fault;
     let e = b.fault;

@@ -2,9 +2,9 @@
 ghost use Rattle.std.specs.Prelude.{◌≡◌, ◌+◌};
 ghost use Rattle.rule_expr_nodes.specs.Nodes.{Makes};
 ghost use Rattle.table_list.specs.Laid.{Laid};
-ghost use Rattle.table_scope.specs.Descriptions.{infoOf};
-ghost use Rattle.rule_stmt_nodes.specs.Nodes.{nextNumber, wantedGot, raised, looped, branched, skipGot, stored, assigned, controlIs, controlBy, controlFault, repeated, repeatedBy, linked, sequenced, joinedGot, finishedGot, isNamed};
-ghost use Rattle.text_heads.specs.Heads.{atomOf};
+ghost use Rattle.table_scope.specs.Descriptions.{info_of};
+ghost use Rattle.rule_stmt_nodes.specs.Nodes.{next_number, wanted_got, raised, looped, branched, skip_got, stored, assigned, control_is, control_by, control_fault, repeated, repeated_by, linked, sequenced, joined_got, finished_got, is_named};
+ghost use Rattle.text_heads.specs.Heads.{atom_of};
 
 use crate::base::{node_if, with_fault};
 use leaf_words::words::Word;
@@ -25,7 +25,7 @@ pub struct Control {
 
 // The number after n; the last one is its own.
 pub fn next_number(n: u32) -> u32
-    ensures { result ≡ nextNumber n }
+    ensures { result ≡ next_number n }
 {
     if n < 4294967295 {
         return n + 1;
@@ -49,7 +49,7 @@ pub fn wide(p: u32) -> usize
 
 // An expression's answer where kind k is wanted.
 pub fn wanted(k: u32, g: Got) -> Got
-    ensures { result ≡ wantedGot k g }
+    ensures { result ≡ wanted_got k g }
 {
     if k == g.kind {
         return g;
@@ -90,7 +90,7 @@ pub fn if_node(work: &mut [u32], n: u32, c: Got, a: Got, b: Got) -> Got
 
 // The missing third part of an `if`.
 pub fn no_act(n: u32, next: usize, top: u32) -> Got
-    ensures { result ≡ skipGot n next top }
+    ensures { result ≡ skip_got n next top }
 {
     Got {
         fault: Fault::Clear,
@@ -136,7 +136,7 @@ pub fn assign_node(work: &mut [u32], types: &[u32], n: u32, g: Got, e: Got) -> G
 
 // A control variable from its parts.
 fn control_of(fault: Fault, number: u32, kind: u32, base: u32) -> Control
-    ensures { result ≡ controlIs fault number kind base }
+    ensures { result ≡ control_is fault number kind base }
 {
     Control {
         fault: fault,
@@ -148,7 +148,7 @@ fn control_of(fault: Fault, number: u32, kind: u32, base: u32) -> Control
 
 // The control variable that a name means, a fault of row 7 where it means none.
 pub fn stepped(m: Meaning) -> Control
-    ensures { result ≡ controlBy m }
+    ensures { result ≡ control_by m }
 {
     match m {
         Meaning::Unknown => control_of(Fault::Name, 0, 0, 0),
@@ -161,7 +161,7 @@ pub fn stepped(m: Meaning) -> Control
 
 // The fault of a control variable whose type i describes: a loop around steps it, or it is no ordinal.
 fn control_fault(over: bool, i: Info) -> Fault
-    ensures { result ≡ controlFault over i }
+    ensures { result ≡ control_fault over i }
 {
     if over {
         return Fault::Kind;
@@ -205,7 +205,7 @@ pub fn for_node(
     y: Got,
     z: Got,
 ) -> Got
-    ensures { Makes (repeatedBy work.old (infoOf work.old types.now v.kind) loops n v x y z) result work.new }
+    ensures { Makes (repeated_by work.old (info_of work.old types.now v.kind) loops n v x y z) result work.new }
 {
     let i = describe(work, types, v.kind);
     let f = control_fault(loops_over(loops, v.number), i);
@@ -233,7 +233,7 @@ pub fn begin_node(work: &mut [u32], n: u32, slot: u32, m: Got) -> Got
 
 // The answer for a chain with one statement more, laid up to t.
 pub fn joined(g: Got, a: Got, t: u32) -> Got
-    ensures { result ≡ joinedGot g a t }
+    ensures { result ≡ joined_got g a t }
 {
     let f = g.fault;
     let h = a.fault;
@@ -248,7 +248,7 @@ pub fn joined(g: Got, a: Got, t: u32) -> Got
 
 // The answer for a chain, past the closing bracket.
 pub fn finished(g: Got, q: usize) -> Got
-    ensures { result ≡ finishedGot g q }
+    ensures { result ≡ finished_got g q }
 {
     let f = g.fault;
     Got {
@@ -262,7 +262,7 @@ pub fn finished(g: Got, q: usize) -> Got
 
 // Whether a word is a name.
 pub fn is_named(w: Word) -> bool
-    ensures { result ≡ isNamed (atomOf w) }
+    ensures { result ≡ is_named (atom_of w) }
 {
     let a = atom_of(w);
     match a {

@@ -15,55 +15,55 @@ use mir.Val.{SFits}
 use mir.Facts.{to_z-of_z}
 use Rattle.leaf_integers.specs.Integers.{is_zero, least, most}
 use Rattle.leaf_integers.proofs.Machine.{wire}
-use Rattle.leaf_integers.proofs.Order.{leZ-trans}
+use Rattle.leaf_integers.proofs.Order.{le_z-trans}
 use Rattle.leaf_integers.proofs.Ranges.{inside_both}
 use Rattle.leaf_bytes.specs.Bytes.{small}
 use Rattle.law.specs.Environment.{Declared}
 use Rattle.code.specs.LayoutSize.{IsInteger}
-use Rattle.law.specs.Machine.{defined, isDefined}
-use Rattle.law.specs.Store.{cellFits, cellOk, cellsOk, faultOf, storeFault}
+use Rattle.law.specs.Machine.{defined, is_defined}
+use Rattle.law.specs.Store.{cell_fits, cell_ok, cells_ok, fault_of, store_fault}
 use Rattle.law.specs.Trees.{word_at}
-use Rattle.law.specs.Types.{Shape, Types, arrayShape, infoAt, isOrdinal, is_set, ordinalShape, recordShape, setShape, size_of}
+use Rattle.law.specs.Types.{Shape, Types, array_shape, info_at, is_ordinal, is_set, ordinal_shape, record_shape, set_shape, size_of}
 use Rattle.code.proofs.LayoutCode.{signed-bits}
 use Rattle.law_theorems.specs.LinesCover.{Covered}
 use Rattle.law_theorems.proofs.LinesKeep.{text-stand}
-use Rattle.law_theorems.specs.LinesKeep.{storeTests}
+use Rattle.law_theorems.specs.LinesKeep.{store_tests}
 use Rattle.law_theorems.specs.ValuesInRange.{any}
-use Rattle.law_theorems.proofs.Inversion.{and_both}
+use Rattle.law_theorems.proofs.Inversion.{and-both}
 use Rattle.law_theorems.specs.TypeTables.{Table}
 use Rattle.table_names.specs.Chain.{entries, name_at}
-use Rattle.table_scope.specs.Descriptions.{infoOf, shapeNumber}
+use Rattle.table_scope.specs.Descriptions.{info_of, shape_number}
 use Rattle.table_scope.proofs.Telling.{shape-ordinal, low_told, high-told}
 use Rattle.rule_declarations.specs.State.{Holds}
 use Rattle.rule_declarations.specs.declared.State.{State}
-use Rattle.rule_stores.specs.Cells.{holder, type_by, cellType}
-use Rattle.rule_stores.specs.Stores.{valueFits, markFits, cellPasses, rowNumber, StoreFault, Owner}
+use Rattle.rule_stores.specs.Cells.{holder, type_by, cell_type}
+use Rattle.rule_stores.specs.Stores.{value_fits, mark_fits, cell_passes, row_number, StoreFault, Owner}
 use Rattle.rule_stores.proofs.Leaves.{Leaf, leaf-is}
 use Rattle.rule_stores.proofs.Holders.{HeldAt, holder-is}
 
 -- ---- the bounds of an ordinal or a set are integers
 
-pub bounds-are : (Γ : Types) → Table Γ → (t : ℕ) → shapeNumber (infoAt Γ t).shape < 2 → IsInteger (infoAt Γ t).low × IsInteger (infoAt Γ t).high
-unfolding shapeNumber
-bounds-are Γ T t h = go (infoAt Γ t).shape refl h
+pub bounds-are : (Γ : Types) → Table Γ → (t : ℕ) → shape_number (info_at Γ t).shape < 2 → IsInteger (info_at Γ t).low × IsInteger (info_at Γ t).high
+unfolding shape_number
+bounds-are Γ T t h = go (info_at Γ t).shape refl h
   where
-    ordinals : (u : ℕ) → isOrdinal (infoAt Γ u).shape ≡ true → IsInteger (infoAt Γ u).low × IsInteger (infoAt Γ u).high
+    ordinals : (u : ℕ) → is_ordinal (info_at Γ u).shape ≡ true → IsInteger (info_at Γ u).low × IsInteger (info_at Γ u).high
     ordinals u p =
         let a = (T.each u).small p in
         let f = (T.each u).filled p in (
-          inside_both least most (infoAt Γ u).low a.0 (leZ-trans (infoAt Γ u).low (infoAt Γ u).high most f a.1),
-          inside_both least most (infoAt Γ u).high (leZ-trans least (infoAt Γ u).low (infoAt Γ u).high a.0 f) a.1,
+          inside_both least most (info_at Γ u).low a.0 (le_z-trans (info_at Γ u).low (info_at Γ u).high most f a.1),
+          inside_both least most (info_at Γ u).high (le_z-trans least (info_at Γ u).low (info_at Γ u).high a.0 f) a.1,
         )
 
-    go : (x : Shape) → (infoAt Γ t).shape ≡ x → shapeNumber x < 2 → IsInteger (infoAt Γ t).low × IsInteger (infoAt Γ t).high
-    go ordinalShape e k = ordinals t (ap (λ (x : Shape). isOrdinal x) e)
-    go setShape e k =
-        let p : is_set (infoAt Γ t).shape ≡ true = ap (λ (x : Shape). is_set x) e in
+    go : (x : Shape) → (info_at Γ t).shape ≡ x → shape_number x < 2 → IsInteger (info_at Γ t).low × IsInteger (info_at Γ t).high
+    go ordinal_shape e k = ordinals t (ap (λ (x : Shape). is_ordinal x) e)
+    go set_shape e k =
+        let p : is_set (info_at Γ t).shape ≡ true = ap (λ (x : Shape). is_set x) e in
         let b = (T.each t).bounds p in
-        let o = ordinals (infoAt Γ t).element ((T.each t).base p).1 in
+        let o = ordinals (info_at Γ t).element ((T.each t).base p).1 in
         (rw b.0 o.0, rw b.1 o.1)
-    go arrayShape e k = absurd (omega arith)
-    go recordShape e k = absurd (omega arith)
+    go array_shape e k = absurd (omega arith)
+    go record_shape e k = absurd (omega arith)
 
 -- ---- a cell
 
@@ -78,8 +78,8 @@ module _ {s l ts : List ℕ} {st : State} {k : Declared} {bs : List ℕ} (H : Ho
   unfolding name_at
   owner-is = held.named
 
-  leaf : Leaf Γk held.var.type (c - held.var.base) (cellType l ts st.scope.count st.scope.newest c)
-  unfolding cellType type_by
+  leaf : Leaf Γk held.var.type (c - held.var.base) (cell_type l ts st.scope.count st.scope.newest c)
+  unfolding cell_type type_by
   leaf =
       let v = held.var in
       let t : v.type < length k.env.types = H.keeps.typed held.number v held.known in
@@ -88,83 +88,83 @@ module _ {s l ts : List ℕ} {st : State} {k : Declared} {bs : List ℕ} (H : Ho
       let m : (c - v.base) % 4096 ≡ c - v.base = mod-eq_of_lt (omega (arith, H.small-types v.type)) in
       rw (held.kind-is, held.base-is, m) (leaf-is H.scene C.built 66 v.type (c - v.base) d i)
 
-  cell-fits : (v : ℤ) → cellFits Γk (cellType l ts st.scope.count st.scope.newest c) v ≡ cellFits Γk (get_or k.cells c 0) v
+  cell-fits : (v : ℤ) → cell_fits Γk (cell_type l ts st.scope.count st.scope.newest c) v ≡ cell_fits Γk (get_or k.cells c 0) v
   cell-fits v =
       let x = held.var in
       let i : c - x.base < size_of Γk x.type = omega (arith, held.from, held.to) in
       let z : x.base + (c - x.base) ≡ c = omega (arith, held.from) in
       let y : 0 + c ≡ c = omega arith in
-      let xs = storeTests Γk k.cells k.env.parameters in
+      let xs = store_tests Γk k.cells k.env.parameters in
       let S = text-stand k H.keeps in
-      ap (λ (t : ℕ). cellFits Γk t v) leaf.type-is ∙ sym (((H.keeps.laid xs S).found held.number x held.known).each (c - x.base) i v)
+      ap (λ (t : ℕ). cell_fits Γk t v) leaf.type-is ∙ sym (((H.keeps.laid xs S).found held.number x held.known).each (c - x.base) i v)
       ∙ ap (λ (j : ℕ). get_or xs j any v) (z ∙ sym y) ∙ S.lent.each c h v
 
-  value-is : (v : ℤ) → valueFits (infoOf l ts (cellType l ts st.scope.count st.scope.newest c)) v ≡ cellFits Γk (cellType l ts st.scope.count st.scope.newest c) v
-  unfolding valueFits
+  value-is : (v : ℤ) → value_fits (info_of l ts (cell_type l ts st.scope.count st.scope.newest c)) v ≡ cell_fits Γk (cell_type l ts st.scope.count st.scope.newest c) v
+  unfolding value_fits
   value-is v =
-      let t : ℕ = cellType l ts st.scope.count st.scope.newest c in
+      let t : ℕ = cell_type l ts st.scope.count st.scope.newest c in
       let b = bounds-are Γk H.scene.table t leaf.simple in
-      rw (shape-ordinal H.scene t, low_told H.scene t, high-told H.scene t, signed-bits (infoAt Γk t).low b.0, signed-bits (infoAt Γk t).high b.1) refl
+      rw (shape-ordinal H.scene t, low_told H.scene t, high-told H.scene t, signed-bits (info_at Γk t).low b.0, signed-bits (info_at Γk t).high b.1) refl
 
-  pub passes-is-ok : (v : ℤ) (m : ℕ) → cellPasses l ts st.scope.count st.scope.newest c v m ≡ cellOk Γk (get_or k.cells c 0) v m
-  unfolding cellPasses markFits
-  passes-is-ok v m = ap (λ (b : Bool). cond (isDefined m) (eqb m defined && b) (is_zero v)) (value-is v ∙ cell-fits v)
+  pub passes-is-ok : (v : ℤ) (m : ℕ) → cell_passes l ts st.scope.count st.scope.newest c v m ≡ cell_ok Γk (get_or k.cells c 0) v m
+  unfolding cell_passes mark_fits
+  passes-is-ok v m = ap (λ (b : Bool). cond (is_defined m) (eqb m defined && b) (is_zero v)) (value-is v ∙ cell-fits v)
 
 -- ---- all cells
 
-all_pass : (Γ : Types) (ts : List ℕ) (vs : List ℤ) (ms : List ℕ) → ((i : ℕ) → i < length ts → cellOk Γ (get_or ts i 0) (get_or vs i (pos 0)) (get_or ms i 0) ≡ true) → cellsOk Γ ts vs ms ≡ true
-unfolding cellsOk
+all_pass : (Γ : Types) (ts : List ℕ) (vs : List ℤ) (ms : List ℕ) → ((i : ℕ) → i < length ts → cell_ok Γ (get_or ts i 0) (get_or vs i (pos 0)) (get_or ms i 0) ≡ true) → cells_ok Γ ts vs ms ≡ true
+unfolding cells_ok
 all_pass Γ [] vs ms h = refl
 all_pass Γ (t ∷ ts) [] ms h = refl
 all_pass Γ (t ∷ ts) (v ∷ vs) [] h = refl
-all_pass Γ (t ∷ ts) (v ∷ vs) (m ∷ ms) h = and_both (cellOk Γ t v m) (cellsOk Γ ts vs ms) (h 0 (omega arith)) (all_pass Γ ts vs ms (λ i l. h (suc i) (omega arith)))
+all_pass Γ (t ∷ ts) (v ∷ vs) (m ∷ ms) h = and-both (cell_ok Γ t v m) (cells_ok Γ ts vs ms) (h 0 (omega arith)) (all_pass Γ ts vs ms (λ i l. h (suc i) (omega arith)))
 
 one-fails : (Γ : Types) (ts : List ℕ) (vs : List ℤ) (ms : List ℕ) → length vs ≡ length ts → length ms ≡ length ts
-    → (i : ℕ) → i < length ts → cellOk Γ (get_or ts i 0) (get_or vs i (pos 0)) (get_or ms i 0) ≡ false → cellsOk Γ ts vs ms ≡ false
-unfolding cellsOk
+    → (i : ℕ) → i < length ts → cell_ok Γ (get_or ts i 0) (get_or vs i (pos 0)) (get_or ms i 0) ≡ false → cells_ok Γ ts vs ms ≡ false
+unfolding cells_ok
 one-fails Γ [] vs ms e f i l h = absurd (omega arith)
 one-fails Γ (t ∷ ts) [] ms e f i l h = absurd (omega (arith, e))
 one-fails Γ (t ∷ ts) (v ∷ vs) [] e f i l h = absurd (omega (arith, f))
-one-fails Γ (t ∷ ts) (v ∷ vs) (m ∷ ms) e f zero l h = let g : cellOk Γ t v m ≡ false = h in ap (λ (b : Bool). b && cellsOk Γ ts vs ms) g
-one-fails Γ (t ∷ ts) (v ∷ vs) (m ∷ ms) e f (suc i) l h = last (cellOk Γ t v m) (one-fails Γ ts vs ms (omega (arith, e)) (omega (arith, f)) i (omega arith) h)
+one-fails Γ (t ∷ ts) (v ∷ vs) (m ∷ ms) e f zero l h = let g : cell_ok Γ t v m ≡ false = h in ap (λ (b : Bool). b && cells_ok Γ ts vs ms) g
+one-fails Γ (t ∷ ts) (v ∷ vs) (m ∷ ms) e f (suc i) l h = last (cell_ok Γ t v m) (one-fails Γ ts vs ms (omega (arith, e)) (omega (arith, f)) i (omega arith) h)
   where
-    last : (b : Bool) → cellsOk Γ ts vs ms ≡ false → (b && cellsOk Γ ts vs ms) ≡ false
+    last : (b : Bool) → cells_ok Γ ts vs ms ≡ false → (b && cells_ok Γ ts vs ms) ≡ false
     last true g = g
     last false g = refl
 
 -- ---- the lent store
 
-no_length : (a b : Bool) → 10 ≡ rowNumber (faultOf (a && false) b)
-unfolding rowNumber faultOf
+no_length : (a b : Bool) → 10 ≡ row_number (fault_of (a && false) b)
+unfolding row_number fault_of
 no_length true b = refl
 no_length false b = refl
 
 -- all cells but the last so many have passed
 pub record Passed (l ts : List ℕ) (st : State) (vs : List ℤ) (ms : List ℕ) (left : ℕ) : Type 0 where
   pub few : left ≤ st.cells
-  pub before : (i : ℕ) → i < st.cells - left → cellPasses l ts st.scope.count st.scope.newest i (get_or vs i (pos 0)) (get_or ms i 0) ≡ true
+  pub before : (i : ℕ) → i < st.cells - left → cell_passes l ts st.scope.count st.scope.newest i (get_or vs i (pos 0)) (get_or ms i 0) ≡ true
 
 module _ (l ts : List ℕ) (st : State) (vs : List ℤ) (ms : List ℕ) where
   pub passed_start : Passed l ts st vs ms st.cells
   passed_start = record { few = omega arith; before = λ i h. absurd (omega arith) }
 
   pub wrong-values : ((length vs ≡ st.cells) → ⊥) → StoreFault l ts st vs ms 10
-  unfolding storeFault faultOf rowNumber
+  unfolding store_fault fault_of row_number
   wrong-values h = record { says = λ s k bs H C. rw (ne_eqb (length vs) (length k.cells) (λ e. h (e ∙ sym H.cells_are))) }
 
   pub wrong-marks : ((length ms ≡ st.cells) → ⊥) → StoreFault l ts st vs ms 10
-  unfolding storeFault faultOf rowNumber
-  wrong-marks h = record { says = λ s k bs H C. rw (ne_eqb (length ms) (length k.cells) (λ e. h (e ∙ sym H.cells_are))) (no_length (eqb (length vs) (length k.cells)) (cellsOk k.env.types k.cells vs ms)) }
+  unfolding store_fault fault_of row_number
+  wrong-marks h = record { says = λ s k bs H C. rw (ne_eqb (length ms) (length k.cells) (λ e. h (e ∙ sym H.cells_are))) (no_length (eqb (length vs) (length k.cells)) (cells_ok k.env.types k.cells vs ms)) }
 
   module _ (left : ℕ) (P : Passed l ts st vs ms left) where
     pub passed-few : left ≤ st.cells
     passed-few = P.few
 
     pub all-passed : length vs ≡ st.cells → length ms ≡ st.cells → left ≤ 0 → StoreFault l ts st vs ms 0
-    unfolding storeFault faultOf rowNumber
+    unfolding store_fault fault_of row_number
     all-passed e f h = record {
       says = λ s k bs H C.
-          let a : cellsOk k.env.types k.cells vs ms ≡ true = all_pass k.env.types k.cells vs ms
+          let a : cells_ok k.env.types k.cells vs ms ≡ true = all_pass k.env.types k.cells vs ms
           (λ i n. sym (passes-is-ok H C i n (get_or vs i (pos 0)) (get_or ms i 0)) ∙ P.before i (omega (arith, H.cells_are))) in
           rw (eq-eqb (length vs) (length k.cells) (e ∙ H.cells_are), eq-eqb (length ms) (length k.cells) (f ∙ H.cells_are), a) refl;
     }
@@ -176,23 +176,23 @@ module _ (l ts : List ℕ) (st : State) (vs : List ℤ) (ms : List ℕ) where
       pub here-marks : length ms ≡ st.cells → c < length ms
       here-marks e = omega (arith, P.few)
 
-      module _ (b : Bool) (q : SFits w64 (get_or vs c (pos 0))) (g : b ≡ cellPasses l ts st.scope.count st.scope.newest c (wire (get_or vs c (pos 0))) (get_or ms c 0)) where
-        as_read : cellPasses l ts st.scope.count st.scope.newest c (get_or vs c (pos 0)) (get_or ms c 0) ≡ b
-        as_read = sym (g ∙ ap (λ (v : ℤ). cellPasses l ts st.scope.count st.scope.newest c v (get_or ms c 0)) (to_z-of_z q))
+      module _ (b : Bool) (q : SFits w64 (get_or vs c (pos 0))) (g : b ≡ cell_passes l ts st.scope.count st.scope.newest c (wire (get_or vs c (pos 0))) (get_or ms c 0)) where
+        as_read : cell_passes l ts st.scope.count st.scope.newest c (get_or vs c (pos 0)) (get_or ms c 0) ≡ b
+        as_read = sym (g ∙ ap (λ (v : ℤ). cell_passes l ts st.scope.count st.scope.newest c v (get_or ms c 0)) (to_z-of_z q))
 
         pub passed_on : b ≡ true → Passed l ts st vs ms (left - 1)
         passed_on h = record { few = omega (arith, P.few); before = λ i m. go i m (dec_lt i c) }
           where
-            go : (i : ℕ) → i < st.cells - (left - 1) → Dec (i < c) → cellPasses l ts st.scope.count st.scope.newest i (get_or vs i (pos 0)) (get_or ms i 0) ≡ true
+            go : (i : ℕ) → i < st.cells - (left - 1) → Dec (i < c) → cell_passes l ts st.scope.count st.scope.newest i (get_or vs i (pos 0)) (get_or ms i 0) ≡ true
             go i m (yes r) = P.before i (omega arith)
             go i m (no r) = let z : i ≡ c = omega (arith, P.few) in rw z (as_read ∙ h)
 
         pub failed : b ≡ false → length vs ≡ st.cells → length ms ≡ st.cells → StoreFault l ts st vs ms 11
-        unfolding storeFault faultOf rowNumber
+        unfolding store_fault fault_of row_number
         failed h e f = record {
           says = λ s k bs H C.
               let m : c < length k.cells = omega (arith, H.cells_are, P.few) in
-              let a : cellsOk k.env.types k.cells vs ms ≡ false = one-fails k.env.types k.cells vs ms (e ∙ H.cells_are) (f ∙ H.cells_are) c m
+              let a : cells_ok k.env.types k.cells vs ms ≡ false = one-fails k.env.types k.cells vs ms (e ∙ H.cells_are) (f ∙ H.cells_are) c m
               (sym (passes-is-ok H C c m (get_or vs c (pos 0)) (get_or ms c 0)) ∙ as_read ∙ h) in
               rw (eq-eqb (length vs) (length k.cells) (e ∙ H.cells_are), eq-eqb (length ms) (length k.cells) (f ∙ H.cells_are), a) refl;
         }

@@ -14,28 +14,28 @@ use mir.Val.{Fits, SFits, to_z, of_z}
 use mir.Facts.{to_z-of_z}
 use Rattle.leaf_integers.specs.Integers.{inside, is_zero}
 use Rattle.leaf_integers.proofs.Machine.{wire, zero_bits}
-use Rattle.leaf_sets.specs.Sets.{liesIn}
+use Rattle.leaf_sets.specs.Sets.{lies_in}
 use Rattle.leaf_words.specs.Numbers.{signed}
 use Rattle.leaf_words.proofs.DecimalHex.{signed_low, signed-fits, signed_high}
 use Rattle.table_names.specs.Chain.{entries}
-use Rattle.table_scope.specs.Descriptions.{infoOf}
+use Rattle.table_scope.specs.Descriptions.{info_of}
 use Rattle.table_scope.specs.declared.Info.{Info}
 use Rattle.rule_stores.specs.declared.Cell.{Cell}
-use Rattle.rule_stores.specs.Cells.{cellBy, fieldCell, elementCell, innerCell, leafType, beginsBy, beginsAt, holder, type_by, cellType}
-use Rattle.rule_stores.specs.Stores.{valueFits, markFits, cellPasses}
+use Rattle.rule_stores.specs.Cells.{cell_by, field_cell, element_cell, inner_cell, leaf_type, begins_by, begins_at, holder, type_by, cell_type}
+use Rattle.rule_stores.specs.Stores.{value_fits, mark_fits, cell_passes}
 
 -- ---- `field_cell`: cell i of the n fields from p on is still sought
 
 -- the field at q, then those after it
 field-asked : (l ts : List ℕ) (q n i : ℕ) → 0 < n
-    → fieldCell l ts q n i ≡ cond (ltb i (infoOf l ts (get_or l (q + 1) 0)).size) (cellBy (get_or l (q + 1) 0) i)
-    (fieldCell l ts (q + 4) (n - 1) (i - (infoOf l ts (get_or l (q + 1) 0)).size))
-unfolding fieldCell
+    → field_cell l ts q n i ≡ cond (ltb i (info_of l ts (get_or l (q + 1) 0)).size) (cell_by (get_or l (q + 1) 0) i)
+    (field_cell l ts (q + 4) (n - 1) (i - (info_of l ts (get_or l (q + 1) 0)).size))
+unfolding field_cell
 field-asked l ts q zero i h = absurd (omega arith)
 field-asked l ts q (suc n) i h = let z : suc n - 1 ≡ n = omega arith in rw z refl
 
 pub record Finding (l ts : List ℕ) (place fields cell n p i : ℕ) : Type 0 where
-  pub same-cell : fieldCell l ts (place + 8) fields cell ≡ fieldCell l ts p n i
+  pub same-cell : field_cell l ts (place + 8) fields cell ≡ field_cell l ts p n i
   pub early : p + 4 * n < 42949672960
 
 module _ (l ts : List ℕ) (place fields cell : ℕ) where
@@ -43,16 +43,16 @@ module _ (l ts : List ℕ) (place fields cell : ℕ) where
   find-start h g = record { same-cell = refl; early = omega arith }
 
   module _ (n p i : ℕ) (F : Finding l ts place fields cell n p i) where
-    pub find_none : n ≤ 0 → (r : Cell) → r ≡ cellBy 0 0 → r ≡ fieldCell l ts (place + 8) fields cell
-    unfolding fieldCell
+    pub find_none : n ≤ 0 → (r : Cell) → r ≡ cell_by 0 0 → r ≡ field_cell l ts (place + 8) fields cell
+    unfolding field_cell
     find_none h r e = let z : n ≡ 0 = omega arith in e ∙ sym (F.same-cell ∙ rw z)
 
     module _ (h : 0 < n) where
       pub find-early : p + 4 < 42949672960
       find-early = omega (arith, F.early)
 
-      module _ (t : ℕ) (e : t ≡ get_or l (p + 1) 0) (x : Info) (g : x ≡ infoOf l ts t) where
-        pub find-here : i < x.size → (r : Cell) → r ≡ cellBy t i → r ≡ fieldCell l ts (place + 8) fields cell
+      module _ (t : ℕ) (e : t ≡ get_or l (p + 1) 0) (x : Info) (g : x ≡ info_of l ts t) where
+        pub find-here : i < x.size → (r : Cell) → r ≡ cell_by t i → r ≡ field_cell l ts (place + 8) fields cell
         find-here k r f = f ∙ sym (F.same-cell ∙ field-asked l ts p n i h ∙ rw (← e, ← g, lt-ltb i x.size k))
 
         pub find-on : x.size ≤ i → Finding l ts place fields cell (n - 1) (p + 4) (i - x.size)
@@ -66,23 +66,23 @@ pub ruleset find-laws = (find_none, find-here, find-on)
 -- ---- `element_cell`, `inner_cell`
 
 module _ (t i n : ℕ) (r : Cell) where
-  pub element-none : n ≡ 0 → r ≡ cellBy t i → r ≡ elementCell t i n
-  unfolding elementCell
+  pub element-none : n ≡ 0 → r ≡ cell_by t i → r ≡ element_cell t i n
+  unfolding element_cell
   element-none h e = e ∙ rw (h, mod-zero i)
 
-  pub element-some : r ≡ cellBy t (i % n) → r ≡ elementCell t i n
-  unfolding elementCell
+  pub element-some : r ≡ cell_by t (i % n) → r ≡ element_cell t i n
+  unfolding element_cell
   element-some e = e
 
 pub ruleset element-laws = (element-none, element-some)
 
 module _ (l ts : List ℕ) (x : Info) (i : ℕ) (r : Cell) where
-  pub inner-array : x.shape ≡ 2 → (y : Info) → y ≡ infoOf l ts x.element → r ≡ elementCell x.element i y.size → r ≡ innerCell l ts x i
-  unfolding innerCell
+  pub inner-array : x.shape ≡ 2 → (y : Info) → y ≡ info_of l ts x.element → r ≡ element_cell x.element i y.size → r ≡ inner_cell l ts x i
+  unfolding inner_cell
   inner-array h y e g = g ∙ rw (e, eq-eqb x.shape 2 h)
 
-  pub inner-record : ((x.shape ≡ 2) → ⊥) → r ≡ fieldCell l ts (x.place + 8) x.fields i → r ≡ innerCell l ts x i
-  unfolding innerCell
+  pub inner-record : ((x.shape ≡ 2) → ⊥) → r ≡ field_cell l ts (x.place + 8) x.fields i → r ≡ inner_cell l ts x i
+  unfolding inner_cell
   inner-record h g = g ∙ rw (ne_eqb x.shape 2 h)
 
 pub ruleset inner_laws = (inner-array, inner-record)
@@ -90,22 +90,22 @@ pub ruleset inner_laws = (inner-array, inner-record)
 -- ---- `leaf_type`
 
 leaf-step : (d : ℕ) (l ts : List ℕ) (t i : ℕ) → ((d ≡ 0) → ⊥)
-    → leafType d l ts t i ≡ cond (ltb (infoOf l ts t).shape 2) t
-    (leafType (d - 1) l ts (innerCell l ts (infoOf l ts t) i).kind (innerCell l ts (infoOf l ts t) i).place)
-unfolding leafType
+    → leaf_type d l ts t i ≡ cond (ltb (info_of l ts t).shape 2) t
+    (leaf_type (d - 1) l ts (inner_cell l ts (info_of l ts t) i).kind (inner_cell l ts (info_of l ts t) i).place)
+unfolding leaf_type
 leaf-step zero l ts t i h = absurd (h refl)
 leaf-step (suc d) l ts t i h = let z : suc d - 1 ≡ d = omega arith in rw z refl
 
 module _ (d : ℕ) (l ts : List ℕ) (t i : ℕ) where
-  pub leaf-none : d ≡ 0 → t ≡ leafType d l ts t i
-  unfolding leafType
+  pub leaf-none : d ≡ 0 → t ≡ leaf_type d l ts t i
+  unfolding leaf_type
   leaf-none h = rw h refl
 
-  module _ (h : (d ≡ 0) → ⊥) (x : Info) (e : x ≡ infoOf l ts t) where
-    pub leaf-here : x.shape < 2 → t ≡ leafType d l ts t i
+  module _ (h : (d ≡ 0) → ⊥) (x : Info) (e : x ≡ info_of l ts t) where
+    pub leaf-here : x.shape < 2 → t ≡ leaf_type d l ts t i
     leaf-here k = sym (leaf-step d l ts t i h ∙ rw (← e, lt-ltb x.shape 2 k))
 
-    pub leaf-inside : 2 ≤ x.shape → (c : Cell) → c ≡ innerCell l ts x i → (r : ℕ) → r ≡ leafType (d - 1) l ts c.kind c.place → r ≡ leafType d l ts t i
+    pub leaf-inside : 2 ≤ x.shape → (c : Cell) → c ≡ inner_cell l ts x i → (r : ℕ) → r ≡ leaf_type (d - 1) l ts c.kind c.place → r ≡ leaf_type d l ts t i
     leaf-inside k c f r g = g ∙ sym (leaf-step d l ts t i h ∙ rw (← e, le-ltb x.shape 2 k, ← f))
 
 pub ruleset leaf-laws = (leaf-none, leaf-here, leaf-inside)
@@ -113,24 +113,24 @@ pub ruleset leaf-laws = (leaf-none, leaf-here, leaf-inside)
 -- ---- `begins_by`
 
 module _ (sort more c : ℕ) where
-  pub begins-var : sort % 4 ≡ 1 → leb (more / 128) c ≡ beginsBy sort more c
-  unfolding beginsBy
+  pub begins-var : sort % 4 ≡ 1 → leb (more / 128) c ≡ begins_by sort more c
+  unfolding begins_by
   begins-var h = rw (eq-eqb (sort % 4) 1 h)
 
-  pub begins-other : ((sort % 4 ≡ 1) → ⊥) → false ≡ beginsBy sort more c
-  unfolding beginsBy
+  pub begins-other : ((sort % 4 ≡ 1) → ⊥) → false ≡ begins_by sort more c
+  unfolding begins_by
   begins-other h = rw (ne_eqb (sort % 4) 1 h)
 
 pub ruleset begins-laws = (begins-var, begins-other)
 
-pub begins-is : (l : List ℕ) (p c sort more : ℕ) → sort ≡ get_or l (p + 1) 0 → more ≡ get_or l (p + 2) 0 → (b : Bool) → b ≡ beginsBy sort more c → b ≡ beginsAt l p c
-unfolding beginsAt
+pub begins-is : (l : List ℕ) (p c sort more : ℕ) → sort ≡ get_or l (p + 1) 0 → more ≡ get_or l (p + 2) 0 → (b : Bool) → b ≡ begins_by sort more c → b ≡ begins_at l p c
+unfolding begins_at
 begins-is l p c sort more e f b g = g ∙ rw (e, f)
 
 -- ---- `holder_of`: p and the n entries from it on are still to be asked
 
 asked : (l : List ℕ) (c n p : ℕ) → 0 < n
-    → holder l (entries n l p) c ≡ cond (beginsAt l p c) p (holder l (entries (n - 1) l (get_or l (p + 3) 0)) c)
+    → holder l (entries n l p) c ≡ cond (begins_at l p c) p (holder l (entries (n - 1) l (get_or l (p + 3) 0)) c)
 unfolding entries holder
 asked l c zero p h = absurd (omega arith)
 asked l c (suc n) p h = let z : suc n - 1 ≡ n = omega arith in rw z refl
@@ -151,7 +151,7 @@ module _ (l : List ℕ) (count newest c : ℕ) where
     unfolding entries holder
     seek-none h = let z : n ≡ 0 = omega arith in sym (S.same_place ∙ rw z)
 
-    module _ (h : 0 < n) (b : Bool) (t : b ≡ beginsAt l p c) where
+    module _ (h : 0 < n) (b : Bool) (t : b ≡ begins_at l p c) where
       pub seek_found : b ≡ true → p ≡ holder l (entries count l newest) c
       seek_found g = sym (S.same_place ∙ asked l c n p h ∙ rw (← t, g))
 
@@ -166,8 +166,8 @@ pub past-before : (c b : ℕ) → c < b → 0 ≡ (c - b) % 4096
 past-before c b h = let z : c - b ≡ 0 = omega arith in rw z refl
 
 pub type-is : (l ts : List ℕ) (count newest c p more : ℕ) → p ≡ holder l (entries count l newest) c → more ≡ get_or l (p + 2) 0
-    → (i : ℕ) → i ≡ (c - more / 128) % 4096 → (r : ℕ) → r ≡ leafType 66 l ts (more % 128) i → r ≡ cellType l ts count newest c
-unfolding cellType type_by
+    → (i : ℕ) → i ≡ (c - more / 128) % 4096 → (r : ℕ) → r ≡ leaf_type 66 l ts (more % 128) i → r ≡ cell_type l ts count newest c
+unfolding cell_type type_by
 type-is l ts count newest c p more e f i g r h = h ∙ rw (g, f, e)
 
 -- ---- `bound_of`
@@ -184,12 +184,12 @@ pub ruleset bound-laws = (signed_low, bound-fits, bound-high)
 -- ---- `value_fits`, `mark_fits`, `cell_passes`
 
 module _ (x : Info) (v lo hi : ℤ) (p : SFits w64 v) (e : lo ≡ signed x.low) (f : hi ≡ signed x.high) (ql : SFits w64 lo) (qh : SFits w64 hi) (b : Bool) where
-  pub value-ordinal : x.shape ≡ 0 → b ≡ inside (wire lo) (wire hi) (wire v) → b ≡ valueFits x v
-  unfolding valueFits
+  pub value-ordinal : x.shape ≡ 0 → b ≡ inside (wire lo) (wire hi) (wire v) → b ≡ value_fits x v
+  unfolding value_fits
   value-ordinal h g = g ∙ rw (to_z-of_z p, to_z-of_z ql, to_z-of_z qh, e, f, eq-eqb x.shape 0 h)
 
-  pub value_set : ((x.shape ≡ 0) → ⊥) → b ≡ liesIn (wire lo) (wire hi) (wire v) → b ≡ valueFits x v
-  unfolding valueFits
+  pub value_set : ((x.shape ≡ 0) → ⊥) → b ≡ lies_in (wire lo) (wire hi) (wire v) → b ≡ value_fits x v
+  unfolding value_fits
   value_set h g = g ∙ rw (to_z-of_z p, to_z-of_z ql, to_z-of_z qh, e, f, ne_eqb x.shape 0 h)
 
 pub ruleset value-laws = (value-ordinal, value_set)
@@ -200,25 +200,25 @@ zero-only (pos n) h = ne_eqb n 0 (λ e. h (ap (λ k. of_z w64 (pos k)) e))
 zero-only (negsuc n) h = refl
 
 module _ (x : Info) (v : ℤ) (m : ℕ) (p : SFits w64 v) where
-  pub mark-defined : m ≡ 1 → (b : Bool) → b ≡ valueFits x (wire v) → b ≡ markFits x v m
-  unfolding markFits
+  pub mark-defined : m ≡ 1 → (b : Bool) → b ≡ value_fits x (wire v) → b ≡ mark_fits x v m
+  unfolding mark_fits
   mark-defined h b g = g ∙ rw (to_z-of_z p, h)
 
-  pub mark-undefined : m ≡ 0 → of_z w64 v ≡ 0 → true ≡ markFits x v m
-  unfolding markFits is_zero
+  pub mark-undefined : m ≡ 0 → of_z w64 v ≡ 0 → true ≡ mark_fits x v m
+  unfolding mark_fits is_zero
   mark-undefined h z = rw (h, zero_bits v p z)
 
-  pub mark-left : m ≡ 0 → ((of_z w64 v ≡ 0) → ⊥) → false ≡ markFits x v m
-  unfolding markFits
+  pub mark-left : m ≡ 0 → ((of_z w64 v ≡ 0) → ⊥) → false ≡ mark_fits x v m
+  unfolding mark_fits
   mark-left h z = rw (h, zero-only v z)
 
-  pub mark-other : ((m ≡ 1) → ⊥) → ((m ≡ 0) → ⊥) → false ≡ markFits x v m
-  unfolding markFits
+  pub mark-other : ((m ≡ 1) → ⊥) → ((m ≡ 0) → ⊥) → false ≡ mark_fits x v m
+  unfolding mark_fits
   mark-other h g = rw (ne_eqb m 0 g, ne_eqb m 1 h)
 
 pub ruleset mark-laws = (mark-defined, mark-undefined, mark-left, mark-other)
 
-pub passes-is : (l ts : List ℕ) (count newest c : ℕ) (v : ℤ) (m : ℕ) → SFits w64 v → (t : ℕ) → t ≡ cellType l ts count newest c → (x : Info) → x ≡ infoOf l ts t
-    → (b : Bool) → b ≡ markFits x (wire v) m → b ≡ cellPasses l ts count newest c v m
-unfolding cellPasses
+pub passes-is : (l ts : List ℕ) (count newest c : ℕ) (v : ℤ) (m : ℕ) → SFits w64 v → (t : ℕ) → t ≡ cell_type l ts count newest c → (x : Info) → x ≡ info_of l ts t
+    → (b : Bool) → b ≡ mark_fits x (wire v) m → b ≡ cell_passes l ts count newest c v m
+unfolding cell_passes
 passes-is l ts count newest c v m p t e x f b g = g ∙ rw (to_z-of_z p, f, e)

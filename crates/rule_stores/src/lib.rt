@@ -2,8 +2,8 @@
 ghost use Rattle.std.specs.Prelude.{◌≡◌, ◌+◌, ◌-◌, ◌%◌};
 ghost use Rattle.leaf_words.specs.Numbers.{signed};
 ghost use Rattle.table_names.specs.Chain.{entries};
-ghost use Rattle.rule_stores.specs.Cells.{cellBy, fieldCell, elementCell, innerCell, leafType, beginsBy, beginsAt, holder, cellType};
-ghost use Rattle.rule_stores.specs.Stores.{valueFits, markFits, cellPasses, StoreFault, Owner};
+ghost use Rattle.rule_stores.specs.Cells.{cell_by, field_cell, element_cell, inner_cell, leaf_type, begins_by, begins_at, holder, cell_type};
+ghost use Rattle.rule_stores.specs.Stores.{value_fits, mark_fits, cell_passes, StoreFault, Owner};
 
 use leaf_integers::in_range;
 use leaf_sets::lies_in;
@@ -21,7 +21,7 @@ pub struct Cell {
 
 // A cell from its parts.
 fn cell_by(kind: u32, place: u32) -> Cell
-    ensures { result ≡ cellBy kind place }
+    ensures { result ≡ cell_by kind place }
 {
     Cell {
         kind: kind,
@@ -31,7 +31,7 @@ fn cell_by(kind: u32, place: u32) -> Cell
 
 // A cell of the fields that stand after a description, as one of the field that has it.
 fn field_cell(work: &[u32], types: &[u32], place: u32, fields: u32, cell: u32) -> Cell
-    ensures { result ≡ fieldCell work.now types.now (place + 8) fields cell }
+    ensures { result ≡ field_cell work.now types.now (place + 8) fields cell }
 {
     let mut n = fields;
     let mut p = place as usize + 8;
@@ -51,7 +51,7 @@ fn field_cell(work: &[u32], types: &[u32], place: u32, fields: u32, cell: u32) -
 
 // A cell of an array, as one of its elements', which have so many cells.
 fn element_cell(kind: u32, cell: u32, size: u32) -> Cell
-    ensures { result ≡ elementCell kind cell size }
+    ensures { result ≡ element_cell kind cell size }
 {
     if size == 0 {
         return cell_by(kind, cell);
@@ -61,7 +61,7 @@ fn element_cell(kind: u32, cell: u32, size: u32) -> Cell
 
 // A cell of an array or a record that x describes, as one of its element's or a field's.
 fn inner_cell(work: &[u32], types: &[u32], x: Info, cell: u32) -> Cell
-    ensures { result ≡ innerCell work.now types.now x cell }
+    ensures { result ≡ inner_cell work.now types.now x cell }
 {
     if x.shape == 2 {
         let e = describe(work, types, x.element);
@@ -72,7 +72,7 @@ fn inner_cell(work: &[u32], types: &[u32], x: Info, cell: u32) -> Cell
 
 // The ordinal or set type of a cell of a type, at most so many types inside it.
 fn leaf_type(work: &[u32], types: &[u32], kind: u32, cell: u32, depth: u32) -> u32
-    ensures { result ≡ leafType depth work.now types.now kind cell }
+    ensures { result ≡ leaf_type depth work.now types.now kind cell }
 {
     if depth == 0 {
         return kind;
@@ -87,7 +87,7 @@ fn leaf_type(work: &[u32], types: &[u32], kind: u32, cell: u32, depth: u32) -> u
 
 // Whether an entry's second and third numbers are a variable's that begins at a cell or before it.
 fn begins_by(sort: u32, more: u32, cell: usize) -> bool
-    ensures { result ≡ beginsBy sort more cell }
+    ensures { result ≡ begins_by sort more cell }
 {
     if sort % 4 == 1 {
         let base = (more / TYPE_NUMBERS) as usize;
@@ -98,7 +98,7 @@ fn begins_by(sort: u32, more: u32, cell: usize) -> bool
 
 // Whether the entry at a place is such a variable's.
 fn begins_at(work: &[u32], place: u32, cell: usize) -> bool
-    ensures { result ≡ beginsAt work.now place cell }
+    ensures { result ≡ begins_at work.now place cell }
 {
     let p = place as usize;
     begins_by(at(work, p + 1), at(work, p + 2), cell)
@@ -139,7 +139,7 @@ const NESTED: u32 = MOST_TYPES as u32;
 
 // The ordinal or set type of a cell of the store.
 fn cell_type(work: &[u32], types: &[u32], st: State, cell: usize) -> u32
-    ensures { result ≡ cellType work.now types.now st.scope.count st.scope.newest cell }
+    ensures { result ≡ cell_type work.now types.now st.scope.count st.scope.newest cell }
 {
     let p = holder_of(work, st.scope.count, st.scope.newest, cell) as usize;
     let more = at(work, p + 2);
@@ -159,7 +159,7 @@ fn bound_of(n: u32) -> i64
 
 // Whether a value is one of the ordinal or set type that x describes.
 fn value_fits(x: Info, v: i64) -> bool
-    ensures { result ≡ valueFits x v }
+    ensures { result ≡ value_fits x v }
 {
     let lo = bound_of(x.low);
     let hi = bound_of(x.high);
@@ -171,7 +171,7 @@ fn value_fits(x: Info, v: i64) -> bool
 
 // Whether a cell is defined with a value of its type, or undefined with value 0.
 fn mark_fits(x: Info, v: i64, m: u8) -> bool
-    ensures { result ≡ markFits x v m }
+    ensures { result ≡ mark_fits x v m }
 {
     if m == 1 {
         return value_fits(x, v);
@@ -187,7 +187,7 @@ fn mark_fits(x: Info, v: i64, m: u8) -> bool
 
 // Whether row 11 finds no fault in a cell of the store.
 fn cell_passes(work: &[u32], types: &[u32], st: State, cell: usize, v: i64, m: u8) -> bool
-    ensures { result ≡ cellPasses work.now types.now st.scope.count st.scope.newest cell v m }
+    ensures { result ≡ cell_passes work.now types.now st.scope.count st.scope.newest cell v m }
 {
     let t = cell_type(work, types, st, cell);
     let x = describe(work, types, t);

@@ -12,43 +12,43 @@ use Rattle.law.specs.Code.{BodyCode}
 use Rattle.law.specs.Environment.{Declared}
 use Rattle.law.specs.Lines.{Line, lines_of}
 use Rattle.law.specs.Verdict as Meaning
-use Rattle.law.specs.Verdict.{Judged, good, bad, Read, has, accepted, refused, must, onward, strictly, judgeLine, judgeLines}
-use Rattle.text_lines.specs.Passes.{line_at, afterLine}
+use Rattle.law.specs.Verdict.{Judged, good, bad, Read, has, accepted, refused, must, onward, strictly, judge_line, judge_lines}
+use Rattle.text_lines.specs.Passes.{line_at, after_line}
 use Rattle.text_lines.proofs.Ties.{lines_cons, lines_at}
 use Rattle.rule_known.specs.declared.Known.{Known}
 use Rattle.rule_known.specs.declared.Judgement.{Judgement}
 use Rattle.rule_judge.specs.Judging.{Standing, JudgedBy, JudgesLine}
 use Rattle.rule_texts.specs.declared.Checked.{Checked}
-use Rattle.rule_texts.specs.Answers.{CheckedBy, ChecksLines, endsBy, refusedBy}
+use Rattle.rule_texts.specs.Answers.{CheckedBy, ChecksLines, ends_by, refused_by}
 
 -- ---- the next line is further on
 
-after-short : (b : ℕ) (s : List ℕ) → length (afterLine (b ∷ s)) ≤ length s
-unfolding afterLine
+after-short : (b : ℕ) (s : List ℕ) → length (after_line (b ∷ s)) ≤ length s
+unfolding after_line
 after-short b [] = go (eqb b 10)
   where
-    go : (t : Bool) → length (cond t [] (afterLine [])) ≤ 0
+    go : (t : Bool) → length (cond t [] (after_line [])) ≤ 0
     go true = omega arith
     go false = omega arith
 after-short b (c ∷ s) = more (eqb b 10) (after-short c s)
   where
-    more : (t : Bool) → length (afterLine (c ∷ s)) ≤ length s → length (cond t (c ∷ s) (afterLine (c ∷ s))) ≤ length (c ∷ s)
+    more : (t : Bool) → length (after_line (c ∷ s)) ≤ length s → length (cond t (c ∷ s) (after_line (c ∷ s))) ≤ length (c ∷ s)
     more true h = omega arith
     more false h = omega arith
 
-pub next-less : (s : List ℕ) (p q : ℕ) → p < length s → drop q s ≡ afterLine (drop p s) → length s - q < length s - p
+pub next-less : (s : List ℕ) (p q : ℕ) → p < length s → drop q s ≡ after_line (drop p s) → length s - q < length s - p
 next-less s p q h e =
     let f : drop p s ≡ get_or s p 0 ∷ drop (suc p) s = drop-cons s p 0 h in
     let a : length (drop q s) ≤ length (drop (suc p) s) = rw (e, f) (after-short (get_or s p 0) (drop (suc p) s)) in
     omega (arith, length-drop q s, length-drop (suc p) s)
 
-pub lines-here : (s : List ℕ) (p : ℕ) → p < length s → lines_of (drop p s) ≡ line_at (drop p s) ∷ lines_of (afterLine (drop p s))
+pub lines-here : (s : List ℕ) (p : ℕ) → p < length s → lines_of (drop p s) ≡ line_at (drop p s) ∷ lines_of (after_line (drop p s))
 lines-here s p h = let f : drop p s ≡ get_or s p 0 ∷ drop (suc p) s = drop-cons s p 0 h in rw f (lines_cons (get_or s p 0) (drop (suc p) s))
 
 -- ---- one line's answer
 
 line_refused : (s l ts : List ℕ) (r : Read) (J : Judged (Declared × List BodyCode)) (j : Judgement) (n : ℕ) (f : Declared × List BodyCode → Meaning.Verdict Read)
-    → JudgedBy s l ts r J j → ((j.refusal ≡ 0) → ⊥) → CheckedBy s l ts (onward J n f) (refusedBy j.refusal n j.known)
+    → JudgedBy s l ts r J j → ((j.refusal ≡ 0) → ⊥) → CheckedBy s l ts (onward J n f) (refused_by j.refusal n j.known)
 unfolding onward
 line_refused s l ts r (bad m) j n f h g = (h.0, refl, h.1)
 line_refused s l ts r (good p) j n f h g = absurd (g h.0)
@@ -58,10 +58,10 @@ record Next (s l ts : List ℕ) (kn : Known) (n : ℕ) (ls : List Line) (v : Mea
   read : Read
   places : List ℕ
   standing : Standing s l ts kn read places
-  same : v ≡ judgeLines strictly (suc n) ls read
+  same : v ≡ judge_lines strictly (suc n) ls read
 
 line-passed : (s l ts : List ℕ) (r : Read) (J : Judged (Declared × List BodyCode)) (j : Judgement) (n : ℕ) (ls : List Line)
-    → JudgedBy s l ts r J j → j.refusal ≡ 0 → Next s l ts j.known n ls (onward J n λ p. judgeLines strictly (suc n) ls (has p.0 (r.codes ++ p.1)))
+    → JudgedBy s l ts r J j → j.refusal ≡ 0 → Next s l ts j.known n ls (onward J n λ p. judge_lines strictly (suc n) ls (has p.0 (r.codes ++ p.1)))
 unfolding onward
 line-passed s l ts r (bad m) j n ls h g = absurd (omega (arith, h.0, h.1))
 line-passed s l ts r (good p) j n ls h g = record { read = has p.0 (r.codes ++ p.1); places = h.1; standing = h.2; same = refl }
@@ -73,7 +73,7 @@ pub record Left (s : List ℕ) (n p : ℕ) (kn : Known) (l ts : List ℕ) (r : R
   pub read : Read
   pub places : List ℕ
   pub standing : Standing s l ts kn read places
-  pub same : judgeLines strictly 1 (lines_of s) r ≡ judgeLines strictly n (lines_of (drop p s)) read
+  pub same : judge_lines strictly 1 (lines_of s) r ≡ judge_lines strictly n (lines_of (drop p s)) read
 
 pub record Going (s l₀ ts₀ : List ℕ) (kn₀ : Known) (n p : ℕ) (kn : Known) (l ts : List ℕ) : Type 0 where
   pub few : n ≤ p + 1
@@ -95,16 +95,16 @@ module _ (s l₀ ts₀ : List ℕ) (kn₀ : Known) (n p : ℕ) (kn : Known) (l t
 
   module _ (j : Judgement) (l' ts' : List ℕ) (h : p < length s) (L : JudgesLine s l ts kn p j l' ts') where
     pub drive-refuses : ((j.refusal ≡ 0) → ⊥) → ChecksLines s l₀ ts₀ kn₀ (record { refusal = j.refusal; line = n; known = j.known }) l' ts'
-    unfolding judgeLines
+    unfolding judge_lines
     drive-refuses g = record {
       says = λ r bs S.
           let K : Left s n p kn l ts r = G.left r bs S in
           rw (K.same, lines-here s p h)
-          (line_refused s l' ts' K.read (judgeLine strictly K.read.known (line_at (drop p s))) j n _ (L.says K.read K.places K.standing) g);
+          (line_refused s l' ts' K.read (judge_line strictly K.read.known (line_at (drop p s))) j n _ (L.says K.read K.places K.standing) g);
     }
 
-    pub drive-on : (q : ℕ) → j.refusal ≡ 0 → drop q s ≡ afterLine (drop p s) → length l' ≡ length l → length ts' ≡ length ts → Going s l₀ ts₀ kn₀ (n + 1) q j.known l' ts'
-    unfolding judgeLines
+    pub drive-on : (q : ℕ) → j.refusal ≡ 0 → drop q s ≡ after_line (drop p s) → length l' ≡ length l → length ts' ≡ length ts → Going s l₀ ts₀ kn₀ (n + 1) q j.known l' ts'
+    unfolding judge_lines
     drive-on q g e a b = record {
       few = let d = next-less s p q h e in omega (arith, G.few);
       as_long = a ∙ G.as_long;
@@ -112,26 +112,26 @@ module _ (s l₀ ts₀ : List ℕ) (kn₀ : Known) (n p : ℕ) (kn : Known) (l t
       left = λ r bs S.
           let K : Left s n p kn l ts r = G.left r bs S in
           let N : Next s l' ts' j.known n (lines_of (drop q s))
-          (onward (judgeLine strictly K.read.known (line_at (drop p s))) n λ x. judgeLines strictly (suc n) (lines_of (drop q s)) (has x.0 (K.read.codes ++ x.1)))
-          = line-passed s l' ts' K.read (judgeLine strictly K.read.known (line_at (drop p s))) j n (lines_of (drop q s)) (L.says K.read K.places K.standing) g in
+          (onward (judge_line strictly K.read.known (line_at (drop p s))) n λ x. judge_lines strictly (suc n) (lines_of (drop q s)) (has x.0 (K.read.codes ++ x.1)))
+          = line-passed s l' ts' K.read (judge_line strictly K.read.known (line_at (drop p s))) j n (lines_of (drop q s)) (L.says K.read K.places K.standing) g in
           record {
             read = N.read;
             places = N.places;
             standing = N.standing;
-            same = K.same ∙ ap (λ ls. judgeLines strictly n ls K.read) (lines_at s p q h e) ∙ N.same ∙ ap (λ k. judgeLines strictly k (lines_of (drop q s)) N.read) (sym (add-one n));
+            same = K.same ∙ ap (λ ls. judge_lines strictly n ls K.read) (lines_at s p q h e) ∙ N.same ∙ ap (λ k. judge_lines strictly k (lines_of (drop q s)) N.read) (sym (add-one n));
           };
     }
 
   -- after all lines
-  ends : (a b : Bool) (q : Read) (places : List ℕ) → Standing s l ts kn q places → a ≡ b → CheckedBy s l ts (onward (must 6 b) n λ _. accepted q) (endsBy a n kn)
+  ends : (a b : Bool) (q : Read) (places : List ℕ) → Standing s l ts kn q places → a ≡ b → CheckedBy s l ts (onward (must 6 b) n λ _. accepted q) (ends_by a n kn)
   unfolding onward must
   ends true true q places S e = (refl, places, S)
   ends true false q places S e = absurd (let z : ◌≡◌ {A = ℕ} 0 1 = cc in omega arith)
   ends false true q places S e = absurd (let z : ◌≡◌ {A = ℕ} 0 1 = cc in omega arith)
   ends false false q places S e = (refl, refl, omega arith)
 
-  pub drive-ends : (c : Checked) → length s ≤ p → c ≡ endsBy kn.ended n kn → ChecksLines s l₀ ts₀ kn₀ c l ts
-  unfolding judgeLines lines_of
+  pub drive-ends : (c : Checked) → length s ≤ p → c ≡ ends_by kn.ended n kn → ChecksLines s l₀ ts₀ kn₀ c l ts
+  unfolding judge_lines lines_of
   drive-ends c h e = record {
     says = λ r bs S.
         let K : Left s n p kn l ts r = G.left r bs S in

@@ -13,30 +13,30 @@ use lib.Seq.{drop_at, take_at, length_front, length-take-le}
 use Rattle.leaf_bytes.specs.declared.bytes.Class.{Class}
 use Rattle.leaf_bytes.specs.declared.bytes.Class.TheVariants.{Feed, Space, Open, Close, Visible, Refused}
 use Rattle.leaf_bytes.specs.Bytes.{class_of}
-use Rattle.law.specs.Environment.{nothingDeclared}
-use Rattle.code.specs.LayoutSize.{sizeBodies, sizeSymbols, sizeTypes}
-use Rattle.law.specs.Lines.{lines_of, refusedAt}
+use Rattle.law.specs.Environment.{nothing_declared}
+use Rattle.code.specs.LayoutSize.{size_bodies, size_symbols, size_types}
+use Rattle.law.specs.Lines.{lines_of, refused_at}
 use Rattle.law.specs.Verdict as Meaning
-use Rattle.law.specs.Verdict.{Fitting, Read, has, accepted, refused, opening, judge, judgeLines, strictly}
-use Rattle.law.specs.Whole.{verdictOf, workAfter}
+use Rattle.law.specs.Verdict.{Fitting, Read, has, accepted, refused, opening, judge, judge_lines, strictly}
+use Rattle.law.specs.Whole.{verdict_of, work_after}
 use Rattle.code.proofs.LayoutBodies.{no-bodies}
 use Rattle.code.proofs.LinesMeasured.{measured-start}
 use Rattle.code.proofs.TextRoom.{room-start}
 use Rattle.law_answers.specs.declared.Verdict.{Verdict}
 use Rattle.law_answers.specs.declared.Verdict.TheVariants as verdict
-use Rattle.law_answers.specs.Verdicts.{toldVerdict}
-use Rattle.text_lines.specs.Passes.{lineOr}
-use Rattle.rule_declarations.specs.State.{notes, startState}
+use Rattle.law_answers.specs.Verdicts.{told_verdict}
+use Rattle.text_lines.specs.Passes.{line_or}
+use Rattle.rule_declarations.specs.State.{notes, start_state}
 use Rattle.rule_declarations.proofs.Starting.{holds-start}
 use Rattle.rule_known.specs.declared.Known.{Known}
 use Rattle.rule_judge.specs.Judging.{Standing}
 use Rattle.rule_texts.specs.declared.Checked.{Checked}
-use Rattle.rule_texts.specs.Answers.{CheckedBy, ChecksLines, Checks, refusedBy, startKnown, toldBy}
+use Rattle.rule_texts.specs.Answers.{CheckedBy, ChecksLines, Checks, refused_by, start_known, told_by}
 
 -- before any line
 pub standing-start : (s l ts : List ℕ) → length s ≤ 32768 → 16384 ≤ length l → notes ≤ length ts → ((i : ℕ) → get_or ts i 0 ≡ 0)
-    → Standing s l ts startKnown (has nothingDeclared []) []
-unfolding startKnown startState sizeSymbols sizeTypes sizeBodies
+    → Standing s l ts start_known (has nothing_declared []) []
+unfolding start_known start_state size_symbols size_types size_bodies
 standing-start s l ts a b c h = record {
   holds = holds-start s l ts a b c h;
   stmts-are = refl;
@@ -51,18 +51,18 @@ standing-start s l ts a b c h = record {
 
 -- ---- row 3: a line's number is never 0
 
-line-number : (n : ℕ) (s : List ℕ) (m : ℕ) → 1 ≤ n → refusedAt n s ≡ some m → 1 ≤ m
-unfolding refusedAt
+line-number : (n : ℕ) (s : List ℕ) (m : ℕ) → 1 ≤ n → refused_at n s ≡ some m → 1 ≤ m
+unfolding refused_at
 line-number n [] m h e = absurd (let z : ◌≡◌ {A = ℕ} 0 1 = cc in omega arith)
 line-number n (b ∷ s) m h e = go (class_of b) (λ k i f. line-number k s m i f) e
   where
-    go : (k : Class) → ((k : ℕ) → 1 ≤ k → refusedAt k s ≡ some m → 1 ≤ m)
+    go : (k : Class) → ((k : ℕ) → 1 ≤ k → refused_at k s ≡ some m → 1 ≤ m)
         → elim k [
-          | Feed ↦ refusedAt (suc n) s
-          | Space ↦ refusedAt n s
-          | Open ↦ refusedAt n s
-          | Close ↦ refusedAt n s
-          | Visible ↦ refusedAt n s
+          | Feed ↦ refused_at (suc n) s
+          | Space ↦ refused_at n s
+          | Open ↦ refused_at n s
+          | Close ↦ refused_at n s
+          | Visible ↦ refused_at n s
           | Refused ↦ some n
         ] ≡ some m → 1 ≤ m
     go Feed f e = f (suc n) (omega arith) e
@@ -72,46 +72,46 @@ line-number n (b ∷ s) m h e = go (class_of b) (λ k i f. line-number k s m i f
     go Visible f e = f n h e
     go Refused f e = let d : n ≡ m = cc in omega arith
 
-pub none-refused : (s : List ℕ) → lineOr (refusedAt 1 s) ≡ 0 → refusedAt 1 s ≡ none
-none-refused s h = go (refusedAt 1 s) refl h
+pub none-refused : (s : List ℕ) → line_or (refused_at 1 s) ≡ 0 → refused_at 1 s ≡ none
+none-refused s h = go (refused_at 1 s) refl h
   where
-    go : (o : Option ℕ) → refusedAt 1 s ≡ o → lineOr o ≡ 0 → o ≡ none
+    go : (o : Option ℕ) → refused_at 1 s ≡ o → line_or o ≡ 0 → o ≡ none
     go none e h = refl
     go (some m) e h = absurd (let d = line-number 1 s m (omega arith) e in omega arith)
 
-pub some-refused : (s : List ℕ) → ((lineOr (refusedAt 1 s) ≡ 0) → ⊥) → refusedAt 1 s ≡ some (lineOr (refusedAt 1 s))
-some-refused s h = go (refusedAt 1 s) h
+pub some-refused : (s : List ℕ) → ((line_or (refused_at 1 s) ≡ 0) → ⊥) → refused_at 1 s ≡ some (line_or (refused_at 1 s))
+some-refused s h = go (refused_at 1 s) h
   where
-    go : (o : Option ℕ) → ((lineOr o ≡ 0) → ⊥) → o ≡ some (lineOr o)
+    go : (o : Option ℕ) → ((line_or o ≡ 0) → ⊥) → o ≡ some (line_or o)
     go none h = absurd (h refl)
     go (some m) h = refl
 
 -- ---- the rows in their order
 
 module _ (s l ts : List ℕ) (c : Checked) where
-  pub check-bench : length l < 16384 → c ≡ refusedBy 1 0 startKnown → Checks s l ts c l ts
-  unfolding verdictOf judge opening
+  pub check-bench : length l < 16384 → c ≡ refused_by 1 0 start_known → Checks s l ts c l ts
+  unfolding verdict_of judge opening
   check-bench h e = record { says = λ _ _. rw (e, lt-leb 16384 (length l) h) (refl, refl, omega arith) }
 
   module _ (g : 16384 ≤ length l) where
-    pub check-length : 32768 < length s → c ≡ refusedBy 2 0 startKnown → Checks s l ts c l ts
-    unfolding verdictOf judge opening
+    pub check-length : 32768 < length s → c ≡ refused_by 2 0 start_known → Checks s l ts c l ts
+    unfolding verdict_of judge opening
     check-length h e = record { says = λ _ _. rw (e, le-leb 16384 (length l) g, lt-leb (length s) 32768 h) (refl, refl, omega arith) }
 
-    module _ (h : length s ≤ 32768) (n : ℕ) (f : n ≡ lineOr (refusedAt 1 s)) where
-      pub check-byte : ((n ≡ 0) → ⊥) → c ≡ refusedBy 3 n startKnown → Checks s l ts c l ts
-      unfolding verdictOf judge opening
+    module _ (h : length s ≤ 32768) (n : ℕ) (f : n ≡ line_or (refused_at 1 s)) where
+      pub check-byte : ((n ≡ 0) → ⊥) → c ≡ refused_by 3 n start_known → Checks s l ts c l ts
+      unfolding verdict_of judge opening
       check-byte i e = record {
         says = λ _ _.
             rw (e, le-leb 16384 (length l) g, le-leb (length s) 32768 h, some-refused s (λ z. i (f ∙ z))) (refl, f, omega arith);
       }
 
-      pub check-rest : (kn : Known) (l' ts' : List ℕ) → n ≡ 0 → kn ≡ startKnown → ChecksLines s l ts kn c l' ts' → Checks s l ts c l' ts'
-      unfolding verdictOf judge opening
+      pub check-rest : (kn : Known) (l' ts' : List ℕ) → n ≡ 0 → kn ≡ start_known → ChecksLines s l ts kn c l' ts' → Checks s l ts c l' ts'
+      unfolding verdict_of judge opening
       check-rest kn l' ts' i k C = record {
         says = λ a z.
-            let S : Standing s l ts kn (has nothingDeclared []) [] = rw k (standing-start s l ts h g a z) in
-            rw (le-leb 16384 (length l) g, le-leb (length s) 32768 h, none-refused s (sym f ∙ i)) (C.says (has nothingDeclared []) [] S);
+            let S : Standing s l ts kn (has nothing_declared []) [] = rw k (standing-start s l ts h g a z) in
+            rw (le-leb 16384 (length l) g, le-leb (length s) 32768 h, none-refused s (sym f ∙ i)) (C.says (has nothing_declared []) [] S);
       }
 
 pub ruleset check-laws = (check-bench, check-length, check-byte, check-rest)
@@ -123,8 +123,8 @@ zeros zero i = refl
 zeros (suc n) zero = refl
 zeros (suc n) (suc i) = zeros n i
 
-told_is : (s l ts : List ℕ) (v : Meaning.Verdict Read) (c : Checked) → CheckedBy s l ts v c → toldBy c ≡ toldVerdict v
-unfolding toldVerdict
+told_is : (s l ts : List ℕ) (v : Meaning.Verdict Read) (c : Checked) → CheckedBy s l ts v c → told_by c ≡ told_verdict v
+unfolding told_verdict
 told_is s l ts (accepted q) c h = rw (eq-eqb c.refusal 0 h.0)
 told_is s l ts (refused m n) c h = rw (ne_eqb c.refusal 0 (λ e. omega (arith, h.0, h.2)), h.0, h.1)
 
@@ -146,13 +146,13 @@ judged-same fitting s n = go (leb 16384 n) refl
     go true e = let i : min 16384 n ≡ 16384 = min-eq_left (leb-true 16384 n e) in rw (i, e) refl
     go false e = let i : n < 16384 = leb-false 16384 n e in let k : min 16384 n ≡ n = omega arith in rw k refl
 
-pub verdict-same : (s : List ℕ) (n : ℕ) → verdictOf s (min 16384 n) ≡ verdictOf s n
-unfolding verdictOf
+pub verdict-same : (s : List ℕ) (n : ℕ) → verdict_of s (min 16384 n) ≡ verdict_of s n
+unfolding verdict_of
 verdict-same s n = judged-same strictly s n
 
 -- and the others stay
-pub after_same : (l l' : List ℕ) (n : ℕ) → n ≡ min 16384 (length l) → length l' ≡ length (take n l) → workAfter (l' ++ drop n l) ≡ workAfter l
-unfolding workAfter
+pub after_same : (l l' : List ℕ) (n : ℕ) → n ≡ min 16384 (length l) → length l' ≡ length (take n l) → work_after (l' ++ drop n l) ≡ work_after l
+unfolding work_after
 after_same l l' n i e = go (leb 16384 (length l)) refl
   where
     long : length (l' ++ drop n l) ≡ length l
@@ -169,13 +169,13 @@ after_same l l' n i e = go (leb 16384 (length l)) refl
         rw (long, drop_of_length-le (l' ++ drop n l) {i = 16384} (omega (arith, long)), drop_of_length-le l {i = 16384} (omega arith)) refl
 
 module _ (s l : List ℕ) (n : ℕ) (i : n ≡ min 16384 (length l)) (c : Checked) (l' ts' : List ℕ) where
-  pub verdict-told : (r : Verdict) → Checks s (take n l) (replicate notes 0) c l' ts' → r ≡ toldBy c → r ≡ toldVerdict (verdictOf s (length l))
+  pub verdict-told : (r : Verdict) → Checks s (take n l) (replicate notes 0) c l' ts' → r ≡ told_by c → r ≡ told_verdict (verdict_of s (length l))
   verdict-told r C e =
       let k : length (take n l) ≡ min 16384 (length l) = sym (part-long l n i) ∙ i in
-      let v : verdictOf s (length (take n l)) ≡ verdictOf s (length l) = ap (λ m. verdictOf s m) k ∙ verdict-same s (length l) in
-      e ∙ told_is s l' ts' (verdictOf s (length (take n l))) c (C.says (omega arith) (zeros notes)) ∙ ap toldVerdict v
+      let v : verdict_of s (length (take n l)) ≡ verdict_of s (length l) = ap (λ m. verdict_of s m) k ∙ verdict-same s (length l) in
+      e ∙ told_is s l' ts' (verdict_of s (length (take n l))) c (C.says (omega arith) (zeros notes)) ∙ ap told_verdict v
 
-  pub verdict-clears : (l'' : List ℕ) → length l' ≡ length (take n l) → l'' ≡ workAfter (l' ++ drop n l) → l'' ≡ workAfter l
+  pub verdict-clears : (l'' : List ℕ) → length l' ≡ length (take n l) → l'' ≡ work_after (l' ++ drop n l) → l'' ≡ work_after l
   verdict-clears l'' e f = f ∙ after_same l l' n i e
 
 pub ruleset verdict-laws = (verdict-told, verdict-clears)

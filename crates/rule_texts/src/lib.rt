@@ -1,8 +1,8 @@
 // A whole text: rows 1 to 9 in their order, and the verdict.
 ghost use Rattle.std.specs.Prelude.{◌≡◌, ◌≤◌, min, length};
-ghost use Rattle.law.specs.Whole.{verdictOf, workAfter};
-ghost use Rattle.law_answers.specs.Verdicts.{toldVerdict};
-ghost use Rattle.rule_texts.specs.Answers.{ChecksLines, Checks, endsBy, refusedBy, startKnown, toldBy};
+ghost use Rattle.law.specs.Whole.{verdict_of, work_after};
+ghost use Rattle.law_answers.specs.Verdicts.{told_verdict};
+ghost use Rattle.rule_texts.specs.Answers.{ChecksLines, Checks, ends_by, refused_by, start_known, told_by};
 
 use law_answers::Verdict;
 pub use rule_declarations::MOST_CELLS;
@@ -23,7 +23,7 @@ pub struct Checked {
 
 // What is known before any line.
 pub fn nothing_known() -> Known
-    ensures { result ≡ startKnown }
+    ensures { result ≡ start_known }
 {
     let state = start_state();
     Known {
@@ -37,7 +37,7 @@ pub fn nothing_known() -> Known
 
 // A refusal of the text before its lines are judged.
 pub fn refusal(number: u32, line: usize) -> Checked
-    ensures { result ≡ refusedBy number line startKnown }
+    ensures { result ≡ refused_by number line start_known }
 {
     Checked {
         refusal: number,
@@ -48,7 +48,7 @@ pub fn refusal(number: u32, line: usize) -> Checked
 
 // The answer after all lines, where n is one past the last: `main` must have come.
 pub fn at_end(n: usize, known: Known) -> Checked
-    ensures { result ≡ endsBy known.ended n known }
+    ensures { result ≡ ends_by known.ended n known }
 {
     if known.ended {
         return Checked {
@@ -107,7 +107,7 @@ pub fn check(text: &[u8], work: &mut [u32], types: &mut [u32]) -> Checked
 
 // The verdict that an answer holds.
 fn told(c: Checked) -> Verdict
-    ensures { result ≡ toldBy c }
+    ensures { result ≡ told_by c }
 {
     if c.refusal == 0 {
         return Verdict::Accepted;
@@ -127,7 +127,7 @@ pub fn working(n: usize) -> usize
 
 // The verdict on a text, and the working list left as document 01 says.
 pub fn verdict_of(text: &[u8], work: &mut [u32]) -> Verdict
-    ensures { (result ≡ toldVerdict (verdictOf text.now (length work.old))) × (work.new ≡ workAfter work.old) }
+    ensures { (result ≡ told_verdict (verdict_of text.now (length work.old))) × (work.new ≡ work_after work.old) }
 {
     let mut types = [0; NOTES];
     let n = working(work.len());

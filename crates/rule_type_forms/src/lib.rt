@@ -1,9 +1,9 @@
 // `type` lines, by what stands for their type.
 ghost use Rattle.law.specs.Forms.{is_type};
 ghost use Rattle.law.specs.Trees.{first};
-ghost use Rattle.law_theorems.specs.Readings.{stackAt};
+ghost use Rattle.law_theorems.specs.Readings.{stack_at};
 ghost use Rattle.rule_declarations.specs.Lines.{line_of, GivesLine};
-ghost use Rattle.rule_type_forms.specs.Shapes.{makerBy, GivesForm, GivesAfter};
+ghost use Rattle.rule_type_forms.specs.Shapes.{maker_by, GivesForm, GivesAfter};
 ghost use Rattle.rule_type_lines.specs.TypeLines.{GivesMade};
 
 use rule_declarations::{Lined, Naming, State, answered, name_at};
@@ -25,7 +25,7 @@ fn made_line(
     at: usize,
     m: Maker,
 ) -> Lined
-    ensures { GivesMade text.now work.old types.old st p at (makerBy m (first (stackAt text.now at))) result work.new types.new }
+    ensures { GivesMade text.now work.old types.old st p at (maker_by m (first (stack_at text.now at))) result work.new types.new }
 {
     match m {
         Maker::Enum => enum_line(text, work, types, st, p, at),
@@ -77,7 +77,7 @@ fn type_after(
 
 // A `type` line, past its head word.
 pub fn type_line(text: &[u8], work: &mut [u32], types: &mut [u32], st: State, at: usize) -> Lined
-    ensures { GivesLine text.now work.old types.old st (line_of is_type 0 (first (stackAt text.now at))) result work.new types.new }
+    ensures { GivesLine text.now work.old types.old st (line_of is_type 0 (first (stack_at text.now at))) result work.new types.new }
 {
     let n = name_at(text, at);
     match n {

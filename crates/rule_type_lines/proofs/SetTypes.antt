@@ -12,62 +12,62 @@ use lib.IntN.{ℤ, pos, negsuc}
 use lib.Signed.{le_z}
 use Rattle.leaf_integers.specs.Integers.{least, most}
 use Rattle.law.specs.Base.{Name, ◌>>=◌, given}
-use Rattle.law.specs.Ceilings.{typeBounded}
-use Rattle.law.specs.Environment.{Declared, Environment, typeSortOf}
+use Rattle.law.specs.Ceilings.{type_bounded}
+use Rattle.law.specs.Environment.{Declared, Environment, type_sort_of}
 use Rattle.code.specs.Layout.{bits}
-use Rattle.law.specs.Names.{type_of, isKnown, newNames, declOf, entry_of}
-use Rattle.law.specs.Rules.{keepsRules, keptDecl}
-use Rattle.law.specs.Script.{Decl, Entry, newType, setOf}
-use Rattle.rule_stages.specs.Stages.{Staged, wrong, unnamed, unfit, fits, ruled, staged, onFits, unknown}
+use Rattle.law.specs.Names.{type_of, is_known, new_names, decl_of, entry_of}
+use Rattle.law.specs.Rules.{keeps_rules, kept_decl}
+use Rattle.law.specs.Script.{Decl, Entry, new_type, set_of}
+use Rattle.rule_stages.specs.Stages.{Staged, wrong, unnamed, unfit, fits, ruled, staged, on_fits, unknown}
 use Rattle.law.specs.Syntax as Syntax
-use Rattle.law.specs.Syntax.{TypeName, TypeForm, typeLine}
+use Rattle.law.specs.Syntax.{TypeName, TypeForm, type_line}
 use Rattle.law.specs.Trees.{Trees, Run, first}
-use Rattle.law_theorems.specs.Readings.{stackAt}
-use Rattle.law.specs.Types.{infoAt, ordinal?}
+use Rattle.law_theorems.specs.Readings.{stack_at}
+use Rattle.law.specs.Types.{info_at, ordinal?}
 use Rattle.rule_faults.specs.declared.Fault.{Fault}
 use Rattle.rule_faults.specs.declared.Fault.TheVariants.{Clear, Kind, Form}
 use Rattle.rule_faults.specs.declared.Fault.TheVariants as fault
 use Rattle.table_scope.specs.declared.Info.{Info}
-use Rattle.table_scope.specs.Descriptions.{infoOf, shapeNumber}
+use Rattle.table_scope.specs.Descriptions.{info_of, shape_number}
 use Rattle.table_scope.proofs.Telling.{shape-ordinal, low_told, high-told}
-use Rattle.rule_faults.specs.Got.{isForm, lowest, faultOf}
-use Rattle.text_heads.specs.Parts.{rest, closed, typeNameIn}
+use Rattle.rule_faults.specs.Got.{is_form, lowest, fault_of}
+use Rattle.text_heads.specs.Parts.{rest, closed, type_name_in}
 use Rattle.text_heads.proofs.Walks.{bind-cong, bind_assoc}
 use Rattle.rule_atoms.specs.declared.Typed.{Typed}
-use Rattle.rule_atoms.specs.Contracts.{TypeTold}
+use Rattle.rule_atoms.specs.Answering.{TypeTold}
 use Rattle.rule_atoms.proofs.Telling.{fits-inj, unfit-fits, wrong-fits, unnamed-fits}
-use Rattle.rule_declarations.specs.Names.{lastType, GivesLastType}
-use Rattle.rule_declarations.specs.Lines.{entryStaged, newly}
+use Rattle.rule_declarations.specs.Names.{last_type, GivesLastType}
+use Rattle.rule_declarations.specs.Lines.{entry_staged, newly}
 use Rattle.rule_type_lines.specs.TypeLines.{simple-set, GivesShape}
-use Rattle.rule_type_lines.specs.Simple.{setIn, baseFits, ordinalFault}
+use Rattle.rule_type_lines.specs.Simple.{set_in, base_fits, ordinal_fault}
 use Rattle.rule_declarations.specs.declared.State.{State}
 use Rattle.rule_declarations.proofs.VarLines.{closed-map, one-staged}
 
 -- ---- small functions
 
-pub is-ordinal : (n : ℕ) → n ≡ 0 → Clear ≡ ordinalFault n
-unfolding ordinalFault
+pub is-ordinal : (n : ℕ) → n ≡ 0 → Clear ≡ ordinal_fault n
+unfolding ordinal_fault
 is-ordinal n e = rw (eq-eqb n 0 e) refl
 
-pub no-ordinal : (n : ℕ) → ((n ≡ 0) → ⊥) → Kind ≡ ordinalFault n
-unfolding ordinalFault
+pub no-ordinal : (n : ℕ) → ((n ≡ 0) → ⊥) → Kind ≡ ordinal_fault n
+unfolding ordinal_fault
 no-ordinal n e = rw (ne_eqb n 0 e) refl
 
 pub ruleset ordinal-laws = (is-ordinal, no-ordinal)
 
-pub base-low : (a b : ℕ) → a < 2147483648 → leb b 31 ≡ baseFits a b
-unfolding baseFits
+pub base-low : (a b : ℕ) → a < 2147483648 → leb b 31 ≡ base_fits a b
+unfolding base_fits
 base-low a b h = rw (lt-ltb a 2147483648 h) refl
 
-pub base-high : (a b : ℕ) → 2147483648 ≤ a → false ≡ baseFits a b
-unfolding baseFits
+pub base-high : (a b : ℕ) → 2147483648 ≤ a → false ≡ base_fits a b
+unfolding base_fits
 base-high a b h = rw (le-ltb a 2147483648 h) refl
 
 pub ruleset base-laws = (base-low, base-high)
 
 -- bounds in 32 bits, of a type whose bounds are integers in their order
-pub base-is : (a b : ℤ) → le_z least a ≡ true → le_z b most ≡ true → le_z a b ≡ true → baseFits (bits a) (bits b) ≡ (le_z (pos 0) a && le_z b (pos 31))
-unfolding baseFits bits
+pub base-is : (a b : ℤ) → le_z least a ≡ true → le_z b most ≡ true → le_z a b ≡ true → base_fits (bits a) (bits b) ≡ (le_z (pos 0) a && le_z b (pos 31))
+unfolding base_fits bits
 base-is (pos a) (pos b) x y z = let l = leb-true b 2147483647 y in let m = leb-true a b z in rw (lt-ltb a 2147483648 (omega arith), le-leb 0 a (omega arith)) refl
 base-is (pos a) (negsuc b) x y z = absurd (false≢true z)
 base-is (negsuc a) b x y z = let l = leb-true a 2147483647 x in rw (le-ltb (4294967295 - a) 2147483648 (omega arith)) refl
@@ -79,39 +79,39 @@ unfolding ◌>>=◌
 map-map none f g = refl
 map-map (some a) f g = refl
 
-set_last : (us : Trees Run) → setIn us ≡ (lastType us >>= λ (t : TypeName). some (Syntax.setOf t))
-unfolding setIn lastType
+set_last : (us : Trees Run) → set_in us ≡ (last_type us >>= λ (t : TypeName). some (Syntax.set_of t))
+unfolding set_in last_type
 set_last us =
-    bind-cong (typeNameIn us) (λ (t : TypeName). sym (closed-map (λ (x : TypeName). Syntax.setOf x) (rest us) t))
-    ∙ sym (bind_assoc (typeNameIn us) (λ (t : TypeName). closed (rest us) t) (λ (t : TypeName). some (Syntax.setOf t)))
+    bind-cong (type_name_in us) (λ (t : TypeName). sym (closed-map (λ (x : TypeName). Syntax.set_of x) (rest us) t))
+    ∙ sym (bind_assoc (type_name_in us) (λ (t : TypeName). closed (rest us) t) (λ (t : TypeName). some (Syntax.set_of t)))
 
-set-entry : (σ : Environment) (w : Name) (t : TypeName) → entry_of σ (typeLine w (Syntax.setOf t)) ≡ (type_of σ t >>= λ (n : ℕ). given (newNames σ (w ∷ [])) (newType w (setOf n)))
-unfolding entry_of declOf ◌>>=◌ given
-set-entry σ w t = go (type_of σ t) (newNames σ (w ∷ []))
+set-entry : (σ : Environment) (w : Name) (t : TypeName) → entry_of σ (type_line w (Syntax.set_of t)) ≡ (type_of σ t >>= λ (n : ℕ). given (new_names σ (w ∷ [])) (new_type w (set_of n)))
+unfolding entry_of decl_of ◌>>=◌ given
+set-entry σ w t = go (type_of σ t) (new_names σ (w ∷ []))
   where
-    go : (o : Option ℕ) (b : Bool) → ((o >>= λ (n : ℕ). given b (setOf n)) >>= λ (d : Decl). some (newType w d)) ≡ (o >>= λ (n : ℕ). given b (newType w (setOf n)))
+    go : (o : Option ℕ) (b : Bool) → ((o >>= λ (n : ℕ). given b (set_of n)) >>= λ (d : Decl). some (new_type w d)) ≡ (o >>= λ (n : ℕ). given b (new_type w (set_of n)))
     go none b = refl
     go (some n) true = refl
     go (some n) false = refl
 
 module _ (k : Declared) (T : Staged ℕ) where
-  abbrev setStage : Staged Decl
-  setStage = onFits T (λ (n : ℕ). ruled (ordinal? k.env.types n) (some (setOf n)))
+  abbrev set_stage : Staged Decl
+  set_stage = on_fits T (λ (n : ℕ). ruled (ordinal? k.env.types n) (some (set_of n)))
 
-  set-newly : (w : Name) (b : Bool) → newly b T (λ (n : ℕ). ruled (keepsRules k.env.types (newType w (setOf n))) (some (newType w (setOf n)))) ≡ newly b setStage (λ (d : Decl). fits (newType w d))
-  unfolding newly onFits unknown ruled keepsRules keptDecl
+  set-newly : (w : Name) (b : Bool) → newly b T (λ (n : ℕ). ruled (keeps_rules k.env.types (new_type w (set_of n))) (some (new_type w (set_of n)))) ≡ newly b set_stage (λ (d : Decl). fits (new_type w d))
+  unfolding newly on_fits unknown ruled keeps_rules kept_decl
   set-newly w b = go T b
     where
-      known-last : (n : ℕ) (t : Bool) → ◌≡◌ {A = Staged Entry} unnamed (unknown (ruled t (some (setOf n))))
+      known-last : (n : ℕ) (t : Bool) → ◌≡◌ {A = Staged Entry} unnamed (unknown (ruled t (some (set_of n))))
       known-last n true = refl
       known-last n false = refl
 
-      new-last : (n : ℕ) (t : Bool) → ruled t (some (newType w (setOf n))) ≡ onFits (ruled t (some (setOf n))) (λ (d : Decl). fits (newType w d))
+      new-last : (n : ℕ) (t : Bool) → ruled t (some (new_type w (set_of n))) ≡ on_fits (ruled t (some (set_of n))) (λ (d : Decl). fits (new_type w d))
       new-last n true = refl
       new-last n false = refl
 
-      go : (T : Staged ℕ) (b : Bool) → newly b T (λ (n : ℕ). ruled (keepsRules k.env.types (newType w (setOf n))) (some (newType w (setOf n))))
-          ≡ newly b (onFits T (λ (n : ℕ). ruled (ordinal? k.env.types n) (some (setOf n)))) (λ (d : Decl). fits (newType w d))
+      go : (T : Staged ℕ) (b : Bool) → newly b T (λ (n : ℕ). ruled (keeps_rules k.env.types (new_type w (set_of n))) (some (new_type w (set_of n))))
+          ≡ newly b (on_fits T (λ (n : ℕ). ruled (ordinal? k.env.types n) (some (set_of n)))) (λ (d : Decl). fits (new_type w d))
       go wrong true = refl
       go wrong false = refl
       go unnamed true = refl
@@ -121,30 +121,30 @@ module _ (k : Declared) (T : Staged ℕ) where
       go (fits n) true = known-last n (ordinal? k.env.types n)
       go (fits n) false = new-last n (ordinal? k.env.types n)
 
-  set-made : (d : Decl) → setStage ≡ fits d → (n : ℕ) × (T ≡ fits n) × (ordinal? k.env.types n ≡ true) × (setOf n ≡ d)
-  unfolding onFits ruled
+  set-made : (d : Decl) → set_stage ≡ fits d → (n : ℕ) × (T ≡ fits n) × (ordinal? k.env.types n ≡ true) × (set_of n ≡ d)
+  unfolding on_fits ruled
   set-made d h = go T h
     where
-      last : (n : ℕ) (t : Bool) → ordinal? k.env.types n ≡ t → ruled t (some (setOf n)) ≡ fits d → (m : ℕ) × (fits n ≡ fits m) × (ordinal? k.env.types m ≡ true) × (setOf m ≡ d)
+      last : (n : ℕ) (t : Bool) → ordinal? k.env.types n ≡ t → ruled t (some (set_of n)) ≡ fits d → (m : ℕ) × (fits n ≡ fits m) × (ordinal? k.env.types m ≡ true) × (set_of m ≡ d)
       last n true e g = (n, refl, e, fits-inj g)
       last n false e g = unfit-fits g
 
-      go : (T : Staged ℕ) → onFits T (λ (n : ℕ). ruled (ordinal? k.env.types n) (some (setOf n))) ≡ fits d → (n : ℕ) × (T ≡ fits n) × (ordinal? k.env.types n ≡ true) × (setOf n ≡ d)
+      go : (T : Staged ℕ) → on_fits T (λ (n : ℕ). ruled (ordinal? k.env.types n) (some (set_of n))) ≡ fits d → (n : ℕ) × (T ≡ fits n) × (ordinal? k.env.types n ≡ true) × (set_of n ≡ d)
       go wrong g = wrong-fits g
       go unnamed g = unnamed-fits g
       go unfit g = unfit-fits g
       go (fits n) g = last n (ordinal? k.env.types n) refl g
 
-  set-fault : (v : Fault) → ((n : ℕ) → T ≡ fits n → v ≡ cond (ordinal? k.env.types n) Clear Kind) → (v ≡ Clear) ⊎ (v ≡ Kind) → lowest (faultOf T) v ≡ faultOf setStage
-  unfolding onFits ruled
+  set-fault : (v : Fault) → ((n : ℕ) → T ≡ fits n → v ≡ cond (ordinal? k.env.types n) Clear Kind) → (v ≡ Clear) ⊎ (v ≡ Kind) → lowest (fault_of T) v ≡ fault_of set_stage
+  unfolding on_fits ruled
   set-fault v h c = go T h c
     where
-      last : (t : Bool) (n : ℕ) → cond t Clear Kind ≡ faultOf (ruled t (some (setOf n)))
+      last : (t : Bool) (n : ℕ) → cond t Clear Kind ≡ fault_of (ruled t (some (set_of n)))
       last true n = refl
       last false n = refl
 
       go : (T : Staged ℕ) → ((n : ℕ) → T ≡ fits n → v ≡ cond (ordinal? k.env.types n) Clear Kind) → (v ≡ Clear) ⊎ (v ≡ Kind)
-          → lowest (faultOf T) v ≡ faultOf (onFits T (λ (n : ℕ). ruled (ordinal? k.env.types n) (some (setOf n))))
+          → lowest (fault_of T) v ≡ fault_of (on_fits T (λ (n : ℕ). ruled (ordinal? k.env.types n) (some (set_of n))))
       go wrong g c = refl
       go unnamed g (inl e) = rw e refl
       go unnamed g (inr e) = rw e refl
@@ -152,15 +152,15 @@ module _ (k : Declared) (T : Staged ℕ) where
       go unfit g (inr e) = rw e refl
       go (fits n) g c = g n refl ∙ last (ordinal? k.env.types n) n
 
-pub two-faults : (n : ℕ) → (ordinalFault n ≡ Clear) ⊎ (ordinalFault n ≡ Kind)
-unfolding ordinalFault
+pub two-faults : (n : ℕ) → (ordinal_fault n ≡ Clear) ⊎ (ordinal_fault n ≡ Kind)
+unfolding ordinal_fault
 two-faults n = go (eqb n 0)
   where
     go : (b : Bool) → (cond b Clear Kind ≡ Clear) ⊎ (cond b Clear Kind ≡ Kind)
     go true = inl refl
     go false = inr refl
 
-pub lowest-form : (f g : Fault) → isForm (lowest f g) ≡ false → isForm f ≡ false
+pub lowest-form : (f g : Fault) → is_form (lowest f g) ≡ false → is_form f ≡ false
 lowest-form Clear g h = refl
 lowest-form Kind g h = refl
 lowest-form fault.Name g h = refl
@@ -169,29 +169,29 @@ lowest-form Form g h = h
 -- ---- `set_of`
 
 pub set_is : (s l ts : List ℕ) (st : State) (at : ℕ) (t : Typed) → GivesLastType s l st.scope at t → (f : Fault) → f ≡ t.fault
-    → (x : Info) → x ≡ infoOf l ts t.kind → (o : Fault) → o ≡ ordinalFault x.shape → (v : Fault) → v ≡ lowest f o → (b : Bool) → b ≡ baseFits x.low x.high
-    → GivesShape s l ts st at (setIn (first (stackAt s at)))
+    → (x : Info) → x ≡ info_of l ts t.kind → (o : Fault) → o ≡ ordinal_fault x.shape → (v : Fault) → v ≡ lowest f o → (b : Bool) → b ≡ base_fits x.low x.high
+    → GivesShape s l ts st at (set_in (first (stack_at s at)))
     (record { fault = v; info = record { shape = 1; host = 0; low = x.low; high = x.high; size = 1; index = 0; element = t.kind; fields = 0; place = 0 }; within = b; next = t.next })
-unfolding shapeNumber typeSortOf typeBounded ordinalFault
+unfolding shape_number type_sort_of type_bounded ordinal_fault
 set_is s l ts st at t G f e x hx o ho v hv b hb = record {
-  goes = λ q. G.goes (ap isForm (sym e) ∙ lowest-form f o (ap isForm (sym hv) ∙ q));
+  goes = λ q. G.goes (ap is_form (sym e) ∙ lowest-form f o (ap is_form (sym hv) ∙ q));
   says = λ k bs H.
-      let T : Staged ℕ = staged (lastType (first (stackAt s at))) (type_of k.env) (λ _. true) some in
+      let T : Staged ℕ = staged (last_type (first (stack_at s at))) (type_of k.env) (λ _. true) some in
       let D : TypeTold T t = G.says ts st.top k.env bs H.scene in
       record {
-        stage = setStage k T;
+        stage = set_stage k T;
         stage_is = λ w.
-            ap (λ (u : Option TypeForm). entryStaged k (u >>= λ (z : TypeForm). some (typeLine w z))) (set_last (first (stackAt s at)))
-            ∙ ap (entryStaged k) (map-map (lastType (first (stackAt s at))) (λ (z : TypeName). Syntax.setOf z) (λ (z : TypeForm). typeLine w z))
-            ∙ one-staged k w (λ (z : TypeName). typeLine w (Syntax.setOf z)) (λ (n : ℕ). newType w (setOf n)) (set-entry k.env w) (lastType (first (stackAt s at)))
-            ∙ set-newly k T w (isKnown k.env w);
+            ap (λ (u : Option TypeForm). entry_staged k (u >>= λ (z : TypeForm). some (type_line w z))) (set_last (first (stack_at s at)))
+            ∙ ap (entry_staged k) (map-map (last_type (first (stack_at s at))) (λ (z : TypeName). Syntax.set_of z) (λ (z : TypeForm). type_line w z))
+            ∙ one-staged k w (λ (z : TypeName). type_line w (Syntax.set_of z)) (λ (n : ℕ). new_type w (set_of n)) (set-entry k.env w) (last_type (first (stack_at s at)))
+            ∙ set-newly k T w (is_known k.env w);
         fault-is =
             hv ∙ ap (λ (z : Fault). lowest z o) (e ∙ D.fault-is)
-            ∙ set-fault k T o (λ n q. ho ∙ ap (λ (z : Info). ordinalFault z.shape) (hx ∙ ap (infoOf l ts) (D.kind-is n q)) ∙ ap (λ (z : Bool). cond z Clear Kind) (shape-ordinal H.scene n)) (subst (λ (z : Fault). (z ≡ Clear) ⊎ (z ≡ Kind)) (sym ho) (two-faults x.shape));
+            ∙ set-fault k T o (λ n q. ho ∙ ap (λ (z : Info). ordinal_fault z.shape) (hx ∙ ap (info_of l ts) (D.kind-is n q)) ∙ ap (λ (z : Bool). cond z Clear Kind) (shape-ordinal H.scene n)) (subst (λ (z : Fault). (z ≡ Clear) ⊎ (z ≡ Kind)) (sym ho) (two-faults x.shape));
         made = λ d q.
             let m = set-made k T d q in
             let n : t.kind ≡ m.0 = D.kind-is m.0 m.1 in
-            let y : x ≡ infoOf l ts m.0 = hx ∙ ap (infoOf l ts) n in
+            let y : x ≡ info_of l ts m.0 = hx ∙ ap (info_of l ts) n in
             let S = H.scene.table.each m.0 in
             rw (← m.3) (
               simple-set,
@@ -206,8 +206,8 @@ set_is s l ts st at t G f e x hx o ho v hv b hb = record {
                 fields-is = refl;
                 no_fields = refl;
               },
-              hb ∙ ap (λ (z : Info). baseFits z.low z.high) y ∙ rw (low_told H.scene m.0, high-told H.scene m.0)
-                  (base-is (infoAt k.env.types m.0).low (infoAt k.env.types m.0).high (S.small m.2).0 (S.small m.2).1 (S.filled m.2)),
+              hb ∙ ap (λ (z : Info). base_fits z.low z.high) y ∙ rw (low_told H.scene m.0, high-told H.scene m.0)
+                  (base-is (info_at k.env.types m.0).low (info_at k.env.types m.0).high (S.small m.2).0 (S.small m.2).1 (S.filled m.2)),
             );
       };
 }

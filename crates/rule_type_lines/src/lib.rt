@@ -6,7 +6,7 @@ pub mod simple;
 ghost use Rattle.std.specs.Prelude.{◌≡◌};
 ghost use Rattle.code.specs.Layout.{lay as laid};
 ghost use Rattle.table_list.specs.Laid.{Laid};
-ghost use Rattle.rule_type_lines.specs.TypeLines.{linesFit, typeEntry, infoNumbers, typeState, AddsAlias, GivesAlias, LaysType, AddsType, EndFault, GivesShaped};
+ghost use Rattle.rule_type_lines.specs.TypeLines.{lines_fit, type_entry, info_numbers, type_state, AddsAlias, GivesAlias, LaysType, AddsType, EndFault, GivesShaped};
 
 use rule_declarations::{
     Lined, MOST_TYPE_LINES, State, answered, last_type, named_fault, with_names, with_type_line,
@@ -30,7 +30,7 @@ pub struct Shaped {
 
 // Whether a line is within the ceilings of row 9, where its type is or is not; so many `type` lines came before.
 pub fn lines_fit(lines: u32, within: bool) -> bool
-    ensures { result ≡ linesFit lines within }
+    ensures { result ≡ lines_fit lines within }
 {
     if lines < MOST_TYPE_LINES {
         return within;
@@ -40,7 +40,7 @@ pub fn lines_fit(lines: u32, within: bool) -> bool
 
 // What is held after a line with so many names, the last at `newest`, and so many new types.
 pub fn type_state(st: State, names: u32, newest: u32, made: u32, top: u32) -> State
-    ensures { result ≡ typeState st names newest made top }
+    ensures { result ≡ type_state st names newest made top }
 {
     let named = with_names(st, names, newest, top);
     with_type_line(named, made)
@@ -48,7 +48,7 @@ pub fn type_state(st: State, names: u32, newest: u32, made: u32, top: u32) -> St
 
 // Lays the entry of a type, by its name's number; the free place then.
 pub fn lay_name(work: &mut [u32], st: State, name: u32, number: u32) -> u32
-    ensures { Laid (laid (typeEntry st name number) st.top work.old) result work.new }
+    ensures { Laid (laid (type_entry st name number) st.top work.old) result work.new }
 {
     let sort = 4 * (number % TYPE_NUMBERS);
     declare(work, st.top, name, sort, 0, st.scope.newest)
@@ -56,7 +56,7 @@ pub fn lay_name(work: &mut [u32], st: State, name: u32, number: u32) -> u32
 
 // Lays a description without fields; the free place then.
 pub fn lay_info(work: &mut [u32], top: u32, x: Info) -> u32
-    ensures { Laid (laid (infoNumbers x) top work.old) result work.new }
+    ensures { Laid (laid (info_numbers x) top work.old) result work.new }
 {
     let ns = [
         x.shape, x.host, x.low, x.high, x.size, x.index, x.element, x.fields,

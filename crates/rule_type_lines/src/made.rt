@@ -1,8 +1,8 @@
 // `type` lines whose type is a set, an array or a range.
 ghost use Rattle.law.specs.Trees.{first};
-ghost use Rattle.law_theorems.specs.Readings.{stackAt};
+ghost use Rattle.law_theorems.specs.Readings.{stack_at};
 ghost use Rattle.rule_type_lines.specs.TypeLines.{GivesMade};
-ghost use Rattle.rule_type_lines.specs.Simple.{setIn, arrayIn, rangeIn};
+ghost use Rattle.rule_type_lines.specs.Simple.{set_in, array_in, range_in};
 
 use crate::ranges::range_of;
 use crate::shaped_line;
@@ -18,7 +18,7 @@ pub fn set_line(
     p: usize,
     at: usize,
 ) -> Lined
-    ensures { GivesMade text.now work.old types.old st p at (setIn (first (stackAt text.now at))) result work.new types.new }
+    ensures { GivesMade text.now work.old types.old st p at (set_in (first (stack_at text.now at))) result work.new types.new }
 {
     let g = set_of(text, work, types, st, at);
     shaped_line(text, work, types, st, p, g)
@@ -33,7 +33,7 @@ pub fn array_line(
     p: usize,
     at: usize,
 ) -> Lined
-    ensures { GivesMade text.now work.old types.old st p at (arrayIn (first (stackAt text.now at))) result work.new types.new }
+    ensures { GivesMade text.now work.old types.old st p at (array_in (first (stack_at text.now at))) result work.new types.new }
 {
     let g = array_of(text, work, types, st, at);
     shaped_line(text, work, types, st, p, g)
@@ -48,7 +48,7 @@ pub fn range_line(
     p: usize,
     at: usize,
 ) -> Lined
-    ensures { GivesMade text.now work.old types.old st p at (rangeIn (first (stackAt text.now at))) result work.new types.new }
+    ensures { GivesMade text.now work.old types.old st p at (range_in (first (stack_at text.now at))) result work.new types.new }
 {
     let g = range_of(text, work, types, st, at);
     shaped_line(text, work, types, st, p, g)

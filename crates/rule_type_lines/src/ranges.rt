@@ -1,12 +1,12 @@
 // The form of a range.
 ghost use Rattle.std.specs.Prelude.{◌≡◌};
 ghost use Rattle.law.specs.Trees.{first};
-ghost use Rattle.law_theorems.specs.Readings.{stackAt};
-ghost use Rattle.rule_atoms.specs.Answers.{valued as valuedBy};
+ghost use Rattle.law_theorems.specs.Readings.{stack_at};
+ghost use Rattle.rule_atoms.specs.Answers.{valued as valued_by};
 ghost use Rattle.rule_declarations.specs.Names.{GivesLastConstant};
 ghost use Rattle.rule_type_lines.specs.TypeLines.{GivesShape};
-ghost use Rattle.rule_type_lines.specs.Simple.{rangeIn};
-ghost use Rattle.rule_type_lines.specs.Ranges.{IsBits, flippedOf, rangeFault, GivesRange};
+ghost use Rattle.rule_type_lines.specs.Simple.{range_in};
+ghost use Rattle.rule_type_lines.specs.Ranges.{IsBits, flipped_of, range_fault, GivesRange};
 
 use crate::Shaped;
 use crate::simple::no_shape;
@@ -20,7 +20,7 @@ use text_parts::{End, end_at};
 
 // An answer for a constant from its parts.
 fn value_answer(fault: Fault, kind: u32, value: i64, next: usize) -> Valued
-    ensures { result ≡ valuedBy fault kind value next }
+    ensures { result ≡ valued_by fault kind value next }
 {
     Valued {
         fault: fault,
@@ -48,7 +48,7 @@ pub fn last_constant(text: &[u8], work: &[u32], scope: Scope, at: usize) -> Valu
 
 // The bits of a negative number, from the number n for -(n + 1).
 fn flipped(m: Num) -> u32
-    ensures { result ≡ flippedOf m }
+    ensures { result ≡ flipped_of m }
 {
     match m {
         Num::Value(v) => 4294967295 - pattern(v),
@@ -68,7 +68,7 @@ fn bits_of(z: i64) -> u32
 
 // Row 8 where two constants are no bounds of a range.
 fn range_fault(a: u32, y: i64, b: u32, z: i64) -> Fault
-    ensures { result ≡ rangeFault a y b z }
+    ensures { result ≡ range_fault a y b z }
 {
     if a == b {
         if y <= z {
@@ -97,7 +97,7 @@ fn range_shape(f: Fault, g: Fault, a: u32, y: i64, b: u32, z: i64, next: usize) 
 
 // The form of a range, past its head word.
 pub fn range_of(text: &[u8], work: &[u32], types: &[u32], st: State, at: usize) -> Shaped
-    ensures { GivesShape text.now work.now types.now st at (rangeIn (first (stackAt text.now at))) result }
+    ensures { GivesShape text.now work.now types.now st at (range_in (first (stack_at text.now at))) result }
 {
     let a = constant(text, work, st.scope, at);
     let f = a.fault;

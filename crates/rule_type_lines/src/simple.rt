@@ -1,9 +1,9 @@
 // The forms of types with one name and one description: sets, arrays and ranges.
 ghost use Rattle.std.specs.Prelude.{◌≡◌, ◌+◌, ◌*◌, ◌%◌};
 ghost use Rattle.law.specs.Trees.{first};
-ghost use Rattle.law_theorems.specs.Readings.{stackAt};
+ghost use Rattle.law_theorems.specs.Readings.{stack_at};
 ghost use Rattle.rule_type_lines.specs.TypeLines.{GivesShape};
-ghost use Rattle.rule_type_lines.specs.Simple.{setIn, arrayIn, baseFits, ordinalFault, span_of, arrayFits, no_shape, arrayShaped};
+ghost use Rattle.rule_type_lines.specs.Simple.{set_in, array_in, base_fits, ordinal_fault, span_of, array_fits, no_shape, array_shaped};
 
 use crate::Shaped;
 use rule_atoms::type_name;
@@ -13,7 +13,7 @@ use table_scope::{Info, describe, no_info};
 
 // Row 8 where a type is no ordinal, by the number of its shape.
 fn ordinal_fault(shape: u32) -> Fault
-    ensures { result ≡ ordinalFault shape }
+    ensures { result ≡ ordinal_fault shape }
 {
     if shape == 0 {
         return Fault::Clear;
@@ -26,7 +26,7 @@ const LAST_MEMBER: u32 = 31;
 
 // Whether a set's base lies in 0 to 31, by its bounds in 32 bits.
 fn base_fits(low: u32, high: u32) -> bool
-    ensures { result ≡ baseFits low high }
+    ensures { result ≡ base_fits low high }
 {
     if low < 2147483648 {
         return high <= LAST_MEMBER;
@@ -36,7 +36,7 @@ fn base_fits(low: u32, high: u32) -> bool
 
 // The form of a set, past its head word.
 pub fn set_of(text: &[u8], work: &[u32], types: &[u32], st: State, at: usize) -> Shaped
-    ensures { GivesShape text.now work.now types.now st at (setIn (first (stackAt text.now at))) result }
+    ensures { GivesShape text.now work.now types.now st at (set_in (first (stack_at text.now at))) result }
 {
     let t = last_type(text, work, st.scope, at);
     let f = t.fault;
@@ -83,7 +83,7 @@ fn cells_in(span: u32, size: u32) -> u32
 
 // Whether an array with so many indices after its first, and elements of so many cells, is within the ceilings of row 9.
 fn array_fits(span: u32, size: u32) -> bool
-    ensures { result ≡ arrayFits span size }
+    ensures { result ≡ array_fits span size }
 {
     if span < MOST_INDICES {
         return cells_in(span, size) <= MOST_CELLS;
@@ -106,7 +106,7 @@ pub fn no_shape(next: usize) -> Shaped
 
 // An array from the faults, descriptions and numbers of its index and element types.
 fn array_shape(f: Fault, g: Fault, x: Info, y: Info, i: u32, e: u32, next: usize) -> Shaped
-    ensures { result ≡ arrayShaped f g x y i e next }
+    ensures { result ≡ array_shaped f g x y i e next }
 {
     let fault = lowest(lowest(f, g), ordinal_fault(x.shape));
     let span = span_of(x.low, x.high);
@@ -133,7 +133,7 @@ fn array_shape(f: Fault, g: Fault, x: Info, y: Info, i: u32, e: u32, next: usize
 
 // The form of an array, past its head word.
 pub fn array_of(text: &[u8], work: &[u32], types: &[u32], st: State, at: usize) -> Shaped
-    ensures { GivesShape text.now work.now types.now st at (arrayIn (first (stackAt text.now at))) result }
+    ensures { GivesShape text.now work.now types.now st at (array_in (first (stack_at text.now at))) result }
 {
     let i = type_name(text, work, st.scope, at);
     let f = i.fault;

@@ -1,4 +1,4 @@
--- The emitter's numbers (run_nodes, spanCode; run_emit, spanAct) are a measure of code (code, Measure): an accepted text's code has room for them.
+-- The emitter's numbers (run_nodes, span_code; run_emit, span_act) are a measure of code (code, Measure): an accepted text's code has room for them.
 use mathlib.Core.Path.{◌≡◌, refl}
 use mathlib.Core.List.{List, [], ◌∷◌}
 use mathlib.Core.Logic.{◌⊎◌, inl, inr}
@@ -7,8 +7,8 @@ use native.Mathlib.Omega.{arith}
 use lib.ListN.{length}
 use Rattle.law.specs.Code.{Acts, stop, ◌also◌, BodyCode}
 use Rattle.code.proofs.Measure.{Measure, total}
-use Rattle.run_nodes.specs.Emitted.{indicesIn, membersIn, spanCode, spanMembers, spanPlace}
-use Rattle.run_emit.specs.Spans.{spanAct, spanActs, spanBody, spanCases, spanLabels}
+use Rattle.run_nodes.specs.Emitted.{indices_in, members_in, span_code, span_members, span_place}
+use Rattle.run_emit.specs.Spans.{span_act, span_acts, span_body, span_cases, span_labels}
 use Rattle.run_fit.proofs.Sums.{sum_of}
 
 -- 1 where there is a statement: its link in a chain of the layout leaves 2 over
@@ -17,16 +17,16 @@ more stop = 0
 more (a also bs) = 1
 
 unfoldable pub spans : Measure
-unfolding indicesIn membersIn spanCode spanPlace spanAct spanLabels more
+unfolding indices_in members_in span_code span_place span_act span_labels more
 spans = record {
-  code = spanCode;
-  place = spanPlace;
-  codes = λ cs. membersIn cs + spanMembers cs;
-  arguments = λ cs. membersIn cs + spanMembers cs;
-  labels = spanLabels;
-  act = spanAct;
-  acts = λ bs. spanActs bs + more bs;
-  cases = spanCases;
+  code = span_code;
+  place = span_place;
+  codes = λ cs. members_in cs + span_members cs;
+  arguments = λ cs. members_in cs + span_members cs;
+  labels = span_labels;
+  act = span_act;
+  acts = λ bs. span_acts bs + more bs;
+  cases = span_cases;
   of-literal = λ z. omega arith;
   of_number = omega arith;
   of-set = λ lo hi cs. omega arith;
@@ -64,33 +64,33 @@ spans = record {
 }
 
 -- a list of statements takes nothing, or less than its measure
-acts-spare : (bs : Acts) → (spanActs bs + more bs ≡ 0) ⊎ (more bs ≡ 1)
-unfolding spanAct more
+acts-spare : (bs : Acts) → (span_acts bs + more bs ≡ 0) ⊎ (more bs ≡ 1)
+unfolding span_act more
 acts-spare stop = inl refl
 acts-spare (a also bs) = inr refl
 
 -- place 0 is left free: bodies with a statement take less than their measure, those without take 8 each
-pub spare : (bs : List BodyCode) → (sum_of spanBody bs ≡ 8 * length bs) ⊎ (sum_of spanBody bs < total spans bs)
-unfolding sum_of total spans spanBody
+pub spare : (bs : List BodyCode) → (sum_of span_body bs ≡ 8 * length bs) ⊎ (sum_of span_body bs < total spans bs)
+unfolding sum_of total spans span_body
 spare [] = inl refl
 spare (b ∷ bs) = go (acts-spare b.acts) (acts-spare b.handler) (spare bs) (within bs)
   where
-    within : (cs : List BodyCode) → sum_of spanBody cs ≤ total spans cs
+    within : (cs : List BodyCode) → sum_of span_body cs ≤ total spans cs
     within [] = omega arith
     within (c ∷ cs) = omega (arith, within cs)
 
-    go : (spanActs b.acts + more b.acts ≡ 0) ⊎ (more b.acts ≡ 1) → (spanActs b.handler + more b.handler ≡ 0) ⊎ (more b.handler ≡ 1)
-        → (sum_of spanBody bs ≡ 8 * length bs) ⊎ (sum_of spanBody bs < total spans bs) → sum_of spanBody bs ≤ total spans bs
-        → (sum_of spanBody (b ∷ bs) ≡ 8 * length (b ∷ bs)) ⊎ (sum_of spanBody (b ∷ bs) < total spans (b ∷ bs))
+    go : (span_acts b.acts + more b.acts ≡ 0) ⊎ (more b.acts ≡ 1) → (span_acts b.handler + more b.handler ≡ 0) ⊎ (more b.handler ≡ 1)
+        → (sum_of span_body bs ≡ 8 * length bs) ⊎ (sum_of span_body bs < total spans bs) → sum_of span_body bs ≤ total spans bs
+        → (sum_of span_body (b ∷ bs) ≡ 8 * length (b ∷ bs)) ⊎ (sum_of span_body (b ∷ bs) < total spans (b ∷ bs))
     go (inl h) (inl g) (inl k) w = inl (omega (arith, h, g, k))
     go (inl h) (inl g) (inr k) w = inr (omega (arith, k))
     go (inl h) (inr g) k w = inr (omega (arith, g, w))
     go (inr h) g k w = inr (omega (arith, h, w))
 
 -- so at most 33 bodies whose measure is within 16384 take at most 16383
-pub spans_fit : (bs : List BodyCode) → length bs ≤ 33 → total spans bs ≤ 16384 → sum_of spanBody bs ≤ 16383
+pub spans_fit : (bs : List BodyCode) → length bs ≤ 33 → total spans bs ≤ 16384 → sum_of span_body bs ≤ 16383
 spans_fit bs few t = go (spare bs)
   where
-    go : (sum_of spanBody bs ≡ 8 * length bs) ⊎ (sum_of spanBody bs < total spans bs) → sum_of spanBody bs ≤ 16383
+    go : (sum_of span_body bs ≡ 8 * length bs) ⊎ (sum_of span_body bs < total spans bs) → sum_of span_body bs ≤ 16383
     go (inl h) = omega (arith, h, few)
     go (inr h) = omega (arith, h, t)

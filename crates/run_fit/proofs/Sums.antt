@@ -6,11 +6,11 @@ use native.Mathlib.Omega.{arith}
 use lib.ListN.{get_or, length}
 use Rattle.law.specs.Code.{BodyCode}
 use Rattle.code.specs.Readback.{read_body}
-use Rattle.code.proofs.ForLoops.{forsBodies}
+use Rattle.code.proofs.ForLoops.{fors_bodies}
 use Rattle.run_linear.specs.BodyLoops.{loops}
-use Rattle.run_emit.specs.Spans.{spanBody}
-use Rattle.run_emit.specs.Whole.{spanBodies}
-use Rattle.run_fit.specs.Fit.{loopsIn}
+use Rattle.run_emit.specs.Spans.{span_body}
+use Rattle.run_emit.specs.Whole.{span_bodies}
+use Rattle.run_fit.specs.Fit.{loops_in}
 
 unfoldable pub sum_of : (BodyCode → ℕ) → List BodyCode → ℕ
 sum_of f [] = 0
@@ -38,20 +38,20 @@ sum-up g other (b ∷ bs) at f h =
 
 module _ (l places : List ℕ) where
   -- body number k, as it is read back
-  abbrev pub readAt : ℕ → BodyCode
-  readAt k = read_body 16384 l (get_or places k 0)
+  abbrev pub read_at : ℕ → BodyCode
+  read_at k = read_body 16384 l (get_or places k 0)
 
-  pub spans-up : (n : ℕ) → spanBodies l places n ≡ up_to readAt spanBody n
-  unfolding spanBodies up_to
+  pub spans-up : (n : ℕ) → span_bodies l places n ≡ up_to read_at span_body n
+  unfolding span_bodies up_to
   spans-up zero = refl
   spans-up (suc n) = rw (spans-up n)
 
-  pub loops-up : (n : ℕ) → loopsIn l places n ≡ up_to readAt loops n
-  unfolding loopsIn up_to
+  pub loops-up : (n : ℕ) → loops_in l places n ≡ up_to read_at loops n
+  unfolding loops_in up_to
   loops-up zero = refl
   loops-up (suc n) = rw (loops-up n)
 
-pub fors-sum : (bs : List BodyCode) → forsBodies bs ≡ sum_of loops bs
-unfolding forsBodies sum_of
+pub fors-sum : (bs : List BodyCode) → fors_bodies bs ≡ sum_of loops bs
+unfolding fors_bodies sum_of
 fors-sum [] = refl
 fors-sum (b ∷ bs) = rw (fors-sum bs)

@@ -11,11 +11,11 @@ use lib.Seq.{take_at}
 use Rattle.rule_declarations.specs.State.{notes}
 use Rattle.code.specs.ListMachine.{called}
 use Rattle.law.specs.Machine.{Answer, State, state}
-use Rattle.law.specs.Store.{faultOf, storeFault}
+use Rattle.law.specs.Store.{fault_of, store_fault}
 use Rattle.law.specs.Verdict as Meaning
 use Rattle.law.specs.Verdict.{Read, accepted, refused}
 use Rattle.law.specs.Whole as Whole
-use Rattle.law.specs.Whole.{refusal, ran, reported, report, fresh, lent, onStore, unless, runAll, run_of, verdictOf}
+use Rattle.law.specs.Whole.{refusal, ran, reported, report, fresh, lent, on_store, unless, run_all, run_of, verdict_of}
 use Rattle.code.proofs.Texts as Demand3
 use Rattle.law_theorems.specs.StatementsNoted.{Notes}
 use Rattle.law_theorems.proofs.LinesCover.{text-covered}
@@ -23,8 +23,8 @@ use Rattle.code.proofs.LinesMeasured.{text-measured}
 use Rattle.law_answers.specs.declared.Answer.{Answer as Told}
 use Rattle.law_answers.specs.declared.Report.{Report}
 use Rattle.law_answers.specs.declared.Report.TheVariants.{Refused, Ran}
-use Rattle.law_answers.specs.RunReports.{outcomeOf, endingOf, Reports}
-use Rattle.rule_stores.specs.Stores.{StoreFault, rowNumber}
+use Rattle.law_answers.specs.RunReports.{outcome_of, ending_of, Reports}
+use Rattle.rule_stores.specs.Stores.{StoreFault, row_number}
 use Rattle.rule_known.specs.declared.Known.{Known}
 use Rattle.rule_judge.specs.Judging.{Standing}
 use Rattle.code_store.specs.Answers.{Answers}
@@ -39,33 +39,33 @@ use Rattle.rule_texts.proofs.Texts.{verdict-same, part-long, zeros}
 
 module _ (l ts : List ℕ) (kn : Known) (vs : List ℤ) (ms : List ℕ) (budget f : ℕ) (F : StoreFault l ts kn.state vs ms f) where
   pub loaded-refused : (r : Report) → ((f ≡ 0) → ⊥) → r ≡ Refused f 0 → RunsLoaded l ts kn vs ms budget r vs ms
-  unfolding onStore lent rowNumber endingOf
+  unfolding on_store lent row_number ending_of
   loaded-refused r ne e = record {
     says = λ s work q bs long acc S.
-        go q (storeFault q.known.env.types q.known.cells vs ms) refl (F.says s q.known bs S.holds (text-covered s work q acc));
+        go q (store_fault q.known.env.types q.known.cells vs ms) refl (F.says s q.known bs S.holds (text-covered s work q acc));
   }
     where
-      go : (q : Read) (o : Option ℕ) → storeFault q.known.env.types q.known.cells vs ms ≡ o → f ≡ rowNumber o → Reports (onStore q.known (runAll q.codes []) vs ms budget) r vs ms
+      go : (q : Read) (o : Option ℕ) → store_fault q.known.env.types q.known.cells vs ms ≡ o → f ≡ row_number o → Reports (on_store q.known (run_all q.codes []) vs ms budget) r vs ms
       go q none h z = absurd (ne z)
       go q (some n) h z = rw (h, e) (record { ending = rw z refl; values = refl; marks = refl })
 
   pub loaded-run : (a : Told) (r : Report) (vs' : List ℤ) (ms' : List ℕ) → f ≡ 0 → Running l kn.main vs ms budget a vs' ms' → r ≡ Ran a → RunsLoaded l ts kn vs ms budget r vs' ms'
-  unfolding onStore lent rowNumber endingOf report storeFault
+  unfolding on_store lent row_number ending_of report store_fault
   loaded-run a r vs' ms' zero_row R e = record {
     says = λ s work q bs long acc S.
         let c = S.holds.cells_are in let d = S.holds.few-cells in
-        go q (storeFault q.known.env.types q.known.cells vs ms) refl (F.says s q.known bs S.holds (text-covered s work q acc)) λ none_is.
+        go q (store_fault q.known.env.types q.known.cells vs ms) refl (F.says s q.known bs S.holds (text-covered s work q acc)) λ none_is.
         let m = S.main-is (text-measured s work q acc).1 in
         let long : length l ≡ 16384 = omega (arith, S.holds.long-list) in
-        let runs : called 33 l kn.main ≡ runAll q.codes [] = ap (called 33 l) m ∙ Demand3.held-runs s work q acc l bs S.bodies 33 (Demand3.body-count s work q acc).1 in
+        let runs : called 33 l kn.main ≡ run_all q.codes [] = ap (called 33 l) m ∙ Demand3.held-runs s work q acc l bs S.bodies 33 (Demand3.body-count s work q acc).1 in
         let A = R.says long bs (text-fits s work q acc l bs long S.bodies kn.main m) (subst Notes (sym runs) (Demand3.statement-noted s work q acc))
         (lent-store q.known.env.types S.holds.scene.table q.known.cells vs ms (omega arith) none_is) in
         subst (λ (x : State → Answer). Answers (x (state (fresh vs ms) budget)) (length vs) budget a vs' ms') runs A;
   }
     where
-      go : (q : Read) (o : Option ℕ) → storeFault q.known.env.types q.known.cells vs ms ≡ o → f ≡ rowNumber o
-          → (storeFault q.known.env.types q.known.cells vs ms ≡ none → Answers (runAll q.codes [] (state (fresh vs ms) budget)) (length vs) budget a vs' ms')
-          → Reports (onStore q.known (runAll q.codes []) vs ms budget) r vs' ms'
+      go : (q : Read) (o : Option ℕ) → store_fault q.known.env.types q.known.cells vs ms ≡ o → f ≡ row_number o
+          → (store_fault q.known.env.types q.known.cells vs ms ≡ none → Answers (run_all q.codes [] (state (fresh vs ms) budget)) (length vs) budget a vs' ms')
+          → Reports (on_store q.known (run_all q.codes []) vs ms budget) r vs' ms'
       go q none h z k =
           let A = k h in
           rw (h, e) (record { ending = rw (A.outcome, A.steps) refl; values = A.values; marks = A.marks })
@@ -75,19 +75,19 @@ pub ruleset loaded-laws = (loaded-refused, loaded-run)
 
 module _ (l ts : List ℕ) (c : Checked) (vs : List ℤ) (ms : List ℕ) (budget : ℕ) where
   pub checked_refused : (r : Report) → ((c.refusal ≡ 0) → ⊥) → r ≡ Refused c.refusal c.line → RunsChecked l ts c vs ms budget r vs ms
-  unfolding unless endingOf
-  checked_refused r ne e = record { says = λ s work long C. go s (verdictOf s work) C }
+  unfolding unless ending_of
+  checked_refused r ne e = record { says = λ s work long C. go s (verdict_of s work) C }
     where
-      go : (s : List ℕ) (v : Meaning.Verdict Read) → CheckedBy s l ts v c → Reports (unless v vs ms λ q. onStore q.known (runAll q.codes []) vs ms budget) r vs ms
+      go : (s : List ℕ) (v : Meaning.Verdict Read) → CheckedBy s l ts v c → Reports (unless v vs ms λ q. on_store q.known (run_all q.codes []) vs ms budget) r vs ms
       go s (accepted q) C = absurd (ne C.0)
       go s (refused m n) C = rw e (record { ending = rw (C.0, C.1) refl; values = refl; marks = refl })
 
   pub checked-run : (r : Report) (vs' : List ℤ) (ms' : List ℕ) → c.refusal ≡ 0 → RunsLoaded l ts c.known vs ms budget r vs' ms' → RunsChecked l ts c vs ms budget r vs' ms'
   unfolding unless
-  checked-run r vs' ms' h R = record { says = λ s work long C. go s work long (verdictOf s work) refl C }
+  checked-run r vs' ms' h R = record { says = λ s work long C. go s work long (verdict_of s work) refl C }
     where
-      go : (s : List ℕ) (work : ℕ) → length l ≤ 16384 → (v : Meaning.Verdict Read) → verdictOf s work ≡ v → CheckedBy s l ts v c
-          → Reports (unless v vs ms λ q. onStore q.known (runAll q.codes []) vs ms budget) r vs' ms'
+      go : (s : List ℕ) (work : ℕ) → length l ≤ 16384 → (v : Meaning.Verdict Read) → verdict_of s work ≡ v → CheckedBy s l ts v c
+          → Reports (unless v vs ms λ q. on_store q.known (run_all q.codes []) vs ms budget) r vs' ms'
       go s work long (accepted q) e C = R.says s work q C.1 long e C.2
       go s work long (refused m n) e C = absurd (omega (arith, C.0, C.2))
 
@@ -102,6 +102,6 @@ module _ (s l : List ℕ) (n : ℕ) (i : n ≡ min 16384 (length l)) (c : Checke
   run-told r vs' ms' C e R =
       let k : n ≡ length (take n l) = part-long l n i in
       let front : take n (l' ++ drop n l) ≡ l' = take_at l' (drop n l) n (e ∙ sym k) in
-      let v : verdictOf s (length (take n l)) ≡ verdictOf s (length l) = ap (λ m. verdictOf s m) (sym k ∙ i) ∙ verdict-same s (length l) in
-      let D : CheckedBy s l' ts' (verdictOf s (length l)) c = subst (λ (x : Meaning.Verdict Read). CheckedBy s l' ts' x c) v (C.says (omega arith) (zeros notes)) in
+      let v : verdict_of s (length (take n l)) ≡ verdict_of s (length l) = ap (λ m. verdict_of s m) (sym k ∙ i) ∙ verdict-same s (length l) in
+      let D : CheckedBy s l' ts' (verdict_of s (length l)) c = subst (λ (x : Meaning.Verdict Read). CheckedBy s l' ts' x c) v (C.says (omega arith) (zeros notes)) in
       (rw front at R).says s (length l) (omega arith) D

@@ -1,6 +1,6 @@
 // A run: the text is checked, the lent store tested, and the code run over it.
 ghost use Rattle.std.specs.Prelude.{◌≡◌, length};
-ghost use Rattle.law.specs.Whole.{run_of, workAfter};
+ghost use Rattle.law.specs.Whole.{run_of, work_after};
 ghost use Rattle.law_answers.specs.RunReports.{Reports};
 ghost use Rattle.run_texts.specs.Running.{RunsLoaded, RunsChecked};
 
@@ -58,7 +58,7 @@ pub fn run(
     marks: &mut [u8],
     budget: u32,
 ) -> Report
-    ensures { Reports (run_of text.now (length work.old) values.old marks.old budget) result values.new marks.new × (work.new ≡ workAfter work.old) }
+    ensures { Reports (run_of text.now (length work.old) values.old marks.old budget) result values.new marks.new × (work.new ≡ work_after work.old) }
 {
     let mut types = [0; NOTES];
     let n = working(work.len());

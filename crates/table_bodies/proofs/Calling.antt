@@ -8,10 +8,10 @@ use lib.ListN.{length, get_or, get_or-append}
 use lib.Seq.{get_or_at}
 use Rattle.leaf_integers.proofs.Order.{le-or-lt}
 use Rattle.law.specs.Environment.{PlacedBody}
-use Rattle.law.specs.Code.{noFrame}
-use Rattle.law.specs.Machine.{Proc, answer, normal, proc, procedureAt}
-use Rattle.law.specs.Whole.{markBody, markAll}
-use Rattle.table_bodies.specs.Procedures.{procsOf}
+use Rattle.law.specs.Code.{no_frame}
+use Rattle.law.specs.Machine.{Proc, answer, normal, proc, procedure_at}
+use Rattle.law.specs.Whole.{mark_body, mark_all}
+use Rattle.table_bodies.specs.Procedures.{procs_of}
 
 module _ {A : Type 0} (d : A) where
   pub length-snoc : (l : List A) (x : A) → length (l ++ (x ∷ [])) ≡ suc (length l)
@@ -29,42 +29,42 @@ module _ {A : Type 0} (d : A) where
 module _ (none : PlacedBody) (pbs : List PlacedBody) where
   -- what stands for no procedure
   abbrev nobody : Proc
-  nobody = proc noFrame (answer normal)
+  nobody = proc no_frame (answer normal)
 
   -- procedure q
   abbrev pub called : ℕ → Proc
-  called q = proc (get_or pbs q none).frame (markBody (get_or pbs q none) (procsOf none pbs q))
+  called q = proc (get_or pbs q none).frame (mark_body (get_or pbs q none) (procs_of none pbs q))
 
-  pub length-procs : (n : ℕ) → length (procsOf none pbs n) ≡ n
-  unfolding procsOf
+  pub length-procs : (n : ℕ) → length (procs_of none pbs n) ≡ n
+  unfolding procs_of
   length-procs zero = refl
-  length-procs (suc n) = length-snoc nobody (procsOf none pbs n) (called n) ∙ ap suc (length-procs n)
+  length-procs (suc n) = length-snoc nobody (procs_of none pbs n) (called n) ∙ ap suc (length-procs n)
 
-  procedure-step : (n q : ℕ) → (q < n → get_or (procsOf none pbs n) q nobody ≡ called q) → (n ≤ q) ⊎ (q < n) → q < suc n → get_or (procsOf none pbs n ++ (called n ∷ [])) q nobody ≡ called q
+  procedure-step : (n q : ℕ) → (q < n → get_or (procs_of none pbs n) q nobody ≡ called q) → (n ≤ q) ⊎ (q < n) → q < suc n → get_or (procs_of none pbs n ++ (called n ∷ [])) q nobody ≡ called q
   procedure-step n q f (inl g) h =
       let o : n ≡ q = omega (arith, g, h) in
-      at_last nobody (procsOf none pbs n) (called n) q (length-procs n ∙ o) ∙ ap (λ (j : ℕ). called j) o
-  procedure-step n q f (inr g) h = at_before nobody (procsOf none pbs n) (called n) q (omega (arith, g, length-procs n)) ∙ f g
+      at_last nobody (procs_of none pbs n) (called n) q (length-procs n ∙ o) ∙ ap (λ (j : ℕ). called j) o
+  procedure-step n q f (inr g) h = at_before nobody (procs_of none pbs n) (called n) q (omega (arith, g, length-procs n)) ∙ f g
 
-  pub procedure-is : (n q : ℕ) → q < n → procedureAt (procsOf none pbs n) q ≡ called q
-  unfolding procsOf procedureAt
+  pub procedure-is : (n q : ℕ) → q < n → procedure_at (procs_of none pbs n) q ≡ called q
+  unfolding procs_of procedure_at
   procedure-is zero q h = absurd (omega (arith, h))
   procedure-is (suc n) q h = procedure-step n q (procedure-is n q) (le-or-lt n q) h
 
   -- a script's run: the bodies from the k-th on
   run_step : (n : ℕ) (bs : List PlacedBody) (k : ℕ) → ((i : ℕ) → i < length bs → get_or bs i none ≡ get_or pbs (k + i) none) → k + length bs ≡ suc n → 1 ≤ length bs
-      → markAll bs (procsOf none pbs k) ≡ markBody (get_or pbs n none) (procsOf none pbs n)
-  unfolding markAll procsOf
+      → mark_all bs (procs_of none pbs k) ≡ mark_body (get_or pbs n none) (procs_of none pbs n)
+  unfolding mark_all procs_of
   run_step n [] k f e h = absurd (omega (arith, h))
   run_step n (b ∷ []) k f e h =
       let o : k ≡ n = omega (arith, e) in
-      ap (λ (x : PlacedBody). markBody x (procsOf none pbs k)) (f 0 (omega arith) ∙ ap (λ (j : ℕ). get_or pbs j none) (omega arith))
-      ∙ ap (λ (j : ℕ). markBody (get_or pbs j none) (procsOf none pbs j)) o
+      ap (λ (x : PlacedBody). mark_body x (procs_of none pbs k)) (f 0 (omega arith) ∙ ap (λ (j : ℕ). get_or pbs j none) (omega arith))
+      ∙ ap (λ (j : ℕ). mark_body (get_or pbs j none) (procs_of none pbs j)) o
   run_step n (b ∷ (c ∷ bs)) k f e h =
-      ap (λ (x : PlacedBody). markAll (c ∷ bs) (procsOf none pbs k ++ (proc x.frame (markBody x (procsOf none pbs k)) ∷ []))) (f 0 (omega arith) ∙ ap (λ (j : ℕ). get_or pbs j none) (omega arith))
+      ap (λ (x : PlacedBody). mark_all (c ∷ bs) (procs_of none pbs k ++ (proc x.frame (mark_body x (procs_of none pbs k)) ∷ []))) (f 0 (omega arith) ∙ ap (λ (j : ℕ). get_or pbs j none) (omega arith))
       ∙ run_step n (c ∷ bs) (suc k) (λ i g. f (suc i) (omega (arith, g)) ∙ ap (λ (j : ℕ). get_or pbs j none) (omega arith)) (omega (arith, e)) (omega arith)
 
   -- is that of its last body
-  pub all-is : (n : ℕ) → length pbs ≡ suc n → markAll pbs [] ≡ markBody (get_or pbs n none) (procsOf none pbs n)
-  unfolding procsOf
+  pub all-is : (n : ℕ) → length pbs ≡ suc n → mark_all pbs [] ≡ mark_body (get_or pbs n none) (procs_of none pbs n)
+  unfolding procs_of
   all-is n e = run_step n pbs 0 (λ i h. ap (λ (j : ℕ). get_or pbs j none) (omega arith)) (omega (arith, e)) (omega (arith, e))

@@ -2,9 +2,9 @@
 use Rattle.std.specs.Prelude.{List, [], ◌∷◌, ◌++◌, ℕ, zero, suc, get_or}
 use Rattle.law.specs.Environment.{PlacedBody}
 use Rattle.law.specs.Machine.{Procs, proc}
-use Rattle.law.specs.Whole.{markBody}
+use Rattle.law.specs.Whole.{mark_body}
 
 -- the first n; `none` stands for a body that is not there
-unfoldable pub procsOf : PlacedBody → List PlacedBody → ℕ → Procs
-procsOf none pbs zero = []
-procsOf none pbs (suc n) = procsOf none pbs n ++ (proc (get_or pbs n none).frame (markBody (get_or pbs n none) (procsOf none pbs n)) ∷ [])
+unfoldable pub procs_of : PlacedBody → List PlacedBody → ℕ → Procs
+procs_of none pbs zero = []
+procs_of none pbs (suc n) = procs_of none pbs n ++ (proc (get_or pbs n none).frame (mark_body (get_or pbs n none) (procs_of none pbs n)) ∷ [])

@@ -5,20 +5,20 @@ use Rattle.std.specs.Prelude.{List, map, ◌≡◌, ℕ, suc, ◌+◌, ◌*◌, 
 use Rattle.std.proofs.Math.Option.{some}
 use Rattle.law.specs.Base.{Name, find}
 use Rattle.law.specs.Code.{Frame}
-use Rattle.law.specs.Environment.{Environment, PlacedBody, aProc, wantOf}
+use Rattle.law.specs.Environment.{Environment, PlacedBody, a_proc, want_of}
 use Rattle.law.specs.Names.{body_of}
 use Rattle.law.specs.Syntax as Syntax
 use Rattle.law.specs.Trees.{first}
-use Rattle.law_theorems.specs.Readings.{stackAt}
+use Rattle.law_theorems.specs.Readings.{stack_at}
 use Rattle.law_theorems.specs.TypeSizes.{SmallTypes}
-use Rattle.text_heads.specs.Parts.{bodyIn}
+use Rattle.text_heads.specs.Parts.{body_in}
 use Rattle.table_scope.specs.declared.Scope.{Scope}
-use Rattle.table_scope.specs.Frames.{frameIn}
+use Rattle.table_scope.specs.Frames.{frame_in}
 use Rattle.table_scope.specs.Scene.{Scene}
 
 -- how many types a body may see: 64 declared ones and the two built-in
-abbrev pub mostTypes : ℕ
-mostTypes = 66
+abbrev pub most_types : ℕ
+most_types = 66
 
 -- the places of the first n types
 unfoldable pub clip : ℕ → List ℕ → List ℕ
@@ -34,8 +34,8 @@ pub record Clips (ts : List ℕ) (n : ℕ) (ts₀ ts' : List ℕ) : Type 0 where
 abbrev pub offset_of : List ℕ → ℕ → ℕ
 offset_of tb q = get_or tb (8 * q) 0
 
-abbrev pub stmtsBefore : List ℕ → ℕ → ℕ
-stmtsBefore tb q = get_or tb (8 * q + 1) 0
+abbrev pub stmts_before : List ℕ → ℕ → ℕ
+stmts_before tb q = get_or tb (8 * q + 1) 0
 
 abbrev pub types_of : List ℕ → ℕ → ℕ
 types_of tb q = get_or tb (8 * q + 2) 0
@@ -57,11 +57,11 @@ pub record BodyStands (s l ts tb bs : List ℕ) (pb : PlacedBody) (q : ℕ) : Ty
   pub last : ℕ
   pub scene : Scene s l (clip (types_of tb q) ts) (scope_of tb q) top env (take q bs)
   pub before : q ≤ length bs
-  pub reads : bodyIn (stmtsBefore tb q) (first (stackAt s (offset_of tb q))) ≡ some (form, last)
+  pub reads : body_in (stmts_before tb q) (first (stack_at s (offset_of tb q))) ≡ some (form, last)
   pub names : body_of env form ≡ some pb.body
   pub types_are : pb.types ≡ env.types
   pub vars-are : pb.vars ≡ env.vars
-  pub few-types : types_of tb q ≤ mostTypes
+  pub few-types : types_of tb q ≤ most_types
   -- the types keep the ceilings, and the statements' numbers have 32 bits
   pub small : SmallTypes env.types
   pub few : last ≤ 4294967295
@@ -69,12 +69,12 @@ pub record BodyStands (s l ts tb bs : List ℕ) (pb : PlacedBody) (q : ℕ) : Ty
 -- the node at p is that of procedure q, whose parameters have the frame f
 pub record NodeStands (l : List ℕ) (p q : ℕ) (f : Frame) : Type 0 where
   pub number_is : get_or l p 0 ≡ q
-  pub base-is : (frameIn l p).base ≡ f.base
-  pub count-is : (frameIn l p).count ≡ length f.wants
+  pub base-is : (frame_in l p).base ≡ f.base
+  pub count-is : (frame_in l p).count ≡ length f.wants
 
 -- all bodies stand so, and the nodes of the procedures, which are all but the last
 pub record AllStand (s l ts tb bs : List ℕ) (pbs : List PlacedBody) (none : PlacedBody) : Type 0 where
   pub each : (q : ℕ) → q < length pbs → BodyStands s l ts tb bs (get_or pbs q none) q
   pub nodes : (q : ℕ) → suc q < length pbs → NodeStands l (get_or bs q 0) q (get_or pbs q none).frame
   -- what a procedure takes that a body calls
-  pub callees : (q : ℕ) (h : q < length pbs) (w : Name) (p : ℕ) (us : List ℕ) → find (each q h).env.names w ≡ some (aProc p us) → (get_or pbs p none).frame.wants ≡ map (wantOf (each q h).env.types) us
+  pub callees : (q : ℕ) (h : q < length pbs) (w : Name) (p : ℕ) (us : List ℕ) → find (each q h).env.names w ≡ some (a_proc p us) → (get_or pbs p none).frame.wants ≡ map (want_of (each q h).env.types) us

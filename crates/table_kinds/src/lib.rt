@@ -1,7 +1,7 @@
 // The kinds that the operators and functions take, as constant tables.
 ghost use Rattle.std.specs.Prelude.{◌≡◌};
-ghost use Rattle.table_kinds.specs.Kinds.{lazy, rowNumber, row_of, nodeAt, partnerOf, result_of, ruling2};
-ghost use Rattle.table_kinds.specs.Functions.{nodeAt1, resultOf1, ruling1};
+ghost use Rattle.table_kinds.specs.Kinds.{lazy, row_number, row_of, node_at, partner_of, result_of, ruling2};
+ghost use Rattle.table_kinds.specs.Functions.{node_at1, result_of1, ruling1};
 
 // What a kind is to an operator: one of the two built-in kinds, another ordinal, a set, or an array or record.
 #[derive(Drop)]
@@ -219,7 +219,7 @@ fn row_of(c: Class) -> usize
 
 // The entry of the first table, or 0 where it has none.
 fn node_at(op: usize, left: usize, right: usize) -> u32
-    ensures { result ≡ nodeAt op left right }
+    ensures { result ≡ node_at op left right }
 {
     if op >= 17 {
         return 0;
@@ -235,7 +235,7 @@ fn node_at(op: usize, left: usize, right: usize) -> u32
 
 // The kind that the left side must have.
 fn partner(op: usize, right: u32, base: u32) -> u32
-    ensures { result ≡ partnerOf op right base }
+    ensures { result ≡ partner_of op right base }
 {
     if op == MEMBER {
         return base;
@@ -261,7 +261,7 @@ fn result_of(n: u32, kind: u32) -> u32
 
 // The row of `and_then` (every) or `or_else` in the first table.
 pub fn short_row(every: bool) -> usize
-    ensures { result ≡ rowNumber (lazy every) }
+    ensures { result ≡ row_number (lazy every) }
 {
     if every {
         return 15;
@@ -289,7 +289,7 @@ pub fn two_sided(op: usize, left: Side, right: Side) -> Ruling
 
 // The entry of the second table, or 0 where it has none.
 fn node_at_one(f: usize, c: usize) -> u32
-    ensures { result ≡ nodeAt1 f c }
+    ensures { result ≡ node_at1 f c }
 {
     if f >= 11 {
         return 0;
@@ -302,7 +302,7 @@ fn node_at_one(f: usize, c: usize) -> u32
 
 // The kind of the result of node n: boolean of two, the members' of two, the side's own of two, else integer.
 fn result_of_one(n: u32, kind: u32, base: u32) -> u32
-    ensures { result ≡ resultOf1 n kind base }
+    ensures { result ≡ result_of1 n kind base }
 {
     match n {
         code_ops::expr::NOT => 1,

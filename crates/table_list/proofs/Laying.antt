@@ -11,7 +11,7 @@ use lib.Dec.{leb}
 use lib.ListN.{length, get_or, set, take, length-set, drop_of_length-le, get_or-eq_default}
 use lib.Seq as Seq
 use Rattle.code.specs.Layout.{room, out, lay}
-use Rattle.law.specs.Whole.{workAfter}
+use Rattle.law.specs.Whole.{work_after}
 use Rattle.table_list.specs.Laid.{Laid, zeroed}
 
 -- past the end there is 0, and nothing is set
@@ -89,14 +89,14 @@ pub zero-done : (l₀ : List ℕ) (n : ℕ) (l : List ℕ) (i : ℕ) → Zeroing
 zero-done l₀ n l i Z h = let k : i ≡ n = omega (arith, Z.few) in Z.list ∙ ap (λ k. zeroed k l₀) k
 
 -- what every call leaves
-pub clear-short : (l l' : List ℕ) → length l < 16384 → l' ≡ zeroed (length l) l → l' ≡ workAfter l
-unfolding zeroed workAfter
+pub clear-short : (l l' : List ℕ) → length l < 16384 → l' ≡ zeroed (length l) l → l' ≡ work_after l
+unfolding zeroed work_after
 clear-short l l' h e =
     let m : min 16384 (length l) ≡ length l = min-eq_right (omega arith) in
     rw (e, m, drop_of_length-le l {i = length l} (omega arith), drop_of_length-le l {i = 16384} (omega arith))
 
-pub clear-long : (l l' : List ℕ) → 16384 ≤ length l → l' ≡ zeroed 16384 l → l' ≡ workAfter l
-unfolding zeroed workAfter
+pub clear-long : (l l' : List ℕ) → 16384 ≤ length l → l' ≡ zeroed 16384 l → l' ≡ work_after l
+unfolding zeroed work_after
 clear-long l l' h e = let m : min 16384 (length l) ≡ 16384 = min-eq_left h in rw (e, m)
 
 pub ruleset lay-laws = (lay-more, lay_done, lay-full)

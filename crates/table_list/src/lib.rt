@@ -1,7 +1,7 @@
 // The working list: numbers at places, numbers laid at the free place, and the list left as document 01 says.
 ghost use Rattle.std.specs.Prelude.{◌≡◌, [], ◌∷◌, ◌≤◌, length, get_or, set};
 ghost use Rattle.code.specs.Layout.{lay as laid};
-ghost use Rattle.law.specs.Whole.{workAfter};
+ghost use Rattle.law.specs.Whole.{work_after};
 ghost use Rattle.table_list.specs.Laid.{Laid, zeroed};
 
 // How many numbers of a working list are used; refusal 1 is for one that is "shorter than 16,384".
@@ -76,7 +76,7 @@ fn zero(work: &mut [u32], n: usize)
 
 // Leaves the list as every call must: the first 16,384 numbers are 0, or all if there are fewer.
 pub fn clear(work: &mut [u32])
-    ensures { work.new ≡ workAfter work.old }
+    ensures { work.new ≡ work_after work.old }
 {
     let n = work.len();
     if n < WORK_LENGTH {

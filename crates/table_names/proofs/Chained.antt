@@ -17,7 +17,7 @@ use Rattle.code.specs.Layout.{lay}
 use Rattle.code.proofs.LayoutRegions.{Has, lay-l}
 use Rattle.code.specs.LayoutRegions.{Same, Room}
 use Rattle.table_names.specs.Keys.{key_of, keyed}
-use Rattle.table_names.specs.Chain.{entries, name_at, key_at, Called, isCalled, place_in, valuesBy, valuesBehind, firstValue, places, order_at, ranked, middle, by_order, halved, valueIn, or_else, placeBy}
+use Rattle.table_names.specs.Chain.{entries, name_at, key_at, Called, is_called, place_in, values_by, values_behind, first_value, places, order_at, ranked, middle, by_order, halved, value_in, or_else, place_by}
 use Rattle.table_names.specs.declared.order.Order.{Order}
 use Rattle.table_names.proofs.Keying.{keyed-offset, keyed-key}
 use Rattle.table_names.proofs.Names.{place_none, place-on}
@@ -33,8 +33,8 @@ same-keyed : (v w : Name) (b : Bool) → same v w ≡ b → (eqb (key_of v) (key
 same-keyed v w true g = let e : v ≡ w = same-equal v w g in rw (e, eq-eqb (key_of w) (key_of w) refl) refl
 same-keyed v w false g = and-false (eqb (key_of v) (key_of w))
 
-called_same : {s l : List ℕ} {p : ℕ} {v : Name} → Called s l p v → (w : Name) → isCalled s l p w ≡ same v w
-unfolding isCalled
+called_same : {s l : List ℕ} {p : ℕ} {v : Name} → Called s l p v → (w : Name) → is_called s l p w ≡ same v w
+unfolding is_called
 called_same {v = v} C w = rw (C.key-is, C.name-is) (same-keyed v w (same v w) refl)
 
 pub found : {A : Type 0} {s l : List ℕ} {R : ℕ → A → Type 0} {ps : List ℕ} {ns : List (Name × A)} → Names s l R ps ns → (w : Name) → Found R w ns (place_in s l ps w)
@@ -49,8 +49,8 @@ found {A} {s} {l} {R} (one_name {p} {ps} {w = v} {a} {ns} h e r N) w = rw (calle
 
 -- ---- a block of values in the chain
 
-pub first-low : (p : ℕ) → p < 32768 → firstValue p ≡ p + 12
-unfolding firstValue
+pub first-low : (p : ℕ) → p < 32768 → first_value p ≡ p + 12
+unfolding first_value
 first-low p h = rw (mod-eq_of_lt h) refl
 
 -- the chain goes through the values, and on from the last
@@ -82,7 +82,7 @@ block-entries {l = l} {p} {m} K n = ap (λ (ps : List ℕ). p ∷ ps) (ap (λ (q
 place-append : (s l : List ℕ) (w : Name) (n b : ℕ) (ps : List ℕ) → 1 ≤ b → place_in s l (places n b ++ ps) w ≡ or_else (place_in s l (places n b) w) (place_in s l ps w)
 unfolding places place_in or_else
 place-append s l w zero b ps h = refl
-place-append s l w (suc n) b ps h = go (isCalled s l b w) (place-append s l w n (b + 4) ps (omega arith))
+place-append s l w (suc n) b ps h = go (is_called s l b w) (place-append s l w n (b + 4) ps (omega arith))
   where
     go : (t : Bool) → place_in s l (places n (b + 4) ++ ps) w ≡ or_else (place_in s l (places n (b + 4)) w) (place_in s l ps w)
         → cond t b (place_in s l (places n (b + 4) ++ ps) w) ≡ or_else (cond t b (place_in s l (places n (b + 4)) w)) (place_in s l ps w)
@@ -90,21 +90,21 @@ place-append s l w (suc n) b ps h = go (isCalled s l b w) (place-append s l w n 
     go false r = r
 
 -- a lookup finds what the chain says
-pub below-place : {s l : List ℕ} {t n p : ℕ} → Below s l t n p → (w : Name) → placeBy s l n p w ≡ place_in s l (entries n l p) w
+pub below-place : {s l : List ℕ} {t n p : ℕ} → Below s l t n p → (w : Name) → place_by s l n p w ≡ place_in s l (entries n l p) w
 unfolding entries place_in
 below-place {s} {l} (no-entry {p}) w = place_none s l w 0 p refl
 below-place {s} {l} (one_entry {n} {p} h v B) w =
     let z : suc n - 1 ≡ n = omega arith in
-    place-on s l w (suc n) p (omega arith) ∙ rw (eq-eqb (valuesBehind l p) 0 v, z, below-place B w) refl
+    place-on s l w (suc n) p (omega arith) ∙ rw (eq-eqb (values_behind l p) 0 v, z, below-place B w) refl
 below-place {s} {l} (one_block {n} {p} {m} h K B) w =
     let x : suc (suc (m + n)) - 1 - suc m ≡ n = omega arith in
-    let y : firstValue p + 4 * (suc m - 1) + 3 ≡ p + 12 + 4 * m + 3 = let z = first-low p K.low in omega arith in
-    let rest : placeBy s l (suc (suc (m + n)) - 1 - suc m) (get_or l (firstValue p + 4 * (suc m - 1) + 3) 0) w ≡ place_in s l (entries n l (get_or l (p + 12 + 4 * m + 3) 0)) w =
-    ap (λ (j : ℕ). placeBy s l j (get_or l (firstValue p + 4 * (suc m - 1) + 3) 0) w) x ∙ ap (λ (j : ℕ). placeBy s l n (get_or l j 0) w) y ∙ below-place B w in
+    let y : first_value p + 4 * (suc m - 1) + 3 ≡ p + 12 + 4 * m + 3 = let z = first-low p K.low in omega arith in
+    let rest : place_by s l (suc (suc (m + n)) - 1 - suc m) (get_or l (first_value p + 4 * (suc m - 1) + 3) 0) w ≡ place_in s l (entries n l (get_or l (p + 12 + 4 * m + 3) 0)) w =
+    ap (λ (j : ℕ). place_by s l j (get_or l (first_value p + 4 * (suc m - 1) + 3) 0) w) x ∙ ap (λ (j : ℕ). place_by s l n (get_or l j 0) w) y ∙ below-place B w in
     place-on s l w (suc (suc (m + n))) p (omega arith)
-    ∙ rw (ne_eqb (valuesBehind l p) 0 (λ e. let z = K.many in omega arith), K.many, K.found w, rest) refl
+    ∙ rw (ne_eqb (values_behind l p) 0 (λ e. let z = K.many in omega arith), K.many, K.found w, rest) refl
     ∙ sym (ap (λ (ps : List ℕ). place_in s l ps w) (block-entries K n)
-    ∙ ap (λ (q : ℕ). cond (isCalled s l p w) p q) (place-append s l w (suc m) (p + 12) (entries n l (get_or l (p + 12 + 4 * m + 3) 0)) (omega arith)))
+    ∙ ap (λ (q : ℕ). cond (is_called s l p w) p q) (place-append s l w (suc m) (p + 12) (entries n l (get_or l (p + 12 + 4 * m + 3) 0)) (omega arith)))
 
 -- ---- what is laid later leaves a chain as it is
 
@@ -134,16 +134,16 @@ unfolding middle
 middle-below low high h = omega arith
 
 module _ {l l' : List ℕ} {t : ℕ} (E : Same 0 t l' l) where
-  behind-kept : (p : ℕ) → p + 4 ≤ t → valuesBehind l' p ≡ valuesBehind l p
-  unfolding valuesBehind
+  behind-kept : (p : ℕ) → p + 4 ≤ t → values_behind l' p ≡ values_behind l p
+  unfolding values_behind
   behind-kept p h = rw (E.at (p + 1) (omega arith) (omega arith), E.at (p + 2) (omega arith) (omega arith)) refl
 
   called-kept : {s : List ℕ} {p : ℕ} {w : Name} → p + 4 ≤ t → Called s l p w → Called s l' p w
   unfolding name_at key_at
   called-kept {p = p} h C = let e = E.at p (omega arith) (omega arith) in record { name-is = rw e C.name-is; key-is = rw e C.key-is }
 
-  pub is-called-kept : (s : List ℕ) (w : Name) (p : ℕ) → p + 4 ≤ t → isCalled s l' p w ≡ isCalled s l p w
-  unfolding isCalled name_at key_at
+  pub is-called-kept : (s : List ℕ) (w : Name) (p : ℕ) → p + 4 ≤ t → is_called s l' p w ≡ is_called s l p w
+  unfolding is_called name_at key_at
   is-called-kept s w p h = rw (E.at p (omega arith) (omega arith)) refl
 
   pub placed-kept : (s : List ℕ) (w : Name) {ps : List ℕ} → Within t ps → place_in s l' ps w ≡ place_in s l ps w
@@ -184,14 +184,14 @@ module _ {l l' : List ℕ} {t : ℕ} (E : Same 0 t l' l) where
       outer k true e = whole k (middle low high) (middle-below low high (ltb-true low high e))
 
   block-kept : {s : List ℕ} {p n : ℕ} → 1 ≤ n → p + 12 + 4 * n ≤ t → Block s l p n → Block s l' p n
-  unfolding valueIn
+  unfolding value_in
   block-kept {s} {p} {n} one h K = record {
     low = K.low;
     many = behind-kept p (omega arith) ∙ K.many;
     next = E.at (p + 3) (omega arith) (omega arith) ∙ K.next;
     linked = λ i g. E.at (p + 12 + 4 * i + 3) (omega arith) (omega arith) ∙ K.linked i g;
     found = λ w. let e = first-low p K.low in
-        halved-kept s w (firstValue p) n 9 0 n (rw e h) (omega arith) ∙ K.found w ∙ sym (placed-kept s w (places-alone n (p + 12) h));
+        halved-kept s w (first_value p) n 9 0 n (rw e h) (omega arith) ∙ K.found w ∙ sym (placed-kept s w (places-alone n (p + 12) h));
   }
 
   pub entries-kept : {s : List ℕ} {n p : ℕ} → Below s l t n p → entries n l' p ≡ entries n l p
@@ -240,9 +240,9 @@ pub record Added (s l l' : List ℕ) (t n p sort more newest : ℕ) : Type 0 whe
   pub sort-is : get_or l' (t + 1) 0 ≡ sort
   pub more-is : get_or l' (t + 2) 0 ≡ more
 
-pub added : (s l : List ℕ) (t n p sort more newest : ℕ) → valuesBy sort more ≡ 0 → p < 32768 → Room 4 t l → Below s l t n newest
+pub added : (s l : List ℕ) (t n p sort more newest : ℕ) → values_by sort more ≡ 0 → p < 32768 → Room 4 t l → Below s l t n newest
     → Added s l (lay (keyed s p ∷ sort ∷ more ∷ newest ∷ []) t l).list t n p sort more newest
-unfolding entries valuesBehind
+unfolding entries values_behind
 added s l t n p sort more newest v h r B =
     let L = lay-l (keyed s p ∷ sort ∷ more ∷ newest ∷ []) t l in
     let H : Has (keyed s p ∷ sort ∷ more ∷ newest ∷ []) t (lay (keyed s p ∷ sort ∷ more ∷ newest ∷ []) t l).list = L.held r _ (record { at = λ _ _ _. refl }) in

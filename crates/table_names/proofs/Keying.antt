@@ -9,8 +9,8 @@ use mir.Val.{Fits}
 use Rattle.leaf_bytes.specs.Bytes.{small}
 use Rattle.law.specs.Base.{Name}
 use Rattle.law.specs.Trees.{word_at}
-use Rattle.table_names.specs.Letters.{letterOf, byte_at}
-use Rattle.table_names.specs.Keys.{keyWith, keyFrom, key_of, keyed}
+use Rattle.table_names.specs.Letters.{letter_of, byte_at}
+use Rattle.table_names.specs.Keys.{key_with, key_from, key_of, keyed}
 use Rattle.table_names.proofs.Spelled.{Letters, ended, going, letters}
 
 -- ---- `key_with`
@@ -40,18 +40,18 @@ module _ (k b : ℕ) where
   pub with-fits : Fits w32 ((k % 4096 * 39 + b) % 4096 + 4096 * ((k / 4096 + 1) % 32))
   with-fits = let h = count_low in let g = letters-low in record { fits = omega arith }
 
-  pub with-is : (k % 4096 * 39 + b) % 4096 + 4096 * ((k / 4096 + 1) % 32) ≡ keyWith k b
-  unfolding keyWith
+  pub with-is : (k % 4096 * 39 + b) % 4096 + 4096 * ((k / 4096 + 1) % 32) ≡ key_with k b
+  unfolding key_with
   with-is = refl
 
-  with-below : keyWith k b < 131072
-  unfolding keyWith
+  with-below : key_with k b < 131072
+  unfolding key_with
   with-below = let h = count_low in let g = letters-low in omega arith
 
-pub key_below : (k : ℕ) (w : Name) → k < 131072 → keyFrom k w < 131072
-unfolding keyFrom
+pub key_below : (k : ℕ) (w : Name) → k < 131072 → key_from k w < 131072
+unfolding key_from
 key_below k [] h = h
-key_below k (b ∷ w) h = key_below (keyWith k b) w (with-below k b)
+key_below k (b ∷ w) h = key_below (key_with k b) w (with-below k b)
 
 pub key-small : (w : Name) → key_of w < 131072
 unfolding key_of
@@ -59,29 +59,29 @@ key-small w = key_below 0 w (omega arith)
 
 -- `key_of`: from `at` to p the letters have made k
 pub record Keying (s : List ℕ) (at p k : ℕ) : Type 0 where
-  pub same_key : key_of (map small (word_at s at)) ≡ keyFrom k (map small (word_at s p))
+  pub same_key : key_of (map small (word_at s at)) ≡ key_from k (map small (word_at s p))
 
 pub keying-start : (s : List ℕ) (at : ℕ) → Keying s at at 0
 unfolding key_of
 keying-start s at = record { same_key = refl }
 
-module _ (s : List ℕ) (at p k b x : ℕ) (K : Keying s at p k) (d : b ≡ byte_at s p) (e : x ≡ letterOf b) where
-  letter-is : x ≡ letterOf (byte_at s p)
-  letter-is = e ∙ ap letterOf d
+module _ (s : List ℕ) (at p k b x : ℕ) (K : Keying s at p k) (d : b ≡ byte_at s p) (e : x ≡ letter_of b) where
+  letter-is : x ≡ letter_of (byte_at s p)
+  letter-is = e ∙ ap letter_of d
 
   pub keying-end : x ≡ 0 → k ≡ key_of (map small (word_at s at))
-  unfolding keyFrom
+  unfolding key_from
   keying-end z = go (letters s p)
     where
       go : Letters s p → k ≡ key_of (map small (word_at s at))
       go (ended _ f) = sym (K.same_key ∙ rw f refl)
       go (going _ n _) = absurd (n (sym letter-is ∙ z))
 
-  pub keying-on : ((x ≡ 0) → ⊥) → (y : ℕ) → y ≡ keyWith k x → Keying s at (p + 1) y
-  unfolding keyFrom
-  keying-on n y i = record { same_key = K.same_key ∙ go (letters s p) ∙ ap (λ (z : ℕ). keyFrom z (map small (word_at s (p + 1)))) (sym i) }
+  pub keying-on : ((x ≡ 0) → ⊥) → (y : ℕ) → y ≡ key_with k x → Keying s at (p + 1) y
+  unfolding key_from
+  keying-on n y i = record { same_key = K.same_key ∙ go (letters s p) ∙ ap (λ (z : ℕ). key_from z (map small (word_at s (p + 1)))) (sym i) }
     where
-      go : Letters s p → keyFrom k (map small (word_at s p)) ≡ keyFrom (keyWith k x) (map small (word_at s (p + 1)))
+      go : Letters s p → key_from k (map small (word_at s p)) ≡ key_from (key_with k x) (map small (word_at s (p + 1)))
       go (ended z _) = absurd (n (letter-is ∙ z))
       go (going _ _ f) = rw (f, letter-is) refl
 

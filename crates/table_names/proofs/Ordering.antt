@@ -13,10 +13,10 @@ use lib.ListN.{length, get_or}
 use Rattle.leaf_bytes.specs.Bytes.{small}
 use Rattle.law.specs.Base.{Name}
 use Rattle.law.specs.Trees.{word_at}
-use Rattle.table_names.specs.Letters.{letterOf, byte_at, meets}
+use Rattle.table_names.specs.Letters.{letter_of, byte_at, meets}
 use Rattle.table_names.specs.Keys.{key_of}
 use Rattle.table_names.specs.Order.{lettered, ordered}
-use Rattle.table_names.specs.Chain.{name_at, key_at, firstValue, order_at, ranked, middle, by_order, halved, valueIn}
+use Rattle.table_names.specs.Chain.{name_at, key_at, first_value, order_at, ranked, middle, by_order, halved, value_in}
 use Rattle.table_names.specs.declared.letters.Meeting.{Meeting}
 use Rattle.table_names.specs.declared.letters.Meeting.TheVariants as meeting
 use Rattle.table_names.specs.declared.order.Order.{Order}
@@ -26,20 +26,20 @@ use Rattle.table_names.proofs.Names.{Met, same_met, end-met, differ-met, met}
 
 -- ---- `by_letters`
 
-module _ (s : List ℕ) (p q a b x y : ℕ) (d : a ≡ byte_at s p) (e : x ≡ letterOf a) (f : b ≡ byte_at s q) (g : y ≡ letterOf b) where
-  first-letter : x ≡ letterOf (byte_at s p)
-  first-letter = e ∙ ap letterOf d
+module _ (s : List ℕ) (p q a b x y : ℕ) (d : a ≡ byte_at s p) (e : x ≡ letter_of a) (f : b ≡ byte_at s q) (g : y ≡ letter_of b) where
+  first-letter : x ≡ letter_of (byte_at s p)
+  first-letter = e ∙ ap letter_of d
 
-  second-letter : y ≡ letterOf (byte_at s q)
-  second-letter = g ∙ ap letterOf f
+  second-letter : y ≡ letter_of (byte_at s q)
+  second-letter = g ∙ ap letter_of f
 
-  pub letters-before : x < y → order.Before ≡ lettered (letterOf (byte_at s p)) (letterOf (byte_at s q))
+  pub letters-before : x < y → order.Before ≡ lettered (letter_of (byte_at s p)) (letter_of (byte_at s q))
   unfolding lettered
-  letters-before h = rw (lt-ltb (letterOf (byte_at s p)) (letterOf (byte_at s q)) (rw (← first-letter, ← second-letter) h)) refl
+  letters-before h = rw (lt-ltb (letter_of (byte_at s p)) (letter_of (byte_at s q)) (rw (← first-letter, ← second-letter) h)) refl
 
-  pub letters-after : y ≤ x → order.After ≡ lettered (letterOf (byte_at s p)) (letterOf (byte_at s q))
+  pub letters-after : y ≤ x → order.After ≡ lettered (letter_of (byte_at s p)) (letter_of (byte_at s q))
   unfolding lettered
-  letters-after h = rw (le-ltb (letterOf (byte_at s p)) (letterOf (byte_at s q)) (rw (← first-letter, ← second-letter) h)) refl
+  letters-after h = rw (le-ltb (letter_of (byte_at s p)) (letter_of (byte_at s q)) (rw (← first-letter, ← second-letter) h)) refl
 
 pub ruleset letters-laws = (letters-before, letters-after)
 
@@ -51,27 +51,27 @@ pub record Ordering (s : List ℕ) (a b p q : ℕ) : Type 0 where
 pub order-start : (s : List ℕ) (a b : ℕ) → Ordering s a b a b
 order-start s a b = record { same_left = refl }
 
-module _ (s : List ℕ) (a b p q : ℕ) (C : Ordering s a b p q) (m : Meeting) (e : m ≡ meets (letterOf (byte_at s p)) (letterOf (byte_at s q))) where
-  here : (k : Meeting) → m ≡ k → Met (letterOf (byte_at s p)) (letterOf (byte_at s q)) k
-  here k f = rw (← f, e) (met (letterOf (byte_at s p)) (letterOf (byte_at s q)))
+module _ (s : List ℕ) (a b p q : ℕ) (C : Ordering s a b p q) (m : Meeting) (e : m ≡ meets (letter_of (byte_at s p)) (letter_of (byte_at s q))) where
+  here : (k : Meeting) → m ≡ k → Met (letter_of (byte_at s p)) (letter_of (byte_at s q)) k
+  here k f = rw (← f, e) (met (letter_of (byte_at s p)) (letter_of (byte_at s q)))
 
-  pub order-differ : m ≡ meeting.Differ → (r : Order) → r ≡ lettered (letterOf (byte_at s p)) (letterOf (byte_at s q))
+  pub order-differ : m ≡ meeting.Differ → (r : Order) → r ≡ lettered (letter_of (byte_at s p)) (letter_of (byte_at s q))
       → r ≡ ordered (map small (word_at s a)) (map small (word_at s b))
   unfolding ordered lettered
   order-differ f r i = i ∙ sym (C.same_left ∙ go (here meeting.Differ f) (letters s p) (letters s q))
     where
-      go : Met (letterOf (byte_at s p)) (letterOf (byte_at s q)) meeting.Differ → Letters s p → Letters s q
-          → ordered (map small (word_at s p)) (map small (word_at s q)) ≡ lettered (letterOf (byte_at s p)) (letterOf (byte_at s q))
+      go : Met (letter_of (byte_at s p)) (letter_of (byte_at s q)) meeting.Differ → Letters s p → Letters s q
+          → ordered (map small (word_at s p)) (map small (word_at s q)) ≡ lettered (letter_of (byte_at s p)) (letter_of (byte_at s q))
       go (differ-met n) (ended z _) (ended w _) = absurd (eqb-false _ _ n (z ∙ sym w))
-      go (differ-met n) (ended z i) (going _ g j) = rw (i, j, lt-ltb (letterOf (byte_at s p)) (letterOf (byte_at s q)) (omega (arith, z, g))) refl
-      go (differ-met n) (going _ g i) (ended z j) = rw (i, j, le-ltb (letterOf (byte_at s p)) (letterOf (byte_at s q)) (omega (arith, z, g))) refl
+      go (differ-met n) (ended z i) (going _ g j) = rw (i, j, lt-ltb (letter_of (byte_at s p)) (letter_of (byte_at s q)) (omega (arith, z, g))) refl
+      go (differ-met n) (going _ g i) (ended z j) = rw (i, j, le-ltb (letter_of (byte_at s p)) (letter_of (byte_at s q)) (omega (arith, z, g))) refl
       go (differ-met n) (going _ _ i) (going _ _ j) = rw (i, j, n) refl
 
   pub order-ended : m ≡ meeting.End → order.Same ≡ ordered (map small (word_at s a)) (map small (word_at s b))
   unfolding ordered
   order-ended f = sym (C.same_left ∙ go (here meeting.End f) (letters s p) (letters s q))
     where
-      go : Met (letterOf (byte_at s p)) (letterOf (byte_at s q)) meeting.End → Letters s p → Letters s q
+      go : Met (letter_of (byte_at s p)) (letter_of (byte_at s q)) meeting.End → Letters s p → Letters s q
           → ordered (map small (word_at s p)) (map small (word_at s q)) ≡ order.Same
       go (end-met x y) (ended _ i) (ended _ j) = rw (i, j) refl
       go (end-met x y) (going _ n _) _ = absurd (n x)
@@ -83,7 +83,7 @@ module _ (s : List ℕ) (a b p q : ℕ) (C : Ordering s a b p q) (m : Meeting) (
     unfolding ordered
     both = go (here meeting.Same f) (letters s p) (letters s q)
       where
-        go : Met (letterOf (byte_at s p)) (letterOf (byte_at s q)) meeting.Same → Letters s p → Letters s q
+        go : Met (letter_of (byte_at s p)) (letter_of (byte_at s q)) meeting.Same → Letters s p → Letters s q
             → (p < length s) × (q < length s)
             × (ordered (map small (word_at s p)) (map small (word_at s q)) ≡ ordered (map small (word_at s (p + 1))) (map small (word_at s (q + 1))))
         go (same_met x n) (ended z _) _ = absurd (n z)
@@ -124,8 +124,8 @@ pub ruleset at-laws = (at_before, at_after, at_same)
 
 -- ---- `first_value`, `rank_at`
 
-pub first-is : (p : ℕ) → p % 32768 + 12 ≡ firstValue p
-unfolding firstValue
+pub first-is : (p : ℕ) → p % 32768 + 12 ≡ first_value p
+unfolding first_value
 first-is p = refl
 
 pub rank_is : (l : List ℕ) (b j x : ℕ) → x ≡ get_or l (b + 4 * j + 1) 0 → x / 512 % 256 ≡ ranked l b j
@@ -151,17 +151,17 @@ pub ruleset middle-laws = (middle-is, middle-low)
 -- ---- `find_value`: so many halvings are left of what stands from low to high
 
 pub record Halving (s l : List ℕ) (place n key : ℕ) (w : Name) (base low high left : ℕ) : Type 0 where
-  pub base-is : base ≡ firstValue place
+  pub base-is : base ≡ first_value place
   pub up : high ≤ n
-  pub same_place : key ≡ key_of w → valueIn s l place n w ≡ halved s l base n w left low high
+  pub same_place : key ≡ key_of w → value_in s l place n w ≡ halved s l base n w left low high
 
 module _ (s l : List ℕ) (place n key : ℕ) (w : Name) (base : ℕ) where
-  pub halving-start : base ≡ firstValue place → Halving s l place n key w base 0 n 9
-  unfolding valueIn
+  pub halving-start : base ≡ first_value place → Halving s l place n key w base 0 n 9
+  unfolding value_in
   halving-start e = record { base-is = e; up = omega arith; same_place = λ _. rw e refl }
 
   module _ (low high left : ℕ) (H : Halving s l place n key w base low high left) where
-    pub halving-none : left ≤ 0 → key ≡ key_of w → 0 ≡ valueIn s l place n w
+    pub halving-none : left ≤ 0 → key ≡ key_of w → 0 ≡ value_in s l place n w
     unfolding halved
     halving-none h k = let z : left ≡ 0 = omega arith in sym (H.same_place k ∙ rw z refl)
 
@@ -174,10 +174,10 @@ module _ (s l : List ℕ) (place n key : ℕ) (w : Name) (base : ℕ) where
       unfolding halved
       one_more d e = let z : left - 1 ≡ d = omega arith in rw (z, e) refl
 
-      stepped : key ≡ key_of w → valueIn s l place n w ≡ step (ranked l base (middle low high)) (middle low high)
+      stepped : key ≡ key_of w → value_in s l place n w ≡ step (ranked l base (middle low high)) (middle low high)
       stepped k = let z : left ≡ suc (left - 1) = omega arith in H.same_place k ∙ one_more (left - 1) z
 
-      pub halving-empty : high ≤ low → key ≡ key_of w → 0 ≡ valueIn s l place n w
+      pub halving-empty : high ≤ low → key ≡ key_of w → 0 ≡ value_in s l place n w
       halving-empty g k = sym (stepped k ∙ rw (le-ltb low high g) refl)
 
       module _ (g : low < high) (mid : ℕ) (M : mid ≡ middle low high) where
@@ -189,10 +189,10 @@ module _ (s l : List ℕ) (place n key : ℕ) (w : Name) (base : ℕ) where
         middle-next f = record { fits = omega (arith, f.fits, H.up, mid-below) }
 
         module _ (i : ℕ) (r : i ≡ ranked l base mid) where
-          at-middle : key ≡ key_of w → valueIn s l place n w ≡ step i mid
+          at-middle : key ≡ key_of w → value_in s l place n w ≡ step i mid
           at-middle k = stepped k ∙ rw (← M, ← r) refl
 
-          pub halving-wild : n ≤ i → key ≡ key_of w → 0 ≡ valueIn s l place n w
+          pub halving-wild : n ≤ i → key ≡ key_of w → 0 ≡ value_in s l place n w
           halving-wild j k = sym (at-middle k ∙ rw (lt-ltb low high g, le-ltb i n j) refl)
 
           module _ (j : i < n) where
@@ -201,7 +201,7 @@ module _ (s l : List ℕ) (place n key : ℕ) (w : Name) (base : ℕ) where
             rank-small = rw r (mod-lt (get_or l (base + 4 * mid + 1) 0 / 512) (omega arith))
 
             base-small : base < 32780
-            unfolding firstValue
+            unfolding first_value
             base-small = let z = mod-lt place {m = 32768} (omega arith) in omega (arith, H.base-is)
 
             pub value-times : Fits w32 (4 * i)
@@ -212,13 +212,13 @@ module _ (s l : List ℕ) (place n key : ℕ) (w : Name) (base : ℕ) where
 
             module _ (o : Order) (O : key ≡ key_of w → o ≡ order_at s l (base + 4 * i) w) where
               by-order : (x : Order) → o ≡ x → key ≡ key_of w
-                  → valueIn s l place n w ≡ by_order x (halved s l base n w (left - 1) (mid + 1) high) (base + 4 * i) (halved s l base n w (left - 1) low mid)
+                  → value_in s l place n w ≡ by_order x (halved s l base n w (left - 1) (mid + 1) high) (base + 4 * i) (halved s l base n w (left - 1) low mid)
               by-order x e k = at-middle k ∙ rw (lt-ltb low high g, lt-ltb i n j, ← O k, e) refl
 
               pub halving-before : o ≡ order.Before → Halving s l place n key w base (mid + 1) high (left - 1)
               halving-before e = record { base-is = H.base-is; up = H.up; same_place = by-order order.Before e }
 
-              pub halving-same : o ≡ order.Same → key ≡ key_of w → base + 4 * i ≡ valueIn s l place n w
+              pub halving-same : o ≡ order.Same → key ≡ key_of w → base + 4 * i ≡ value_in s l place n w
               halving-same e k = sym (by-order order.Same e k)
 
               pub halving-after : o ≡ order.After → Halving s l place n key w base low mid (left - 1)

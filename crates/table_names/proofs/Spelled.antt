@@ -17,7 +17,7 @@ use Rattle.leaf_bytes.specs.Bytes.{class_of, small}
 use Rattle.leaf_bytes.proofs.Letters.{small_low, small-high, small-capital}
 use Rattle.law.specs.Trees.{word_at}
 use Rattle.law_theorems.proofs.Reading.{none-word, word-word, space-word, open-word, close-word, feed-word, refused-word}
-use Rattle.table_names.specs.Letters.{letterBy, letterOf, byte_at, meets}
+use Rattle.table_names.specs.Letters.{letter_by, letter_of, byte_at, meets}
 use Rattle.table_names.specs.declared.letters.Meeting.TheVariants as meeting
 
 -- ---- the ways
@@ -31,56 +31,56 @@ byte_past s p h = sym (get_or-eq_default s 10 h)
 pub ruleset byte_laws = (byte-there, byte_past)
 
 module _ (b : ℕ) (k : Class) (e : k ≡ class_of b) where
-  by-class : (c : Class) → k ≡ c → letterBy c b ≡ letterOf b
-  unfolding letterOf
-  by-class c f = ap (λ (i : Class). letterBy i b) (sym f ∙ e)
+  by-class : (c : Class) → k ≡ c → letter_by c b ≡ letter_of b
+  unfolding letter_of
+  by-class c f = ap (λ (i : Class). letter_by i b) (sym f ∙ e)
 
-  pub letter-visible : (x : ℕ) → k ≡ Visible → x ≡ small b → x ≡ letterOf b
-  unfolding letterBy
+  pub letter-visible : (x : ℕ) → k ≡ Visible → x ≡ small b → x ≡ letter_of b
+  unfolding letter_by
   letter-visible x f g = g ∙ by-class Visible f
 
-  pub letter-space : k ≡ Space → 0 ≡ letterOf b
-  unfolding letterBy
+  pub letter-space : k ≡ Space → 0 ≡ letter_of b
+  unfolding letter_by
   letter-space f = by-class Space f
 
-  pub letter-open : k ≡ Open → 0 ≡ letterOf b
-  unfolding letterBy
+  pub letter-open : k ≡ Open → 0 ≡ letter_of b
+  unfolding letter_by
   letter-open f = by-class Open f
 
-  pub letter-close : k ≡ Close → 0 ≡ letterOf b
-  unfolding letterBy
+  pub letter-close : k ≡ Close → 0 ≡ letter_of b
+  unfolding letter_by
   letter-close f = by-class Close f
 
-  pub letter-feed : k ≡ Feed → 0 ≡ letterOf b
-  unfolding letterBy
+  pub letter-feed : k ≡ Feed → 0 ≡ letter_of b
+  unfolding letter_by
   letter-feed f = by-class Feed f
 
-  pub letter-refused : k ≡ Refused → 0 ≡ letterOf b
-  unfolding letterBy
+  pub letter-refused : k ≡ Refused → 0 ≡ letter_of b
+  unfolding letter_by
   letter-refused f = by-class Refused f
 
 pub ruleset letter-laws = (letter-visible, letter-space, letter-open, letter-close, letter-feed, letter-refused)
 
 module _ (a b : ℕ) where
-  pub same_byte : a ≡ b → true ≡ eqb (letterOf a) (letterOf b)
-  same_byte e = sym (eq-eqb (letterOf a) (letterOf b) (ap letterOf e))
+  pub same_byte : a ≡ b → true ≡ eqb (letter_of a) (letter_of b)
+  same_byte e = sym (eq-eqb (letter_of a) (letter_of b) (ap letter_of e))
 
-  pub same-small : (x y : ℕ) → x ≡ letterOf a → y ≡ letterOf b → eqb x y ≡ eqb (letterOf a) (letterOf b)
+  pub same-small : (x y : ℕ) → x ≡ letter_of a → y ≡ letter_of b → eqb x y ≡ eqb (letter_of a) (letter_of b)
   same-small x y e f = rw (e, f) refl
 
 pub ruleset same-letter-laws = (same_byte, same-small)
 
-module _ (s : List ℕ) (p q x y : ℕ) (e : x ≡ byte_at s p) (f : y ≡ byte_at s q) (t : Bool) (g : t ≡ eqb (letterOf x) (letterOf y)) where
-  pub meet-differ : t ≡ false → meeting.Differ ≡ meets (letterOf (byte_at s p)) (letterOf (byte_at s q))
+module _ (s : List ℕ) (p q x y : ℕ) (e : x ≡ byte_at s p) (f : y ≡ byte_at s q) (t : Bool) (g : t ≡ eqb (letter_of x) (letter_of y)) where
+  pub meet-differ : t ≡ false → meeting.Differ ≡ meets (letter_of (byte_at s p)) (letter_of (byte_at s q))
   unfolding meets
   meet-differ h = rw (← e, ← f, ← g, h) refl
 
-  module _ (h : t ≡ true) (z : ℕ) (k : z ≡ letterOf x) where
-    pub meet-end : z ≡ 0 → meeting.End ≡ meets (letterOf (byte_at s p)) (letterOf (byte_at s q))
+  module _ (h : t ≡ true) (z : ℕ) (k : z ≡ letter_of x) where
+    pub meet-end : z ≡ 0 → meeting.End ≡ meets (letter_of (byte_at s p)) (letter_of (byte_at s q))
     unfolding meets
     meet-end i = rw (← e, ← f, ← g, h, ← k, i) refl
 
-    pub meet-same : ((z ≡ 0) → ⊥) → meeting.Same ≡ meets (letterOf (byte_at s p)) (letterOf (byte_at s q))
+    pub meet-same : ((z ≡ 0) → ⊥) → meeting.Same ≡ meets (letter_of (byte_at s p)) (letter_of (byte_at s q))
     unfolding meets
     meet-same n = rw (← e, ← f, ← g, h, ← k, ne_eqb z 0 n) refl
 
@@ -89,8 +89,8 @@ pub ruleset meet-laws = (meet-differ, meet-end, meet-same)
 -- ---- a word from p on: it has ended, or goes on with a letter that is not 0
 
 pub data Letters (s : List ℕ) (p : ℕ) : Type 0 where
-  ended : letterOf (byte_at s p) ≡ 0 → map small (word_at s p) ≡ [] → Letters s p
-  going : p < length s → ((letterOf (byte_at s p) ≡ 0) → ⊥) → map small (word_at s p) ≡ letterOf (byte_at s p) ∷ map small (word_at s (p + 1)) → Letters s p
+  ended : letter_of (byte_at s p) ≡ 0 → map small (word_at s p) ≡ [] → Letters s p
+  going : p < length s → ((letter_of (byte_at s p) ≡ 0) → ⊥) → map small (word_at s p) ≡ letter_of (byte_at s p) ∷ map small (word_at s (p + 1)) → Letters s p
 
 small-zero : (b : ℕ) → small b ≡ 0 → b ≡ 0
 small-zero b e = low (dec_lt b 65)
@@ -109,16 +109,16 @@ unfolding class_of
 visible-some b c e = let f : Visible ≡ Refused = c ∙ ap class_of e in let z : ◌≡◌ {A = ℕ} 0 1 = cc in absurd (omega arith)
 
 module _ (s : List ℕ) (p : ℕ) where
-  no_byte : length s ≤ p → letterOf (byte_at s p) ≡ 0
-  unfolding letterOf letterBy class_of
+  no_byte : length s ≤ p → letter_of (byte_at s p) ≡ 0
+  unfolding letter_of letter_by class_of
   no_byte h = rw (← byte_past s p h) refl
 
   module _ (h : p < length s) where
-    ends : 0 ≡ letterOf (get_or s p 0) → word_at s p ≡ [] → Letters s p
-    ends z e = ended (ap letterOf (sym (byte-there s p h)) ∙ sym z) (ap (map small) e)
+    ends : 0 ≡ letter_of (get_or s p 0) → word_at s p ≡ [] → Letters s p
+    ends z e = ended (ap letter_of (sym (byte-there s p h)) ∙ sym z) (ap (map small) e)
 
-    letter-there : Visible ≡ class_of (get_or s p 0) → letterOf (byte_at s p) ≡ small (get_or s p 0)
-    letter-there e = ap letterOf (sym (byte-there s p h)) ∙ sym (letter-visible (get_or s p 0) Visible e (small (get_or s p 0)) refl refl)
+    letter-there : Visible ≡ class_of (get_or s p 0) → letter_of (byte_at s p) ≡ small (get_or s p 0)
+    letter-there e = ap letter_of (sym (byte-there s p h)) ∙ sym (letter-visible (get_or s p 0) Visible e (small (get_or s p 0)) refl refl)
 
     classed : (k : Class) → k ≡ class_of (get_or s p 0) → Letters s p
     classed Feed e = ends (letter-feed (get_or s p 0) Feed e refl) (feed-word s p Feed h e refl)
@@ -138,12 +138,12 @@ module _ (s : List ℕ) (p : ℕ) where
       go (no h) = ended (no_byte (omega (arith, h))) (ap (map small) (none-word s p (omega (arith, h))))
 
 -- where there is a letter x, the word goes on
-module _ (s : List ℕ) (p b x : ℕ) (d : b ≡ byte_at s p) (e : x ≡ letterOf b) (n : (x ≡ 0) → ⊥) where
+module _ (s : List ℕ) (p b x : ℕ) (d : b ≡ byte_at s p) (e : x ≡ letter_of b) (n : (x ≡ 0) → ⊥) where
   inside : p < length s
   inside = go (letters s p)
     where
       go : Letters s p → p < length s
-      go (ended z _) = absurd (n (e ∙ ap letterOf d ∙ z))
+      go (ended z _) = absurd (n (e ∙ ap letter_of d ∙ z))
       go (going h _ _) = h
 
   pub letter-room : Fits w64 (length s) → Fits w64 (p + 1)

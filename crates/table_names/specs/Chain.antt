@@ -31,26 +31,26 @@ pub record Called (s l : List ℕ) (p : ℕ) (w : Name) : Type 0 where
   pub key-is : key_at l p ≡ key_of w
 
 -- whether it has
-unfoldable pub isCalled : List ℕ → List ℕ → ℕ → Name → Bool
-isCalled s l p w = eqb (key_at l p) (key_of w) && same (name_at s l p) w
+unfoldable pub is_called : List ℕ → List ℕ → ℕ → Name → Bool
+is_called s l p w = eqb (key_at l p) (key_of w) && same (name_at s l p) w
 
 -- the place of the first entry under a name, 0 if there is none
 unfoldable pub place_in : List ℕ → List ℕ → List ℕ → Name → ℕ
 place_in s l [] w = 0
-place_in s l (p ∷ ps) w = cond (isCalled s l p w) p (place_in s l ps w)
+place_in s l (p ∷ ps) w = cond (is_called s l p w) p (place_in s l ps w)
 
 -- ---- the values of an enumeration
 
 -- how many stand behind an entry, by its second and third numbers, and behind the entry at p
-unfoldable pub valuesBy : ℕ → ℕ → ℕ
-valuesBy sort more = cond (eqb (sort % 4) 0) more 0
+unfoldable pub values_by : ℕ → ℕ → ℕ
+values_by sort more = cond (eqb (sort % 4) 0) more 0
 
-unfoldable pub valuesBehind : List ℕ → ℕ → ℕ
-valuesBehind l p = valuesBy (get_or l (p + 1) 0) (get_or l (p + 2) 0)
+unfoldable pub values_behind : List ℕ → ℕ → ℕ
+values_behind l p = values_by (get_or l (p + 1) 0) (get_or l (p + 2) 0)
 
 -- where the first of them stands
-unfoldable pub firstValue : ℕ → ℕ
-firstValue p = p % 32768 + 12
+unfoldable pub first_value : ℕ → ℕ
+first_value p = p % 32768 + 12
 
 -- n entries one after another from b on
 unfoldable pub places : ℕ → ℕ → List ℕ
@@ -87,8 +87,8 @@ halved s l b n w (suc d) low high =
     0
 
 -- and so of the n values behind the entry at p
-unfoldable pub valueIn : List ℕ → List ℕ → ℕ → ℕ → Name → ℕ
-valueIn s l p n w = halved s l (firstValue p) n w 9 0 n
+unfoldable pub value_in : List ℕ → List ℕ → ℕ → ℕ → Name → ℕ
+value_in s l p n w = halved s l (first_value p) n w 9 0 n
 
 -- ---- a lookup
 
@@ -97,26 +97,26 @@ unfoldable pub or_else : ℕ → ℕ → ℕ
 or_else q r = cond (eqb q 0) r q
 
 -- the place of the entry under a name among n from p on, by at most so many steps along the chain
-unfoldable pub soughtIn : List ℕ → List ℕ → Name → ℕ → ℕ → ℕ → ℕ
-soughtIn s l w zero n p = 0
-soughtIn s l w (suc f) n p =
+unfoldable pub sought_in : List ℕ → List ℕ → Name → ℕ → ℕ → ℕ → ℕ
+sought_in s l w zero n p = 0
+sought_in s l w (suc f) n p =
     cond (eqb n 0) 0
-    (cond (isCalled s l p w) p
-    (cond (eqb (valuesBehind l p) 0) (soughtIn s l w f (n - 1) (get_or l (p + 3) 0))
-    (or_else (valueIn s l p (valuesBehind l p) w) (soughtIn s l w f (n - 1 - valuesBehind l p) (get_or l (firstValue p + 4 * (valuesBehind l p - 1) + 3) 0)))))
+    (cond (is_called s l p w) p
+    (cond (eqb (values_behind l p) 0) (sought_in s l w f (n - 1) (get_or l (p + 3) 0))
+    (or_else (value_in s l p (values_behind l p) w) (sought_in s l w f (n - 1 - values_behind l p) (get_or l (first_value p + 4 * (values_behind l p - 1) + 3) 0)))))
 
-unfoldable pub placeBy : List ℕ → List ℕ → ℕ → ℕ → Name → ℕ
-placeBy s l n p w = soughtIn s l w n n p
+unfoldable pub place_by : List ℕ → List ℕ → ℕ → ℕ → Name → ℕ
+place_by s l n p w = sought_in s l w n n p
 
 -- what is read of an entry: its first number, how many values stand behind it, and the place of the entry before
 abbrev pub link_at : List ℕ → ℕ → Link
-link_at l p = record { first = get_or l p 0; values = valuesBehind l p; next = get_or l (p + 3) 0 }
+link_at l p = record { first = get_or l p 0; values = values_behind l p; next = get_or l (p + 3) 0 }
 
 -- what comes in the chain after the values behind the entry at p, of n from p on
-abbrev pub pastValues : List ℕ → ℕ → ℕ → ℕ → Spot
-pastValues l n p v = record { left = n - 1 - v; place = get_or l (firstValue p + 4 * (v - 1) + 3) 0 }
+abbrev pub past_values : List ℕ → ℕ → ℕ → ℕ → Spot
+past_values l n p v = record { left = n - 1 - v; place = get_or l (first_value p + 4 * (v - 1) + 3) 0 }
 
 -- of n entries from p on, those from r on hold the place of every name with a key
 pub record Seeks (l : List ℕ) (k n p : ℕ) (r : Spot) : Type 0 where
   pub few : r.left ≤ n
-  pub from : (s : List ℕ) (w : Name) → key_of w ≡ k → placeBy s l n p w ≡ placeBy s l r.left r.place w
+  pub from : (s : List ℕ) (w : Name) → key_of w ≡ k → place_by s l n p w ≡ place_by s l r.left r.place w

@@ -6,15 +6,15 @@ use Rattle.law.specs.Trees.{word_at}
 
 -- one letter more: 12 bits come from the letters, and no two names of up to two letters and digits have the same; 5 bits above them are how
 -- many letters there are
-unfoldable pub keyWith : ℕ → ℕ → ℕ
-keyWith k b = (k % 4096 * 39 + b) % 4096 + 4096 * ((k / 4096 + 1) % 32)
+unfoldable pub key_with : ℕ → ℕ → ℕ
+key_with k b = (k % 4096 * 39 + b) % 4096 + 4096 * ((k / 4096 + 1) % 32)
 
-unfoldable pub keyFrom : ℕ → Name → ℕ
-keyFrom k [] = k
-keyFrom k (b ∷ w) = keyFrom (keyWith k b) w
+unfoldable pub key_from : ℕ → Name → ℕ
+key_from k [] = k
+key_from k (b ∷ w) = key_from (key_with k b) w
 
 unfoldable pub key_of : Name → ℕ
-key_of w = keyFrom 0 w
+key_of w = key_from 0 w
 
 -- the first number of the entry of the name at p: its offset, and its key
 unfoldable pub keyed : List ℕ → ℕ → ℕ

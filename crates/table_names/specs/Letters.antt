@@ -6,16 +6,16 @@ use Rattle.leaf_bytes.specs.Bytes.{class_of, small}
 use Rattle.table_names.specs.declared.letters.Meeting.{Meeting}
 use Rattle.table_names.specs.declared.letters.Meeting.TheVariants as meeting
 
-unfoldable pub letterBy : Class → ℕ → ℕ
-letterBy Feed b = 0
-letterBy Space b = 0
-letterBy Open b = 0
-letterBy Close b = 0
-letterBy Visible b = small b
-letterBy Refused b = 0
+unfoldable pub letter_by : Class → ℕ → ℕ
+letter_by Feed b = 0
+letter_by Space b = 0
+letter_by Open b = 0
+letter_by Close b = 0
+letter_by Visible b = small b
+letter_by Refused b = 0
 
-unfoldable pub letterOf : ℕ → ℕ
-letterOf b = letterBy (class_of b) b
+unfoldable pub letter_of : ℕ → ℕ
+letter_of b = letter_by (class_of b) b
 
 -- the byte at p; a line feed past the text's end
 abbrev pub byte_at : List ℕ → ℕ → ℕ

@@ -4,7 +4,7 @@ ghost use Rattle.std.specs.Prelude.{◌≡◌, map};
 ghost use Rattle.leaf_bytes.specs.Bytes.{small};
 ghost use Rattle.law.specs.Trees.{word_at};
 ghost use Rattle.table_names.specs.Keys.{key_of};
-ghost use Rattle.table_names.specs.Chain.{firstValue, order_at, ranked, middle, valueIn};
+ghost use Rattle.table_names.specs.Chain.{first_value, order_at, ranked, middle, value_in};
 
 use crate::keys::OFFSETS;
 use crate::order::{Order, order_of};
@@ -27,7 +27,7 @@ const HALVINGS: u32 = 9;
 
 // The place of the first value behind the type's entry at a place.
 pub fn first_value(place: u32) -> u32
-    ensures { result ≡ firstValue place }
+    ensures { result ≡ first_value place }
 {
     place % PLACES + FIRST_VALUE
 }
@@ -66,7 +66,7 @@ fn middle_of(low: u32, high: u32) -> u32
 
 // The place of the value that the word at an offset names, among the n of the type whose entry is at a place; 0 if none does.
 pub fn find_value(text: &[u8], work: &[u32], place: u32, n: u32, key: u32, offset: usize) -> u32
-    ensures { key ≡ key_of (map small (word_at text.now offset)) → result ≡ valueIn text.now work.now place n (map small (word_at text.now offset)) }
+    ensures { key ≡ key_of (map small (word_at text.now offset)) → result ≡ value_in text.now work.now place n (map small (word_at text.now offset)) }
 {
     let base = first_value(place);
     let mut low = 0;

@@ -2,7 +2,7 @@
 ghost use Rattle.std.specs.Prelude.{◌≡◌, map};
 ghost use Rattle.leaf_bytes.specs.Bytes.{small};
 ghost use Rattle.law.specs.Trees.{word_at};
-ghost use Rattle.table_names.specs.Keys.{keyWith, key_of, keyed};
+ghost use Rattle.table_names.specs.Keys.{key_with, key_of, keyed};
 
 use crate::letters::{byte_at, letter_of};
 use table_list::TEXT_LENGTH;
@@ -19,7 +19,7 @@ const LENGTHS: u32 = 32;
 
 // A key with one more letter.
 fn key_with(k: u32, x: u8) -> u32
-    ensures { result ≡ keyWith k x }
+    ensures { result ≡ key_with k x }
 {
     let letters = (k % LETTERS * 39 + x as u32) % LETTERS;
     letters + LETTERS * ((k / LETTERS + 1) % LENGTHS)

@@ -1,6 +1,6 @@
 // The letters of a word one after another, in small letters; 0 where the word has ended.
 ghost use Rattle.std.specs.Prelude.{◌≡◌, eqb};
-ghost use Rattle.table_names.specs.Letters.{letterOf, byte_at, meets};
+ghost use Rattle.table_names.specs.Letters.{letter_of, byte_at, meets};
 
 use leaf_bytes::bytes::{Class, class_of, small_of};
 
@@ -16,7 +16,7 @@ pub(crate) fn byte_at(text: &[u8], p: usize) -> u8
 
 // The small letter that a byte is in a word; 0 of a byte that ends one.
 pub(crate) fn letter_of(b: u8) -> u8
-    ensures { result ≡ letterOf b }
+    ensures { result ≡ letter_of b }
 {
     let k = class_of(b);
     match k {
@@ -31,7 +31,7 @@ pub(crate) fn letter_of(b: u8) -> u8
 
 // Whether two bytes are the same letter. Mostly they are the same byte, which is seen at once.
 fn same_letter(a: u8, b: u8) -> bool
-    ensures { result ≡ eqb (letterOf a) (letterOf b) }
+    ensures { result ≡ eqb (letter_of a) (letter_of b) }
 {
     if a == b {
         return true;
@@ -49,7 +49,7 @@ pub enum Meeting {
 
 // What two words that were the same so far are at the next offsets.
 pub(crate) fn meet(text: &[u8], p: usize, q: usize) -> Meeting
-    ensures { result ≡ meets (letterOf (byte_at text.now p)) (letterOf (byte_at text.now q)) }
+    ensures { result ≡ meets (letter_of (byte_at text.now p)) (letter_of (byte_at text.now q)) }
 {
     let x = byte_at(text, p);
     if same_letter(x, byte_at(text, q)) {

@@ -9,7 +9,7 @@ ghost use Rattle.leaf_bytes.specs.Bytes.{small, same};
 ghost use Rattle.law.specs.Trees.{word_at};
 ghost use Rattle.code.specs.Layout.{lay as laid};
 ghost use Rattle.table_list.specs.Laid.{Laid};
-ghost use Rattle.table_names.specs.Chain.{valuesBy, link_at, pastValues, placeBy, Seeks};
+ghost use Rattle.table_names.specs.Chain.{values_by, link_at, past_values, place_by, Seeks};
 
 use crate::blocks::{find_value, first_value};
 use crate::keys::{OFFSETS, key_of};
@@ -49,7 +49,7 @@ pub struct Link {
 
 // How many values stand behind an entry, by its second and third numbers: only a type's has any.
 fn values_by(sort: u32, more: u32) -> u32
-    ensures { result ≡ valuesBy sort more }
+    ensures { result ≡ values_by sort more }
 {
     if sort % 4 == 0 {
         return more;
@@ -125,7 +125,7 @@ fn less(n: u32, m: u32) -> u32
 
 // What comes in the chain after the values behind the entry at a place, of so many entries from it on.
 fn past_values(work: &[u32], left: u32, place: u32, values: u32) -> Spot
-    ensures { result ≡ pastValues work.now left place values }
+    ensures { result ≡ past_values work.now left place values }
 {
     let last = first_value(place) as usize + 4 * less(values, 1) as usize;
     Spot {
@@ -136,7 +136,7 @@ fn past_values(work: &[u32], left: u32, place: u32, values: u32) -> Spot
 
 // The place of the entry that the word at an offset names, among so many from the newest on; 0 if none does.
 pub fn lookup(text: &[u8], work: &[u32], count: u32, newest: u32, offset: usize) -> u32
-    ensures { result ≡ placeBy text.now work.now count newest (map small (word_at text.now offset)) }
+    ensures { result ≡ place_by text.now work.now count newest (map small (word_at text.now offset)) }
 {
     let key = key_of(text, offset);
     let mut n = count;

@@ -2,7 +2,7 @@
 ghost use Rattle.std.specs.Prelude.{◌≡◌, map};
 ghost use Rattle.leaf_bytes.specs.Bytes.{small};
 ghost use Rattle.law.specs.Trees.{word_at};
-ghost use Rattle.table_names.specs.Letters.{letterOf, byte_at};
+ghost use Rattle.table_names.specs.Letters.{letter_of, byte_at};
 ghost use Rattle.table_names.specs.Order.{lettered, ordered};
 
 use crate::letters::{Meeting, byte_at, letter_of, meet};
@@ -17,7 +17,7 @@ pub enum Order {
 
 // The order of two words by the letters at two offsets, which differ.
 fn by_letters(text: &[u8], p: usize, q: usize) -> Order
-    ensures { result ≡ lettered (letterOf (byte_at text.now p)) (letterOf (byte_at text.now q)) }
+    ensures { result ≡ lettered (letter_of (byte_at text.now p)) (letter_of (byte_at text.now q)) }
 {
     let x = letter_of(byte_at(text, p));
     let y = letter_of(byte_at(text, q));

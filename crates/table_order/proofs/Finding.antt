@@ -12,7 +12,7 @@ use Rattle.law.specs.Base.{Name}
 use Rattle.law_theorems.proofs.Inversion.{and-true}
 use Rattle.table_names.specs.Keys.{key_of}
 use Rattle.table_names.specs.Order.{lettered, ordered}
-use Rattle.table_names.specs.Chain.{name_at, key_at, isCalled, place_in, firstValue, places, order_at, ranked, middle, by_order, halved, valueIn}
+use Rattle.table_names.specs.Chain.{name_at, key_at, is_called, place_in, first_value, places, order_at, ranked, middle, by_order, halved, value_in}
 use Rattle.table_names.specs.declared.order.Order.{Order}
 use Rattle.table_names.specs.declared.order.Order.TheVariants as order
 use Rattle.table_names.proofs.Chained.{first-low}
@@ -38,8 +38,8 @@ ordered_same (a ∷ v) (b ∷ w) e = go (eqb a b) refl (ltb a b) (ordered_same v
     go false f true k g = before_same g
     go false f false k g = after_same g
 
-called_same : (s l : List ℕ) (p : ℕ) (w : Name) → order_at s l p w ≡ order.Same → isCalled s l p w ≡ true
-unfolding order_at isCalled
+called_same : (s l : List ℕ) (p : ℕ) (w : Name) → order_at s l p w ≡ order.Same → is_called s l p w ≡ true
+unfolding order_at is_called
 called_same s l p w e = go (ltb (key_at l p) (key_of w)) refl (ltb (key_of w) (key_at l p)) refl e
   where
     go : (t : Bool) → ltb (key_at l p) (key_of w) ≡ t → (u : Bool) → ltb (key_of w) (key_at l p) ≡ u → cond t order.Before (cond u order.After (ordered (name_at s l p) w)) ≡ order.Same
@@ -51,15 +51,15 @@ called_same s l p w e = go (ltb (key_at l p) (key_of w)) refl (ltb (key_of w) (k
         let y = ltb-false (key_of w) (key_at l p) g in
         rw (eq-eqb (key_at l p) (key_of w) (omega arith), ordered_same (name_at s l p) w h, same_self w) refl
 
-called-name : (s l : List ℕ) (p : ℕ) (w : Name) → isCalled s l p w ≡ true → name_at s l p ≡ w
-unfolding isCalled
+called-name : (s l : List ℕ) (p : ℕ) (w : Name) → is_called s l p w ≡ true → name_at s l p ≡ w
+unfolding is_called
 called-name s l p w e = same-equal (name_at s l p) w (and-true (eqb (key_at l p) (key_of w)) (same (name_at s l p) w) e).1
 
 -- ---- what halving gives
 
 data Hit (s l : List ℕ) (b n : ℕ) (w : Name) (q : ℕ) : Type 0 where
   missed : q ≡ 0 → Hit s l b n w q
-  hit : (i : ℕ) → i < n → q ≡ b + 4 * i → isCalled s l (b + 4 * i) w ≡ true → Hit s l b n w q
+  hit : (i : ℕ) → i < n → q ≡ b + 4 * i → is_called s l (b + 4 * i) w ≡ true → Hit s l b n w q
 
 halved-hit : (s l : List ℕ) (b n : ℕ) (w : Name) (d low high : ℕ) → Hit s l b n w (halved s l b n w d low high)
 unfolding halved
@@ -79,41 +79,41 @@ halved-hit s l b n w (suc d) low high = outer (λ x y. halved-hit s l b n w d x 
 placed-hit : (s l : List ℕ) (w : Name) (n b : ℕ) → Hit s l b n w (place_in s l (places n b) w)
 unfolding places place_in
 placed-hit s l w zero b = missed refl
-placed-hit s l w (suc n) b = go (isCalled s l b w) refl (placed-hit s l w n (b + 4))
+placed-hit s l w (suc n) b = go (is_called s l b w) refl (placed-hit s l w n (b + 4))
   where
-    go : (t : Bool) → isCalled s l b w ≡ t → Hit s l (b + 4) n w (place_in s l (places n (b + 4)) w) → Hit s l b (suc n) w (cond t b (place_in s l (places n (b + 4)) w))
+    go : (t : Bool) → is_called s l b w ≡ t → Hit s l (b + 4) n w (place_in s l (places n (b + 4)) w) → Hit s l b (suc n) w (cond t b (place_in s l (places n (b + 4)) w))
     go true e H = let z : b ≡ b + 4 * 0 = omega arith in hit 0 (omega arith) z (rw (← z) e)
     go false e (missed f) = missed f
     go false e (hit i h f c) = let z : b + 4 + 4 * i ≡ b + 4 * suc i = omega arith in hit (suc i) (omega arith) (f ∙ z) (rw z at c)
 
 -- a value that is called so is met on the chain
-placed-some : (s l : List ℕ) (w : Name) (n b i : ℕ) → 1 ≤ b → i < n → isCalled s l (b + 4 * i) w ≡ true → place_in s l (places n b) w ≡ 0 → ⊥
+placed-some : (s l : List ℕ) (w : Name) (n b i : ℕ) → 1 ≤ b → i < n → is_called s l (b + 4 * i) w ≡ true → place_in s l (places n b) w ≡ 0 → ⊥
 unfolding places place_in
 placed-some s l w zero b i h k c e = omega arith
-placed-some s l w (suc n) b zero h k c e = let z : b + 4 * 0 ≡ b = omega arith in go (isCalled s l b w) (rw z at c) e
+placed-some s l w (suc n) b zero h k c e = let z : b + 4 * 0 ≡ b = omega arith in go (is_called s l b w) (rw z at c) e
   where
     go : (t : Bool) → t ≡ true → cond t b (place_in s l (places n (b + 4)) w) ≡ 0 → ⊥
     go true x y = omega arith
     go false x y = false≢true x
 placed-some s l w (suc n) b (suc i) h k c e =
     let z : b + 4 * suc i ≡ b + 4 + 4 * i = omega arith in
-    go (isCalled s l b w) (placed-some s l w n (b + 4) i (omega arith) (omega arith) (rw z at c)) e
+    go (is_called s l b w) (placed-some s l w n (b + 4) i (omega arith) (omega arith) (rw z at c)) e
   where
     go : (t : Bool) → (place_in s l (places n (b + 4)) w ≡ 0 → ⊥) → cond t b (place_in s l (places n (b + 4)) w) ≡ 0 → ⊥
     go true x y = omega arith
     go false x y = x y
 
-pub found_all : (s l : List ℕ) (p n : ℕ) → p < 32768 → Finds s l p n true → (w : Name) → valueIn s l p n w ≡ place_in s l (places n (p + 12)) w
-unfolding valueIn
-found_all s l p n low F w = rw (← first-low p low) (go (placed-hit s l w n (firstValue p)) (halved-hit s l (firstValue p) n w 9 0 n))
+pub found_all : (s l : List ℕ) (p n : ℕ) → p < 32768 → Finds s l p n true → (w : Name) → value_in s l p n w ≡ place_in s l (places n (p + 12)) w
+unfolding value_in
+found_all s l p n low F w = rw (← first-low p low) (go (placed-hit s l w n (first_value p)) (halved-hit s l (first_value p) n w 9 0 n))
   where
-    some_first : 1 ≤ firstValue p
+    some_first : 1 ≤ first_value p
     some_first = rw (first-low p low) (omega arith)
 
-    go : Hit s l (firstValue p) n w (place_in s l (places n (firstValue p)) w) → Hit s l (firstValue p) n w (halved s l (firstValue p) n w 9 0 n)
-        → halved s l (firstValue p) n w 9 0 n ≡ place_in s l (places n (firstValue p)) w
+    go : Hit s l (first_value p) n w (place_in s l (places n (first_value p)) w) → Hit s l (first_value p) n w (halved s l (first_value p) n w 9 0 n)
+        → halved s l (first_value p) n w 9 0 n ≡ place_in s l (places n (first_value p)) w
     go (missed e) (missed f) = f ∙ sym e
-    go (missed e) (hit i h f c) = absurd (placed-some s l w n (firstValue p) i some_first h c e)
+    go (missed e) (hit i h f c) = absurd (placed-some s l w n (first_value p) i some_first h c e)
     go (hit i h e c) H =
-        let x : name_at s l (firstValue p + 4 * i) ≡ w = called-name s l (firstValue p + 4 * i) w c in
-        ap (λ (v : Name). halved s l (firstValue p) n v 9 0 n) (sym x) ∙ F.each refl i h ∙ sym e
+        let x : name_at s l (first_value p + 4 * i) ≡ w = called-name s l (first_value p + 4 * i) w c in
+        ap (λ (v : Name). halved s l (first_value p) n v 9 0 n) (sym x) ∙ F.each refl i h ∙ sym e

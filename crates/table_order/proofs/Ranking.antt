@@ -15,7 +15,7 @@ use Rattle.leaf_bytes.specs.Bytes.{small}
 use Rattle.law.specs.Trees.{word_at}
 use Rattle.code.specs.LayoutRegions.{Same}
 use Rattle.table_names.specs.Keys.{key_of}
-use Rattle.table_names.specs.Chain.{name_at, place_in, firstValue, places, valueIn}
+use Rattle.table_names.specs.Chain.{name_at, place_in, first_value, places, value_in}
 use Rattle.table_names.proofs.Chained.{first-low}
 use Rattle.table_order.specs.Ordered.{Ranks, Finds, Marks, unmarked, marked, Marking, Ordered}
 use Rattle.table_order.proofs.Finding.{found_all}
@@ -57,11 +57,11 @@ rank-fits x i = let h = mod-lt i {m = 256} (omega arith) in let g = mod-lt x {m 
 -- ---- `all_found`: the first i values are
 
 pub record Finding (s l : List ℕ) (p n base i : ℕ) : Type 0 where
-  pub base-is : base ≡ firstValue p
-  pub so_far : (j : ℕ) → j < i → valueIn s l p n (name_at s l (firstValue p + 4 * j)) ≡ firstValue p + 4 * j
+  pub base-is : base ≡ first_value p
+  pub so_far : (j : ℕ) → j < i → value_in s l p n (name_at s l (first_value p + 4 * j)) ≡ first_value p + 4 * j
 
 module _ (s l : List ℕ) (p n base : ℕ) where
-  pub finding-start : base ≡ firstValue p → Finding s l p n base 0
+  pub finding-start : base ≡ first_value p → Finding s l p n base 0
   finding-start e = record { base-is = e; so_far = λ j h. absurd (omega arith) }
 
   module _ (i : ℕ) (F : Finding s l p n base i) where
@@ -69,15 +69,15 @@ module _ (s l : List ℕ) (p n base : ℕ) where
     finding-done h = record { each = λ _ j g. F.so_far j (omega arith) }
 
     module _ (h : i < n) (x : ℕ) (e : x ≡ get_or l (base + 4 * i) 0) (key : ℕ) (k : key ≡ key_of (map small (word_at s (x % 32768)))) (q : ℕ)
-        (Q : key ≡ key_of (map small (word_at s (x % 32768))) → q ≡ valueIn s l p n (map small (word_at s (x % 32768)))) where
+        (Q : key ≡ key_of (map small (word_at s (x % 32768))) → q ≡ value_in s l p n (map small (word_at s (x % 32768)))) where
       pub finding-on : q ≡ base + 4 * i → Finding s l p n base (i + 1)
       unfolding name_at
       finding-on f = record { base-is = F.base-is; so_far = λ j g. go j g (ℕ_discrete j i) }
         where
-          here : valueIn s l p n (map small (word_at s (get_or l (firstValue p + 4 * i) 0 % 32768))) ≡ firstValue p + 4 * i
+          here : value_in s l p n (map small (word_at s (get_or l (first_value p + 4 * i) 0 % 32768))) ≡ first_value p + 4 * i
           here = rw (← F.base-is, ← e) (sym (Q k) ∙ f)
 
-          go : (j : ℕ) → j < i + 1 → Dec (j ≡ i) → valueIn s l p n (map small (word_at s (get_or l (firstValue p + 4 * j) 0 % 32768))) ≡ firstValue p + 4 * j
+          go : (j : ℕ) → j < i + 1 → Dec (j ≡ i) → value_in s l p n (map small (word_at s (get_or l (first_value p + 4 * j) 0 % 32768))) ≡ first_value p + 4 * j
           go j g (yes z) = rw z here
           go j g (no z) = F.so_far j (omega (arith, z, g))
 
@@ -120,7 +120,7 @@ ordered-not s l p n h = record {
   head = λ g _. absurd (omega arith);
 }
 
-pub ordered-is : (s l : List ℕ) (p n : ℕ) → p < 32768 → (b : ℕ) → b ≡ firstValue p → (m : List ℕ) → Ranks b l m → (l' : List ℕ) → Marking s m p n l' → Ordered s l p n l'
+pub ordered-is : (s l : List ℕ) (p n : ℕ) → p < 32768 → (b : ℕ) → b ≡ first_value p → (m : List ℕ) → Ranks b l m → (l' : List ℕ) → Marking s m p n l' → Ordered s l p n l'
 ordered-is s l p n low b B m R l' M = record {
   below = record { at = λ j _ x. M.other j (λ z. omega arith) ∙ sorted j (λ i z. omega arith) };
   long = M.long ∙ R.long;

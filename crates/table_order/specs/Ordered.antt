@@ -2,7 +2,7 @@
 use Rattle.std.specs.Prelude.{Bool, true, List, ◌≡◌, ℕ, ◌+◌, ◌*◌, ◌%◌, ◌<◌, length, get_or}
 use Rattle.law.specs.Base.{Name}
 use Rattle.code.specs.LayoutRegions.{Same}
-use Rattle.table_names.specs.Chain.{name_at, place_in, firstValue, places, valueIn}
+use Rattle.table_names.specs.Chain.{name_at, place_in, first_value, places, value_in}
 
 -- of the entries from b on second numbers alone change, and of these not the sorts
 pub record Ranks (b : ℕ) (l l' : List ℕ) : Type 0 where
@@ -12,12 +12,12 @@ pub record Ranks (b : ℕ) (l l' : List ℕ) : Type 0 where
 
 -- where r is true, each of the n values behind the entry at p is found by its name
 pub record Finds (s l : List ℕ) (p n : ℕ) (r : Bool) : Type 0 where
-  pub each : r ≡ true → (i : ℕ) → i < n → valueIn s l p n (name_at s l (firstValue p + 4 * i)) ≡ firstValue p + 4 * i
+  pub each : r ≡ true → (i : ℕ) → i < n → value_in s l p n (name_at s l (first_value p + 4 * i)) ≡ first_value p + 4 * i
 
 -- the third number of the entry at p is 0, or n, and then halving finds what the values' chain does
 pub data Marks (s l : List ℕ) (p n : ℕ) : Type 0 where
   unmarked : get_or l (p + 2) 0 ≡ 0 → Marks s l p n
-  marked : get_or l (p + 2) 0 ≡ n → ((w : Name) → valueIn s l p n w ≡ place_in s l (places n (p + 12)) w) → Marks s l p n
+  marked : get_or l (p + 2) 0 ≡ n → ((w : Name) → value_in s l p n w ≡ place_in s l (places n (p + 12)) w) → Marks s l p n
 
 -- that number alone is set
 pub record Marking (s l : List ℕ) (p n : ℕ) (l' : List ℕ) : Type 0 where

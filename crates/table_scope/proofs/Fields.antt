@@ -10,18 +10,18 @@ use lib.ListN.{get_or}
 use Rattle.leaf_bytes.specs.Bytes.{small, same}
 use Rattle.law.specs.Base.{Name}
 use Rattle.law.specs.Trees.{word_at}
-use Rattle.table_scope.specs.Descriptions.{fieldPlace}
+use Rattle.table_scope.specs.Descriptions.{field_place}
 
 -- the field at q, then those after it
 asked : (s l : List ℕ) (w : Name) (q n : ℕ) → 0 < n
-    → fieldPlace s l q n w ≡ cond (same (map small (word_at s (get_or l q 0))) w) q (fieldPlace s l (q + 4) (n - 1) w)
-unfolding fieldPlace
+    → field_place s l q n w ≡ cond (same (map small (word_at s (get_or l q 0))) w) q (field_place s l (q + 4) (n - 1) w)
+unfolding field_place
 asked s l w q zero h = absurd (omega arith)
 asked s l w q (suc n) h = let z : suc n - 1 ≡ n = omega arith in rw z refl
 
 -- the n fields from p on are still to be asked
 pub record Asking (s l : List ℕ) (w : Name) (place fields n p : ℕ) : Type 0 where
-  pub same-field : fieldPlace s l (place + 8) fields w ≡ fieldPlace s l p n w
+  pub same-field : field_place s l (place + 8) fields w ≡ field_place s l p n w
   pub ends : p + 4 * n ≡ place + 8 + 4 * fields
   pub early : p + 4 * n < 42949672960
 
@@ -30,8 +30,8 @@ module _ (s l : List ℕ) (w : Name) (place fields : ℕ) where
   ask-start h g = record { same-field = refl; ends = refl; early = omega arith }
 
   module _ (n p : ℕ) (A : Asking s l w place fields n p) where
-    pub ask-none : n ≤ 0 → place + 8 + 4 * fields ≤ 4294967296 → 0 ≡ fieldPlace s l (place + 8) fields w
-    unfolding fieldPlace
+    pub ask-none : n ≤ 0 → place + 8 + 4 * fields ≤ 4294967296 → 0 ≡ field_place s l (place + 8) fields w
+    unfolding field_place
     ask-none h g = let z : n ≡ 0 = omega arith in sym (A.same-field ∙ rw z)
 
     module _ (h : 0 < n) where
@@ -42,7 +42,7 @@ module _ (s l : List ℕ) (w : Name) (place fields : ℕ) where
         told : same (map small (word_at s (get_or l p 0))) w ≡ b
         told = rw (← e) (sym t)
 
-        pub ask-found : b ≡ true → (r : ℕ) → (p < 4294967296 → r ≡ p) → place + 8 + 4 * fields ≤ 4294967296 → r ≡ fieldPlace s l (place + 8) fields w
+        pub ask-found : b ≡ true → (r : ℕ) → (p < 4294967296 → r ≡ p) → place + 8 + 4 * fields ≤ 4294967296 → r ≡ field_place s l (place + 8) fields w
         ask-found g r f k = f (omega (arith, A.ends)) ∙ sym (A.same-field ∙ asked s l w p n h ∙ rw (told, g))
 
         pub ask-on : b ≡ false → Asking s l w place fields (n - 1) (p + 4)

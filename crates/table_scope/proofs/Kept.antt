@@ -12,27 +12,27 @@ use Rattle.leaf_bytes.specs.Bytes.{small, same}
 use Rattle.law.specs.Base.{Name}
 use Rattle.law.specs.Environment.{Environment}
 use Rattle.law.specs.Trees.{Trees, word, form, end, ◌then◌, Run, first, word_at}
-use Rattle.law_theorems.specs.Readings.{stackAt}
-use Rattle.law.specs.Types.{TypeInfo, infoAt}
+use Rattle.law_theorems.specs.Readings.{stack_at}
+use Rattle.law.specs.Types.{TypeInfo, info_at}
 use Rattle.code.specs.LayoutRegions.{Same}
-use Rattle.table_names.specs.Chain.{isCalled, place_in}
+use Rattle.table_names.specs.Chain.{is_called, place_in}
 use Rattle.table_names.specs.Chained.{Below}
 use Rattle.table_names.proofs.Chained.{Within, none_within, one-within, below-place, below-within, is-called-kept, entries-kept, below-kept, below-higher}
-use Rattle.table_scope.specs.Descriptions.{integerInfo, booleanInfo, no_info, readInfo, infoOf, fields_at, Tells, EndsBelow}
+use Rattle.table_scope.specs.Descriptions.{integer_info, boolean_info, no_info, read_info, info_of, fields_at, Tells, EndsBelow}
 use Rattle.table_scope.specs.declared.Scope.{Scope}
-use Rattle.table_scope.specs.Pairs.{afterLead, pairIn}
-use Rattle.table_scope.specs.Frames.{framed, frame_at, frameIn, TellsFrame}
+use Rattle.table_scope.specs.Pairs.{after_lead, pair_in}
+use Rattle.table_scope.specs.Frames.{framed, frame_at, frame_in, TellsFrame}
 use Rattle.table_scope.specs.declared.frames.Frame.{Frame}
-use Rattle.table_scope.specs.Scene.{meaningAt, declaredIn, kind_of, parameterOf, pairedOr, meaningIn, Scene}
+use Rattle.table_scope.specs.Scene.{meaning_at, declared_in, kind_of, parameter_of, paired_or, meaning_in, Scene}
 use Rattle.table_scope.specs.declared.Info.{Info}
 
 -- what holds of the built-in types, of no type and of each description that stands in a list holds of every type
-pub info-by : (P : (List ℕ → Info) → Type 0) → P (λ _. integerInfo) → P (λ _. booleanInfo) → P (λ _. no_info)
-    → ((p : ℕ) → 1 ≤ p → P (λ l. readInfo l p)) → (ts : List ℕ) (k : ℕ) → P (λ l. infoOf l ts k)
-unfolding infoOf
+pub info-by : (P : (List ℕ → Info) → Type 0) → P (λ _. integer_info) → P (λ _. boolean_info) → P (λ _. no_info)
+    → ((p : ℕ) → 1 ≤ p → P (λ l. read_info l p)) → (ts : List ℕ) (k : ℕ) → P (λ l. info_of l ts k)
+unfolding info_of
 info-by P a b c d ts k = go (eqb k 0) (eqb k 1) (eqb (get_or ts k 0) 0) refl
   where
-    go : (x y z : Bool) → eqb (get_or ts k 0) 0 ≡ z → P (λ l. cond x integerInfo (cond y booleanInfo (cond z no_info (readInfo l (get_or ts k 0)))))
+    go : (x y z : Bool) → eqb (get_or ts k 0) 0 ≡ z → P (λ l. cond x integer_info (cond y boolean_info (cond z no_info (read_info l (get_or ts k 0)))))
     go true y z e = a
     go false true z e = b
     go false false true e = c
@@ -43,8 +43,8 @@ info-by P a b c d ts k = go (eqb k 0) (eqb k 1) (eqb (get_or ts k 0) 0) refl
         one (suc p) h = omega arith
 
 module _ {l l' : List ℕ} {top : ℕ} (E : Same 0 top l' l) where
-  read_kept : (p : ℕ) → p + 8 ≤ top → readInfo l' p ≡ readInfo l p
-  unfolding readInfo
+  read_kept : (p : ℕ) → p + 8 ≤ top → read_info l' p ≡ read_info l p
+  unfolding read_info
   read_kept p h = rw (
     E.at p (omega arith) (omega arith),
     E.at (p + 1) (omega arith) (omega arith),
@@ -56,8 +56,8 @@ module _ {l l' : List ℕ} {top : ℕ} (E : Same 0 top l' l) where
     E.at (p + 7) (omega arith) (omega arith),
   ) refl
 
-  pub info-kept : (ts : List ℕ) (k : ℕ) → EndsBelow top (infoOf l ts k) → infoOf l' ts k ≡ infoOf l ts k
-  unfolding readInfo
+  pub info-kept : (ts : List ℕ) (k : ℕ) → EndsBelow top (info_of l ts k) → info_of l' ts k ≡ info_of l ts k
+  unfolding read_info
   info-kept =
       info-by (λ f. EndsBelow top (f l) → f l' ≡ f l) (λ _. refl) (λ _. refl) (λ _. refl)
       (λ p h B. let e : p + 8 + 4 * get_or l (p + 7) 0 ≤ top = B.end_below h in read_kept p (omega arith))
@@ -72,14 +72,14 @@ module _ {l l' : List ℕ} {top : ℕ} (E : Same 0 top l' l) where
     fields-kept s (q + 4) n (omega arith),
   ) refl
 
-  info-fields-kept : (s ts : List ℕ) (k : ℕ) → EndsBelow top (infoOf l ts k)
-      → fields_at s l' ((infoOf l ts k).place + 8) (infoOf l ts k).fields ≡ fields_at s l ((infoOf l ts k).place + 8) (infoOf l ts k).fields
-  unfolding fields_at integerInfo booleanInfo no_info readInfo
+  info-fields-kept : (s ts : List ℕ) (k : ℕ) → EndsBelow top (info_of l ts k)
+      → fields_at s l' ((info_of l ts k).place + 8) (info_of l ts k).fields ≡ fields_at s l ((info_of l ts k).place + 8) (info_of l ts k).fields
+  unfolding fields_at integer_info boolean_info no_info read_info
   info-fields-kept s =
       info-by (λ f. EndsBelow top (f l) → fields_at s l' ((f l).place + 8) (f l).fields ≡ fields_at s l ((f l).place + 8) (f l).fields) (λ _. refl) (λ _. refl) (λ _. refl)
       (λ p h B. let e : p + 8 + 4 * get_or l (p + 7) 0 ≤ top = B.end_below h in fields-kept s (p + 8) (get_or l (p + 7) 0) e)
 
-  tells-kept : (s ts : List ℕ) (k : ℕ) (i : TypeInfo) → EndsBelow top (infoOf l ts k) → Tells s l (infoOf l ts k) i → Tells s l' (infoOf l ts k) i
+  tells-kept : (s ts : List ℕ) (k : ℕ) (i : TypeInfo) → EndsBelow top (info_of l ts k) → Tells s l (info_of l ts k) i → Tells s l' (info_of l ts k) i
   tells-kept s ts k i B T = record {
     shape_is = T.shape_is;
     host-is = T.host-is;
@@ -91,25 +91,25 @@ module _ {l l' : List ℕ} {top : ℕ} (E : Same 0 top l' l) where
     fields-are = info-fields-kept s ts k B ∙ T.fields-are;
   }
 
-  meaning-at-kept : (p : ℕ) → p + 4 ≤ top → meaningAt l' p ≡ meaningAt l p
-  unfolding meaningAt
+  meaning-at-kept : (p : ℕ) → p + 4 ≤ top → meaning_at l' p ≡ meaning_at l p
+  unfolding meaning_at
   meaning-at-kept p h = rw (E.at (p + 1) (omega arith) (omega arith), E.at (p + 2) (omega arith) (omega arith)) refl
 
   -- ---- names
 
-  place_kept : (s : List ℕ) (w : Name) {ps : List ℕ} → Within top ps → meaningAt l' (place_in s l' ps w) ≡ meaningAt l (place_in s l ps w)
-  unfolding place_in meaningAt
+  place_kept : (s : List ℕ) (w : Name) {ps : List ℕ} → Within top ps → meaning_at l' (place_in s l' ps w) ≡ meaning_at l (place_in s l ps w)
+  unfolding place_in meaning_at
   place_kept s w none_within = refl
-  place_kept s w (one-within {p} {ps} h W) = rw (is-called-kept E s w p h) (go (isCalled s l p w) (place_kept s w W))
+  place_kept s w (one-within {p} {ps} h W) = rw (is-called-kept E s w p h) (go (is_called s l p w) (place_kept s w W))
     where
-      go : (b : Bool) → meaningAt l' (place_in s l' ps w) ≡ meaningAt l (place_in s l ps w)
-          → meaningAt l' (cond b p (place_in s l' ps w)) ≡ meaningAt l (cond b p (place_in s l ps w))
+      go : (b : Bool) → meaning_at l' (place_in s l' ps w) ≡ meaning_at l (place_in s l ps w)
+          → meaning_at l' (cond b p (place_in s l' ps w)) ≡ meaning_at l (cond b p (place_in s l ps w))
       go true r = meaning-at-kept p h
       go false r = r
 
   module _ (s : List ℕ) (scope : Scope) (B : Below s l top scope.count scope.newest) where
-    declared-kept : (w : Name) → declaredIn s l' scope w ≡ declaredIn s l scope w
-    unfolding declaredIn
+    declared-kept : (w : Name) → declared_in s l' scope w ≡ declared_in s l scope w
+    unfolding declared_in
     declared-kept w = rw (below-place (below-kept E B) w, below-place B w, entries-kept E B) (place_kept s w (below-within B))
 
     kind-kept : (ts : Trees Run) → kind_of s l' scope ts ≡ kind_of s l scope ts
@@ -118,13 +118,13 @@ module _ {l l' : List ℕ} {top : ℕ} (E : Same 0 top l' l) where
     kind-kept (word x then ts) = rw (declared-kept (map small x)) refl
     kind-kept (form us then ts) = refl
 
-    pub meaning-kept : (w : Name) → meaningIn s l' scope w ≡ meaningIn s l scope w
-    unfolding meaningIn parameterOf
-    meaning-kept w = rw (declared-kept w) (ap (cond (eqb scope.pairs 0) (declaredIn s l scope w)) (go (pairIn 0 (first (stackAt s scope.pairs)) w)))
+    pub meaning-kept : (w : Name) → meaning_in s l' scope w ≡ meaning_in s l scope w
+    unfolding meaning_in parameter_of
+    meaning-kept w = rw (declared-kept w) (ap (cond (eqb scope.pairs 0) (declared_in s l scope w)) (go (pair_in 0 (first (stack_at s scope.pairs)) w)))
       where
-        go : (o : Option (ℕ × Trees Run)) → pairedOr s l' scope o (declaredIn s l scope w) ≡ pairedOr s l scope o (declaredIn s l scope w)
+        go : (o : Option (ℕ × Trees Run)) → paired_or s l' scope o (declared_in s l scope w) ≡ paired_or s l scope o (declared_in s l scope w)
         go none = refl
-        go (some p) = rw (kind-kept (afterLead p.1)) refl
+        go (some p) = rw (kind-kept (after_lead p.1)) refl
 
   -- ---- frames
 
@@ -132,14 +132,14 @@ module _ {l l' : List ℕ} {top : ℕ} (E : Same 0 top l' l) where
   unfolding frame_at
   frame-at-kept f n h = rw (E.at f (omega arith) (omega arith)) refl
 
-  frame-kept : (p : ℕ) → p + 5 ≤ top → get_or l (p + 4) 0 + 2 ≤ top → frameIn l' p ≡ frameIn l p
-  unfolding frameIn
+  frame-kept : (p : ℕ) → p + 5 ≤ top → get_or l (p + 4) 0 + 2 ≤ top → frame_in l' p ≡ frame_in l p
+  unfolding frame_in
   frame-kept p h g = let e = E.at (p + 4) (omega arith) (omega arith) in
       rw (e, E.at (get_or l (p + 4) 0 + 1) (omega arith) (omega arith), frame-at-kept (get_or l (p + 4) 0) (get_or l (get_or l (p + 4) 0 + 1) 0) g) refl
 
   -- the types stand before the frame
-  pub types-before : (p : ℕ) → (frameIn l p).types + (frameIn l p).count ≤ get_or l (p + 4) 0
-  unfolding frameIn frame_at
+  pub types-before : (p : ℕ) → (frame_in l p).types + (frame_in l p).count ≤ get_or l (p + 4) 0
+  unfolding frame_in frame_at
   types-before p = go (eqb (get_or l (p + 4) 0) 0) (get_or l (p + 4) 0) (get_or l (get_or l (p + 4) 0 + 1) 0)
     where
       by : (f n : ℕ) (b : Bool) → ltb f n ≡ b → (cond b (framed 0 0 0) (framed n (f - n) (get_or l f 0))).types + (cond b (framed 0 0 0) (framed n (f - n) (get_or l f 0))).count ≤ f
@@ -161,7 +161,7 @@ module _ {l l' : List ℕ} {top : ℕ} (E : Same 0 top l' l) where
         node-below = omega arith;
         frame_below = rw (E.at (p + 4) (omega arith) (omega arith)) (omega arith);
         count-is = ap (λ (x : Frame). x.count) e ∙ d;
-        types_are = λ j i. rw e (E.at ((frameIn l p).types + j) (omega arith) (omega arith) ∙ T.types_are j i);
+        types_are = λ j i. rw e (E.at ((frame_in l p).types + j) (omega arith) (omega arith) ∙ T.types_are j i);
         few = T.few;
       }
 
@@ -170,7 +170,7 @@ pub scene-kept : {s l l' ts : List ℕ} {scope : Scope} {top top' : ℕ} {σ : E
 scene-kept {s} {l} {l'} {ts} {scope} {top} {top'} {σ} {bs} S E h = record {
   names = λ w. rw (meaning-kept E s scope S.below w) (S.names w);
   below = below-higher h (below-kept E S.below);
-  types = λ k. rw (info-kept E ts k (S.described k)) (tells-kept E s ts k (infoAt σ.types k) (S.described k) (S.types k));
+  types = λ k. rw (info-kept E ts k (S.described k)) (tells-kept E s ts k (info_at σ.types k) (S.described k) (S.types k));
   described = λ k. rw (info-kept E ts k (S.described k)) (record { end_below = λ g. let e = (S.described k).end_below g in omega arith; within = (S.described k).within });
   table = S.table;
   fair = S.fair;

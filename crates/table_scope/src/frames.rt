@@ -1,7 +1,7 @@
 // The parameters of a procedure, by the place of its body's node: the node's fifth number is the place of the frame, 0 for none. A frame begins with
 // the first parameter's cell and the parameters' count; right before it stand their types.
 ghost use Rattle.std.specs.Prelude.{◌≡◌, ◌+◌, get_or};
-ghost use Rattle.table_scope.specs.Frames.{framed, frame_at, frameIn};
+ghost use Rattle.table_scope.specs.Frames.{framed, frame_at, frame_in};
 
 use table_list::at;
 
@@ -35,7 +35,7 @@ fn frame_at(work: &[u32], f: u32, n: u32) -> Frame
 
 // The frame of the procedure whose body's node stands at a place.
 pub fn frame_of(work: &[u32], place: u32) -> Frame
-    ensures { result ≡ frameIn work.now place }
+    ensures { result ≡ frame_in work.now place }
 {
     let f = at(work, place as usize + 4);
     if f == 0 {

@@ -5,13 +5,13 @@ pub mod pairs;
 ghost use Rattle.std.specs.Prelude.{◌≡◌, map, ◌+◌, ◌*◌, ◌<◌, ◌≤◌};
 ghost use Rattle.leaf_bytes.specs.Bytes.{small};
 ghost use Rattle.law.specs.Trees.{first, word_at};
-ghost use Rattle.law_theorems.specs.Readings.{stackAt};
-ghost use Rattle.table_scope.specs.Descriptions.{ordinalInfo, integerInfo, booleanInfo, no_info, readInfo, infoOf, fieldPlace};
-ghost use Rattle.table_scope.specs.Loops.{noLoops, listedLoops, loopsOver, withLoop};
-ghost use Rattle.table_scope.specs.Pairs.{afterLead};
-ghost use Rattle.table_scope.specs.Scene.{meaningBy, declaredHere, typeIn, kindBy, kind_of, parameterOf, meaningHere};
-ghost use Rattle.text_heads.specs.Heads.{atomOf};
-ghost use Rattle.table_scope.specs.Sides.{hostIn, classIn, side_in};
+ghost use Rattle.law_theorems.specs.Readings.{stack_at};
+ghost use Rattle.table_scope.specs.Descriptions.{ordinal_info, integer_info, boolean_info, no_info, read_info, info_of, field_place};
+ghost use Rattle.table_scope.specs.Loops.{no_loops, listed_loops, loops_over, with_loop};
+ghost use Rattle.table_scope.specs.Pairs.{after_lead};
+ghost use Rattle.table_scope.specs.Scene.{meaning_by, declared_here, type_in, kind_by, kind_of, parameter_of, meaning_here};
+ghost use Rattle.text_heads.specs.Heads.{atom_of};
+ghost use Rattle.table_scope.specs.Sides.{host_in, class_in, side_in};
 
 use crate::pairs::{PAIR_NUMBERS, Paired, find_pair, type_word};
 use leaf_words::words::Word;
@@ -59,7 +59,7 @@ pub enum Meaning {
 
 // The description at a place.
 fn read_info(work: &[u32], place: u32) -> Info
-    ensures { result ≡ readInfo work.now place }
+    ensures { result ≡ read_info work.now place }
 {
     let p = place as usize;
     Info {
@@ -77,7 +77,7 @@ fn read_info(work: &[u32], place: u32) -> Info
 
 // The description of an ordinal type by its host and its bounds in 32 bits.
 pub fn ordinal_info(host: u32, low: u32, high: u32) -> Info
-    ensures { result ≡ ordinalInfo host low high }
+    ensures { result ≡ ordinal_info host low high }
 {
     Info {
         shape: 0,
@@ -94,14 +94,14 @@ pub fn ordinal_info(host: u32, low: u32, high: u32) -> Info
 
 // The description of integer.
 fn integer_info() -> Info
-    ensures { result ≡ integerInfo }
+    ensures { result ≡ integer_info }
 {
     ordinal_info(0, 2147483648, 2147483647)
 }
 
 // The description of boolean.
 fn boolean_info() -> Info
-    ensures { result ≡ booleanInfo }
+    ensures { result ≡ boolean_info }
 {
     ordinal_info(1, 0, 1)
 }
@@ -125,7 +125,7 @@ pub fn no_info() -> Info
 
 // The description of type k; `types` holds the places.
 pub fn describe(work: &[u32], types: &[u32], k: u32) -> Info
-    ensures { result ≡ infoOf work.now types.now k }
+    ensures { result ≡ info_of work.now types.now k }
 {
     if k == 0 {
         return integer_info();
@@ -148,7 +148,7 @@ pub const TYPE_NUMBERS: u32 = 128;
 
 // What an entry's second and third numbers mean.
 fn meaning_by(sort: u32, more: u32) -> Meaning
-    ensures { result ≡ meaningBy sort more }
+    ensures { result ≡ meaning_by sort more }
 {
     if sort % 4 == 0 {
         return Meaning::Type(sort / 4);
@@ -164,7 +164,7 @@ fn meaning_by(sort: u32, more: u32) -> Meaning
 
 // The meaning of the word at an offset among the names that lines declare.
 fn declared(text: &[u8], work: &[u32], scope: Scope, offset: usize) -> Meaning
-    ensures { result ≡ declaredHere text.now work.now scope offset }
+    ensures { result ≡ declared_here text.now work.now scope offset }
 {
     let place = lookup(text, work, scope.count, scope.newest, offset);
     if place == 0 {
@@ -176,7 +176,7 @@ fn declared(text: &[u8], work: &[u32], scope: Scope, offset: usize) -> Meaning
 
 // The type that a meaning is, 0 where it is none.
 fn type_in(m: Meaning) -> u32
-    ensures { result ≡ typeIn m }
+    ensures { result ≡ type_in m }
 {
     match m {
         Meaning::Unknown => 0,
@@ -189,7 +189,7 @@ fn type_in(m: Meaning) -> u32
 
 // The type that the word w at p names, 0 where it names none.
 fn kind_by(text: &[u8], work: &[u32], scope: Scope, w: Word, p: usize) -> u32
-    ensures { result ≡ kindBy (atomOf w) (declaredHere text.now work.now scope p) }
+    ensures { result ≡ kind_by (atom_of w) (declared_here text.now work.now scope p) }
 {
     let a = atom_of(w);
     match a {
@@ -204,7 +204,7 @@ fn kind_by(text: &[u8], work: &[u32], scope: Scope, w: Word, p: usize) -> u32
 
 // The type of the parameter whose pair's parts begin at an offset.
 fn kind_in(text: &[u8], work: &[u32], scope: Scope, at: usize) -> u32
-    ensures { result ≡ kind_of text.now work.now scope (afterLead (first (stackAt text.now at))) }
+    ensures { result ≡ kind_of text.now work.now scope (after_lead (first (stack_at text.now at))) }
 {
     let part = part_at(text, type_word(text, at));
     match part {
@@ -222,7 +222,7 @@ pub const LENT_CELLS: u32 = 2048;
 
 // Parameter j of the procedure, whose pair's parts begin at an offset.
 fn parameter(text: &[u8], work: &[u32], scope: Scope, j: u32, at: usize) -> Meaning
-    ensures { result ≡ parameterOf text.now work.now scope j (first (stackAt text.now at)) }
+    ensures { result ≡ parameter_of text.now work.now scope j (first (stack_at text.now at)) }
 {
     let k = kind_in(text, work, scope, at);
     let i = j % PAIR_NUMBERS;
@@ -235,7 +235,7 @@ fn parameter(text: &[u8], work: &[u32], scope: Scope, j: u32, at: usize) -> Mean
 
 // The meaning of the word at an offset.
 pub fn meaning_of(text: &[u8], work: &[u32], scope: Scope, offset: usize) -> Meaning
-    ensures { result ≡ meaningHere text.now work.now scope offset }
+    ensures { result ≡ meaning_here text.now work.now scope offset }
 {
     if scope.pairs == 0 {
         return declared(text, work, scope, offset);
@@ -249,7 +249,7 @@ pub fn meaning_of(text: &[u8], work: &[u32], scope: Scope, offset: usize) -> Mea
 
 // The kind of type k: an ordinal's host, any other type itself.
 pub fn host_of(work: &[u32], types: &[u32], k: u32) -> u32
-    ensures { result ≡ hostIn work.now types.now k }
+    ensures { result ≡ host_in work.now types.now k }
 {
     let x = describe(work, types, k);
     if x.shape == 0 {
@@ -260,7 +260,7 @@ pub fn host_of(work: &[u32], types: &[u32], k: u32) -> u32
 
 // The class of kind k by the number of its shape.
 fn class_by(shape: u32, k: u32) -> Class
-    ensures { result ≡ classIn shape k }
+    ensures { result ≡ class_in shape k }
 {
     if shape == 1 {
         return Class::Set;
@@ -303,7 +303,7 @@ fn narrow(p: usize) -> u32
 
 // The place of the field that the word at an offset names, among those of the description at a place; 0 if none does.
 pub fn find_field(text: &[u8], work: &[u32], place: u32, fields: u32, offset: usize) -> u32
-    ensures { place + 8 + 4 * fields ≤ 4294967296 → result ≡ fieldPlace text.now work.now (place + 8) fields (map small (word_at text.now offset)) }
+    ensures { place + 8 + 4 * fields ≤ 4294967296 → result ≡ field_place text.now work.now (place + 8) fields (map small (word_at text.now offset)) }
 {
     let mut n = fields;
     let mut p = place as usize + 8;
@@ -333,7 +333,7 @@ pub struct Loops {
 
 // No loop.
 pub fn no_loops() -> Loops
-    ensures { result ≡ noLoops }
+    ensures { result ≡ no_loops }
 {
     Loops {
         count: 0,
@@ -343,7 +343,7 @@ pub fn no_loops() -> Loops
 
 // A count of loops, as far as the list goes.
 fn listed_loops(n: u32) -> usize
-    ensures { result ≡ listedLoops n }
+    ensures { result ≡ listed_loops n }
 {
     if n < LOOPS_END {
         return n as usize;
@@ -353,7 +353,7 @@ fn listed_loops(n: u32) -> usize
 
 // Whether variable i is the control variable of one.
 pub fn loops_over(m: Loops, i: u32) -> bool
-    ensures { result ≡ loopsOver m i }
+    ensures { result ≡ loops_over m i }
 {
     let over = m.over;
     let mut n = listed_loops(m.count);
@@ -368,7 +368,7 @@ pub fn loops_over(m: Loops, i: u32) -> bool
 
 // The loops with one over variable i besides, where the list has room for it.
 pub fn with_loop(m: Loops, i: u32) -> Loops
-    ensures { result ≡ withLoop m i }
+    ensures { result ≡ with_loop m i }
 {
     let n = m.count;
     if n < LOOPS_END {

@@ -2,7 +2,7 @@
 ghost use Rattle.std.specs.Prelude.{◌≡◌, map};
 ghost use Rattle.leaf_bytes.specs.Bytes.{small};
 ghost use Rattle.law.specs.Trees.{word_at};
-ghost use Rattle.table_scope.specs.Pairs.{nextPair, Leads, FollowsLead, FindsPair};
+ghost use Rattle.table_scope.specs.Pairs.{next_pair, Leads, FollowsLead, FindsPair};
 
 use table_names::same_word;
 use text_skips::past_form;
@@ -42,7 +42,7 @@ pub(crate) fn type_word(text: &[u8], at: usize) -> usize
 
 // The number after that of a pair; the last one is its own.
 fn next_pair(j: u32) -> u32
-    ensures { result ≡ nextPair j }
+    ensures { result ≡ next_pair j }
 {
     if j < LAST_PAIR {
         return j + 1;

@@ -5,9 +5,9 @@ use mathlib.Core.Option.{Option, none, some}
 use Rattle.law.specs.Base.{Name, ◌>>=◌}
 use Rattle.law.specs.Forms.{Item, key_of, first?, one, two}
 use Rattle.law.specs.Trees.{Tree, word, form, Trees, end, ◌then◌, Run, list}
-use Rattle.law.specs.Words.{Word, worded, wordedAll, wordBy}
+use Rattle.law.specs.Words.{Word, worded, worded_all, word_by}
 use Rattle.leaf_words.specs.Words.{word_of}
-use Rattle.text_heads.specs.Parts.{part_of, rest, closed, keyIn}
+use Rattle.text_heads.specs.Parts.{part_of, rest, closed, key_in}
 
 -- ---- options
 
@@ -43,9 +43,9 @@ module _ {A B : Type 0} where
 -- K takes the first part by f and the others by g
 pub first_part : {A C : Type 0} (K : List Item → Option C) (f : Item → Option A) (g : A → List Item → Option C)
     → ((v : Item) (vs : List Item) → K (v ∷ vs) ≡ (f v >>= λ (a : A). g a vs)) → (t : Tree Run) (ts : Trees Run)
-    → (wordedAll (t then ts) >>= λ (vs : Trees Word). K (list vs)) ≡ ((worded t >>= f) >>= λ (a : A). wordedAll ts >>= λ (vs : Trees Word). g a (list vs))
+    → (worded_all (t then ts) >>= λ (vs : Trees Word). K (list vs)) ≡ ((worded t >>= f) >>= λ (a : A). worded_all ts >>= λ (vs : Trees Word). g a (list vs))
 unfolding ◌>>=◌ worded list
-first_part {A} {C} K f g h t ts = go (worded t) (wordedAll ts)
+first_part {A} {C} K f g h t ts = go (worded t) (worded_all ts)
   where
     go : (o : Option Item) (p : Option (Trees Word))
         → ((o >>= λ (v : Item). p >>= λ (vs : Trees Word). some (v then vs)) >>= λ (vs : Trees Word). K (list vs))
@@ -57,17 +57,17 @@ first_part {A} {C} K f g h t ts = go (worded t) (wordedAll ts)
 -- K wants at least one part
 pub next-part : {A C : Type 0} (K : List Item → Option C) (f : Item → Option A) (g : A → List Item → Option C)
     → K [] ≡ none → ((v : Item) (vs : List Item) → K (v ∷ vs) ≡ (f v >>= λ (a : A). g a vs)) → (us : Trees Run)
-    → (wordedAll us >>= λ (vs : Trees Word). K (list vs)) ≡ ((part_of us >>= f) >>= λ (a : A). wordedAll (rest us) >>= λ (vs : Trees Word). g a (list vs))
+    → (worded_all us >>= λ (vs : Trees Word). K (list vs)) ≡ ((part_of us >>= f) >>= λ (a : A). worded_all (rest us) >>= λ (vs : Trees Word). g a (list vs))
 unfolding ◌>>=◌ worded list part_of
 next-part K f g z h end = z
 next-part K f g z h (t then ts) = first_part K f g h t ts
 
 -- K wants no part more
 pub last-part : {C : Type 0} (K : List Item → Option C) (c : C) → K [] ≡ some c → ((v : Item) (vs : List Item) → K (v ∷ vs) ≡ none)
-    → (us : Trees Run) → (wordedAll us >>= λ (vs : Trees Word). K (list vs)) ≡ closed us c
+    → (us : Trees Run) → (worded_all us >>= λ (vs : Trees Word). K (list vs)) ≡ closed us c
 unfolding ◌>>=◌ worded list closed
 last-part K c z h end = z
-last-part {C} K c z h (t then ts) = go (worded t) (wordedAll ts)
+last-part {C} K c z h (t then ts) = go (worded t) (worded_all ts)
   where
     go : (o : Option Item) (p : Option (Trees Word))
         → ((o >>= λ (v : Item). p >>= λ (vs : Trees Word). some (v then vs)) >>= λ (vs : Trees Word). K (list vs)) ≡ none
@@ -80,14 +80,14 @@ unfoldable pub ended : {C : Type 0} → C → List Item → Option C
 ended c [] = some c
 ended c (v ∷ vs) = none
 
-pub ended-part : {C : Type 0} (c : C) (us : Trees Run) → (wordedAll us >>= λ (vs : Trees Word). ended c (list vs)) ≡ closed us c
+pub ended-part : {C : Type 0} (c : C) (us : Trees Run) → (worded_all us >>= λ (vs : Trees Word). ended c (list vs)) ≡ closed us c
 unfolding ended
 ended-part c us = last-part (λ (vs : List Item). ended c vs) c refl (λ v vs. refl) us
 
 module _ {A C : Type 0} (f : Item → Option A) where
   -- one part
   pub one_then : (h : A → C) (us : Trees Run)
-      → (wordedAll us >>= λ (vs : Trees Word). one (list vs) >>= f >>= λ (a : A). some (h a)) ≡ ((part_of us >>= f) >>= λ (a : A). closed (rest us) (h a))
+      → (worded_all us >>= λ (vs : Trees Word). one (list vs) >>= f >>= λ (a : A). some (h a)) ≡ ((part_of us >>= f) >>= λ (a : A). closed (rest us) (h a))
   unfolding ◌>>=◌ one ended
   one_then h us =
       next-part (λ (vs : List Item). one vs >>= f >>= λ (a : A). some (h a)) f (λ (a : A) (vs : List Item). ended (h a) vs) refl step us
@@ -99,7 +99,7 @@ module _ {A C : Type 0} (f : Item → Option A) where
 
   -- two parts
   pub two_then : {B : Type 0} (g : Item → Option B) (h : A → B → C) (us : Trees Run)
-      → (wordedAll us >>= λ (vs : Trees Word). two (list vs) >>= λ (p : Item × Item). f p.0 >>= λ (a : A). g p.1 >>= λ (b : B). some (h a b))
+      → (worded_all us >>= λ (vs : Trees Word). two (list vs) >>= λ (p : Item × Item). f p.0 >>= λ (a : A). g p.1 >>= λ (b : B). some (h a b))
       ≡ ((part_of us >>= f) >>= λ (a : A). (part_of (rest us) >>= g) >>= λ (b : B). closed (rest (rest us)) (h a b))
   unfolding ◌>>=◌ one two ended
   two_then {B} g h us =
@@ -127,9 +127,9 @@ module _ {A C : Type 0} (f : Item → Option A) where
 module _ {A : Type 0} (G : Item → Option A) (F : Name → List Item → Option A)
     (H : (vs : Trees Word) → G (form vs) ≡ (first? (list vs) >>= λ (p : Name × List Item). F p.0 p.1)) where
   pub headed-form : (w : Run) (us : Trees Run)
-      → (worded (form (word w then us)) >>= G) ≡ (keyIn w >>= λ (k : Name). wordedAll us >>= λ (vs : Trees Word). F k (list vs))
-  unfolding ◌>>=◌ worded list keyIn first?
-  headed-form w us = go (wordBy (word_of w) w) (wordedAll us)
+      → (worded (form (word w then us)) >>= G) ≡ (key_in w >>= λ (k : Name). worded_all us >>= λ (vs : Trees Word). F k (list vs))
+  unfolding ◌>>=◌ worded list key_in first?
+  headed-form w us = go (word_by (word_of w) w) (worded_all us)
     where
       key : (v : Word) (vs : Trees Word) (k : Option Name) → key_of (word v) ≡ k
           → (first? (list (word v then vs)) >>= λ (p : Name × List Item). F p.0 p.1) ≡ (k >>= λ (n : Name). F n (list vs))
@@ -149,7 +149,7 @@ module _ {A : Type 0} (G : Item → Option A) (F : Name → List Item → Option
 
   pub headless-form : (us ts : Trees Run) → (worded (form (form us then ts)) >>= G) ≡ none
   unfolding ◌>>=◌ worded list first? key_of
-  headless-form us ts = go (wordedAll us) (wordedAll ts)
+  headless-form us ts = go (worded_all us) (worded_all ts)
     where
       go : (o p : Option (Trees Word))
           → ((((o >>= λ (vs : Trees Word). some (form vs)) >>= λ (v : Item). p >>= λ (vs : Trees Word). some (v then vs)) >>= λ (vs : Trees Word). some (form vs)) >>= G) ≡ none

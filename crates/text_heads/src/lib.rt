@@ -1,6 +1,6 @@
 // The words that forms begin with, by the place in which they stand. An operator or function has its number in the tables of `table_kinds`.
 ghost use Rattle.std.specs.Prelude.{◌≡◌};
-ghost use Rattle.text_heads.specs.Heads.{reservedExpr, operatorExpr, reservedVerb, operatorVerb, reservedArm, reservedMaker, reservedLine, reservedAtom, exprHeadOf, verbOf, armHeadOf, makerOf, lineHeadOf, atomOf, isException};
+ghost use Rattle.text_heads.specs.Heads.{reserved_expr, operator_expr, reserved_verb, operator_verb, reserved_arm, reserved_maker, reserved_line, reserved_atom, expr_head_of, verb_of, arm_head_of, maker_of, line_head_of, atom_of, is_exception};
 
 use leaf_words::words::Word;
 
@@ -77,7 +77,7 @@ pub enum Atom {
 
 // An expression's head by the number of a reserved word.
 fn reserved_expr(k: usize) -> ExprHead
-    ensures { result ≡ reservedExpr k }
+    ensures { result ≡ reserved_expr k }
 {
     match k {
         19 => ExprHead::At, // at
@@ -108,7 +108,7 @@ fn reserved_expr(k: usize) -> ExprHead
 
 // An expression's head by the number of an operator.
 fn operator_expr(k: usize) -> ExprHead
-    ensures { result ≡ operatorExpr k }
+    ensures { result ≡ operator_expr k }
 {
     match k {
         1 => ExprHead::Two(0), // +
@@ -127,7 +127,7 @@ fn operator_expr(k: usize) -> ExprHead
 
 // A statement's head by the number of a reserved word.
 fn reserved_verb(k: usize) -> Verb
-    ensures { result ≡ reservedVerb k }
+    ensures { result ≡ reserved_verb k }
 {
     match k {
         10 => Verb::Begin, // begin
@@ -143,7 +143,7 @@ fn reserved_verb(k: usize) -> Verb
 
 // A statement's head by the number of an operator.
 fn operator_verb(k: usize) -> Verb
-    ensures { result ≡ operatorVerb k }
+    ensures { result ≡ operator_verb k }
 {
     match k {
         0 => Verb::Assign, // :=
@@ -153,7 +153,7 @@ fn operator_verb(k: usize) -> Verb
 
 // An arm's head by the number of a reserved word.
 fn reserved_arm(k: usize) -> ArmHead
-    ensures { result ≡ reservedArm k }
+    ensures { result ≡ reserved_arm k }
 {
     match k {
         15 => ArmHead::Arm, // arm
@@ -164,7 +164,7 @@ fn reserved_arm(k: usize) -> ArmHead
 
 // The head of a type's form by the number of a reserved word.
 fn reserved_maker(k: usize) -> Maker
-    ensures { result ≡ reservedMaker k }
+    ensures { result ≡ reserved_maker k }
 {
     match k {
         5 => Maker::Enum, // enum
@@ -178,7 +178,7 @@ fn reserved_maker(k: usize) -> Maker
 
 // A line's head by the number of a reserved word.
 fn reserved_line(k: usize) -> LineHead
-    ensures { result ≡ reservedLine k }
+    ensures { result ≡ reserved_line k }
 {
     match k {
         0 => LineHead::Type, // type
@@ -191,7 +191,7 @@ fn reserved_line(k: usize) -> LineHead
 
 // A reserved word alone, by its number.
 fn reserved_atom(k: usize) -> Atom
-    ensures { result ≡ reservedAtom k }
+    ensures { result ≡ reserved_atom k }
 {
     match k {
         41 => Atom::Base(0), // integer
@@ -205,7 +205,7 @@ fn reserved_atom(k: usize) -> Atom
 
 // What a word is at the head of an expression.
 pub fn expr_head(w: Word) -> ExprHead
-    ensures { result ≡ exprHeadOf w }
+    ensures { result ≡ expr_head_of w }
 {
     match w {
         Word::Number(_) => ExprHead::Nothing,
@@ -218,7 +218,7 @@ pub fn expr_head(w: Word) -> ExprHead
 
 // What a word is at the head of a statement.
 pub fn verb_of(w: Word) -> Verb
-    ensures { result ≡ verbOf w }
+    ensures { result ≡ verb_of w }
 {
     match w {
         Word::Number(_) => Verb::Nothing,
@@ -231,7 +231,7 @@ pub fn verb_of(w: Word) -> Verb
 
 // What a word is at the head of an arm.
 pub fn arm_head(w: Word) -> ArmHead
-    ensures { result ≡ armHeadOf w }
+    ensures { result ≡ arm_head_of w }
 {
     match w {
         Word::Number(_) => ArmHead::Nothing,
@@ -244,7 +244,7 @@ pub fn arm_head(w: Word) -> ArmHead
 
 // What a word is at the head of a type's form.
 pub fn maker_of(w: Word) -> Maker
-    ensures { result ≡ makerOf w }
+    ensures { result ≡ maker_of w }
 {
     match w {
         Word::Number(_) => Maker::Nothing,
@@ -257,7 +257,7 @@ pub fn maker_of(w: Word) -> Maker
 
 // What a word is at the head of a line.
 pub fn line_head(w: Word) -> LineHead
-    ensures { result ≡ lineHeadOf w }
+    ensures { result ≡ line_head_of w }
 {
     match w {
         Word::Number(_) => LineHead::Nothing,
@@ -270,7 +270,7 @@ pub fn line_head(w: Word) -> LineHead
 
 // What a word is alone.
 pub fn atom_of(w: Word) -> Atom
-    ensures { result ≡ atomOf w }
+    ensures { result ≡ atom_of w }
 {
     match w {
         Word::Number(z) => Atom::Number(z),
@@ -283,7 +283,7 @@ pub fn atom_of(w: Word) -> Atom
 
 // Whether a word begins a handler.
 pub fn is_exception(w: Word) -> bool
-    ensures { result ≡ isException w }
+    ensures { result ≡ is_exception w }
 {
     match w {
         Word::Number(_) => false,

@@ -12,11 +12,11 @@ use lib.Seq.{drop-cons}
 use Rattle.leaf_bytes.specs.declared.bytes.Class.{Class}
 use Rattle.leaf_bytes.specs.declared.bytes.Class.TheVariants.{Feed, Space, Open, Close, Visible, Refused}
 use Rattle.leaf_bytes.specs.Bytes.{class_of}
-use Rattle.law.specs.Lines.{refusedAt}
+use Rattle.law.specs.Lines.{refused_at}
 use Rattle.law.specs.Trees.{before, past}
 use Rattle.text_lines.specs.declared.lines.Standing.{Standing}
 use Rattle.text_lines.specs.declared.lines.Standing.TheVariants as standing
-use Rattle.text_lines.specs.Passes.{lineOr, is_refused, feeds, place_of, isAfterNow, balancedFrom, afterLine}
+use Rattle.text_lines.specs.Passes.{line_or, is_refused, feeds, place_of, is_after_now, balanced_from, after_line}
 use Rattle.text_lines.proofs.Standings.{after_is}
 
 -- the byte at p, and those after it
@@ -57,42 +57,42 @@ feeds-le Refused n = omega arith
 -- ---- row 3: n line feeds stand before p, and no refused byte
 pub record Seeking (s : List ℕ) (n p : ℕ) : Type 0 where
   pub few : n ≤ p
-  pub same : refusedAt 1 s ≡ refusedAt (n + 1) (drop p s)
+  pub same : refused_at 1 s ≡ refused_at (n + 1) (drop p s)
 
 pub seek-start : (s : List ℕ) → Seeking s 0 0
 seek-start s = record { few = omega arith; same = refl }
 
-one_byte : (n : ℕ) (k : Class) (b : ℕ) (bs : List ℕ) → k ≡ class_of b → is_refused k ≡ false → refusedAt (n + 1) (b ∷ bs) ≡ refusedAt (feeds k n + 1) bs
-unfolding refusedAt
-one_byte n Feed b bs e h = rw (← e, refusedAt, add-one (n + 1))
-one_byte n Space b bs e h = rw (← e, refusedAt)
-one_byte n Open b bs e h = rw (← e, refusedAt)
-one_byte n Close b bs e h = rw (← e, refusedAt)
-one_byte n Visible b bs e h = rw (← e, refusedAt)
+one_byte : (n : ℕ) (k : Class) (b : ℕ) (bs : List ℕ) → k ≡ class_of b → is_refused k ≡ false → refused_at (n + 1) (b ∷ bs) ≡ refused_at (feeds k n + 1) bs
+unfolding refused_at
+one_byte n Feed b bs e h = rw (← e, refused_at, add-one (n + 1))
+one_byte n Space b bs e h = rw (← e, refused_at)
+one_byte n Open b bs e h = rw (← e, refused_at)
+one_byte n Close b bs e h = rw (← e, refused_at)
+one_byte n Visible b bs e h = rw (← e, refused_at)
 one_byte n Refused b bs e h = let z : ◌≡◌ {A = ℕ} 0 1 = cc in absurd (omega arith)
 
-found : (n : ℕ) (k : Class) (b : ℕ) (bs : List ℕ) → k ≡ class_of b → is_refused k ≡ true → refusedAt (n + 1) (b ∷ bs) ≡ some (n + 1)
-unfolding refusedAt
+found : (n : ℕ) (k : Class) (b : ℕ) (bs : List ℕ) → k ≡ class_of b → is_refused k ≡ true → refused_at (n + 1) (b ∷ bs) ≡ some (n + 1)
+unfolding refused_at
 found n Feed b bs e h = let z : ◌≡◌ {A = ℕ} 0 1 = cc in absurd (omega arith)
 found n Space b bs e h = let z : ◌≡◌ {A = ℕ} 0 1 = cc in absurd (omega arith)
 found n Open b bs e h = let z : ◌≡◌ {A = ℕ} 0 1 = cc in absurd (omega arith)
 found n Close b bs e h = let z : ◌≡◌ {A = ℕ} 0 1 = cc in absurd (omega arith)
 found n Visible b bs e h = let z : ◌≡◌ {A = ℕ} 0 1 = cc in absurd (omega arith)
-found n Refused b bs e h = rw (← e, refusedAt)
+found n Refused b bs e h = rw (← e, refused_at)
 
 module _ (s : List ℕ) (n p : ℕ) (i : Seeking s n p) where
-  pub seek-none : length s ≤ p → 0 ≡ lineOr (refusedAt 1 s)
-  unfolding refusedAt
-  seek-none h = sym (ap lineOr (i.same ∙ ap (refusedAt (n + 1)) (drop_of_length-le s h)))
+  pub seek-none : length s ≤ p → 0 ≡ line_or (refused_at 1 s)
+  unfolding refused_at
+  seek-none h = sym (ap line_or (i.same ∙ ap (refused_at (n + 1)) (drop_of_length-le s h)))
 
   module _ (k : Class) (t : Bool) (h : p < length s) (e : k ≡ class_of (get_or s p 0)) (f : t ≡ is_refused k) where
-    pub seek_found : t ≡ true → n + 1 ≡ lineOr (refusedAt 1 s)
-    seek_found g = sym (ap lineOr (i.same ∙ ap (refusedAt (n + 1)) (split s p h) ∙ found n k (get_or s p 0) (drop (p + 1) s) e (sym f ∙ g)))
+    pub seek_found : t ≡ true → n + 1 ≡ line_or (refused_at 1 s)
+    seek_found g = sym (ap line_or (i.same ∙ ap (refused_at (n + 1)) (split s p h) ∙ found n k (get_or s p 0) (drop (p + 1) s) e (sym f ∙ g)))
 
     pub seek-on : (m : ℕ) → t ≡ false → m ≡ feeds k n → Seeking s m (p + 1)
     seek-on m g j = record {
       few = rw j (omega (arith, feeds-le k n, i.few));
-      same = i.same ∙ ap (refusedAt (n + 1)) (split s p h) ∙ one_byte n k (get_or s p 0) (drop (p + 1) s) e (sym f ∙ g) ∙ ap (λ (m : ℕ). refusedAt (m + 1) (drop (p + 1) s)) (sym j);
+      same = i.same ∙ ap (refused_at (n + 1)) (split s p h) ∙ one_byte n k (get_or s p 0) (drop (p + 1) s) e (sym f ∙ g) ∙ ap (λ (m : ℕ). refused_at (m + 1) (drop (p + 1) s)) (sym j);
     }
 
   pub seek-few : p < length s → n < length s
@@ -102,38 +102,38 @@ pub ruleset seek-laws = (seek-none, seek_found, seek-on)
 
 -- ---- row 4: from `at` to p the walk came to q
 pub record Walks (s : List ℕ) (at p : ℕ) (q : Standing) : Type 0 where
-  pub same : balancedFrom (drop at s) before ≡ balancedFrom (drop p s) (place_of q)
+  pub same : balanced_from (drop at s) before ≡ balanced_from (drop p s) (place_of q)
 
 pub walk_start : (s : List ℕ) (at : ℕ) → Walks s at at standing.Before
 walk_start s at = record { same = refl }
 
 module _ (s : List ℕ) (at p : ℕ) (q : Standing) (i : Walks s at p q) where
-  pub balance-none : length s ≤ p → false ≡ balancedFrom (drop at s) before
-  unfolding balancedFrom
+  pub balance-none : length s ≤ p → false ≡ balanced_from (drop at s) before
+  unfolding balanced_from
   balance-none h = sym (i.same ∙ rw (drop_of_length-le s h))
 
-  pub balance-feed : (r : Bool) → p < length s → get_or s p 0 ≡ 10 → r ≡ isAfterNow q → r ≡ balancedFrom (drop at s) before
-  unfolding balancedFrom
+  pub balance-feed : (r : Bool) → p < length s → get_or s p 0 ≡ 10 → r ≡ is_after_now q → r ≡ balanced_from (drop at s) before
+  unfolding balanced_from
   balance-feed r h e f = f ∙ after_is q ∙ sym (i.same ∙ rw (split s p h, eq-eqb (get_or s p 0) 10 e))
 
   pub balance-on : (k : Class) (q' : Standing) → p < length s → ((get_or s p 0 ≡ 10) → ⊥) → k ≡ class_of (get_or s p 0) → place_of q' ≡ past k (place_of q) → Walks s at (p + 1) q'
-  unfolding balancedFrom
+  unfolding balanced_from
   balance-on k q' h n e f = record { same = i.same ∙ rw (split s p h, ne_eqb (get_or s p 0) 10 n, f, e) }
 
 pub ruleset balance-laws = (balance-none, balance-feed, balance-on)
 
 -- ---- the next line: x is what stands after this one
-module _ (s : List ℕ) (p : ℕ) (x : List ℕ) (i : x ≡ afterLine (drop p s)) where
+module _ (s : List ℕ) (p : ℕ) (x : List ℕ) (i : x ≡ after_line (drop p s)) where
   pub next-none : length s ≤ p → drop p s ≡ x
-  unfolding afterLine
+  unfolding after_line
   next-none h = let e = drop_of_length-le s h in e ∙ sym (i ∙ rw e refl)
 
   pub next-feed : p < length s → get_or s p 0 ≡ 10 → drop (p + 1) s ≡ x
-  unfolding afterLine
+  unfolding after_line
   next-feed h e = sym (i ∙ rw (split s p h, eq-eqb (get_or s p 0) 10 e) refl)
 
-  pub next-on : p < length s → ((get_or s p 0 ≡ 10) → ⊥) → x ≡ afterLine (drop (p + 1) s)
-  unfolding afterLine
+  pub next-on : p < length s → ((get_or s p 0 ≡ 10) → ⊥) → x ≡ after_line (drop (p + 1) s)
+  unfolding after_line
   next-on h e = i ∙ rw (split s p h, ne_eqb (get_or s p 0) 10 e) refl
 
 pub ruleset next-laws = (next-none, next-feed, next-on)

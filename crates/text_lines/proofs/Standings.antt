@@ -5,10 +5,10 @@ use native.Mathlib.Numerals.{add-one, sub-one}
 use borrow.Author.Tests.{lt-ltb, le-ltb}
 use Rattle.leaf_bytes.specs.declared.bytes.Class.{Class}
 use Rattle.leaf_bytes.specs.declared.bytes.Class.TheVariants.{Feed, Space, Open, Close, Visible, Refused}
-use Rattle.law.specs.Trees.{after, faulty, inside, deeper, opened, closed, spelled, past, isAfter}
+use Rattle.law.specs.Trees.{after, faulty, inside, deeper, opened, closed, spelled, past, is_after}
 use Rattle.text_lines.specs.declared.lines.Standing.{Standing}
 use Rattle.text_lines.specs.declared.lines.Standing.TheVariants as standing
-use Rattle.text_lines.specs.Passes.{place_of, isAfterNow}
+use Rattle.text_lines.specs.Passes.{place_of, is_after_now}
 
 module _ (n : ℕ) where
   pub deeper-in : n < 31 → inside (n + 1) ≡ opened (inside n)
@@ -113,8 +113,8 @@ pub ruleset spell-laws = (word-before, word-inside, word_after, word-faulty)
 
 pub ruleset byte_laws = (byte-feed, byte-refused, byte-space, byte-open, byte-close, byte_word)
 
-pub after_is : (q : Standing) → isAfterNow q ≡ isAfter (place_of q)
-unfolding isAfter
+pub after_is : (q : Standing) → is_after_now q ≡ is_after (place_of q)
+unfolding is_after
 after_is standing.Before = refl
 after_is (standing.Inside n) = refl
 after_is standing.After = refl

@@ -5,16 +5,16 @@ use Rattle.leaf_bytes.specs.declared.bytes.Class.{Class}
 use Rattle.leaf_bytes.specs.declared.bytes.Class.TheVariants.{Feed, Space, Open, Close, Visible, Refused}
 use Rattle.leaf_bytes.specs.Bytes.{class_of}
 use Rattle.law.specs.Lines.{Line, line}
-use Rattle.law.specs.Trees.{Place, before, after, faulty, inside, past, isAfter}
+use Rattle.law.specs.Trees.{Place, before, after, faulty, inside, past, is_after}
 use Rattle.text_lines.specs.declared.lines.Standing.{Standing}
 use Rattle.text_lines.specs.declared.lines.Standing.TheVariants as standing
 
 -- ---- row 3
 
 -- a line's number, 0 for none
-abbrev pub lineOr : Option ℕ → ℕ
-lineOr none = 0
-lineOr (some n) = n
+abbrev pub line_or : Option ℕ → ℕ
+line_or none = 0
+line_or (some n) = n
 
 abbrev pub is_refused : Class → Bool
 is_refused Feed = false
@@ -40,15 +40,15 @@ unfoldable pub line_at : List ℕ → Line
 line_at [] = line [] false
 line_at (b ∷ bs) = cond (eqb b 10) (line [] true) (line (b ∷ (line_at bs).bytes) (line_at bs).fed)
 
-unfoldable pub afterLine : List ℕ → List ℕ
-afterLine [] = []
-afterLine (b ∷ bs) = cond (eqb b 10) bs (afterLine bs)
+unfoldable pub after_line : List ℕ → List ℕ
+after_line [] = []
+after_line (b ∷ bs) = cond (eqb b 10) bs (after_line bs)
 
 -- ---- row 4, up to the line feed
 
-unfoldable pub balancedFrom : List ℕ → Place → Bool
-balancedFrom [] p = false
-balancedFrom (b ∷ bs) p = cond (eqb b 10) (isAfter p) (balancedFrom bs (past (class_of b) p))
+unfoldable pub balanced_from : List ℕ → Place → Bool
+balanced_from [] p = false
+balanced_from (b ∷ bs) p = cond (eqb b 10) (is_after p) (balanced_from bs (past (class_of b) p))
 
 -- where the code's walk stands
 abbrev pub place_of : Standing → Place
@@ -57,8 +57,8 @@ place_of (standing.Inside n) = inside n
 place_of standing.After = after
 place_of standing.Faulty = faulty
 
-abbrev pub isAfterNow : Standing → Bool
-isAfterNow standing.Before = false
-isAfterNow (standing.Inside n) = false
-isAfterNow standing.After = true
-isAfterNow standing.Faulty = false
+abbrev pub is_after_now : Standing → Bool
+is_after_now standing.Before = false
+is_after_now (standing.Inside n) = false
+is_after_now standing.After = true
+is_after_now standing.Faulty = false

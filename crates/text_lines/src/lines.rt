@@ -1,8 +1,8 @@
 // Lines of the text, and the passes over their bytes: refused bytes (row 3), brackets (row 4).
 ghost use Rattle.std.specs.Prelude.{◌≡◌, ◌<◌, ◌≤◌, drop};
-ghost use Rattle.law.specs.Lines.{refusedAt};
+ghost use Rattle.law.specs.Lines.{refused_at};
 ghost use Rattle.law.specs.Trees.{before, inside, past, opened, closed, spelled};
-ghost use Rattle.text_lines.specs.Passes.{lineOr, is_refused, feeds, place_of, isAfterNow, balancedFrom, afterLine};
+ghost use Rattle.text_lines.specs.Passes.{line_or, is_refused, feeds, place_of, is_after_now, balanced_from, after_line};
 
 use leaf_bytes::bytes::{Class, class_of};
 
@@ -46,7 +46,7 @@ fn feeds_after(k: Class, n: usize) -> usize
 
 // Row 3: the line of the first refused byte, 0 if there is none.
 pub fn refused_line(text: &[u8]) -> usize
-    ensures { result ≡ lineOr (refusedAt 1 text.now) }
+    ensures { result ≡ line_or (refused_at 1 text.now) }
 {
     let mut p = 0;
     let mut n = 0;
@@ -136,7 +136,7 @@ fn past_byte(k: Class, q: Standing) -> Standing
 
 // Whether the form has ended.
 fn is_after(q: Standing) -> bool
-    ensures { result ≡ isAfterNow q }
+    ensures { result ≡ is_after_now q }
 {
     match q {
         Standing::Before => false,
@@ -148,7 +148,7 @@ fn is_after(q: Standing) -> bool
 
 // Row 4: whether the line at `at` is one balanced form with a line feed at its end.
 pub fn balance(text: &[u8], at: usize) -> bool
-    ensures { result ≡ balancedFrom (drop at text.now) before }
+    ensures { result ≡ balanced_from (drop at text.now) before }
 {
     let mut p = at;
     let mut q = Standing::Before;
@@ -164,7 +164,7 @@ pub fn balance(text: &[u8], at: usize) -> bool
 
 // The offset after the line that `at` is in.
 pub fn next_line(text: &[u8], at: usize) -> usize
-    ensures { (drop result text.now ≡ afterLine (drop at text.now)) × (at ≤ result) }
+    ensures { (drop result text.now ≡ after_line (drop at text.now)) × (at ≤ result) }
 {
     let mut p = at;
     while p < text.len() {

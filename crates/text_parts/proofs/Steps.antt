@@ -5,7 +5,7 @@ use Prim.Native.Nat.{ℕ}
 use Rattle.leaf_words.specs.declared.words.Word.{Word}
 use Rattle.leaf_words.specs.Words.{word_of}
 use Rattle.law.specs.Trees.{Tree, word, form, Trees, end, ◌then◌, Run, first, later, push, word_at}
-use Rattle.law_theorems.specs.Readings.{rest_at, stackAt}
+use Rattle.law_theorems.specs.Readings.{rest_at, stack_at}
 use Rattle.text_words.specs.declared.sight.Sight.{Sight}
 use Rattle.text_words.specs.declared.sight.Sight.TheVariants as sight
 use Rattle.text_words.specs.declared.sight.Seen.{Seen}
@@ -26,7 +26,7 @@ no_end h = subst more? h tt
     more? end = ⊥
     more? (t then ts) = Unit {0}
 
-leaf-at : (s : List ℕ) (at p q : ℕ) → stackAt s at ≡ push (word (word_at s p)) (rest_at s p) → stackAt s q ≡ rest_at s p → LeafAt s at p q
+leaf-at : (s : List ℕ) (at p q : ℕ) → stack_at s at ≡ push (word (word_at s p)) (rest_at s p) → stack_at s q ≡ rest_at s p → LeafAt s at p q
 leaf-at s at p q h e = record {
   leaf = record {
     here = ap first h ∙ ap (λ k. word (word_at s p) then first k) (sym e);
@@ -34,7 +34,7 @@ leaf-at s at p q h e = record {
   };
 }
 
-module _ (s : List ℕ) (at : ℕ) (x : Sight) (h : Looks s (stackAt s at) x) where
+module _ (s : List ℕ) (at : ℕ) (x : Sight) (h : Looks s (stack_at s at) x) where
   form-at : (p : ℕ) → x ≡ sight.Form p → FormAt s at p
   form-at p e = let g = rw e at h.says in record { here = ap first g; around = ap later g }
 
@@ -49,7 +49,7 @@ module _ (s : List ℕ) (at : ℕ) (x : Sight) (h : Looks s (stackAt s at) x) wh
 
   pub part-leaf : (p : ℕ) (r : Part) → x ≡ sight.Leaf p → LeafStands s p r → Stands s at r
   part-leaf p (part.Leaf w p' q) e f =
-      let g : stackAt s at ≡ push (word (word_at s p)) (rest_at s p) = (rw e at h.says).0 in
+      let g : stack_at s at ≡ push (word (word_at s p)) (rest_at s p) = (rw e at h.says).0 in
       record { says = rw f.says.0 (leaf-at s at p q g f.says.1, f.says.2) }
   part-leaf p (part.Form p') e f = absurd f.says
   part-leaf p (part.Shut q) e f = absurd f.says

@@ -2,7 +2,7 @@
 use Rattle.std.specs.Prelude.{List, ◌≡◌, ℕ}
 use Rattle.leaf_words.specs.Words.{word_of}
 use Rattle.law.specs.Trees.{Tree, word, form, Trees, end, ◌then◌, Run, first, later, word_at}
-use Rattle.law_theorems.specs.Readings.{rest_at, stackAt}
+use Rattle.law_theorems.specs.Readings.{rest_at, stack_at}
 use Rattle.text_parts.specs.declared.Part as part
 use Rattle.text_parts.specs.declared.Part.{Part}
 use Rattle.text_parts.specs.declared.End as ending
@@ -10,8 +10,8 @@ use Rattle.text_parts.specs.declared.End.{End}
 
 -- from `at` on stands t, and then what stands from q on
 pub record Before (s : List ℕ) (at : ℕ) (t : Tree Run) (q : ℕ) : Type 0 where
-  pub here : first (stackAt s at) ≡ (t then first (stackAt s q))
-  pub around : later (stackAt s at) ≡ later (stackAt s q)
+  pub here : first (stack_at s at) ≡ (t then first (stack_at s q))
+  pub around : later (stack_at s at) ≡ later (stack_at s q)
 
 -- a word at p, which ends at q
 pub record LeafAt (s : List ℕ) (at p q : ℕ) : Type 0 where
@@ -19,17 +19,17 @@ pub record LeafAt (s : List ℕ) (at p q : ℕ) : Type 0 where
 
 -- a form whose parts begin at p
 pub record FormAt (s : List ℕ) (at p : ℕ) : Type 0 where
-  pub here : first (stackAt s at) ≡ (form (first (stackAt s p)) then first (later (stackAt s p)))
-  pub around : later (stackAt s at) ≡ later (later (stackAt s p))
+  pub here : first (stack_at s at) ≡ (form (first (stack_at s p)) then first (later (stack_at s p)))
+  pub around : later (stack_at s at) ≡ later (later (stack_at s p))
 
 -- no part is left; q is past the bracket
 pub record ShutAt (s : List ℕ) (at q : ℕ) : Type 0 where
-  pub here : first (stackAt s at) ≡ end
-  pub around : later (stackAt s at) ≡ stackAt s q
+  pub here : first (stack_at s at) ≡ end
+  pub around : later (stack_at s at) ≡ stack_at s q
 
 -- the part that begins with a word at p
 abbrev pub LeafStandsBy : List ℕ → ℕ → Part → Type 0
-LeafStandsBy s p (part.TheVariants.Leaf w p' q) = (p' ≡ p) × (stackAt s q ≡ rest_at s p) × (w ≡ word_of (word_at s p))
+LeafStandsBy s p (part.TheVariants.Leaf w p' q) = (p' ≡ p) × (stack_at s q ≡ rest_at s p) × (w ≡ word_of (word_at s p))
 LeafStandsBy s p (part.TheVariants.Form p') = ⊥
 LeafStandsBy s p (part.TheVariants.Shut q) = ⊥
 
@@ -46,15 +46,15 @@ pub record Stands (s : List ℕ) (at : ℕ) (r : Part) : Type 0 where
   pub says : StandsBy s at r
 
 -- the offset past a part: what a reader has reached that has read it
-abbrev pub pastPart : Part → ℕ
-pastPart (part.TheVariants.Leaf w p q) = q
-pastPart (part.TheVariants.Form p) = p
-pastPart (part.TheVariants.Shut q) = q
+abbrev pub past_part : Part → ℕ
+past_part (part.TheVariants.Leaf w p q) = q
+past_part (part.TheVariants.Form p) = p
+past_part (part.TheVariants.Shut q) = q
 
 -- whether the form ends there
 abbrev pub ShutsBy : List ℕ → ℕ → End → Type 0
 ShutsBy s at (ending.TheVariants.Past q) = ShutAt s at q
-ShutsBy s at ending.TheVariants.More = first (stackAt s at) ≡ end → ⊥
+ShutsBy s at ending.TheVariants.More = first (stack_at s at) ≡ end → ⊥
 
 pub record Shuts (s : List ℕ) (at : ℕ) (r : End) : Type 0 where
   pub says : ShutsBy s at r

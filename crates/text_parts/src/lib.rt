@@ -1,6 +1,6 @@
 // The parts of a form, read from the text.
 ghost use Rattle.std.specs.Prelude.{◌≡◌};
-ghost use Rattle.text_parts.specs.Parts.{LeafStands, Stands, Shuts, pastPart};
+ghost use Rattle.text_parts.specs.Parts.{LeafStands, Stands, Shuts, past_part};
 
 use leaf_words::words::Word;
 use text_words::sight::{Sight, look, word_at};
@@ -64,7 +64,7 @@ pub fn reader_at<'a>(text: &'a [u8], at: usize) -> Reader<'a>
 
 // The offset past a part: inside a form, behind a word or a closing bracket.
 fn past(p: Part) -> usize
-    ensures { result ≡ pastPart p }
+    ensures { result ≡ past_part p }
 {
     match p {
         Part::Leaf(_, _, q) => q,
@@ -75,7 +75,7 @@ fn past(p: Part) -> usize
 
 // The part at the offset that a reader has reached, and the reader past it.
 pub fn next_part<'a>(r: Reader<'a>) -> Read<'a>
-    ensures { Stands r.entry.text.now r.entry.at result.part × (result.reader.text ≡ r.entry.text) × (result.reader.at ≡ pastPart result.part) }
+    ensures { Stands r.entry.text.now r.entry.at result.part × (result.reader.text ≡ r.entry.text) × (result.reader.at ≡ past_part result.part) }
 {
     let part = stands_at(r.text, r.at);
     let at = past(part);

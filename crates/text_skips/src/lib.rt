@@ -1,8 +1,8 @@
 // Past a part of a form: where the next part stands, found with no recursion.
 ghost use Rattle.std.specs.Prelude.{◌≡◌, ◌+◌, ◌≤◌, length};
-ghost use Rattle.law_theorems.specs.Readings.{stackAt};
-ghost use Rattle.text_words.specs.Passes.{nodesAll};
-ghost use Rattle.text_skips.specs.Skips.{outFrom, Moves, Past, Skips};
+ghost use Rattle.law_theorems.specs.Readings.{stack_at};
+ghost use Rattle.text_words.specs.Passes.{nodes_all};
+ghost use Rattle.text_skips.specs.Skips.{out_from, Moves, Past, Skips};
 
 use text_words::sight::{Sight, look, word_end};
 
@@ -15,7 +15,7 @@ pub enum Move {
 
 // Past a closing bracket that ends at q, where n forms are open.
 fn shut(n: usize, q: usize) -> Move
-    ensures { result ≡ outFrom n q }
+    ensures { result ≡ out_from n q }
 {
     if n == 0 {
         return Move::Out(q);
@@ -25,7 +25,7 @@ fn shut(n: usize, q: usize) -> Move
 
 // Past a word or a bracket inside a form in which n more are open.
 fn step(text: &[u8], p: usize, n: usize) -> Move
-    requires { n + nodesAll (stackAt text.now p) ≤ length text.now }
+    requires { n + nodes_all (stack_at text.now p) ≤ length text.now }
     ensures { Moves text.now p n result }
 {
     let s = look(text, p);

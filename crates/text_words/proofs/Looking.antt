@@ -11,23 +11,23 @@ use Rattle.leaf_bytes.specs.declared.bytes.Class.TheVariants.{Feed, Space, Open,
 use Rattle.leaf_words.specs.declared.words.Word.{Word}
 use Rattle.leaf_words.specs.declared.words.Word.TheVariants.{Unknown}
 use Rattle.leaf_bytes.specs.Bytes.{class_of, bytes, same}
-use Rattle.leaf_bytes.specs.Names.{isName}
+use Rattle.leaf_bytes.specs.Names.{is_name}
 use Rattle.leaf_words.specs.Numbers.{number_of}
 use Rattle.leaf_reserved.specs.Table.{place_of, position, fixed, reserved, operators}
 use Rattle.leaf_words.specs.Words.{word_of, named, placed}
 use Rattle.law.specs.Trees.{Trees, Run, word_at}
-use Rattle.law_theorems.specs.Readings.{rest_at, stackAt}
+use Rattle.law_theorems.specs.Readings.{rest_at, stack_at}
 use Rattle.law_theorems.proofs.Reading.{none-stack, none-word, wordless, space-stack, open-stack, close-stack, feed-stack, refused-stack, word-stack, word-rest, word-word, space-word, open-word, close-word, feed-word, refused-word}
 use Rattle.text_words.specs.declared.sight.Sight.TheVariants.{Form, Leaf, Shut}
 use Rattle.text_words.specs.Sights.{Looks, Ends, Reads}
 
 -- ---- `look`: k₀ is what stands where it began
-module _ (s : List ℕ) (p : ℕ) (k₀ : List (Trees Run)) (i : k₀ ≡ stackAt s p) where
+module _ (s : List ℕ) (p : ℕ) (k₀ : List (Trees Run)) (i : k₀ ≡ stack_at s p) where
   pub look_none : length s ≤ p → Looks s k₀ (Shut p)
   look_none h = record { says = (rw (i, none-stack s p h), rw (i, none-stack s p h)); past = tt }
 
   module _ (k : Class) (h : p < length s) (e : k ≡ class_of (get_or s p 0)) where
-    pub look-space : k ≡ Space → k₀ ≡ stackAt s (p + 1)
+    pub look-space : k ≡ Space → k₀ ≡ stack_at s (p + 1)
     look-space c = i ∙ space-stack s p k h e c
 
     pub look-open : k ≡ Open → Looks s k₀ (Form (p + 1))
@@ -107,7 +107,7 @@ end_short s at q g h = g.short h
 
 module _ (s : List ℕ) (at : ℕ) where
   nothing_said : Unknown ≡ word_of []
-  unfolding word_of placed place_of position fixed reserved operators bytes same isName named number_of
+  unfolding word_of placed place_of position fixed reserved operators bytes same is_name named number_of
   nothing_said = refl
 
   pub read_none : length s < at → Reads s at (record { word = Unknown; next = at })

@@ -1,7 +1,7 @@
 // The flat passes over a line's words and brackets: words (row 5), the count of row 9.
 ghost use Rattle.std.specs.Prelude.{◌≡◌};
-ghost use Rattle.law_theorems.specs.Readings.{stackAt};
-ghost use Rattle.text_words.specs.Passes.{isKnown, LeafAt, Hops, isStop, weightOf, fineOf, next_of, knownAll, nodesAll};
+ghost use Rattle.law_theorems.specs.Readings.{stack_at};
+ghost use Rattle.text_words.specs.Passes.{is_known, LeafAt, Hops, is_stop, weight_of, fine_of, next_of, known_all, nodes_all};
 
 use crate::sight::{Seen, word_at};
 use leaf_bytes::bytes::{Class, class_of};
@@ -18,7 +18,7 @@ pub enum Hop {
 
 // Whether a word is of some kind.
 fn is_known(w: Word) -> bool
-    ensures { result ≡ isKnown w }
+    ensures { result ≡ is_known w }
 {
     match w {
         Word::Number(_) => true,
@@ -58,7 +58,7 @@ fn hop_at(text: &[u8], p: usize) -> Hop
 
 // Whether the line ends here.
 fn stops(h: Hop) -> bool
-    ensures { result ≡ isStop h }
+    ensures { result ≡ is_stop h }
 {
     match h {
         Hop::Leaf(_, _) => false,
@@ -70,7 +70,7 @@ fn stops(h: Hop) -> bool
 
 // How many brackets and words this is: a pair is counted where it opens.
 fn weight(h: Hop) -> usize
-    ensures { result ≡ weightOf h }
+    ensures { result ≡ weight_of h }
 {
     match h {
         Hop::Leaf(_, _) => 1,
@@ -82,7 +82,7 @@ fn weight(h: Hop) -> usize
 
 // Whether this is no word of no kind.
 fn fine(h: Hop) -> bool
-    ensures { result ≡ fineOf h }
+    ensures { result ≡ fine_of h }
 {
     match h {
         Hop::Leaf(b, _) => b,
@@ -106,7 +106,7 @@ fn next_of(h: Hop, p: usize) -> usize
 
 // Row 5: whether every word from `at` to the line's end is of some kind.
 pub fn words_known(text: &[u8], at: usize) -> bool
-    ensures { result ≡ knownAll (stackAt text.now at) }
+    ensures { result ≡ known_all (stack_at text.now at) }
 {
     let mut p = at;
     loop {
@@ -124,7 +124,7 @@ pub fn words_known(text: &[u8], at: usize) -> bool
 
 // The brackets and words from `at` to the line's end; a pair is one.
 pub fn count_nodes(text: &[u8], at: usize) -> usize
-    ensures { result ≡ nodesAll (stackAt text.now at) }
+    ensures { result ≡ nodes_all (stack_at text.now at) }
 {
     let mut p = at;
     let mut n = 0;

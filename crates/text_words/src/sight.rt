@@ -2,7 +2,7 @@
 ghost use Rattle.std.specs.Prelude.{◌≡◌, ◌-◌, ◌≤◌, take, drop, length};
 ghost use Rattle.leaf_words.specs.Words.{word_of};
 ghost use Rattle.law.specs.Trees.{word_at};
-ghost use Rattle.law_theorems.specs.Readings.{rest_at, stackAt};
+ghost use Rattle.law_theorems.specs.Readings.{rest_at, stack_at};
 ghost use Rattle.text_words.specs.Sights.{Looks, Ends, Reads};
 
 use leaf_bytes::bytes::{Class, class_of};
@@ -26,7 +26,7 @@ pub struct Seen {
 
 // What a byte is to a reader that looks for the next part.
 pub fn look(text: &[u8], at: usize) -> Sight
-    ensures { Looks text.now (stackAt text.now at) result }
+    ensures { Looks text.now (stack_at text.now at) result }
 {
     let mut p = at;
     while p < text.len() {

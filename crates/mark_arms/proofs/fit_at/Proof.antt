@@ -1,7 +1,7 @@
 use mir.Syntax.{w64}
 use mir.Val.{to_z}
 use Rattle.law.specs.Trees.{first}
-use Rattle.law_theorems.specs.Readings.{stackAt}
+use Rattle.law_theorems.specs.Readings.{stack_at}
 use Rattle.mark_arms.specs.Arms.{many}
 use Rattle.mark_arms.proofs.Meeting.{Meeting}
 use borrow.Author.Rules.{rules}
@@ -18,7 +18,7 @@ abbrev invariant-loop : tie.invariant-loop
 invariant-loop text work scope kind z at p₀ p = Meeting text work scope kind (to_z w64 z) at p
 
 abbrev decreases-loop : tie.decreases-loop
-decreases-loop text work scope kind z at p₀ p = many (first (stackAt text p))
+decreases-loop text work scope kind z at p₀ p = many (first (stack_at text p))
 
 -- src/lib.rt:99:5
 loop-holds : tie.Need-loop-init invariant-loop decreases-loop

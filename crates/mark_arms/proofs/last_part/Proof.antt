@@ -1,5 +1,5 @@
 use Rattle.law.specs.Trees.{first}
-use Rattle.law_theorems.specs.Readings.{stackAt}
+use Rattle.law_theorems.specs.Readings.{stack_at}
 use Rattle.mark_arms.specs.Arms.{many}
 use Rattle.mark_arms.proofs.Reading.{Passing}
 use borrow.Author.Rules.{rules}
@@ -14,7 +14,7 @@ abbrev invariant-loop : tie.invariant-loop
 invariant-loop text at p₀ p = Passing text at p
 
 abbrev decreases-loop : tie.decreases-loop
-decreases-loop text at p₀ p = many (first (stackAt text p))
+decreases-loop text at p₀ p = many (first (stack_at text p))
 
 -- src/lib.rt:131:5
 loop-holds : tie.Need-loop-init invariant-loop decreases-loop

@@ -1,5 +1,5 @@
-use Rattle.law_theorems.specs.Readings.{stackAt}
-use Rattle.text_words.specs.Passes.{nodesAll}
+use Rattle.law_theorems.specs.Readings.{stack_at}
+use Rattle.text_words.specs.Passes.{nodes_all}
 use Rattle.mark_counts.proofs.Counting.{Counting}
 use borrow.Author.Rules.{rules}
 use Rattle.mark_counts.proofs.Counting.{count-falls, count-laws, count_room, count-start}
@@ -15,7 +15,7 @@ abbrev invariant-loop : tie.invariant-loop
 invariant-loop text at p₀ m₀ n₀ p m n = Counting text at p m n
 
 abbrev decreases-loop : tie.decreases-loop
-decreases-loop text at p₀ m₀ n₀ p m n = 2 * nodesAll (stackAt text p) + m
+decreases-loop text at p₀ m₀ n₀ p m n = 2 * nodes_all (stack_at text p) + m
 
 pub count-form-spec : {M : Type 1} → statement M
 count-form-spec =

@@ -1,5 +1,5 @@
 use Rattle.rule_texts.proofs.Texts.{part-laws, verdict-clears}
-use Rattle.rule_cells.proofs.Counts.{cells_told}
+use Rattle.rule_cells.proofs.Counts.{cells-told}
 use borrow.Author.Rules.{rules}
 use Rattle.rule_cells.proofs.cells.Statement.{statement}
 use Rattle.rule_cells.proofs.cells.Tie as tie
@@ -12,7 +12,7 @@ use Rattle.table_list.proofs.clear.Reads as clear_reads
 
 -- src/lib.rt:55:1
 returns : tie.Need-returns
-returns c = (search cells_told, search verdict-clears)
+returns c = (search cells-told, search verdict-clears)
 
 pub cells-spec : {M : Type 1} → statement M
 cells-spec =

@@ -1,5 +1,5 @@
 use Rattle.rule_texts.proofs.Texts.{part-laws, verdict-clears}
-use Rattle.rule_cells.proofs.Counts.{cells_told, owners-told}
+use Rattle.rule_cells.proofs.Counts.{cells-told, owners-told}
 use borrow.Author.Rules.{rules}
 use Rattle.rule_cells.proofs.owners.Statement.{statement}
 use Rattle.rule_cells.proofs.owners.Tie as tie
@@ -13,7 +13,7 @@ use Rattle.table_list.proofs.clear.Reads as clear_reads
 
 -- src/lib.rt:67:1
 returns : tie.Need-returns
-returns c = (search cells_told, search verdict-clears, search owners-told)
+returns c = (search cells-told, search verdict-clears, search owners-told)
 
 pub owners-spec : {M : Type 1} → statement M
 owners-spec =

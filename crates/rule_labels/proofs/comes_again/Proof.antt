@@ -1,6 +1,6 @@
 use borrow.Author.Rules.{sfits_of}
-use Rattle.law_theorems.specs.Readings.{stackAt}
-use Rattle.text_words.specs.Passes.{nodesAll}
+use Rattle.law_theorems.specs.Readings.{stack_at}
+use Rattle.text_words.specs.Passes.{nodes_all}
 use Rattle.rule_labels.proofs.Finding.{Comparing}
 use borrow.Author.Rules.{rules}
 use Rattle.rule_labels.proofs.Finding.{compare-laws, compare-start, value-falls}
@@ -15,7 +15,7 @@ abbrev invariant-loop : tie.invariant-loop
 invariant-loop text work scope block at p₀ p = Comparing text work scope block at p
 
 abbrev decreases-loop : tie.decreases-loop
-decreases-loop text work scope block at p₀ p = nodesAll (stackAt text p)
+decreases-loop text work scope block at p₀ p = nodes_all (stack_at text p)
 
 -- src/lib.rt:328:5
 loop-holds : tie.Need-loop-init invariant-loop decreases-loop

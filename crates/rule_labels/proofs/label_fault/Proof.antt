@@ -1,5 +1,5 @@
-use Rattle.law_theorems.specs.Readings.{stackAt}
-use Rattle.text_words.specs.Passes.{nodesAll}
+use Rattle.law_theorems.specs.Readings.{stack_at}
+use Rattle.text_words.specs.Passes.{nodes_all}
 use Rattle.rule_labels.proofs.Finding.{Clearing}
 use borrow.Author.Rules.{rules}
 use Rattle.rule_labels.proofs.Finding.{block_falls, block-part, clear-laws, clear-start}
@@ -15,7 +15,7 @@ abbrev invariant-loop : tie.invariant-loop
 invariant-loop text work scope block₀ at p₀ block p = Clearing text work scope block₀ at block p
 
 abbrev decreases-loop : tie.decreases-loop
-decreases-loop text work scope block₀ at p₀ block p = nodesAll (stackAt text p)
+decreases-loop text work scope block₀ at p₀ block p = nodes_all (stack_at text p)
 
 -- src/lib.rt:366:5
 loop-holds : tie.Need-loop-init invariant-loop decreases-loop

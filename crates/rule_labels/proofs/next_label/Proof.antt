@@ -1,5 +1,5 @@
-use Rattle.law_theorems.specs.Readings.{stackAt}
-use Rattle.text_words.specs.Passes.{nodesAll}
+use Rattle.law_theorems.specs.Readings.{stack_at}
+use Rattle.text_words.specs.Passes.{nodes_all}
 use Rattle.rule_labels.proofs.Hopping.{Seeking}
 use borrow.Author.Rules.{rules}
 use Rattle.rule_labels.proofs.Hopping.{seek-falls, seek-laws, seek-start}
@@ -13,7 +13,7 @@ abbrev invariant-loop : tie.invariant-loop
 invariant-loop text at p₀ p = Seeking text at p
 
 abbrev decreases-loop : tie.decreases-loop
-decreases-loop text at p₀ p = nodesAll (stackAt text p)
+decreases-loop text at p₀ p = nodes_all (stack_at text p)
 
 -- src/lib.rt:188:5
 loop-holds : tie.Need-loop-init invariant-loop decreases-loop

@@ -1,5 +1,5 @@
 use Rattle.law.specs.Trees.{first}
-use Rattle.law_theorems.specs.Readings.{stackAt}
+use Rattle.law_theorems.specs.Readings.{stack_at}
 use Rattle.rule_enum_lines.specs.Enums.{many}
 use Rattle.rule_pairs.proofs.PairParts.{Walking}
 use borrow.Author.Rules.{rules}
@@ -20,7 +20,7 @@ abbrev invariant-loop : tie.invariant-loop
 invariant-loop text work types scope at p₀ n₀ size₀ ok₀ p n size ok = Walking text work types scope at p n size ok
 
 abbrev decreases-loop : tie.decreases-loop
-decreases-loop text work types scope at p₀ n₀ size₀ ok₀ p n size ok = many (first (stackAt text p))
+decreases-loop text work types scope at p₀ n₀ size₀ ok₀ p n size ok = many (first (stack_at text p))
 
 -- src/lib.rt:156:5
 loop-holds : tie.Need-loop-init invariant-loop decreases-loop

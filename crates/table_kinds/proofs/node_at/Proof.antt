@@ -1,8 +1,8 @@
 -- `table_kinds::node_at` meets its contract. Written by hand: the constant is `table` by computation. Assumes nothing.
 use mathlib.Core.Path.{refl}
 use Rattle.law.specs.Base.{given, either}
-use Rattle.code.specs.Layout.{both, operationNumber}
-use Rattle.table_kinds.specs.Kinds.{row_of, operationOf, coded, entry_of, table, nodeAt}
+use Rattle.code.specs.Layout.{both, operation_number}
+use Rattle.table_kinds.specs.Kinds.{row_of, operation_of, coded, entry_of, table, node_at}
 use Rattle.table_kinds.proofs.Laws.{node_laws}
 use borrow.Author.Rules.{rules}
 use Rattle.table_kinds.proofs.node_at.Statement.{statement}
@@ -36,7 +36,7 @@ index-3-result : tie.Need-bounds-3-result
 index-3-result c = search rules
 
 returns-4 : tie.Need-returns-4
-unfolding nodeAt table entry_of coded operationOf operationNumber both row_of given either
+unfolding node_at table entry_of coded operation_of operation_number both row_of given either
 returns-4 c = refl
 
 pub node_at_spec : {M : Type 1} → statement M

@@ -1,7 +1,7 @@
 -- `table_kinds::node_at_one` meets its contract. Written by hand: the constant is `table1` by computation. Assumes nothing.
 use mathlib.Core.Path.{refl}
 use Rattle.table_kinds.specs.Kinds.{row_of}
-use Rattle.table_kinds.specs.Functions.{takes, funNode, table1, nodeAt1}
+use Rattle.table_kinds.specs.Functions.{takes, fun_node, table1, node_at1}
 use Rattle.table_kinds.proofs.Laws.{node1-laws}
 use borrow.Author.Rules.{rules}
 use Rattle.table_kinds.proofs.node_at_one.Statement.{statement}
@@ -26,7 +26,7 @@ index-2-result : tie.Need-bounds-2-result
 index-2-result c = search rules
 
 returns-3 : tie.Need-returns-3
-unfolding nodeAt1 table1 takes funNode row_of
+unfolding node_at1 table1 takes fun_node row_of
 returns-3 c = refl
 
 pub node-at-one-spec : {M : Type 1} → statement M

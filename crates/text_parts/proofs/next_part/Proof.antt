@@ -42,7 +42,7 @@ use denote.Triple.Table.{entered, cited}
 use denote.Triple.Walked.{says, Stays, stay_none, walk_of, Goes-none, ends_at, walked, walk_Meets}
 use denote.Exit.{yes}
 use denote.Triple.Clauses.{ensured, lasts}
-use Rattle.text_parts.specs.Parts.{Stands, pastPart}
+use Rattle.text_parts.specs.Parts.{Stands, past_part}
 use Rattle.text_parts.specs.declared.Reader.{Reader}
 use Rattle.text_parts.specs.declared.Part.{Part}
 use Rattle.text_parts.specs.declared.Read.{Read}
@@ -152,8 +152,8 @@ module _ {M : Type 1} {𝓤 : Ura M} (𝓛 : Logic 𝓤) (mem : Memory → SProp
   goes-past : (r : Part) → ent 𝓤 (sem 𝓛 ((S.the_row).own_val r (mach-of r ∷ []))) ((PastOf 𝓛 mem run).pre (to-past r))
   goes-past r = qed 𝓛 (‵ ((S.the_row).own_val r (mach-of r ∷ [])) ∷ []) ∵ nothing ! $ move ! (1 ∷ 0 ∷ []) $ fjoin ! $ nothing ! $ join ! $ frame ! $ done !
 
-  past-said : (r : Part) (n : ℕ) → ent 𝓤 (ensured 𝓛 past.ended (past.clauses 𝓛 mem run) tt (r, tt) tt n) (fact 𝓤 (n ≡ pastPart r))
-  past-said r n = ex_e 𝓤 _ (λ ws. snd∗ 𝓤 (sem 𝓛 (lasts past.ended tt (r, tt) ws)) (fact 𝓤 (n ≡ pastPart r)))
+  past-said : (r : Part) (n : ℕ) → ent 𝓤 (ensured 𝓛 past.ended (past.clauses 𝓛 mem run) tt (r, tt) tt n) (fact 𝓤 (n ≡ past_part r))
+  past-said r n = ex_e 𝓤 _ (λ ws. snd∗ 𝓤 (sem 𝓛 (lasts past.ended tt (r, tt) ws)) (fact 𝓤 (n ≡ past_part r)))
 
   -- the reader at an offset that it has reached, and the answer
   abbrev moved : ℕ → Reader
@@ -165,7 +165,7 @@ module _ {M : Type 1} {𝓤 : Ura M} (𝓛 : Logic 𝓤) (mem : Memory → SProp
   abbrev answer : Part → ℕ → Val
   answer r n = LL.val (DR κ) (LR κ) (made r n)
 
-  exits : (r : Part) (n : ℕ) → Found r → n ≡ pastPart r → n < 2 ^ 64 → ent 𝓤 (⋆ 𝓛 (‵ ((S.the_row).own_val r (mach-of r ∷ [])) ∷ (‵ (flft κ q) ⊛ ‵ ftrue) ∷ ‵ Own ∷ [])) (Post (answer r n))
+  exits : (r : Part) (n : ℕ) → Found r → n ≡ past_part r → n < 2 ^ 64 → ent 𝓤 (⋆ 𝓛 (‵ ((S.the_row).own_val r (mach-of r ∷ [])) ∷ (‵ (flft κ q) ⊛ ‵ ftrue) ∷ ‵ Own ∷ [])) (Post (answer r n))
   exits r n e e' ok =
       qed 𝓛 (‵ ((S.the_row).own_val r (mach-of r ∷ [])) ∷ (‵ (flft κ q) ⊛ ‵ ftrue) ∷ ‵ Own ∷ []) ∵
       suffices ! _ (ends_at 𝓛 this.ended stayed (this.clauses 𝓛 mem run) (((κ, tt), (q, tt), tt, (d, tt), (mach ∷ [], tt)), tt) (answer r n) (made r n) (tt, tt) (tt, tt)) $ says ! (e, refl, e') $
@@ -200,7 +200,7 @@ module _ {M : Type 1} {𝓤 : Ura M} (𝓛 : Logic 𝓤) (mem : Memory → SProp
         use1 𝓛 (raw ((PastOf 𝓛 mem run).pre (to-past r))) (goes-past r) $
         calls_at ! fm (PastOf 𝓛 mem run) known_past (to-past r) (and_then ! (load ! (from ! (stop !)) (look ! 14 refl)) (no_more !)) (λ w.
         use1 𝓛 (later (some (λ (n : ℕ). (‵ ftrue ⊛ ‵ (usize.own_val n (w ∷ []))) ⊛ raw (ensured 𝓛 past.ended (past.clauses 𝓛 mem run) tt (r, tt) tt n)))) (id⊢ 𝓤 _) $ await ! tt $ pick ! (λ n.
-        split ! $ move ! (1 ∷ []) $ use1 𝓛 (raw (fact 𝓤 (n ≡ pastPart r))) (past-said r n) $ heard ! (n ≡ pastPart r) (λ e'. split ! $ drop ! $
+        split ! $ move ! (1 ∷ []) $ use1 𝓛 (raw (fact 𝓤 (n ≡ past_part r))) (past-said r n) $ heard ! (n ≡ past_part r) (λ e'. split ! $ drop ! $
         -- [the number; the part; the token; what the struct owns; _7; …; _6; …; _5; …; _4; …; _3; …; _2; …; _1; …; room for _0; …]
         peeks ! usize (Is usize) (shows 𝓛 usize) n (w ∷ []) (λ is'.
         land ! (from ! (stop !)) (init ! 12 refl ((uint_Lawful 𝓛 w64).typed n _ is').0) $ rewrite ! 12 (λ (z : Val). ‵ (fat full_share (ty_int w64) l₃ 0 z)) (ap only is'.0) refl $ drop ! $

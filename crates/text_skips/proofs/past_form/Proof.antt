@@ -1,5 +1,5 @@
-use Rattle.law_theorems.specs.Readings.{stackAt}
-use Rattle.text_words.specs.Passes.{nodesAll}
+use Rattle.law_theorems.specs.Readings.{stack_at}
+use Rattle.text_words.specs.Passes.{nodes_all}
 use Rattle.text_skips.proofs.Skipping.{Inside}
 use borrow.Author.Rules.{rules}
 use Rattle.text_skips.proofs.Skipping.{inside-falls, inside-few, inside-laws, inside-start}
@@ -14,7 +14,7 @@ abbrev invariant-loop : tie.invariant-loop
 invariant-loop text at p₀ n₀ p n = Inside text at p n
 
 abbrev decreases-loop : tie.decreases-loop
-decreases-loop text at p₀ n₀ p n = 2 * nodesAll (stackAt text p) + n
+decreases-loop text at p₀ n₀ p n = 2 * nodes_all (stack_at text p) + n
 
 -- src/lib.rt:47:5
 loop-holds : tie.Need-loop-init invariant-loop decreases-loop

@@ -3,7 +3,7 @@ use native.Mathlib.Omega.{arith}
 use lib.ListN.{length}
 use Rattle.law.specs.Print.{cells}
 use Rattle.law_answers.specs.Written.{names_at}
-use Rattle.host_writing.proofs.Writing.{Still, cellsFrom}
+use Rattle.host_writing.proofs.Writing.{Still, cells_from}
 use borrow.Author.Rules.{rules}
 use Rattle.host_writing.proofs.Writing.{rows-laws, still-long, still-start}
 use Rattle.host_writing.proofs.rows.cell_rows.Statement.{statement}
@@ -13,7 +13,7 @@ use Rattle.host_writing.proofs.rows.cell_rows.Lts as lts
 use Rattle.host_writing.proofs.rows.cell_at.Reads as cell-at-reads
 
 abbrev invariant-loop : tie.invariant-loop
-invariant-loop out₀ at text names values marks p₀ i₀ out p i = Still (cells 1 (names_at text names) values marks) out₀ at (cellsFrom i text names values marks) out p
+invariant-loop out₀ at text names values marks p₀ i₀ out p i = Still (cells 1 (names_at text names) values marks) out₀ at (cells_from i text names values marks) out p
 
 abbrev decreases-loop : tie.decreases-loop
 decreases-loop out₀ at text names values marks p₀ i₀ out p i = length values - i

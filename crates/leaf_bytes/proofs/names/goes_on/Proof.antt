@@ -3,13 +3,13 @@ use mathlib.Core.Path.{◌≡◌}
 use Prim.Native.Nat.{◌≤◌, ◌-◌}
 use borrow.Author.Rules.{rules}
 use lib.ListN.{length, drop}
-use Rattle.leaf_bytes.specs.Names.{goesOn}
+use Rattle.leaf_bytes.specs.Names.{goes_on}
 use Rattle.leaf_bytes.proofs.Naming.{goes-laws}
 use Rattle.leaf_bytes.proofs.names.goes_on.Statement.{statement}
 use Rattle.leaf_bytes.proofs.names.goes_on.Tie as tie
 
 abbrev invariant-loop : tie.invariant-loop
-invariant-loop w i₀ i = (i ≤ length w) × (goesOn (drop 1 w) ≡ goesOn (drop i w))
+invariant-loop w i₀ i = (i ≤ length w) × (goes_on (drop 1 w) ≡ goes_on (drop i w))
 
 abbrev decreases-loop : tie.decreases-loop
 decreases-loop w i₀ i = length w - i

@@ -1,6 +1,6 @@
 use native.Mathlib.Omega.{arith}
 use Rattle.law.specs.Trees.{first}
-use Rattle.law_theorems.specs.Readings.{stackAt}
+use Rattle.law_theorems.specs.Readings.{stack_at}
 use Rattle.rule_expressions.specs.Members.{many}
 use Rattle.mark_expressions.proofs.Gathering.{Sofar}
 use borrow.Author.Rules.{rules}
@@ -267,7 +267,7 @@ abbrev member-list-Inv-loop : member-list-lts.invariant-loop
 member-list-Inv-loop text work types scope store t depth at next₀ set₀ next set = Sofar text work types store scope t depth at next set
 
 abbrev member-list-μ-loop : member-list-lts.decreases-loop
-member-list-μ-loop text work types scope store t depth at next₀ set₀ next set = many (first (stackAt text next))
+member-list-μ-loop text work types scope store t depth at next₀ set₀ next set = many (first (stack_at text next))
 
 -- src/walk.rt:284:5
 member-list-loop-holds : (t : ℕ) → member-list-lts.Need-loop-init (

@@ -1,5 +1,5 @@
 use Rattle.law.specs.Trees.{first}
-use Rattle.law_theorems.specs.Readings.{stackAt}
+use Rattle.law_theorems.specs.Readings.{stack_at}
 use Rattle.rule_expressions.specs.Members.{many}
 use Rattle.mark_statements.proofs.Seeking.{Behind}
 use borrow.Author.Rules.{rules}
@@ -17,7 +17,7 @@ abbrev invariant-loop : tie.invariant-loop
 invariant-loop text n at p₀ m₀ p m = Behind text n at m p
 
 abbrev decreases-loop : tie.decreases-loop
-decreases-loop text n at p₀ m₀ p m = many (first (stackAt text p))
+decreases-loop text n at p₀ m₀ p m = many (first (stack_at text p))
 
 pub handler-of-spec : {M : Type 1} → statement M
 handler-of-spec =

@@ -2,10 +2,10 @@ use mir.Syntax.{w64}
 use mir.Val.{to_z}
 use borrow.Author.Rules.{sfits_of}
 use Rattle.law.specs.Trees.{first}
-use Rattle.law_theorems.specs.Readings.{stackAt}
-use Rattle.text_heads.specs.Parts.{stmtsIn}
+use Rattle.law_theorems.specs.Readings.{stack_at}
+use Rattle.text_heads.specs.Parts.{stmts_in}
 use Rattle.rule_expressions.specs.Members.{many}
-use Rattle.mark_statements.specs.Marks.{frontIn}
+use Rattle.mark_statements.specs.Marks.{front_in}
 use Rattle.mark_statements.proofs.Chains.{Following}
 use Rattle.mark_statements.proofs.Looping.{Repeating, Counting}
 use borrow.Author.Rules.{rules}
@@ -228,10 +228,10 @@ abbrev stmts-below : ℕ → In 6 stmts-kinds.ps
 stmts-below t = and 6 stmts-kinds.ps (falls 6 stmts-kinds.ps ◌<◌ μ-stmts t) stmts.Pre
 
 abbrev front-Inv-loop : front-lts.invariant-loop
-front-Inv-loop text work all types bodies scope calls store₀ left n at t₀ m₀ p₀ store t m p = Following frontIn text work all types bodies scope calls n at store₀ t₀ m p store t
+front-Inv-loop text work all types bodies scope calls store₀ left n at t₀ m₀ p₀ store t m p = Following front_in text work all types bodies scope calls n at store₀ t₀ m p store t
 
 abbrev front-μ-loop : front-lts.decreases-loop
-front-μ-loop text work all types bodies scope calls store₀ left n at t₀ m₀ p₀ store t m p = many (first (stackAt text p))
+front-μ-loop text work all types bodies scope calls store₀ left n at t₀ m₀ p₀ store t m p = many (first (stack_at text p))
 
 abbrev repeat-Inv-loop : repeat-lts.invariant-loop
 repeat-Inv-loop text work all types bodies scope calls depth store₀ left n c b t₀ store t = Repeating text work all types bodies scope calls depth n c b store₀ t₀ store t
@@ -246,10 +246,10 @@ abbrev rounds-μ-loop : rounds-lts.decreases-loop
 rounds-μ-loop text work all types bodies scope calls depth store₀ left n a x y b z₀ t₀ store z t = t
 
 abbrev stmts-Inv-loop : stmts-lts.invariant-loop
-stmts-Inv-loop text work all types bodies scope calls depth store₀ left n at t₀ m₀ p₀ store t m p = Following (stmtsIn depth) text work all types bodies scope calls n at store₀ t₀ m p store t
+stmts-Inv-loop text work all types bodies scope calls depth store₀ left n at t₀ m₀ p₀ store t m p = Following (stmts_in depth) text work all types bodies scope calls n at store₀ t₀ m p store t
 
 abbrev stmts-μ-loop : stmts-lts.decreases-loop
-stmts-μ-loop text work all types bodies scope calls depth store₀ left n at t₀ m₀ p₀ store t m p = many (first (stackAt text p))
+stmts-μ-loop text work all types bodies scope calls depth store₀ left n at t₀ m₀ p₀ store t m p = many (first (stack_at text p))
 
 pub +body-from-call-choose-count-up-else-part-front-headed-if-else-inner-mark-body-mark-stmt-repeat-rounds-stmts-spec :
     {M : Type 1} → statement M

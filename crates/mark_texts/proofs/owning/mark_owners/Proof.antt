@@ -1,5 +1,5 @@
 use Rattle.rule_texts.proofs.Texts.{part-laws}
-use Rattle.mark_texts.proofs.Counts.{cells_told, owners-told}
+use Rattle.mark_texts.proofs.Counts.{cells-told, owners-told}
 use Rattle.mark_texts.proofs.MarkWays.{list-clears}
 use borrow.Author.Rules.{rules}
 use Rattle.mark_texts.proofs.owning.mark_owners.Statement.{statement}
@@ -14,7 +14,7 @@ use Rattle.table_list.proofs.clear.Reads as clear_reads
 
 -- src/owning.rt:18:1
 returns : tie.Need-returns
-returns c = (search cells_told, search list-clears, search owners-told)
+returns c = (search cells-told, search list-clears, search owners-told)
 
 pub mark-owners-spec : {M : Type 1} → statement M
 mark-owners-spec =

@@ -1,5 +1,5 @@
 use Rattle.law.specs.Trees.{first}
-use Rattle.law_theorems.specs.Readings.{stackAt}
+use Rattle.law_theorems.specs.Readings.{stack_at}
 use Rattle.rule_enum_lines.specs.Enums.{many}
 use Rattle.rule_enum_lines.proofs.EnumNames.{Counting}
 use borrow.Author.Rules.{rules}
@@ -18,7 +18,7 @@ abbrev invariant-loop : tie.invariant-loop
 invariant-loop text work scope at p₀ n₀ ok₀ p n ok = Counting text work scope at p n ok
 
 abbrev decreases-loop : tie.decreases-loop
-decreases-loop text work scope at p₀ n₀ ok₀ p n ok = many (first (stackAt text p))
+decreases-loop text work scope at p₀ n₀ ok₀ p n ok = many (first (stack_at text p))
 
 -- src/enums.rt:137:5
 loop-holds : tie.Need-loop-init invariant-loop decreases-loop

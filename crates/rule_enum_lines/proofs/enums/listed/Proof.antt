@@ -1,5 +1,5 @@
 use Rattle.law.specs.Trees.{first}
-use Rattle.law_theorems.specs.Readings.{stackAt}
+use Rattle.law_theorems.specs.Readings.{stack_at}
 use Rattle.rule_enum_lines.specs.Enums.{many}
 use Rattle.rule_enum_lines.proofs.EnumNames.{Scanning}
 use borrow.Author.Rules.{rules}
@@ -15,7 +15,7 @@ abbrev invariant-loop : tie.invariant-loop
 invariant-loop text x at p₀ p = Scanning text x at p
 
 abbrev decreases-loop : tie.decreases-loop
-decreases-loop text x at p₀ p = many (first (stackAt text p))
+decreases-loop text x at p₀ p = many (first (stack_at text p))
 
 -- src/enums.rt:12:5
 loop-holds : tie.Need-loop-init invariant-loop decreases-loop

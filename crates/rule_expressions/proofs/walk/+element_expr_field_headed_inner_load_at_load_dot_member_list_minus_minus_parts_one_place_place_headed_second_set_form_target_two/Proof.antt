@@ -1,6 +1,6 @@
 use native.Mathlib.Omega.{arith}
 use Rattle.law.specs.Trees.{first}
-use Rattle.law_theorems.specs.Readings.{stackAt}
+use Rattle.law_theorems.specs.Readings.{stack_at}
 use Rattle.rule_expressions.specs.Members.{many}
 use Rattle.rule_expressions.proofs.Membership.{Sofar}
 use borrow.Author.Rules.{sfits_of}
@@ -268,7 +268,7 @@ abbrev member-list-Inv-loop : member-list-lts.invariant-loop
 member-list-Inv-loop text work₀ types scope base depth at chain top next₀ link₀ free₀ fault₀ work next link free fault = (length work ≡ length work₀) × Sofar text work₀ types scope base depth at chain top fault next link free work
 
 abbrev member-list-μ-loop : member-list-lts.decreases-loop
-member-list-μ-loop text work₀ types scope base depth at chain top next₀ link₀ free₀ fault₀ work next link free fault = many (first (stackAt text next))
+member-list-μ-loop text work₀ types scope base depth at chain top next₀ link₀ free₀ fault₀ work next link free fault = many (first (stack_at text next))
 
 -- src/walk.rt:258:5
 member-list-loop-holds : (t : ℕ) → member-list-lts.Need-loop-init (

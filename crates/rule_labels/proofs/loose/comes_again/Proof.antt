@@ -1,6 +1,6 @@
 use borrow.Author.Rules.{sfits_of}
-use Rattle.law_theorems.specs.Readings.{stackAt}
-use Rattle.text_words.specs.Passes.{nodesAll}
+use Rattle.law_theorems.specs.Readings.{stack_at}
+use Rattle.text_words.specs.Passes.{nodes_all}
 use Rattle.rule_labels.proofs.Comparing.{Seeking}
 use borrow.Author.Rules.{rules}
 use Rattle.rule_labels.proofs.Comparing.{key-falls, seek-laws, seek-start}
@@ -15,7 +15,7 @@ abbrev invariant-loop : tie.invariant-loop
 invariant-loop text work scope block at p₀ p = Seeking text work scope block at p
 
 abbrev decreases-loop : tie.decreases-loop
-decreases-loop text work scope block at p₀ p = nodesAll (stackAt text p)
+decreases-loop text work scope block at p₀ p = nodes_all (stack_at text p)
 
 -- src/loose.rt:119:5
 loop-holds : tie.Need-loop-init invariant-loop decreases-loop

@@ -1,6 +1,6 @@
 use borrow.Author.Rules.{sfits_of}
-use Rattle.law_theorems.specs.Readings.{stackAt}
-use Rattle.text_words.specs.Passes.{nodesAll}
+use Rattle.law_theorems.specs.Readings.{stack_at}
+use Rattle.text_words.specs.Passes.{nodes_all}
 use Rattle.rule_labels.proofs.Comparing.{Filling}
 use borrow.Author.Rules.{rules}
 use Rattle.rule_labels.proofs.Comparing.{fill-laws, fill_start, key-falls}
@@ -14,7 +14,7 @@ abbrev invariant-loop : tie.invariant-loop
 invariant-loop text work scope block₀ at n₀ p₀ block n p = Filling text work scope block₀ at block n p
 
 abbrev decreases-loop : tie.decreases-loop
-decreases-loop text work scope block₀ at n₀ p₀ block n p = nodesAll (stackAt text p)
+decreases-loop text work scope block₀ at n₀ p₀ block n p = nodes_all (stack_at text p)
 
 -- src/loose.rt:98:5
 loop-holds : tie.Need-loop-init invariant-loop decreases-loop

@@ -1,5 +1,5 @@
 use Rattle.law.specs.Trees.{first}
-use Rattle.law_theorems.specs.Readings.{stackAt}
+use Rattle.law_theorems.specs.Readings.{stack_at}
 use Rattle.rule_enum_lines.specs.Enums.{many}
 use Rattle.rule_parameters.proofs.Lists.{Judging}
 use borrow.Author.Rules.{rules}
@@ -17,7 +17,7 @@ abbrev invariant-loop : tie.invariant-loop
 invariant-loop text work types scope own at p₀ fault₀ p fault = Judging text work types scope own at p fault
 
 abbrev decreases-loop : tie.decreases-loop
-decreases-loop text work types scope own at p₀ fault₀ p fault = many (first (stackAt text p))
+decreases-loop text work types scope own at p₀ fault₀ p fault = many (first (stack_at text p))
 
 -- src/listing.rt:91:5
 loop-holds : tie.Need-loop-init invariant-loop decreases-loop

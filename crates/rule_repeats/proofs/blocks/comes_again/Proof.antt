@@ -1,5 +1,5 @@
 use lib.ListN.{length}
-use Rattle.rule_repeats.specs.Leads.{leadsAt}
+use Rattle.rule_repeats.specs.Leads.{leads_at}
 use Rattle.rule_repeats.proofs.BlockByBlock.{Seeking}
 use borrow.Author.Rules.{rules}
 use Rattle.rule_repeats.proofs.BlockByBlock.{names-fewer, seek-laws, seek-start}
@@ -14,7 +14,7 @@ abbrev invariant-loop : tie.invariant-loop
 invariant-loop text lows highs from n at p₀ p = Seeking text lows highs from n at p
 
 abbrev decreases-loop : tie.decreases-loop
-decreases-loop text lows highs from n at p₀ p = length (leadsAt text p)
+decreases-loop text lows highs from n at p₀ p = length (leads_at text p)
 
 -- src/blocks.rt:148:5
 loop-holds : tie.Need-loop-init invariant-loop decreases-loop

@@ -1,5 +1,5 @@
 use lib.ListN.{length}
-use Rattle.rule_repeats.specs.Leads.{leadsAt}
+use Rattle.rule_repeats.specs.Leads.{leads_at}
 use Rattle.rule_repeats.proofs.BlockByBlock.{Clearing}
 use borrow.Author.Rules.{rules}
 use Rattle.rule_repeats.proofs.BlockByBlock.{clear-fewer, clear-laws, clear-long, clear-start}
@@ -14,7 +14,7 @@ abbrev invariant-loop : tie.invariant-loop
 invariant-loop text lows₀ highs₀ at p₀ lows highs p = Clearing text at lows highs p
 
 abbrev decreases-loop : tie.decreases-loop
-decreases-loop text lows₀ highs₀ at p₀ lows highs p = length (leadsAt text p)
+decreases-loop text lows₀ highs₀ at p₀ lows highs p = length (leads_at text p)
 
 -- src/blocks.rt:170:5
 loop-holds : tie.Need-loop-init invariant-loop decreases-loop

@@ -1,5 +1,5 @@
 use Rattle.law.specs.Trees.{first}
-use Rattle.law_theorems.specs.Readings.{stackAt}
+use Rattle.law_theorems.specs.Readings.{stack_at}
 use Rattle.rule_statements.specs.Chains.{many}
 use Rattle.rule_restrictions.proofs.Bodies.{Fronting}
 use borrow.Author.Rules.{rules}
@@ -18,7 +18,7 @@ abbrev invariant-loop : tie.invariant-loop
 invariant-loop text work scope at w p₀ p = Fronting text work scope at p
 
 abbrev decreases-loop : tie.decreases-loop
-decreases-loop text work scope at w p₀ p = many (first (stackAt text p))
+decreases-loop text work scope at w p₀ p = many (first (stack_at text p))
 
 -- src/body.rt:17:5
 loop-holds : tie.Need-loop-init invariant-loop decreases-loop

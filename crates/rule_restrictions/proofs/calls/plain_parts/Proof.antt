@@ -1,7 +1,7 @@
 use mathlib.Core.Path.{◌≡◌, refl}
 use Rattle.law.specs.Trees.{first}
-use Rattle.law_theorems.specs.Readings.{stackAt}
-use Rattle.rule_restrictions.specs.Calls.{plainCount}
+use Rattle.law_theorems.specs.Readings.{stack_at}
+use Rattle.rule_restrictions.specs.Calls.{plain_count}
 use borrow.Author.Rules.{rules}
 use Rattle.rule_restrictions.proofs.Arguments.{count-laws}
 use Rattle.rule_restrictions.proofs.calls.plain_parts.Statement.{statement}
@@ -13,7 +13,7 @@ use Rattle.text_parts.proofs.end_at.Reads as end-at-reads
 use Rattle.text_skips.proofs.skip.Reads as skip-reads
 
 abbrev invariant-loop : tie.invariant-loop
-invariant-loop text n at left₀ p₀ left p = plainCount n (first (stackAt text at)) ≡ plainCount left (first (stackAt text p))
+invariant-loop text n at left₀ p₀ left p = plain_count n (first (stack_at text at)) ≡ plain_count left (first (stack_at text p))
 
 abbrev decreases-loop : tie.decreases-loop
 decreases-loop text n at left₀ p₀ left p = left

@@ -1,5 +1,5 @@
 use Rattle.law.specs.Trees.{first}
-use Rattle.law_theorems.specs.Readings.{stackAt}
+use Rattle.law_theorems.specs.Readings.{stack_at}
 use Rattle.rule_statements.specs.Chains.{many}
 use Rattle.rule_restrictions.proofs.Ways.{Doing}
 use Rattle.rule_restrictions.proofs.Cases.{Arming}
@@ -194,7 +194,7 @@ abbrev all-arms-Inv-loop : all-arms-lts.invariant-loop
 all-arms-Inv-loop text work scope loops depth at p₀ p = Arming text work scope loops depth at p
 
 abbrev all-arms-μ-loop : all-arms-lts.decreases-loop
-all-arms-μ-loop text work scope loops depth at p₀ p = many (first (stackAt text p))
+all-arms-μ-loop text work scope loops depth at p₀ p = many (first (stack_at text p))
 
 -- src/walk.rt:190:5
 all-arms-loop-holds : (t : ℕ) → all-arms-lts.Need-loop-init (
@@ -213,7 +213,7 @@ abbrev stmts-Inv-loop : stmts-lts.invariant-loop
 stmts-Inv-loop text work scope loops depth at p₀ p = Doing text work scope loops depth at p
 
 abbrev stmts-μ-loop : stmts-lts.decreases-loop
-stmts-μ-loop text work scope loops depth at p₀ p = many (first (stackAt text p))
+stmts-μ-loop text work scope loops depth at p₀ p = many (first (stack_at text p))
 
 -- src/walk.rt:147:5
 stmts-loop-holds : (t : ℕ) → stmts-lts.Need-loop-init (

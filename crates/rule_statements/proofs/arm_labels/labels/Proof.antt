@@ -1,7 +1,7 @@
 use lib.ListN.{length}
 use mathlib.Core.Path.{◌≡◌, refl}
 use Rattle.law.specs.Trees.{first as head}
-use Rattle.law_theorems.specs.Readings.{stackAt}
+use Rattle.law_theorems.specs.Readings.{stack_at}
 use Rattle.rule_statements.specs.Chains.{many}
 use Rattle.rule_statements.specs.Cases.{Labelling}
 use borrow.Author.Rules.{rules}
@@ -23,7 +23,7 @@ abbrev invariant-loop : tie.invariant-loop
 invariant-loop text work₀ scope k first at top g₀ p₀ work g p = (length work ≡ length work₀) × Labelling text work₀ scope k first at top g p work
 
 abbrev decreases-loop : tie.decreases-loop
-decreases-loop text work₀ scope k first at top g₀ p₀ work g p = many (head (stackAt text g.next))
+decreases-loop text work₀ scope k first at top g₀ p₀ work g p = many (head (stack_at text g.next))
 
 -- src/arm_labels.rt:68:5
 loop-holds : tie.Need-loop-init invariant-loop decreases-loop

@@ -1,7 +1,7 @@
 use lib.ListN.{length}
 use mathlib.Core.Path.{◌≡◌, refl}
 use Rattle.law.specs.Trees.{first}
-use Rattle.law_theorems.specs.Readings.{stackAt}
+use Rattle.law_theorems.specs.Readings.{stack_at}
 use Rattle.rule_statements.specs.Chains.{many}
 use Rattle.rule_statements.specs.Fronts.{Fronting}
 use borrow.Author.Rules.{rules}
@@ -26,7 +26,7 @@ abbrev invariant-loop : tie.invariant-loop
 invariant-loop text work₀ types scope head number start at top g₀ p₀ work g p = (length work ≡ length work₀) × Fronting text work₀ types scope number start at top g p work
 
 abbrev decreases-loop : tie.decreases-loop
-decreases-loop text work₀ types scope head number start at top g₀ p₀ work g p = many (first (stackAt text g.next))
+decreases-loop text work₀ types scope head number start at top g₀ p₀ work g p = many (first (stack_at text g.next))
 
 -- src/body.rt:57:5
 loop-holds : tie.Need-loop-init invariant-loop decreases-loop

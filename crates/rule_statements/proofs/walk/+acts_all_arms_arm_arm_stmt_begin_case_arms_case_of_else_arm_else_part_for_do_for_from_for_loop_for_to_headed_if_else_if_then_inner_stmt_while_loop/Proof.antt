@@ -1,7 +1,7 @@
 use lib.ListN.{length}
 use mathlib.Core.Path.{◌≡◌, refl}
 use Rattle.law.specs.Trees.{first as head}
-use Rattle.law_theorems.specs.Readings.{stackAt}
+use Rattle.law_theorems.specs.Readings.{stack_at}
 use Rattle.rule_statements.specs.Chains.{many, Doing}
 use Rattle.rule_statements.specs.Cases.{Arming}
 use borrow.Author.Rules.{rules}
@@ -295,7 +295,7 @@ abbrev acts-Inv-loop : acts-lts.invariant-loop
 acts-Inv-loop text work₀ types scope loops depth number first at top g₀ p₀ work g p = (length work ≡ length work₀) × Doing text work₀ types scope loops depth number first at top g p work
 
 abbrev acts-μ-loop : acts-lts.decreases-loop
-acts-μ-loop text work₀ types scope loops depth number first at top g₀ p₀ work g p = many (head (stackAt text g.next))
+acts-μ-loop text work₀ types scope loops depth number first at top g₀ p₀ work g p = many (head (stack_at text g.next))
 
 -- src/walk.rt:509:5
 acts-loop-holds : (t : ℕ) → acts-lts.Need-loop-init (
@@ -343,7 +343,7 @@ abbrev all-arms-Inv-loop : all-arms-lts.invariant-loop
 all-arms-Inv-loop text work₀ types scope loops k depth number first at top g₀ p₀ work g p = (length work ≡ length work₀) × Arming text work₀ types scope loops k depth number first at top g p work
 
 abbrev all-arms-μ-loop : all-arms-lts.decreases-loop
-all-arms-μ-loop text work₀ types scope loops k depth number first at top g₀ p₀ work g p = many (head (stackAt text g.next))
+all-arms-μ-loop text work₀ types scope loops k depth number first at top g₀ p₀ work g p = many (head (stack_at text g.next))
 
 -- src/walk.rt:611:5
 all-arms-loop-holds : (t : ℕ) → all-arms-lts.Need-loop-init (

@@ -2,7 +2,7 @@ use mathlib.Core.List.{map}
 use lib.ListN.{length}
 use Rattle.leaf_bytes.specs.Bytes.{small}
 use Rattle.law.specs.Trees.{first, list, word_at}
-use Rattle.law_theorems.specs.Readings.{stackAt}
+use Rattle.law_theorems.specs.Readings.{stack_at}
 use Rattle.table_scope.proofs.PairWays.{Seeking}
 use borrow.Author.Rules.{rules}
 use Rattle.table_scope.proofs.PairWays.{pairs-fewer, seek-laws, seek-start}
@@ -20,7 +20,7 @@ abbrev invariant-loop : tie.invariant-loop
 invariant-loop text at offset p₀ j₀ p j = Seeking text at (map small (word_at text offset)) j p
 
 abbrev decreases-loop : tie.decreases-loop
-decreases-loop text at offset p₀ j₀ p j = length (list (first (stackAt text p)))
+decreases-loop text at offset p₀ j₀ p j = length (list (first (stack_at text p)))
 
 -- src/pairs.rt:60:5
 loop-holds : tie.Need-loop-init invariant-loop decreases-loop

@@ -2,7 +2,7 @@ use mathlib.Core.Path.{◌≡◌, refl}
 use native.Mathlib.Omega.{arith}
 use lib.ListN.{length, drop}
 use Prim.Native.Nat.{ℕ, ◌≤◌, ◌-◌}
-use Rattle.text_lines.specs.Passes.{afterLine}
+use Rattle.text_lines.specs.Passes.{after_line}
 use borrow.Author.Rules.{rules}
 use Rattle.text_lines.proofs.LinePasses.{next-laws}
 use Rattle.text_lines.proofs.lines.next_line.Statement.{statement}
@@ -11,7 +11,7 @@ use Rattle.text_lines.proofs.lines.next_line.Reads as reads
 use Rattle.text_lines.proofs.lines.next_line.Lts as lts
 
 abbrev invariant-loop : tie.invariant-loop
-invariant-loop text at p₀ p = (afterLine (drop at text) ≡ afterLine (drop p text)) × (at ≤ p)
+invariant-loop text at p₀ p = (after_line (drop at text) ≡ after_line (drop p text)) × (at ≤ p)
 
 abbrev decreases-loop : tie.decreases-loop
 decreases-loop text at p₀ p = length text - p

@@ -1,7 +1,7 @@
 use mathlib.Core.Path.{◌≡◌, refl}
 use native.Mathlib.Omega.{arith}
 use lib.ListN.{length}
-use Rattle.law_theorems.specs.Readings.{stackAt}
+use Rattle.law_theorems.specs.Readings.{stack_at}
 use borrow.Author.Rules.{rules}
 use Rattle.text_words.proofs.Looking.{look-laws}
 use Prim.Native.Nat.{ℕ, ◌<◌, ◌≤◌, ◌+◌, ◌*◌, ◌-◌}
@@ -12,7 +12,7 @@ use Rattle.text_words.proofs.sight.look.Lts as lts
 use Rattle.leaf_bytes.proofs.bytes.class_of.Reads as class-of-reads
 
 abbrev invariant-loop : tie.invariant-loop
-invariant-loop text at p₀ p = stackAt text at ≡ stackAt text p
+invariant-loop text at p₀ p = stack_at text at ≡ stack_at text p
 
 abbrev decreases-loop : tie.decreases-loop
 decreases-loop text at p₀ p = length text - p
