@@ -5,6 +5,9 @@
 // the budget; then, if the store is lent, a value and a mark for each cell, else every cell is undefined. `cut` for `run`: the script's last
 // line feed is left out. `short` for `run`: the working list is one number too short. `drive` for `run`: the checker and the runner alone.
 // `mark` for `run`: the marking machine alone.
+
+#![tactic(auto)]
+
 mod headings;
 mod lines;
 
@@ -270,7 +273,7 @@ fn tell_all(cases: u64, differ: u64) {
 }
 
 // The answer for a case: as expected, another, or the difference could not be written.
-#[derive(Drop)]
+#[derive(Clone, Copy)]
 enum Result {
     Same,
     Differs,

@@ -1,8 +1,10 @@
 // How code is laid in the working list and read back: definitions in specs/, theorems in proofs/. There is no code: only the enums that say what
 // a node of laid code is.
 
+#![tactic(auto)]
+
 // What a node of an expression is, by its first number.
-#[derive(Drop)]
+#[derive(Clone, Copy)]
 pub enum CodeOp {
     Literal,
     LoadCell, // one cell of a whole variable
@@ -20,7 +22,7 @@ pub enum CodeOp {
 }
 
 // What a node of a place is.
-#[derive(Drop)]
+#[derive(Clone, Copy)]
 pub enum PlaceOp {
     Cell,
     Index,
@@ -29,7 +31,7 @@ pub enum PlaceOp {
 }
 
 // What a node of a statement is.
-#[derive(Drop)]
+#[derive(Clone, Copy)]
 pub enum ActOp {
     AssignOrdinal,
     AssignCell, // of a set

@@ -1,4 +1,7 @@
 // A lent store as words for a run, and as lists again after it: what the chair's runner and the marking machine share.
+
+#![tactic(auto)]
+
 ghost use Rattle.std.specs.Prelude.{◌≡◌, pos, length, set};
 ghost use Rattle.law.specs.Machine.{store_cells};
 ghost use Rattle.code_calc.specs.Words.{store_word, value_in, mark_in};

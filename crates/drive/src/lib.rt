@@ -1,4 +1,7 @@
 // The public library, in one place: the verdict on a text, its run by either machine, and its cells. Each function tests what it is handed.
+
+#![tactic(auto)]
+
 pub use law_answers::{Counted, MarkReport, Report, Verdict};
 pub use mark_texts::mark;
 pub use mark_texts::owning::mark_owners;

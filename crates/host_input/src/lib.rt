@@ -1,11 +1,14 @@
 // Standard input, read to its end into lent bytes.
+
+#![tactic(auto)]
+
 ghost use Rattle.std.specs.Prelude.{length};
 ghost use Rattle.host_input.specs.Coming.{Within};
 
 use libc::STDIN_FILENO;
 
 // What came from standard input: so many bytes, or a read failed.
-#[derive(Drop)]
+#[derive(Clone, Copy)]
 pub enum Input {
     Failed,
     Came(usize),

@@ -1,3 +1,6 @@
 // What `runscript` and `markscript` print, written into lent bytes.
+
+#![tactic(auto)]
+
 pub mod markings;
 pub mod reports;

@@ -1,4 +1,7 @@
 // The answers of the public functions in numbers, as a host is told them, by the definitions of `Replies`.
+
+#![tactic(auto)]
+
 ghost use Rattle.std.specs.Prelude.{◌≡◌};
 ghost use Rattle.law_answers.specs.RunReports.{outcome_of, ending_of};
 ghost use Rattle.law_answers.specs.MarkingReports.{mark_outcome, mark_ending};
@@ -8,7 +11,7 @@ use law_answers::{Answer, Counted, Ending, MarkReport, Marked, Outcome, Report, 
 
 // `drive_reply` of the header: a refusal's number, or 0 and the rest; what a call has nothing to say of is 0.
 #[repr(C)]
-#[derive(Drop)]
+#[derive(Clone, Copy)]
 pub struct Reply {
     pub refusal: u32,
     pub outcome: u32,

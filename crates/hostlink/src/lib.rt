@@ -1,4 +1,7 @@
 // The functions that a host in C or Rust calls (include/drive.h): each is one that `drive` passes on, its answer told in numbers.
+
+#![tactic(auto)]
+
 ghost use Rattle.std.specs.Prelude.{◌≡◌, length};
 ghost use Rattle.law.specs.Verdict.{judge, loosely};
 ghost use Rattle.law.specs.Whole.{verdict_of, run_of, mark_of, work_after};

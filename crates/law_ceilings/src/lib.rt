@@ -1,1 +1,3 @@
 // Long scripts at the ceilings of document 01, computed from the definitions of `law`: see proofs/.
+
+#![tactic(auto)]

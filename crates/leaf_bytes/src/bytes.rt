@@ -3,7 +3,7 @@ ghost use Rattle.std.specs.Prelude.{◌≡◌};
 ghost use Rattle.leaf_bytes.specs.Bytes.{class_of, small, is_letter, is_alnum, digit_of};
 
 // The class of a byte of the text.
-#[derive(Drop)]
+#[derive(Clone, Copy)]
 pub enum Class {
     Feed,
     Space,

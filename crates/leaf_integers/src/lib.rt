@@ -1,11 +1,14 @@
 // Exact integers of document 01, "Arithmetic": each function gives the exact result for every two i64, or says why there is none.
+
+#![tactic(auto)]
+
 ghost use Rattle.std.specs.Prelude.{◌≡◌, ℤ, pos, neg_ℤ, nat_abs, ◌+ℤ◌, ◌-ℤ◌, ◌*ℤ◌};
 ghost use Rattle.leaf_integers.specs.Integers.{pick, is_zero, inside, exact, quotient, modulus, is_odd, next, previous};
 ghost use Rattle.leaf_integers.specs.declared.Fault.TheVariants.{Overflow};
 ghost use Rattle.leaf_integers.specs.declared.Num.TheVariants.{Value, Failed};
 
 // Why an operation on integers gives no value. Which exception this becomes is for `law` to say.
-#[derive(Drop)]
+#[derive(Clone, Copy)]
 pub enum Fault {
     Overflow, // the exact result is not an integer of the range
     Divisor, // `div` by 0, `mod` by 0 or less
@@ -14,7 +17,7 @@ pub enum Fault {
 }
 
 // What an operation on integers gives.
-#[derive(Drop)]
+#[derive(Clone, Copy)]
 pub enum Num {
     Value(i64),
     Failed(Fault),

@@ -1,4 +1,7 @@
 // Exact powers of document 01, "Arithmetic", worked by halving the exponent.
+
+#![tactic(auto)]
+
 ghost use Rattle.std.specs.Prelude.{◌≡◌};
 ghost use Rattle.leaf_integers.specs.Integers.{exact};
 ghost use Rattle.leaf_powers.specs.Powers.{pow_z, power};

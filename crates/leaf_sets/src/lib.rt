@@ -1,4 +1,7 @@
 // Sets of document 01: a 32-bit pattern, bit i standing for the ordinal i, tied to the list of its members.
+
+#![tactic(auto)]
+
 ghost use Rattle.std.specs.Prelude.{◌≡◌, length, pos};
 ghost use Rattle.leaf_sets.specs.Sets.{members, value_of, pattern_of, least, greatest, holds, with, union_of, difference_of, intersection_of, within, equals, all_in, lies_in};
 
@@ -6,7 +9,7 @@ ghost use Rattle.leaf_sets.specs.Sets.{members, value_of, pattern_of, least, gre
 const LAST: i64 = 31;
 
 // A member that is asked for, where there is one.
-#[derive(Drop)]
+#[derive(Clone, Copy)]
 pub enum Member {
     Ordinal(u32),
     Empty,

@@ -9,7 +9,7 @@ use leaf_bytes::bytes::digit_of;
 const GREATEST: u64 = 2147483647;
 
 // What digits of a base spell, where they are digits and not past a bound.
-#[derive(Drop)]
+#[derive(Clone, Copy)]
 pub enum Numeral {
     Of(u64),
     Neither,

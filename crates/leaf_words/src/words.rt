@@ -8,7 +8,7 @@ use leaf_bytes::names::is_name;
 use leaf_reserved::table::{FIXED, RESERVED, place_of};
 
 // What a word is. A reserved word and an operator have their places in their list of document 01.
-#[derive(Drop)]
+#[derive(Clone, Copy)]
 pub enum Word {
     Number(i64),
     Name,

@@ -21,7 +21,7 @@ const ARGUMENTS: usize = MOST_PARAMETERS as usize;
 type Words = [i64; ARGUMENTS];
 
 // What arguments come to: so many words, or the word of the first that is no value.
-#[derive(Drop)]
+#[derive(Clone, Copy)]
 pub enum Gathered {
     All(u32),
     Halted(i64),

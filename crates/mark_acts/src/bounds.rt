@@ -11,7 +11,7 @@ use text_heads::DEPTH;
 use text_skips::skip;
 
 // A `for` before its first round: its cell, the least and greatest value of its type, and from where to where it counts; or the word of no value.
-#[derive(Drop)]
+#[derive(Clone, Copy)]
 pub enum Span {
     Over(u32, i64, i64, i64, i64),
     Halted(i64),

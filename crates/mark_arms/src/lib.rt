@@ -1,4 +1,7 @@
 // The arm of a `case` that a value takes, as the marking machine finds it: labels are met in text order up to the match, and one of another kind sticks.
+
+#![tactic(auto)]
+
 ghost use Rattle.std.specs.Prelude.{◌≡◌, ◌+◌, ◌≤◌};
 ghost use Rattle.mark_arms.specs.Arms.{Labels, Spots, Meets, EndsAt, EntersForm, Enters, Turns, Chooses};
 
@@ -11,21 +14,21 @@ use text_parts::{End, Part, end_at, part_at};
 use text_skips::skip;
 
 // A label: its kind and its value.
-#[derive(Drop)]
+#[derive(Clone, Copy)]
 pub struct Label {
     pub kind: u32,
     pub value: i64,
 }
 
 // A part of an arm: a label, with the offset of the next part; or no label is left.
-#[derive(Drop)]
+#[derive(Clone, Copy)]
 pub enum Spot {
     Marked(usize),
     Last,
 }
 
 // Whether a value is one of an arm's labels; stuck, where it met one of another kind.
-#[derive(Drop)]
+#[derive(Clone, Copy)]
 pub enum Fit {
     Hit,
     Miss,
@@ -33,7 +36,7 @@ pub enum Fit {
 }
 
 // An arm or an `else` by the offset after its head, or none is left.
-#[derive(Drop)]
+#[derive(Clone, Copy)]
 pub enum Entry {
     Labelled(usize),
     Other(usize),
@@ -41,7 +44,7 @@ pub enum Entry {
 }
 
 // What the arm at an offset says: its statement is taken; there is none; it sticks; or the next arm stands at an offset.
-#[derive(Drop)]
+#[derive(Clone, Copy)]
 pub enum Turn {
     Taken(usize),
     Absent,
@@ -50,7 +53,7 @@ pub enum Turn {
 }
 
 // The arm that a value takes: the offset of its statement and the number of the last statement before it.
-#[derive(Drop)]
+#[derive(Clone, Copy)]
 pub enum Arm {
     Taken(usize, u32),
     Absent,

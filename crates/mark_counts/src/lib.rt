@@ -1,4 +1,7 @@
 // How many statements a part of a text holds: where a walk passes the part, the next statement's number is by so much higher.
+
+#![tactic(auto)]
+
 ghost use Rattle.std.specs.Prelude.{◌≡◌, ◌+◌};
 ghost use Rattle.law.specs.Trees.{first};
 ghost use Rattle.law_theorems.specs.Readings.{stack_at};
@@ -8,7 +11,7 @@ use text_heads::{Verb, verb_of};
 use text_parts::{Part, part_at};
 
 // On inside a form: the offset reached, how many more forms are open there and the statements counted; or the form has ended.
-#[derive(Drop)]
+#[derive(Clone, Copy)]
 pub enum Move {
     To(usize, usize, usize),
     Out,

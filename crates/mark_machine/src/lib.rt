@@ -1,4 +1,7 @@
 // The marking machine on a lent store: the store as words, the run of a body, and the store as lists again.
+
+#![tactic(auto)]
+
 ghost use Rattle.mark_machine.specs.Answers.{MarksLent};
 ghost use Rattle.mark_machine.specs.Lending.{MarkTells, MarksIn};
 

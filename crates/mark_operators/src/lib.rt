@@ -1,4 +1,7 @@
 // Operators and functions of the marking machine: what they come to at the kinds that they meet.
+
+#![tactic(auto)]
+
 ghost use Rattle.std.specs.Prelude.{◌≡◌};
 ghost use Rattle.leaf_words.specs.Numbers.{signed};
 ghost use Rattle.mark_operators.specs.Operations.{ruled_word, node_word, ruled_word1, Operates, Applies, Shorts};

@@ -16,7 +16,7 @@ use text_parts::{Part, part_at};
 use text_skips::skip;
 
 // A body's line in the table: where it begins, the names that it sees, the number of the last statement before it, and how many types it sees.
-#[derive(Drop)]
+#[derive(Clone, Copy)]
 pub struct Line {
     pub start: usize,
     pub scope: Scope,
@@ -25,7 +25,7 @@ pub struct Line {
 }
 
 // The procedure that a call names: its number and its frame; and where the call's arguments begin.
-#[derive(Drop)]
+#[derive(Clone, Copy)]
 pub struct Callee {
     pub number: u32,
     pub frame: Frame,
@@ -33,14 +33,14 @@ pub struct Callee {
 }
 
 // A body's handler: the offset of its statements and the number of the last statement before them.
-#[derive(Drop)]
+#[derive(Clone, Copy)]
 pub enum Handler {
     From(usize, u32),
     Nothing,
 }
 
 // What a `for` does after its bounds are worked out: rounds of its cell from a value to another, none of them, a Range_Error, or what no value does.
-#[derive(Drop)]
+#[derive(Clone, Copy)]
 pub enum Plan {
     Rounds(u32, i64, i64),
     NoRound(u32),

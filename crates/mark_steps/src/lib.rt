@@ -1,3 +1,6 @@
 // The marking machine's small parts: how a statement ends, the values of a loop.
+
+#![tactic(auto)]
+
 pub mod ends;
 pub mod turns;

@@ -6,7 +6,7 @@ ghost use Rattle.mark_steps.specs.Turns.{Increments, Plans};
 use leaf_integers::in_range;
 
 // What a `for` does after its bounds are worked out: no round, a Range_Error, or its rounds.
-#[derive(Drop)]
+#[derive(Clone, Copy)]
 pub enum Plan {
     NoRound,
     Outside,

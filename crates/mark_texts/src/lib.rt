@@ -1,4 +1,7 @@
 // The marking machine on a whole text: rows 1 to 9 with the kinds of bodies left out, the lent store tested, and the run; and the text's cells.
+
+#![tactic(auto)]
+
 pub mod owning;
 
 ghost use Rattle.std.specs.Prelude.{◌≡◌, ◌-◌, length};

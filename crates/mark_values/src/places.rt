@@ -11,7 +11,7 @@ use table_list::at;
 use table_scope::{Info, describe, find_field, host_of};
 
 // A place, a fault or no result: its type and the word of its first cell.
-#[derive(Drop)]
+#[derive(Clone, Copy)]
 pub struct Reached {
     pub typed: u32,
     pub word: i64,

@@ -9,7 +9,7 @@ use code_calc::words::{FAULT, GREATEST};
 pub const STUCK: i64 = FAULT;
 
 // A value, a fault or no result: its kind and its word. The cells of an array's or record's value stand from cell `from` on.
-#[derive(Drop)]
+#[derive(Clone, Copy)]
 pub struct Carried {
     pub kind: u32,
     pub word: i64,

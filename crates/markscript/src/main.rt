@@ -1,4 +1,7 @@
 // Runs the script on standard input by the marking machine, every cell undefined at the start, budget 10,000, and prints the outcome and the cells.
+
+#![tactic(auto)]
+
 ghost use Rattle.std.specs.Prelude.{length};
 
 use drive::{Counted, MOST_CELLS, TEXT_LENGTH, WORK_LENGTH, mark_owners};

@@ -1,4 +1,7 @@
 // A type's name, and a constant, where one is expected.
+
+#![tactic(auto)]
+
 ghost use Rattle.std.specs.Prelude.{◌≡◌, pos};
 ghost use Rattle.table_scope.specs.Scene.{meaning_here};
 ghost use Rattle.law.specs.Calculate.{truth as truth_of};
@@ -16,7 +19,7 @@ use text_heads::{Atom, ExprHead, atom_of, expr_head};
 use text_parts::{End, Part, end_at, part_at};
 
 // The answer for a type's name: its fault; with no fault the type; where the next part stands.
-#[derive(Drop)]
+#[derive(Clone, Copy)]
 pub struct Typed {
     pub fault: Fault,
     pub kind: u32,
@@ -24,7 +27,7 @@ pub struct Typed {
 }
 
 // The answer for a constant: its fault; with no fault its type and its value; where the next part stands.
-#[derive(Drop)]
+#[derive(Clone, Copy)]
 pub struct Valued {
     pub fault: Fault,
     pub kind: u32,

@@ -1,4 +1,7 @@
 // A body's line in the bodies' table (`table_bodies`), as the judge of the marking machine writes it.
+
+#![tactic(auto)]
+
 ghost use Rattle.std.specs.Prelude.{◌≡◌};
 ghost use Rattle.rule_body_notes.specs.Noting.{offset_in, line_place, noted_start, noted_names, noted_pairs, noted};
 

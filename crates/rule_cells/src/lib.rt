@@ -1,4 +1,7 @@
 // The cells of a script: how many there are, and the name of each one's variable.
+
+#![tactic(auto)]
+
 ghost use Rattle.std.specs.Prelude.{◌≡◌, length};
 ghost use Rattle.law.specs.Whole.{verdict_of, work_after};
 ghost use Rattle.law_answers.specs.Verdicts.{cells_told};

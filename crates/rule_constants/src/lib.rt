@@ -1,4 +1,7 @@
 // Row 8 of document 01, constants past the integers: only `(- number)` may be one, so a part is scanned for that form, bracket by bracket.
+
+#![tactic(auto)]
+
 ghost use Rattle.std.specs.Prelude.{◌≡◌, not, ◌&&◌, ◌+◌, ◌≤◌, length};
 ghost use Rattle.law.specs.Trees.{first};
 ghost use Rattle.law_theorems.specs.Readings.{stack_at};
@@ -12,7 +15,7 @@ use rule_faults::Fault;
 use text_words::sight::{Sight, look, word_end};
 
 // On in a form: the offset reached and how many forms are open there; the form has ended; or a constant past the integers stands here.
-#[derive(Drop)]
+#[derive(Clone, Copy)]
 pub enum Stride {
     To(usize, usize),
     Out,

@@ -1,4 +1,7 @@
 // What is held of the lines so far, the parts that declaring lines share, and the lines that declare variables.
+
+#![tactic(auto)]
+
 ghost use Rattle.std.specs.Prelude.{◌≡◌, ◌+◌, ◌*◌, ◌%◌};
 ghost use Rattle.table_scope.specs.Scene.{meaning_here};
 ghost use Rattle.law.specs.Forms.{is_var};
@@ -62,7 +65,7 @@ pub const BODY_NUMBERS: u32 = 16384;
 
 // What is held of the lines so far: the names, the free place of the working list, how many types (the two built-in ones too), `type` lines,
 // variables, cells, bodies, and parameters of all procedures.
-#[derive(Drop)]
+#[derive(Clone, Copy)]
 pub struct State {
     pub scope: Scope,
     pub top: u32,
@@ -75,7 +78,7 @@ pub struct State {
 }
 
 // The answer for a line: its fault of rows 6 to 8; with no fault whether it is within the ceilings of row 9, and then what is held after it.
-#[derive(Drop)]
+#[derive(Clone, Copy)]
 pub struct Lined {
     pub fault: Fault,
     pub within: bool,
@@ -83,7 +86,7 @@ pub struct Lined {
 }
 
 // A free name, with its offset and its end, or another part or none.
-#[derive(Drop)]
+#[derive(Clone, Copy)]
 pub enum Naming {
     Called(usize, usize),
     Nothing,

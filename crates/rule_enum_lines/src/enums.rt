@@ -34,7 +34,7 @@ pub fn listed(text: &[u8], x: usize, at: usize) -> bool
 }
 
 // The answer for the names of an enumeration: the fault; with none of row 6 how many names, up to 1,000, and where the next part stands.
-#[derive(Drop)]
+#[derive(Clone, Copy)]
 pub struct Counted {
     pub fault: Fault,
     pub names: u32,

@@ -1,3 +1,6 @@
 // `type` lines that make an enumeration, and its names.
+
+#![tactic(auto)]
+
 pub mod enums;
 pub mod values;

@@ -7,7 +7,7 @@ use text_heads::{Atom, atom_of};
 use text_parts::{End, Part, end_at, part_at};
 
 // A name (its offset) and then the closing bracket (the offset past it), or anything else.
-#[derive(Drop)]
+#[derive(Clone, Copy)]
 pub enum Sole {
     Name(usize, usize),
     Nothing,

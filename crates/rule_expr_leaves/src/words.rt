@@ -14,7 +14,7 @@ use text_heads::{Atom, atom_of};
 use text_parts::{End, Part, end_at, part_at};
 
 // Whether a form has, from an offset on, a number alone: the number, and the offset past the closing bracket.
-#[derive(Drop)]
+#[derive(Clone, Copy)]
 pub enum Alone {
     Number(i64, usize),
     No,

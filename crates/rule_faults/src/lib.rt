@@ -1,10 +1,13 @@
 // The fault that a part of a line has, the lower of two, and the answer that a walk over a part gives.
+
+#![tactic(auto)]
+
 ghost use Rattle.std.specs.Prelude.{◌≡◌};
 ghost use Rattle.rule_faults.specs.declared.Fault.TheVariants.{Kind, Name};
 ghost use Rattle.rule_faults.specs.Got.{lowest as lowest_of, is_form, is_clear, failed_got};
 
 // A fault that a part of a line has: of row 8, 7 or 6, or none.
-#[derive(Drop)]
+#[derive(Clone, Copy)]
 pub enum Fault {
     Clear,
     Kind,
@@ -14,7 +17,7 @@ pub enum Fault {
 
 // The answer for a part: its fault; with no fault its kind (a target's type, also where that is known behind a fault of row 8) and the
 // place of its code; where the next part stands, and the free place.
-#[derive(Drop)]
+#[derive(Clone, Copy)]
 pub struct Got {
     pub fault: Fault,
     pub kind: u32,

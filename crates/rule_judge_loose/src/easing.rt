@@ -9,7 +9,7 @@ use rule_parameters::framing::Opened;
 use rule_restrictions::body::body_kept;
 
 // The answer for a body: its fault of rows 6 to 8, kinds left out, and the number of its last statement.
-#[derive(Drop)]
+#[derive(Clone, Copy)]
 pub struct Eased {
     pub fault: Fault,
     pub stmts: u32,

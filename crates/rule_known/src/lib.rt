@@ -1,4 +1,7 @@
 // What is known of the lines so far, and the answer for a line: the lowest of rows 6 to 9.
+
+#![tactic(auto)]
+
 pub mod judging;
 
 use rule_declarations::State;
@@ -6,7 +9,7 @@ use rule_faults::Fault;
 
 // What is known of the lines so far: what the tables hold; how many statements, and how many brackets and words there were; whether
 // `main` has come, and the place of its body.
-#[derive(Drop)]
+#[derive(Clone, Copy)]
 pub struct Known {
     pub state: State,
     pub stmts: u32,
@@ -16,7 +19,7 @@ pub struct Known {
 }
 
 // The answer for a line: the number of its refusal, or 0 and what is known after it.
-#[derive(Drop)]
+#[derive(Clone, Copy)]
 pub struct Judgement {
     pub refusal: u32,
     pub known: Known,
@@ -24,7 +27,7 @@ pub struct Judgement {
 
 // The answer for a line's parts: their fault of rows 6 to 8; with no fault whether the line is within its ceilings, and then what is held
 // after it, the number of the last statement, whether this is `main`, and the place of its body.
-#[derive(Drop)]
+#[derive(Clone, Copy)]
 pub struct Entered {
     pub fault: Fault,
     pub within: bool,

@@ -1,4 +1,7 @@
 // Whether the labels of a `case` differ (in `loose` their kinds may be any): compared block by block, since the working list may be too short for the labels of a faulty line.
+
+#![tactic(auto)]
+
 pub mod loose;
 
 ghost use Rattle.std.specs.Prelude.{◌≡◌, cond, not, ◌||◌, map, ◌<◌, pos, length};
@@ -25,7 +28,7 @@ use text_skips::past_form;
 pub const BLOCK: usize = 256;
 
 // A label: its integer, its truth value, or the offset of its name.
-#[derive(Drop)]
+#[derive(Clone, Copy)]
 pub enum Mark {
     Number(i64),
     Truth(bool),
@@ -33,7 +36,7 @@ pub enum Mark {
 }
 
 // From an offset inside an arm: a label is passed, something else is passed (the same labels are left at the offset), or no label is left.
-#[derive(Drop)]
+#[derive(Clone, Copy)]
 pub enum Hop {
     Label(Mark, usize),
     Over(usize),
@@ -41,21 +44,21 @@ pub enum Hop {
 }
 
 // The next label and the offset after it, or none is left.
-#[derive(Drop)]
+#[derive(Clone, Copy)]
 pub enum Next {
     Label(Mark, usize),
     Done,
 }
 
 // The value of the next label and the offset after it, or none is left.
-#[derive(Drop)]
+#[derive(Clone, Copy)]
 pub enum NextValue {
     Value(i64, usize),
     Done,
 }
 
 // How many values stand in a block, and the offset after the last label of them.
-#[derive(Drop)]
+#[derive(Clone, Copy)]
 pub struct Filled {
     size: usize,
     next: usize,

@@ -11,14 +11,14 @@ use leaf_integers::in_range;
 use table_scope::{Meaning, Scope, meaning_of};
 
 // The key of the next label and the offset after it, or none is left.
-#[derive(Drop)]
+#[derive(Clone, Copy)]
 pub enum NextKey {
     Key(i64, usize),
     Done,
 }
 
 // How many keys stand in a block, and the offset after the last label of them.
-#[derive(Drop)]
+#[derive(Clone, Copy)]
 pub struct Filled {
     size: usize,
     next: usize,

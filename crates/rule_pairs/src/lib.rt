@@ -1,4 +1,7 @@
 // Pairs `(N T)` of a name and a type's name, as the fields of a record are written: one pair, and all from an offset on.
+
+#![tactic(auto)]
+
 ghost use Rattle.std.specs.Prelude.{◌≡◌, cond, ◌&&◌, eqb};
 ghost use Rattle.rule_faults.specs.declared.Fault.TheVariants.{Form};
 ghost use Rattle.table_scope.specs.Descriptions.{info_of};
@@ -16,7 +19,7 @@ use text_parts::{End, Part, end_at, part_at};
 
 // The answer for a pair: its fault of rows 6 and 7; with none of row 6 its name's offset, its type if that is known, and where the next
 // part stands.
-#[derive(Drop)]
+#[derive(Clone, Copy)]
 pub struct Pair {
     pub fault: Fault,
     pub name: usize,
@@ -26,7 +29,7 @@ pub struct Pair {
 
 // The answer for all pairs: the fault; with none of row 6 how many, up to 1,000, and where the next part stands; with none the sum of
 // their types' cells, or some number past 2,048.
-#[derive(Drop)]
+#[derive(Clone, Copy)]
 pub struct Pairs {
     pub fault: Fault,
     pub names: u32,

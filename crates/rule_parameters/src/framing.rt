@@ -14,7 +14,7 @@ use table_scope::frames::MOST_PARAMETERS;
 use table_scope::{Info, LENT_CELLS, Scope, describe};
 
 // A body before its first statement: what is known in it, the place of its frame (0: it has none), where its parts begin, and the free place.
-#[derive(Drop)]
+#[derive(Clone, Copy)]
 pub struct Opened {
     pub scope: Scope,
     pub frame: u32,
@@ -23,7 +23,7 @@ pub struct Opened {
 }
 
 // A frame's place, and the free place after it.
-#[derive(Drop)]
+#[derive(Clone, Copy)]
 pub struct Framed {
     pub place: u32,
     pub top: u32,

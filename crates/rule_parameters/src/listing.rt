@@ -14,7 +14,7 @@ use text_words::sight::{Sight, look};
 
 // The answer for the list of a procedure: its fault; with none of row 6 how many parameters, up to 1,000, where their pairs begin (0: there is no
 // list), and where the body begins.
-#[derive(Drop)]
+#[derive(Clone, Copy)]
 pub struct Listed {
     pub fault: Fault,
     pub count: u32,

@@ -1,2 +1,5 @@
 // `type` lines that make a record.
+
+#![tactic(auto)]
+
 pub mod records;

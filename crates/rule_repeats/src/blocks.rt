@@ -14,7 +14,7 @@ const BLOCK: usize = 256;
 type Block = [u32; BLOCK];
 
 // How many keys stand in a block, and the offset after the last of their names; or a name has come again.
-#[derive(Drop)]
+#[derive(Clone, Copy)]
 pub enum Filled {
     Up(usize, usize),
     Again,

@@ -5,7 +5,7 @@ ghost use Rattle.rule_repeats.specs.Keys.{key_with, low_factor, high_factor, key
 use leaf_bytes::bytes::{Class, class_of, small_of};
 
 // A word's key, and where the word ends.
-#[derive(Drop)]
+#[derive(Clone, Copy)]
 pub struct Keyed {
     pub low: u32,
     pub high: u32,

@@ -7,7 +7,7 @@ use text_skips::past_form;
 use text_words::sight::{Sight, look};
 
 // A name's offset, and its key.
-#[derive(Drop)]
+#[derive(Clone, Copy)]
 pub struct Lead {
     pub at: usize,
     pub low: u32,
@@ -15,7 +15,7 @@ pub struct Lead {
 }
 
 // The name with which the next part begins, and the offset after the part; or no part is left.
-#[derive(Drop)]
+#[derive(Clone, Copy)]
 pub enum Next {
     Name(Lead, usize),
     Done,

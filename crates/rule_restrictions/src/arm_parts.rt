@@ -6,7 +6,7 @@ use text_parts::{End, end_at};
 use text_skips::skip;
 
 // A part of an arm: none is left; the last one, its statement; a label (the offset after it); or a label past the integers.
-#[derive(Drop)]
+#[derive(Clone, Copy)]
 pub enum ArmPart {
     Missing,
     Last,
@@ -15,7 +15,7 @@ pub enum ArmPart {
 }
 
 // An arm's statement, after its labels; a label past the integers; or the arm is no arm.
-#[derive(Drop)]
+#[derive(Clone, Copy)]
 pub enum AfterArm {
     Stmt(usize),
     Broken,

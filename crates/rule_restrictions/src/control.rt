@@ -10,7 +10,7 @@ use text_parts::{Part, part_at};
 use text_skips::skip;
 
 // A `for` up to its statement: its control variable and the offset of the statement, or a rule is broken.
-#[derive(Drop)]
+#[derive(Clone, Copy)]
 pub enum Start {
     Fine(u32, usize),
     Broken,

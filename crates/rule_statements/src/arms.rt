@@ -13,7 +13,7 @@ use text_heads::{ArmHead, arm_head};
 use text_parts::{Part, part_at};
 
 // The next part of a case: none (past the closing bracket), an arm or an `else` (the offset of its parts), or no arm.
-#[derive(Drop)]
+#[derive(Clone, Copy)]
 pub enum NextArm {
     Past(usize),
     Arm(usize),

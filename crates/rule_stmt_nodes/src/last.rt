@@ -10,7 +10,7 @@ use text_heads::is_exception;
 use text_parts::{Part, part_at};
 
 // The next part of a body: none (past the closing bracket), a handler (the offset of its statements), or a statement.
-#[derive(Drop)]
+#[derive(Clone, Copy)]
 pub enum Next {
     Past(usize),
     Handler(usize),
@@ -47,7 +47,7 @@ pub fn next_at(text: &[u8], at: usize) -> Next
 }
 
 // What a body has beside its statements: its number, and the place of its frame, 0 of one without parameters.
-#[derive(Drop)]
+#[derive(Clone, Copy)]
 pub struct Head {
     pub number: u32,
     pub frame: u32,

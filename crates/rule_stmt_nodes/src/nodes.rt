@@ -15,7 +15,7 @@ use table_scope::{Info, Loops, Meaning, describe, host_of, loops_over};
 use text_heads::{Atom, atom_of};
 
 // The control variable of a `for`: its fault; with no fault its number, type and first cell.
-#[derive(Drop)]
+#[derive(Clone, Copy)]
 pub struct Control {
     pub fault: Fault,
     pub number: u32,

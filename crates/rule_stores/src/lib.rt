@@ -1,4 +1,7 @@
 // The lent store against the cells that a script declares: rows 10 and 11, and each cell's variable.
+
+#![tactic(auto)]
+
 ghost use Rattle.std.specs.Prelude.{◌≡◌, ◌+◌, ◌-◌, ◌%◌};
 ghost use Rattle.leaf_words.specs.Numbers.{signed};
 ghost use Rattle.table_names.specs.Chain.{entries};
@@ -13,7 +16,7 @@ use table_names::keys::OFFSETS;
 use table_scope::{Info, MOST_TYPES, TYPE_NUMBERS, describe};
 
 // A cell of a value: the type that it is a cell of, and its place among that type's cells.
-#[derive(Drop)]
+#[derive(Clone, Copy)]
 pub struct Cell {
     pub kind: u32,
     pub place: u32,

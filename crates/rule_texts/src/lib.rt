@@ -1,4 +1,7 @@
 // A whole text: rows 1 to 9 in their order, and the verdict.
+
+#![tactic(auto)]
+
 ghost use Rattle.std.specs.Prelude.{◌≡◌, ◌≤◌, min, length};
 ghost use Rattle.law.specs.Whole.{verdict_of, work_after};
 ghost use Rattle.law_answers.specs.Verdicts.{told_verdict};
@@ -14,7 +17,7 @@ pub use table_list::{TEXT_LENGTH, WORK_LENGTH};
 use text_lines::lines::{next_line, refused_line};
 
 // The answer for a text: the number of its refusal and the line, or 0 and what is known of the text.
-#[derive(Drop)]
+#[derive(Clone, Copy)]
 pub struct Checked {
     pub refusal: u32,
     pub line: usize,

@@ -1,4 +1,7 @@
 // `type` lines, by what stands for their type.
+
+#![tactic(auto)]
+
 ghost use Rattle.law.specs.Forms.{is_type};
 ghost use Rattle.law.specs.Trees.{first};
 ghost use Rattle.law_theorems.specs.Readings.{stack_at};

@@ -1,4 +1,7 @@
 // Lines that declare types: the name's entry, the description and its place, the counts then; and the lines of one description: aliases, ranges, arrays, sets.
+
+#![tactic(auto)]
+
 pub mod made;
 pub mod ranges;
 pub mod simple;
@@ -20,7 +23,7 @@ use text_parts::{End, end_at};
 
 // The answer for the form of a type: its fault; with no fault its description, and whether it is within the ceilings of row 9; where the
 // next part of the line stands.
-#[derive(Drop)]
+#[derive(Clone, Copy)]
 pub struct Shaped {
     pub fault: Fault,
     pub info: Info,
@@ -91,7 +94,7 @@ pub fn alias_line(text: &[u8], work: &mut [u32], st: State, p: usize, at: usize)
 }
 
 // Where a description stands, and the free place then.
-#[derive(Drop)]
+#[derive(Clone, Copy)]
 pub struct Placed {
     pub place: u32,
     pub top: u32,

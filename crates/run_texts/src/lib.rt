@@ -1,4 +1,7 @@
 // A run: the text is checked, the lent store tested, and the code run over it.
+
+#![tactic(auto)]
+
 ghost use Rattle.std.specs.Prelude.{◌≡◌, length};
 ghost use Rattle.law.specs.Whole.{run_of, work_after};
 ghost use Rattle.law_answers.specs.RunReports.{Reports};

@@ -1,4 +1,7 @@
 // The bodies of a script as the marking machine finds them: a table of eight numbers for each, and the types that it sees.
+
+#![tactic(auto)]
+
 ghost use Rattle.std.specs.Prelude.{◌≡◌, get_or};
 ghost use Rattle.table_bodies.specs.Table.{clip, Clips};
 

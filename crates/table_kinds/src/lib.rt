@@ -1,10 +1,13 @@
 // The kinds that the operators and functions take, as constant tables.
+
+#![tactic(auto)]
+
 ghost use Rattle.std.specs.Prelude.{◌≡◌};
 ghost use Rattle.table_kinds.specs.Kinds.{lazy, row_number, row_of, node_at, partner_of, result_of, ruling2};
 ghost use Rattle.table_kinds.specs.Functions.{node_at1, result_of1, ruling1};
 
 // What a kind is to an operator: one of the two built-in kinds, another ordinal, a set, or an array or record.
-#[derive(Drop)]
+#[derive(Clone, Copy)]
 pub enum Class {
     Integer,
     Boolean,
@@ -14,7 +17,7 @@ pub enum Class {
 }
 
 // One side of an operator: its kind, that kind's class, and of a set the kind of its members.
-#[derive(Drop)]
+#[derive(Clone, Copy)]
 pub struct Side {
     pub class: Class,
     pub kind: u32,
@@ -22,7 +25,7 @@ pub struct Side {
 }
 
 // What an operator comes to: nothing, or the number of its node in the code and the kind of its result.
-#[derive(Drop)]
+#[derive(Clone, Copy)]
 pub enum Ruling {
     Misfit,
     Fits(u32, u32),

@@ -1,4 +1,7 @@
 // The working list: numbers at places, numbers laid at the free place, and the list left as document 01 says.
+
+#![tactic(auto)]
+
 ghost use Rattle.std.specs.Prelude.{◌≡◌, [], ◌∷◌, ◌≤◌, length, get_or, set};
 ghost use Rattle.code.specs.Layout.{lay as laid};
 ghost use Rattle.law.specs.Whole.{work_after};

@@ -40,7 +40,7 @@ fn same_letter(a: u8, b: u8) -> bool
 }
 
 // Two words that were the same so far: they go on with the same letter, both end, or they differ.
-#[derive(Drop)]
+#[derive(Clone, Copy)]
 pub enum Meeting {
     Same,
     End,

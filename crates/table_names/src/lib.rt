@@ -1,4 +1,7 @@
 // The names that a script has declared, as entries in the working list that point into the text.
+
+#![tactic(auto)]
+
 pub mod blocks;
 pub mod keys;
 pub mod letters;
@@ -40,7 +43,7 @@ pub fn same_word(text: &[u8], a: usize, b: usize) -> bool
 }
 
 // What is read of an entry: its first number, how many values stand behind it, and the place of the entry before.
-#[derive(Drop)]
+#[derive(Clone, Copy)]
 pub struct Link {
     pub first: u32,
     pub values: u32,
@@ -77,7 +80,7 @@ fn link_at(work: &[u32], p: u32) -> Link
 }
 
 // How many entries stand from one of them on, and its place.
-#[derive(Drop)]
+#[derive(Clone, Copy)]
 pub struct Spot {
     pub left: u32,
     pub place: u32,

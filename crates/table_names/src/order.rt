@@ -8,7 +8,7 @@ ghost use Rattle.table_names.specs.Order.{lettered, ordered};
 use crate::letters::{Meeting, byte_at, letter_of, meet};
 
 // Whether a word comes before another, is the same, or comes after it.
-#[derive(Drop)]
+#[derive(Clone, Copy)]
 pub enum Order {
     Before,
     Same,

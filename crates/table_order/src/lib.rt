@@ -1,5 +1,8 @@
 // The values of an enumeration put in order of key and name, so that they are found by halving. That each is found so is looked at once, and the
 // type's entry says it; where it did not, lookups would go along the chain.
+
+#![tactic(auto)]
+
 ghost use Rattle.table_order.specs.Ordered.{Ranks, Finds, Marking, Ordered};
 
 use table_list::{at, put};

@@ -9,7 +9,7 @@ use table_list::at;
 pub const MOST_PARAMETERS: u32 = 8;
 
 // How many there are, the place of their types, and the first one's cell.
-#[derive(Drop)]
+#[derive(Clone, Copy)]
 pub struct Frame {
     pub count: u32,
     pub types: u32,

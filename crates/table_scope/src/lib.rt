@@ -1,4 +1,7 @@
 // What the working list holds of an environment: the meanings of names and the descriptions of types.
+
+#![tactic(auto)]
+
 pub mod frames;
 pub mod pairs;
 
@@ -23,7 +26,7 @@ use text_parts::{Part, part_at};
 
 // What is known of a type: its shape (0 ordinal, 1 set, 2 array, 3 record), its host, its bounds in 32 bits, how many cells it has, its
 // index and element types, how many fields it has, and the place of its description, after which those stand.
-#[derive(Drop)]
+#[derive(Clone, Copy)]
 pub struct Info {
     pub shape: u32,
     pub host: u32,
@@ -38,7 +41,7 @@ pub struct Info {
 
 // What is known on a line: how many names are declared before it, and the newest entry of them. In a procedure with parameters also where in
 // the text their pairs begin, and how many variables there are before, and parameters of other procedures; of any other line these are 0.
-#[derive(Drop)]
+#[derive(Clone, Copy)]
 pub struct Scope {
     pub count: u32,
     pub newest: u32,
@@ -48,7 +51,7 @@ pub struct Scope {
 }
 
 // What a name means.
-#[derive(Drop)]
+#[derive(Clone, Copy)]
 pub enum Meaning {
     Unknown,
     Type(u32),
@@ -325,7 +328,7 @@ pub const MOST_LOOPS: usize = 33;
 const LOOPS_END: u32 = MOST_LOOPS as u32;
 
 // The control variables of the loops around, by number, the outermost first: so many of the list.
-#[derive(Drop)]
+#[derive(Clone, Copy)]
 pub struct Loops {
     pub count: u32,
     pub over: [u32; MOST_LOOPS],

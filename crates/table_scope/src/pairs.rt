@@ -15,7 +15,7 @@ pub(crate) const PAIR_NUMBERS: u32 = 65536;
 const LAST_PAIR: u32 = PAIR_NUMBERS - 1;
 
 // The pair with a name: how many pairs come before it, and the offset past its bracket; or none has it.
-#[derive(Drop)]
+#[derive(Clone, Copy)]
 pub enum Paired {
     Found(u32, usize),
     Nothing,

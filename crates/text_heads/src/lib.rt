@@ -1,4 +1,7 @@
 // The words that forms begin with, by the place in which they stand. An operator or function has its number in the tables of `table_kinds`.
+
+#![tactic(auto)]
+
 ghost use Rattle.std.specs.Prelude.{◌≡◌};
 ghost use Rattle.text_heads.specs.Heads.{reserved_expr, operator_expr, reserved_verb, operator_verb, reserved_arm, reserved_maker, reserved_line, reserved_atom, expr_head_of, verb_of, arm_head_of, maker_of, line_head_of, atom_of, is_exception};
 
@@ -8,7 +11,7 @@ use leaf_words::words::Word;
 pub const DEPTH: usize = 33;
 
 // What a word is at the head of an expression.
-#[derive(Drop)]
+#[derive(Clone, Copy)]
 pub enum ExprHead {
     At,
     Dot,
@@ -22,7 +25,7 @@ pub enum ExprHead {
 }
 
 // At the head of a statement.
-#[derive(Drop)]
+#[derive(Clone, Copy)]
 pub enum Verb {
     Assign,
     Begin,
@@ -36,7 +39,7 @@ pub enum Verb {
 }
 
 // At the head of an arm of a case.
-#[derive(Drop)]
+#[derive(Clone, Copy)]
 pub enum ArmHead {
     Arm,
     Else,
@@ -44,7 +47,7 @@ pub enum ArmHead {
 }
 
 // At the head of the form of a type.
-#[derive(Drop)]
+#[derive(Clone, Copy)]
 pub enum Maker {
     Enum,
     Range,
@@ -55,7 +58,7 @@ pub enum Maker {
 }
 
 // At the head of a line.
-#[derive(Drop)]
+#[derive(Clone, Copy)]
 pub enum LineHead {
     Type,
     Var,
@@ -65,7 +68,7 @@ pub enum LineHead {
 }
 
 // A word alone: where a constant or an expression may stand, or a type's name.
-#[derive(Drop)]
+#[derive(Clone, Copy)]
 pub enum Atom {
     Number(i64),
     Named, // a name that is not reserved

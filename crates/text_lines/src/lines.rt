@@ -7,7 +7,7 @@ ghost use Rattle.text_lines.specs.Passes.{line_or, is_refused, feeds, place_of, 
 use leaf_bytes::bytes::{Class, class_of};
 
 // Where a byte of a line stands, for row 4.
-#[derive(Drop)]
+#[derive(Clone, Copy)]
 pub enum Standing {
     Before,
     Inside(u32), // so many brackets are open inside the outermost

@@ -1,4 +1,7 @@
 // The parts of a form, read from the text.
+
+#![tactic(auto)]
+
 ghost use Rattle.std.specs.Prelude.{◌≡◌};
 ghost use Rattle.text_parts.specs.Parts.{LeafStands, Stands, Shuts, past_part};
 
@@ -6,14 +9,14 @@ use leaf_words::words::Word;
 use text_words::sight::{Sight, look, word_at};
 
 // Document 01's reader: the lent text together with the offset it has reached.
-#[derive(Drop)]
+#[derive(Clone, Copy)]
 pub struct Reader<'a> {
     pub text: &'a [u8],
     pub at: usize,
 }
 
 // The next part of a form: a word (with its offset and its end), a form (the offset past its bracket), or none (past the closing bracket).
-#[derive(Drop)]
+#[derive(Clone, Copy)]
 pub enum Part {
     Leaf(Word, usize, usize),
     Form(usize),
@@ -21,14 +24,14 @@ pub enum Part {
 }
 
 // What a reader has read: a part, and the reader at the offset that it has reached, past that part.
-#[derive(Drop)]
+#[derive(Clone, Copy)]
 pub struct Read<'a> {
     pub part: Part,
     pub reader: Reader<'a>,
 }
 
 // The end of a form: the offset past its closing bracket, or another part comes first.
-#[derive(Drop)]
+#[derive(Clone, Copy)]
 pub enum End {
     Past(usize),
     More,

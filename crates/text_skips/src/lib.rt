@@ -1,4 +1,7 @@
 // Past a part of a form: where the next part stands, found with no recursion.
+
+#![tactic(auto)]
+
 ghost use Rattle.std.specs.Prelude.{◌≡◌, ◌+◌, ◌≤◌, length};
 ghost use Rattle.law_theorems.specs.Readings.{stack_at};
 ghost use Rattle.text_words.specs.Passes.{nodes_all};
@@ -7,7 +10,7 @@ ghost use Rattle.text_skips.specs.Skips.{out_from, Moves, Past, Skips};
 use text_words::sight::{Sight, look, word_end};
 
 // On inside a form: the offset reached and how many forms are open there, or the offset past the form's closing bracket.
-#[derive(Drop)]
+#[derive(Clone, Copy)]
 pub enum Move {
     To(usize, usize),
     Out(usize),

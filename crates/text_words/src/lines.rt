@@ -8,7 +8,7 @@ use leaf_bytes::bytes::{Class, class_of};
 use leaf_words::words::Word;
 
 // The next thing on a line: a word and whether it is of some kind, an opening bracket, a gap, or the line's end.
-#[derive(Drop)]
+#[derive(Clone, Copy)]
 pub enum Hop {
     Leaf(bool, usize),
     Open(usize),

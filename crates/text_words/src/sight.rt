@@ -10,7 +10,7 @@ use leaf_words::words::{Word, word_of};
 
 // What stands at an offset, spaces passed over: a form (the offset past its bracket), a word (its offset), or nothing more at this level
 // (the offset past the closing bracket, or of the line's end).
-#[derive(Drop)]
+#[derive(Clone, Copy)]
 pub enum Sight {
     Form(usize),
     Leaf(usize),
@@ -18,7 +18,7 @@ pub enum Sight {
 }
 
 // A word and the offset where it ends.
-#[derive(Drop)]
+#[derive(Clone, Copy)]
 pub struct Seen {
     pub word: Word,
     pub next: usize,

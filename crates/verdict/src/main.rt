@@ -1,5 +1,8 @@
 // Reads a script from standard input and prints the verdict: `accepted`, or `refused`, the number, the line and the refusal's word, and then
 // the line's text if there is such a line.
+
+#![tactic(auto)]
+
 ghost use Rattle.std.specs.Prelude.{◌≤◌, length};
 
 use host_input::{Input, read_text};
