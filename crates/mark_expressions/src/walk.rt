@@ -19,7 +19,7 @@ use text_parts::{End, Part, end_at, part_at};
 use text_skips::skip;
 
 // An expression, at most `depth` deep.
-#[cycle(element_field_headed_inner_inner_place_load_at_load_dot_mark_expr_mark_target_member_list_minus_minus_parts_one_place_headed_set_form_short_form_two)]
+#[cycle(walk)]
 pub fn mark_expr(
     text: &[u8],
     work: &[u32],
@@ -43,7 +43,7 @@ pub fn mark_expr(
 }
 
 // All parts of a form that is an expression.
-#[cycle(element_field_headed_inner_inner_place_load_at_load_dot_mark_expr_mark_target_member_list_minus_minus_parts_one_place_headed_set_form_short_form_two)]
+#[cycle(walk)]
 fn inner(
     text: &[u8],
     work: &[u32],
@@ -64,7 +64,7 @@ fn inner(
 }
 
 // The parts after the head word.
-#[cycle(element_field_headed_inner_inner_place_load_at_load_dot_mark_expr_mark_target_member_list_minus_minus_parts_one_place_headed_set_form_short_form_two)]
+#[cycle(walk)]
 fn headed(
     text: &[u8],
     work: &[u32],
@@ -91,7 +91,7 @@ fn headed(
 }
 
 // Two sides.
-#[cycle(element_field_headed_inner_inner_place_load_at_load_dot_mark_expr_mark_target_member_list_minus_minus_parts_one_place_headed_set_form_short_form_two)]
+#[cycle(walk)]
 fn two(
     text: &[u8],
     work: &[u32],
@@ -110,7 +110,7 @@ fn two(
 }
 
 // Two sides, the second of which may be left alone.
-#[cycle(element_field_headed_inner_inner_place_load_at_load_dot_mark_expr_mark_target_member_list_minus_minus_parts_one_place_headed_set_form_short_form_two)]
+#[cycle(walk)]
 fn short_form(
     text: &[u8],
     work: &[u32],
@@ -129,7 +129,7 @@ fn short_form(
 }
 
 // One side.
-#[cycle(element_field_headed_inner_inner_place_load_at_load_dot_mark_expr_mark_target_member_list_minus_minus_parts_one_place_headed_set_form_short_form_two)]
+#[cycle(walk)]
 fn one(
     text: &[u8],
     work: &[u32],
@@ -147,7 +147,7 @@ fn one(
 }
 
 // A negative number, one side, or two.
-#[cycle(element_field_headed_inner_inner_place_load_at_load_dot_mark_expr_mark_target_member_list_minus_minus_parts_one_place_headed_set_form_short_form_two)]
+#[cycle(walk)]
 fn minus(
     text: &[u8],
     work: &[u32],
@@ -167,7 +167,7 @@ fn minus(
 }
 
 // One side, or two, where there is no number alone.
-#[cycle(element_field_headed_inner_inner_place_load_at_load_dot_mark_expr_mark_target_member_list_minus_minus_parts_one_place_headed_set_form_short_form_two)]
+#[cycle(walk)]
 fn minus_parts(
     text: &[u8],
     work: &[u32],
@@ -195,7 +195,7 @@ fn minus_parts(
 }
 
 // A set's type, which is met first, and its members.
-#[cycle(element_field_headed_inner_inner_place_load_at_load_dot_mark_expr_mark_target_member_list_minus_minus_parts_one_place_headed_set_form_short_form_two)]
+#[cycle(walk)]
 fn set_form(
     text: &[u8],
     work: &[u32],
@@ -225,7 +225,7 @@ fn set_form(
 }
 
 // The set of the members up to the closing bracket: each is tested before the next is worked out.
-#[cycle(element_field_headed_inner_inner_place_load_at_load_dot_mark_expr_mark_target_member_list_minus_minus_parts_one_place_headed_set_form_short_form_two)]
+#[cycle(walk)]
 fn member_list(
     text: &[u8],
     work: &[u32],
@@ -263,7 +263,7 @@ fn member_list(
 }
 
 // The cells of an element.
-#[cycle(element_field_headed_inner_inner_place_load_at_load_dot_mark_expr_mark_target_member_list_minus_minus_parts_one_place_headed_set_form_short_form_two)]
+#[cycle(walk)]
 fn load_at(
     text: &[u8],
     work: &[u32],
@@ -280,7 +280,7 @@ fn load_at(
 }
 
 // The cells of a field.
-#[cycle(element_field_headed_inner_inner_place_load_at_load_dot_mark_expr_mark_target_member_list_minus_minus_parts_one_place_headed_set_form_short_form_two)]
+#[cycle(walk)]
 fn load_dot(
     text: &[u8],
     work: &[u32],
@@ -297,7 +297,7 @@ fn load_dot(
 }
 
 // A target, at most `depth` deep.
-#[cycle(element_field_headed_inner_inner_place_load_at_load_dot_mark_expr_mark_target_member_list_minus_minus_parts_one_place_headed_set_form_short_form_two)]
+#[cycle(walk)]
 pub fn mark_target(
     text: &[u8],
     work: &[u32],
@@ -321,7 +321,7 @@ pub fn mark_target(
 }
 
 // All parts of a form that is a target.
-#[cycle(element_field_headed_inner_inner_place_load_at_load_dot_mark_expr_mark_target_member_list_minus_minus_parts_one_place_headed_set_form_short_form_two)]
+#[cycle(walk)]
 fn inner_place(
     text: &[u8],
     work: &[u32],
@@ -351,7 +351,7 @@ fn inner_place(
 }
 
 // The parts after the head word.
-#[cycle(element_field_headed_inner_inner_place_load_at_load_dot_mark_expr_mark_target_member_list_minus_minus_parts_one_place_headed_set_form_short_form_two)]
+#[cycle(walk)]
 fn place_headed(
     text: &[u8],
     work: &[u32],
@@ -378,7 +378,7 @@ fn place_headed(
 }
 
 // An element of an array: target and index are worked out before they are met.
-#[cycle(element_field_headed_inner_inner_place_load_at_load_dot_mark_expr_mark_target_member_list_minus_minus_parts_one_place_headed_set_form_short_form_two)]
+#[cycle(walk)]
 fn element(
     text: &[u8],
     work: &[u32],
@@ -396,7 +396,7 @@ fn element(
 }
 
 // A field of a record.
-#[cycle(element_field_headed_inner_inner_place_load_at_load_dot_mark_expr_mark_target_member_list_minus_minus_parts_one_place_headed_set_form_short_form_two)]
+#[cycle(walk)]
 fn field(
     text: &[u8],
     work: &[u32],

@@ -22,7 +22,7 @@ use text_parts::{End, Part, end_at, part_at};
 use text_skips::skip;
 
 // A statement, at most `depth` deep.
-#[cycle(body_from_call_choose_count_up_else_part_front_headed_if_else_inner_mark_body_mark_stmt_repeat_rounds_stmts)]
+#[cycle(walk)]
 fn mark_stmt(
     text: &[u8],
     work: &[u32],
@@ -64,7 +64,7 @@ fn mark_stmt(
 }
 
 // All parts of its form: the step, and what comes after it.
-#[cycle(body_from_call_choose_count_up_else_part_front_headed_if_else_inner_mark_body_mark_stmt_repeat_rounds_stmts)]
+#[cycle(walk)]
 fn inner(
     text: &[u8],
     work: &[u32],
@@ -110,7 +110,7 @@ fn inner(
 }
 
 // The parts after the head word, after the step.
-#[cycle(body_from_call_choose_count_up_else_part_front_headed_if_else_inner_mark_body_mark_stmt_repeat_rounds_stmts)]
+#[cycle(walk)]
 fn headed(
     text: &[u8],
     work: &[u32],
@@ -166,7 +166,7 @@ fn headed(
 }
 
 // The statements from an offset to the end of a form.
-#[cycle(body_from_call_choose_count_up_else_part_front_headed_if_else_inner_mark_body_mark_stmt_repeat_rounds_stmts)]
+#[cycle(walk)]
 fn stmts(
     text: &[u8],
     work: &[u32],
@@ -208,7 +208,7 @@ fn stmts(
 }
 
 // `if`.
-#[cycle(body_from_call_choose_count_up_else_part_front_headed_if_else_inner_mark_body_mark_stmt_repeat_rounds_stmts)]
+#[cycle(walk)]
 fn if_else(
     text: &[u8],
     work: &[u32],
@@ -253,7 +253,7 @@ fn if_else(
 }
 
 // The third part of an `if`, which may be missing.
-#[cycle(body_from_call_choose_count_up_else_part_front_headed_if_else_inner_mark_body_mark_stmt_repeat_rounds_stmts)]
+#[cycle(walk)]
 fn else_part(
     text: &[u8],
     work: &[u32],
@@ -280,7 +280,7 @@ fn else_part(
 }
 
 // The rounds of a `while` whose test stands at c and whose statement at b.
-#[cycle(body_from_call_choose_count_up_else_part_front_headed_if_else_inner_mark_body_mark_stmt_repeat_rounds_stmts)]
+#[cycle(walk)]
 fn repeat(
     text: &[u8],
     work: &[u32],
@@ -322,7 +322,7 @@ fn repeat(
 }
 
 // `for`.
-#[cycle(body_from_call_choose_count_up_else_part_front_headed_if_else_inner_mark_body_mark_stmt_repeat_rounds_stmts)]
+#[cycle(walk)]
 fn count_up(
     text: &[u8],
     work: &[u32],
@@ -358,7 +358,7 @@ fn count_up(
 }
 
 // The rounds of a `for` whose cell is a, from x to y, and its end; its statement stands at b.
-#[cycle(body_from_call_choose_count_up_else_part_front_headed_if_else_inner_mark_body_mark_stmt_repeat_rounds_stmts)]
+#[cycle(walk)]
 fn rounds(
     text: &[u8],
     work: &[u32],
@@ -402,7 +402,7 @@ fn rounds(
 }
 
 // `case`.
-#[cycle(body_from_call_choose_count_up_else_part_front_headed_if_else_inner_mark_body_mark_stmt_repeat_rounds_stmts)]
+#[cycle(walk)]
 fn choose(
     text: &[u8],
     work: &[u32],
@@ -435,7 +435,7 @@ fn choose(
 }
 
 // `call`.
-#[cycle(body_from_call_choose_count_up_else_part_front_headed_if_else_inner_mark_body_mark_stmt_repeat_rounds_stmts)]
+#[cycle(walk)]
 fn call(
     text: &[u8],
     work: &[u32],
@@ -467,7 +467,7 @@ fn call(
 }
 
 // The statements of a body before its handler.
-#[cycle(body_from_call_choose_count_up_else_part_front_headed_if_else_inner_mark_body_mark_stmt_repeat_rounds_stmts)]
+#[cycle(walk)]
 fn front(
     text: &[u8],
     work: &[u32],
@@ -511,7 +511,7 @@ fn front(
 }
 
 // A body whose parts begin at an offset: after an exception its handler; stuck and spent are not handled.
-#[cycle(body_from_call_choose_count_up_else_part_front_headed_if_else_inner_mark_body_mark_stmt_repeat_rounds_stmts)]
+#[cycle(walk)]
 fn body_from(
     text: &[u8],
     work: &[u32],
@@ -557,7 +557,7 @@ fn body_from(
 }
 
 // Body q, with the names and types of its own line. `types` are those of the whole script.
-#[cycle(body_from_call_choose_count_up_else_part_front_headed_if_else_inner_mark_body_mark_stmt_repeat_rounds_stmts)]
+#[cycle(walk)]
 pub fn mark_body(
     text: &[u8],
     work: &[u32],

@@ -22,7 +22,7 @@ use text_heads::{ExprHead, expr_head};
 use text_parts::{End, Part, end_at, part_at};
 
 // An expression.
-#[cycle(element_expr_field_headed_inner_load_at_load_dot_member_list_minus_minus_parts_one_place_place_headed_second_set_form_target_two)]
+#[cycle(walk)]
 pub fn expr(
     text: &[u8],
     work: &mut [u32],
@@ -46,7 +46,7 @@ pub fn expr(
 }
 
 // All parts of a form that is an expression.
-#[cycle(element_expr_field_headed_inner_load_at_load_dot_member_list_minus_minus_parts_one_place_place_headed_second_set_form_target_two)]
+#[cycle(walk)]
 fn inner(
     text: &[u8],
     work: &mut [u32],
@@ -67,7 +67,7 @@ fn inner(
 }
 
 // The parts after the head word.
-#[cycle(element_expr_field_headed_inner_load_at_load_dot_member_list_minus_minus_parts_one_place_place_headed_second_set_form_target_two)]
+#[cycle(walk)]
 fn headed(
     text: &[u8],
     work: &mut [u32],
@@ -99,7 +99,7 @@ fn headed(
 }
 
 // Two sides of the operator that has row `op` in the table of kinds.
-#[cycle(element_expr_field_headed_inner_load_at_load_dot_member_list_minus_minus_parts_one_place_place_headed_second_set_form_target_two)]
+#[cycle(walk)]
 fn two(
     text: &[u8],
     work: &mut [u32],
@@ -121,7 +121,7 @@ fn two(
 }
 
 // The second of two sides, and the node.
-#[cycle(element_expr_field_headed_inner_load_at_load_dot_member_list_minus_minus_parts_one_place_place_headed_second_set_form_target_two)]
+#[cycle(walk)]
 fn second(
     text: &[u8],
     work: &mut [u32],
@@ -138,7 +138,7 @@ fn second(
 }
 
 // One side.
-#[cycle(element_expr_field_headed_inner_load_at_load_dot_member_list_minus_minus_parts_one_place_place_headed_second_set_form_target_two)]
+#[cycle(walk)]
 fn one(
     text: &[u8],
     work: &mut [u32],
@@ -159,7 +159,7 @@ fn one(
 }
 
 // A negative number, one side, or two.
-#[cycle(element_expr_field_headed_inner_load_at_load_dot_member_list_minus_minus_parts_one_place_place_headed_second_set_form_target_two)]
+#[cycle(walk)]
 fn minus(
     text: &[u8],
     work: &mut [u32],
@@ -179,7 +179,7 @@ fn minus(
 }
 
 // One side, or two, where there is no number alone.
-#[cycle(element_expr_field_headed_inner_load_at_load_dot_member_list_minus_minus_parts_one_place_place_headed_second_set_form_target_two)]
+#[cycle(walk)]
 fn minus_parts(
     text: &[u8],
     work: &mut [u32],
@@ -204,7 +204,7 @@ fn minus_parts(
 }
 
 // A set's type and its members.
-#[cycle(element_expr_field_headed_inner_load_at_load_dot_member_list_minus_minus_parts_one_place_place_headed_second_set_form_target_two)]
+#[cycle(walk)]
 fn set_form(
     text: &[u8],
     work: &mut [u32],
@@ -229,7 +229,7 @@ fn set_form(
 }
 
 // The members up to the closing bracket, in a chain from a slot on.
-#[cycle(element_expr_field_headed_inner_load_at_load_dot_member_list_minus_minus_parts_one_place_place_headed_second_set_form_target_two)]
+#[cycle(walk)]
 fn member_list(
     text: &[u8],
     work: &mut [u32],
@@ -268,7 +268,7 @@ fn member_list(
 }
 
 // The cells of an element.
-#[cycle(element_expr_field_headed_inner_load_at_load_dot_member_list_minus_minus_parts_one_place_place_headed_second_set_form_target_two)]
+#[cycle(walk)]
 fn load_at(
     text: &[u8],
     work: &mut [u32],
@@ -285,7 +285,7 @@ fn load_at(
 }
 
 // The cells of a field.
-#[cycle(element_expr_field_headed_inner_load_at_load_dot_member_list_minus_minus_parts_one_place_place_headed_second_set_form_target_two)]
+#[cycle(walk)]
 fn load_dot(
     text: &[u8],
     work: &mut [u32],
@@ -302,7 +302,7 @@ fn load_dot(
 }
 
 // A target.
-#[cycle(element_expr_field_headed_inner_load_at_load_dot_member_list_minus_minus_parts_one_place_place_headed_second_set_form_target_two)]
+#[cycle(walk)]
 pub fn target(
     text: &[u8],
     work: &mut [u32],
@@ -326,7 +326,7 @@ pub fn target(
 }
 
 // All parts of a form that is a target.
-#[cycle(element_expr_field_headed_inner_load_at_load_dot_member_list_minus_minus_parts_one_place_place_headed_second_set_form_target_two)]
+#[cycle(walk)]
 fn place(
     text: &[u8],
     work: &mut [u32],
@@ -347,7 +347,7 @@ fn place(
 }
 
 // The parts after the head word.
-#[cycle(element_expr_field_headed_inner_load_at_load_dot_member_list_minus_minus_parts_one_place_place_headed_second_set_form_target_two)]
+#[cycle(walk)]
 fn place_headed(
     text: &[u8],
     work: &mut [u32],
@@ -374,7 +374,7 @@ fn place_headed(
 }
 
 // An element of an array.
-#[cycle(element_expr_field_headed_inner_load_at_load_dot_member_list_minus_minus_parts_one_place_place_headed_second_set_form_target_two)]
+#[cycle(walk)]
 fn element(
     text: &[u8],
     work: &mut [u32],
@@ -396,7 +396,7 @@ fn element(
 }
 
 // A field of a record.
-#[cycle(element_expr_field_headed_inner_load_at_load_dot_member_list_minus_minus_parts_one_place_place_headed_second_set_form_target_two)]
+#[cycle(walk)]
 fn field(
     text: &[u8],
     work: &mut [u32],

@@ -14,7 +14,7 @@ use text_parts::{End, Part, end_at, part_at};
 use text_skips::skip;
 
 // A statement at most `depth` deep.
-#[cycle(all_arms_arm_case_arms_case_of_else_part_for_loop_headed_if_else_if_then_inner_stmt_stmts_while_loop)]
+#[cycle(walk)]
 pub fn stmt(text: &[u8], work: &[u32], scope: Scope, loops: Loops, depth: usize, at: usize) -> bool
     ensures { KeepsStmt text.now work.now scope loops depth at result }
 {
@@ -30,7 +30,7 @@ pub fn stmt(text: &[u8], work: &[u32], scope: Scope, loops: Loops, depth: usize,
 }
 
 // All parts of its form, from past the opening bracket.
-#[cycle(all_arms_arm_case_arms_case_of_else_part_for_loop_headed_if_else_if_then_inner_stmt_stmts_while_loop)]
+#[cycle(walk)]
 fn inner(text: &[u8], work: &[u32], scope: Scope, loops: Loops, depth: usize, at: usize) -> bool
     ensures { KeepsInner text.now work.now scope loops depth at result }
 {
@@ -46,7 +46,7 @@ fn inner(text: &[u8], work: &[u32], scope: Scope, loops: Loops, depth: usize, at
 }
 
 // Its parts after the head word.
-#[cycle(all_arms_arm_case_arms_case_of_else_part_for_loop_headed_if_else_if_then_inner_stmt_stmts_while_loop)]
+#[cycle(walk)]
 fn headed(
     text: &[u8],
     work: &[u32],
@@ -72,7 +72,7 @@ fn headed(
 }
 
 // A `while`.
-#[cycle(all_arms_arm_case_arms_case_of_else_part_for_loop_headed_if_else_if_then_inner_stmt_stmts_while_loop)]
+#[cycle(walk)]
 fn while_loop(
     text: &[u8],
     work: &[u32],
@@ -91,7 +91,7 @@ fn while_loop(
 }
 
 // An `if`.
-#[cycle(all_arms_arm_case_arms_case_of_else_part_for_loop_headed_if_else_if_then_inner_stmt_stmts_while_loop)]
+#[cycle(walk)]
 fn if_else(text: &[u8], work: &[u32], scope: Scope, loops: Loops, depth: usize, at: usize) -> bool
     ensures { KeepsVerb text.now work.now scope loops If depth at result }
 {
@@ -103,7 +103,7 @@ fn if_else(text: &[u8], work: &[u32], scope: Scope, loops: Loops, depth: usize, 
 }
 
 // The parts of an `if` after its test.
-#[cycle(all_arms_arm_case_arms_case_of_else_part_for_loop_headed_if_else_if_then_inner_stmt_stmts_while_loop)]
+#[cycle(walk)]
 fn if_then(text: &[u8], work: &[u32], scope: Scope, loops: Loops, depth: usize, at: usize) -> bool
     ensures { KeepsThen text.now work.now scope loops depth at result }
 {
@@ -115,7 +115,7 @@ fn if_then(text: &[u8], work: &[u32], scope: Scope, loops: Loops, depth: usize, 
 }
 
 // The third part of an `if`, which may be missing.
-#[cycle(all_arms_arm_case_arms_case_of_else_part_for_loop_headed_if_else_if_then_inner_stmt_stmts_while_loop)]
+#[cycle(walk)]
 fn else_part(text: &[u8], work: &[u32], scope: Scope, loops: Loops, depth: usize, at: usize) -> bool
     ensures { KeepsElse text.now work.now scope loops depth at result }
 {
@@ -127,7 +127,7 @@ fn else_part(text: &[u8], work: &[u32], scope: Scope, loops: Loops, depth: usize
 }
 
 // A `for`.
-#[cycle(all_arms_arm_case_arms_case_of_else_part_for_loop_headed_if_else_if_then_inner_stmt_stmts_while_loop)]
+#[cycle(walk)]
 fn for_loop(text: &[u8], work: &[u32], scope: Scope, loops: Loops, depth: usize, at: usize) -> bool
     ensures { KeepsVerb text.now work.now scope loops For depth at result }
 {
@@ -139,7 +139,7 @@ fn for_loop(text: &[u8], work: &[u32], scope: Scope, loops: Loops, depth: usize,
 }
 
 // Statements up to the closing bracket, as those of a `begin`.
-#[cycle(all_arms_arm_case_arms_case_of_else_part_for_loop_headed_if_else_if_then_inner_stmt_stmts_while_loop)]
+#[cycle(walk)]
 pub fn stmts(text: &[u8], work: &[u32], scope: Scope, loops: Loops, depth: usize, at: usize) -> bool
     ensures { KeepsStmts text.now work.now scope loops depth at result }
 {
@@ -162,7 +162,7 @@ pub fn stmts(text: &[u8], work: &[u32], scope: Scope, loops: Loops, depth: usize
 }
 
 // A `case`.
-#[cycle(all_arms_arm_case_arms_case_of_else_part_for_loop_headed_if_else_if_then_inner_stmt_stmts_while_loop)]
+#[cycle(walk)]
 fn case_of(text: &[u8], work: &[u32], scope: Scope, loops: Loops, depth: usize, at: usize) -> bool
     ensures { KeepsVerb text.now work.now scope loops Case depth at result }
 {
@@ -174,7 +174,7 @@ fn case_of(text: &[u8], work: &[u32], scope: Scope, loops: Loops, depth: usize, 
 }
 
 // The arms of a case, whose labels differ.
-#[cycle(all_arms_arm_case_arms_case_of_else_part_for_loop_headed_if_else_if_then_inner_stmt_stmts_while_loop)]
+#[cycle(walk)]
 fn case_arms(text: &[u8], work: &[u32], scope: Scope, loops: Loops, depth: usize, at: usize) -> bool
     ensures { KeepsCases text.now work.now scope loops depth at result }
 {
@@ -185,7 +185,7 @@ fn case_arms(text: &[u8], work: &[u32], scope: Scope, loops: Loops, depth: usize
 }
 
 // Each arm by itself, up to the closing bracket.
-#[cycle(all_arms_arm_case_arms_case_of_else_part_for_loop_headed_if_else_if_then_inner_stmt_stmts_while_loop)]
+#[cycle(walk)]
 fn all_arms(text: &[u8], work: &[u32], scope: Scope, loops: Loops, depth: usize, at: usize) -> bool
     ensures { KeepsArms text.now work.now scope loops depth at result }
 {
@@ -214,7 +214,7 @@ fn all_arms(text: &[u8], work: &[u32], scope: Scope, loops: Loops, depth: usize,
 }
 
 // An arm after its head word.
-#[cycle(all_arms_arm_case_arms_case_of_else_part_for_loop_headed_if_else_if_then_inner_stmt_stmts_while_loop)]
+#[cycle(walk)]
 fn arm(text: &[u8], work: &[u32], scope: Scope, loops: Loops, depth: usize, at: usize) -> bool
     ensures { KeepsArm text.now work.now scope loops depth at result }
 {

@@ -20,7 +20,7 @@ use text_heads::{DEPTH, Verb, verb_of};
 use text_parts::{End, Part, end_at, part_at};
 
 // A statement.
-#[cycle(acts_all_arms_arm_arm_stmt_begin_case_arms_case_of_else_arm_else_part_for_do_for_from_for_loop_for_to_headed_if_else_if_then_inner_stmt_while_loop)]
+#[cycle(walk)]
 pub fn stmt(
     text: &[u8],
     work: &mut [u32],
@@ -46,7 +46,7 @@ pub fn stmt(
 }
 
 // All parts of its form.
-#[cycle(acts_all_arms_arm_arm_stmt_begin_case_arms_case_of_else_arm_else_part_for_do_for_from_for_loop_for_to_headed_if_else_if_then_inner_stmt_while_loop)]
+#[cycle(walk)]
 fn inner(
     text: &[u8],
     work: &mut [u32],
@@ -73,7 +73,7 @@ fn inner(
 }
 
 // The parts after the head word.
-#[cycle(acts_all_arms_arm_arm_stmt_begin_case_arms_case_of_else_arm_else_part_for_do_for_from_for_loop_for_to_headed_if_else_if_then_inner_stmt_while_loop)]
+#[cycle(walk)]
 fn headed(
     text: &[u8],
     work: &mut [u32],
@@ -102,7 +102,7 @@ fn headed(
 }
 
 // A `while`.
-#[cycle(acts_all_arms_arm_arm_stmt_begin_case_arms_case_of_else_arm_else_part_for_do_for_from_for_loop_for_to_headed_if_else_if_then_inner_stmt_while_loop)]
+#[cycle(walk)]
 fn while_loop(
     text: &[u8],
     work: &mut [u32],
@@ -129,7 +129,7 @@ fn while_loop(
 }
 
 // An `if`.
-#[cycle(acts_all_arms_arm_arm_stmt_begin_case_arms_case_of_else_arm_else_part_for_do_for_from_for_loop_for_to_headed_if_else_if_then_inner_stmt_while_loop)]
+#[cycle(walk)]
 fn if_else(
     text: &[u8],
     work: &mut [u32],
@@ -152,7 +152,7 @@ fn if_else(
 }
 
 // The parts of an `if` after its test, whose answer is c.
-#[cycle(acts_all_arms_arm_arm_stmt_begin_case_arms_case_of_else_arm_else_part_for_do_for_from_for_loop_for_to_headed_if_else_if_then_inner_stmt_while_loop)]
+#[cycle(walk)]
 fn if_then(
     text: &[u8],
     work: &mut [u32],
@@ -179,7 +179,7 @@ fn if_then(
 }
 
 // The third part of an `if`, which may be missing.
-#[cycle(acts_all_arms_arm_arm_stmt_begin_case_arms_case_of_else_arm_else_part_for_do_for_from_for_loop_for_to_headed_if_else_if_then_inner_stmt_while_loop)]
+#[cycle(walk)]
 fn else_part(
     text: &[u8],
     work: &mut [u32],
@@ -204,7 +204,7 @@ fn else_part(
 }
 
 // A `for`.
-#[cycle(acts_all_arms_arm_arm_stmt_begin_case_arms_case_of_else_arm_else_part_for_do_for_from_for_loop_for_to_headed_if_else_if_then_inner_stmt_while_loop)]
+#[cycle(walk)]
 fn for_loop(
     text: &[u8],
     work: &mut [u32],
@@ -234,7 +234,7 @@ fn for_loop(
 }
 
 // The parts of a `for` after its control variable.
-#[cycle(acts_all_arms_arm_arm_stmt_begin_case_arms_case_of_else_arm_else_part_for_do_for_from_for_loop_for_to_headed_if_else_if_then_inner_stmt_while_loop)]
+#[cycle(walk)]
 fn for_from(
     text: &[u8],
     work: &mut [u32],
@@ -259,7 +259,7 @@ fn for_from(
 }
 
 // The parts of a `for` after its first bound, whose answer is x; k is the control variable's kind.
-#[cycle(acts_all_arms_arm_arm_stmt_begin_case_arms_case_of_else_arm_else_part_for_do_for_from_for_loop_for_to_headed_if_else_if_then_inner_stmt_while_loop)]
+#[cycle(walk)]
 fn for_to(
     text: &[u8],
     work: &mut [u32],
@@ -283,7 +283,7 @@ fn for_to(
 }
 
 // The parts of a `for` after its bounds, whose answers are x and y.
-#[cycle(acts_all_arms_arm_arm_stmt_begin_case_arms_case_of_else_arm_else_part_for_do_for_from_for_loop_for_to_headed_if_else_if_then_inner_stmt_while_loop)]
+#[cycle(walk)]
 fn for_do(
     text: &[u8],
     work: &mut [u32],
@@ -305,7 +305,7 @@ fn for_do(
 }
 
 // A `begin`.
-#[cycle(acts_all_arms_arm_arm_stmt_begin_case_arms_case_of_else_arm_else_part_for_do_for_from_for_loop_for_to_headed_if_else_if_then_inner_stmt_while_loop)]
+#[cycle(walk)]
 fn begin(
     text: &[u8],
     work: &mut [u32],
@@ -326,7 +326,7 @@ fn begin(
 }
 
 // Statements up to the closing bracket, chained from a slot on.
-#[cycle(acts_all_arms_arm_arm_stmt_begin_case_arms_case_of_else_arm_else_part_for_do_for_from_for_loop_for_to_headed_if_else_if_then_inner_stmt_while_loop)]
+#[cycle(walk)]
 pub fn acts(
     text: &[u8],
     work: &mut [u32],
@@ -366,7 +366,7 @@ pub fn acts(
 }
 
 // A `case`.
-#[cycle(acts_all_arms_arm_arm_stmt_begin_case_arms_case_of_else_arm_else_part_for_do_for_from_for_loop_for_to_headed_if_else_if_then_inner_stmt_while_loop)]
+#[cycle(walk)]
 fn case_of(
     text: &[u8],
     work: &mut [u32],
@@ -389,7 +389,7 @@ fn case_of(
 }
 
 // The parts of a case after its selector, whose answer is x.
-#[cycle(acts_all_arms_arm_arm_stmt_begin_case_arms_case_of_else_arm_else_part_for_do_for_from_for_loop_for_to_headed_if_else_if_then_inner_stmt_while_loop)]
+#[cycle(walk)]
 fn case_arms(
     text: &[u8],
     work: &mut [u32],
@@ -412,7 +412,7 @@ fn case_arms(
 }
 
 // Arms up to the closing bracket, chained from a slot on; their labels are of kind k.
-#[cycle(acts_all_arms_arm_arm_stmt_begin_case_arms_case_of_else_arm_else_part_for_do_for_from_for_loop_for_to_headed_if_else_if_then_inner_stmt_while_loop)]
+#[cycle(walk)]
 fn all_arms(
     text: &[u8],
     work: &mut [u32],
@@ -458,7 +458,7 @@ fn all_arms(
 }
 
 // An arm after its head word, with labels of kind k; its link is chained to a slot.
-#[cycle(acts_all_arms_arm_arm_stmt_begin_case_arms_case_of_else_arm_else_part_for_do_for_from_for_loop_for_to_headed_if_else_if_then_inner_stmt_while_loop)]
+#[cycle(walk)]
 fn arm(
     text: &[u8],
     work: &mut [u32],
@@ -483,7 +483,7 @@ fn arm(
 }
 
 // An arm from its statement on; g is the answer for its labels, which are chained from the slot `head` on.
-#[cycle(acts_all_arms_arm_arm_stmt_begin_case_arms_case_of_else_arm_else_part_for_do_for_from_for_loop_for_to_headed_if_else_if_then_inner_stmt_while_loop)]
+#[cycle(walk)]
 fn arm_stmt(
     text: &[u8],
     work: &mut [u32],
@@ -506,7 +506,7 @@ fn arm_stmt(
 }
 
 // A last `else` after its head word, and the end of the case; g is the answer for the arms before.
-#[cycle(acts_all_arms_arm_arm_stmt_begin_case_arms_case_of_else_arm_else_part_for_do_for_from_for_loop_for_to_headed_if_else_if_then_inner_stmt_while_loop)]
+#[cycle(walk)]
 fn else_arm(
     text: &[u8],
     work: &mut [u32],

@@ -1,0 +1,19 @@
+use native.Mathlib.Omega.{arith}
+use borrow.Author.Rules.{rules}
+use Rattle.host_writing.proofs.Writing.{small-laws, still-long, still-start}
+use Rattle.host_writing.proofs.putting.put_small.Goals as goal
+
+pub loop-i-init : goal.loop-i-init
+loop-i-init c = still-start _ _ _
+
+pub loop-i-smaller : goal.loop-i-smaller
+loop-i-smaller c = omega arith
+
+pub loop-i-preserved : goal.loop-i-preserved
+loop-i-preserved c = search small-laws
+
+pub shape_of-out : goal.shape_of-out
+shape_of-out c = search (still-long, rules)
+
+pub returns : goal.returns
+returns c = search small-laws

@@ -1,0 +1,18 @@
+use Rattle.leaf_sets.proofs.Signed.{outside-negative, outside-past, cast-ordinal, ordinal-lt}
+use Rattle.leaf_sets.proofs.Operators.{in-none, in-here}
+use Rattle.leaf_sets.proofs.contains.Goals as goal
+
+pub returns-then-i-lt0 : goal.returns-then-i-lt0
+returns-then-i-lt0 c = search (in-none, outside-negative)
+
+pub returns-then-i-gt-LAST : goal.returns-then-i-gt-LAST
+returns-then-i-gt-LAST c = search (in-none, outside-past)
+
+pub overflow_cast-result : goal.overflow_cast-result
+overflow_cast-result c = search (cast-ordinal c.args.i)
+
+pub overflow_shr-result : goal.overflow_shr-result
+overflow_shr-result c = search ordinal-lt
+
+pub returns : goal.returns
+returns c = search in-here

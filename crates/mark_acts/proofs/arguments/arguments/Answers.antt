@@ -1,0 +1,18 @@
+use borrow.Author.Rules.{rules}
+use Rattle.mark_acts.proofs.Arguing.{gathered-again, gathered-laws, sofar-start}
+use Rattle.mark_acts.proofs.arguments.arguments.Goals as goal
+
+pub loop-j-init : goal.loop-j-init
+loop-j-init c = (search rules, search sofar-start)
+
+pub returns-in-Past : goal.returns-in-Past
+returns-in-Past c = search gathered-laws
+
+pub returns-then-z-gt-GREATEST : goal.returns-then-z-gt-GREATEST
+returns-then-z-gt-GREATEST c = search gathered-laws
+
+pub loop-j-preserved : goal.loop-j-preserved
+loop-j-preserved c = (search rules, search gathered-again)
+
+pub returns : goal.returns
+returns c = search gathered-laws

@@ -1,0 +1,14 @@
+use Rattle.mark_arms.proofs.Reading.{part_falls, pass-laws, pass-start}
+use Rattle.mark_arms.proofs.last_part.Goals as goal
+
+pub loop-q-init : goal.loop-q-init
+loop-q-init c = pass-start _ _
+
+pub loop-q-smaller : goal.loop-q-smaller
+loop-q-smaller c = search part_falls
+
+pub loop-q-preserved : goal.loop-q-preserved
+loop-q-preserved c = search pass-laws
+
+pub returns-in-Last : goal.returns-in-Last
+returns-in-Last c = search pass-laws

@@ -1,0 +1,11 @@
+use Rattle.law_theorems.specs.Readings.{stack_at}
+use Rattle.text_words.specs.Passes.{nodes_all}
+use Rattle.rule_constants.proofs.Scanning.{Scanning}
+use Prim.Native.Nat.{◌+◌, ◌*◌}
+use Rattle.rule_constants.proofs.plain_parts.Given as goal
+
+abbrev pub invariant-loop-q : goal.invariant-loop-q
+invariant-loop-q l = Scanning l.text l.at l.p l.n
+
+abbrev pub decreases-loop-q : goal.decreases-loop-q
+decreases-loop-q l = 2 * nodes_all (stack_at l.text l.p) + l.n

@@ -1,0 +1,11 @@
+use Rattle.law.specs.Trees.{first}
+use Rattle.law_theorems.specs.Readings.{stack_at}
+use Rattle.rule_enum_lines.specs.Enums.{many}
+use Rattle.rule_enum_lines.proofs.EnumNames.{Scanning}
+use Rattle.rule_enum_lines.proofs.enums.listed.Given as goal
+
+abbrev pub invariant-loop-y : goal.invariant-loop-y
+invariant-loop-y l = Scanning l.text l.x l.at l.p
+
+abbrev pub decreases-loop-y : goal.decreases-loop-y
+decreases-loop-y l = many (first (stack_at l.text l.p))

@@ -1,0 +1,8 @@
+use Rattle.rule_expr_leaves.proofs.Linking.{set-node-laws}
+use Rattle.rule_expr_leaves.proofs.links.set_node.Goals as goal
+
+pub returns-then-i-eq1 : goal.returns-then-i-eq1
+returns-then-i-eq1 c = search set-node-laws
+
+pub returns : goal.returns
+returns c = search set-node-laws

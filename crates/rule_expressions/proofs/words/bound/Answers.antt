@@ -1,0 +1,5 @@
+use Rattle.rule_expressions.proofs.WordsTelling.{bound-is}
+use Rattle.rule_expressions.proofs.words.bound.Goals as goal
+
+pub returns : goal.returns
+returns c = search bound-is

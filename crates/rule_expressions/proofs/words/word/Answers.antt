@@ -1,0 +1,21 @@
+use borrow.Author.Rules.{sfits_of}
+use Rattle.rule_expressions.proofs.WordsTelling.{word_laws}
+use Rattle.rule_expressions.proofs.words.word.Goals as goal
+
+pub returns-in-Number : goal.returns-in-Number
+returns-in-Number c = search (word_laws, sfits_of)
+
+pub returns-in-Named : goal.returns-in-Named
+returns-in-Named c = search (word_laws, sfits_of)
+
+pub returns-in-Truth : goal.returns-in-Truth
+returns-in-Truth c = search (word_laws, sfits_of)
+
+pub returns-in-ErrorNumber : goal.returns-in-ErrorNumber
+returns-in-ErrorNumber c = search (word_laws, sfits_of)
+
+pub returns-in-Base : goal.returns-in-Base
+returns-in-Base c = search (word_laws, sfits_of)
+
+pub returns-in-Nothing : goal.returns-in-Nothing
+returns-in-Nothing c = search (word_laws, sfits_of)

@@ -1,0 +1,8 @@
+use Rattle.rule_judge.proofs.Dispatch.{named-laws}
+use Rattle.rule_judge.proofs.entering.proc_named.Goals as goal
+
+pub returns-then-is_form : goal.returns-then-is_form
+returns-then-is_form c = search named-laws
+
+pub returns : goal.returns
+returns c = search named-laws

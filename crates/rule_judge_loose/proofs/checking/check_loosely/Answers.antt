@@ -1,0 +1,14 @@
+use Rattle.rule_judge_loose.proofs.Driving.{check-laws}
+use Rattle.rule_judge_loose.proofs.checking.check_loosely.Goals as goal
+
+pub returns-then-work-lt-WORK_LENGTH : goal.returns-then-work-lt-WORK_LENGTH
+returns-then-work-lt-WORK_LENGTH c = search check-laws
+
+pub returns-then-text-gt-TEXT_LENGTH : goal.returns-then-text-gt-TEXT_LENGTH
+returns-then-text-gt-TEXT_LENGTH c = search check-laws
+
+pub returns-then-n-ne0 : goal.returns-then-n-ne0
+returns-then-n-ne0 c = search check-laws
+
+pub returns : goal.returns
+returns c = search check-laws

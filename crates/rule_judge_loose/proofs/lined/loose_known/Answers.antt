@@ -1,0 +1,14 @@
+use Rattle.rule_judge_loose.proofs.Dispatch.{known-laws}
+use Rattle.rule_judge_loose.proofs.lined.loose_known.Goals as goal
+
+pub returns-then-kn : goal.returns-then-kn
+returns-then-kn c = search known-laws
+
+pub returns-in-Form : goal.returns-in-Form
+returns-in-Form c = search known-laws
+
+pub returns-in-Leaf : goal.returns-in-Leaf
+returns-in-Leaf c = search known-laws
+
+pub returns-in-Shut : goal.returns-in-Shut
+returns-in-Shut c = search known-laws

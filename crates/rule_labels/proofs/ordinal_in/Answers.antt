@@ -1,0 +1,18 @@
+use borrow.Author.Rules.{sfits_of}
+use Rattle.rule_labels.proofs.Telling.{ordinal-laws}
+use Rattle.rule_labels.proofs.ordinal_in.Goals as goal
+
+pub returns-in-Unknown : goal.returns-in-Unknown
+returns-in-Unknown c = search (ordinal-laws, sfits_of)
+
+pub returns-in-Type : goal.returns-in-Type
+returns-in-Type c = search (ordinal-laws, sfits_of)
+
+pub returns-in-Var : goal.returns-in-Var
+returns-in-Var c = search (ordinal-laws, sfits_of)
+
+pub returns-in-Proc : goal.returns-in-Proc
+returns-in-Proc c = search (ordinal-laws, sfits_of)
+
+pub returns-in-Value : goal.returns-in-Value
+returns-in-Value c = search (ordinal-laws, sfits_of)

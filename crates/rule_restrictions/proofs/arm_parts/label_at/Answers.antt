@@ -1,0 +1,8 @@
+use Rattle.rule_restrictions.proofs.ArmLabels.{label-laws}
+use Rattle.rule_restrictions.proofs.arm_parts.label_at.Goals as goal
+
+pub returns-then-plain_part : goal.returns-then-plain_part
+returns-then-plain_part c = search label-laws
+
+pub returns : goal.returns
+returns c = search label-laws

@@ -1,0 +1,8 @@
+use Rattle.rule_statements.proofs.Labelling.{counted-laws}
+use Rattle.rule_statements.proofs.arm_labels.counted.Goals as goal
+
+pub returns-then-g-eq0 : goal.returns-then-g-eq0
+returns-then-g-eq0 c = search counted-laws
+
+pub returns : goal.returns
+returns c = search counted-laws

@@ -1,0 +1,8 @@
+use Rattle.rule_statements.proofs.ArmWays.{ordinal-laws}
+use Rattle.rule_statements.proofs.arms.ordinal_fault.Goals as goal
+
+pub returns-then-i-eq0 : goal.returns-then-i-eq0
+returns-then-i-eq0 c = search ordinal-laws
+
+pub returns : goal.returns
+returns c = search ordinal-laws

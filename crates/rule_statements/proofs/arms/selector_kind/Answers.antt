@@ -1,0 +1,8 @@
+use Rattle.rule_statements.proofs.ArmWays.{kind-laws}
+use Rattle.rule_statements.proofs.arms.selector_kind.Goals as goal
+
+pub returns-then-is_clear : goal.returns-then-is_clear
+returns-then-is_clear c = search kind-laws
+
+pub returns : goal.returns
+returns c = search kind-laws

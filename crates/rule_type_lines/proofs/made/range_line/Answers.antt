@@ -1,0 +1,5 @@
+use Rattle.rule_type_lines.proofs.MadeLines.{made-is}
+use Rattle.rule_type_lines.proofs.made.range_line.Goals as goal
+
+pub returns : goal.returns
+returns c = search made-is

@@ -1,0 +1,8 @@
+use Rattle.run_texts.proofs.RunWays.{checked-laws}
+use Rattle.run_texts.proofs.run_checked.Goals as goal
+
+pub returns-then-c-ne0 : goal.returns-then-c-ne0
+returns-then-c-ne0 c = search checked-laws
+
+pub returns : goal.returns
+returns c = search checked-laws

@@ -1,0 +1,5 @@
+use Rattle.table_scope.proofs.Ways.{info-laws}
+use Rattle.table_scope.proofs.no_info.Goals as goal
+
+pub returns : goal.returns
+returns c = search info-laws

@@ -1,0 +1,9 @@
+use Rattle.text_heads.proofs.Arms.{kind-laws}
+use borrow.Author.Rules.{rules}
+use Rattle.text_heads.proofs.expr_head.Goals as goal
+
+pub returns-in-Reserved : goal.returns-in-Reserved
+returns-in-Reserved c = search (kind-laws, rules)
+
+pub returns-in-Operator : goal.returns-in-Operator
+returns-in-Operator c = search (kind-laws, rules)

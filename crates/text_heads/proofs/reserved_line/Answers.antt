@@ -1,0 +1,17 @@
+use Rattle.text_heads.proofs.Arms.{number-laws}
+use Rattle.text_heads.proofs.reserved_line.Goals as goal
+
+pub returns-in-0 : goal.returns-in-0
+returns-in-0 c = search number-laws
+
+pub returns-in-1 : goal.returns-in-1
+returns-in-1 c = search number-laws
+
+pub returns-in-2 : goal.returns-in-2
+returns-in-2 c = search number-laws
+
+pub returns-in-3 : goal.returns-in-3
+returns-in-3 c = search number-laws
+
+pub returns-in_default : goal.returns-in_default
+returns-in_default c = search number-laws

@@ -1,0 +1,14 @@
+use Rattle.text_lines.proofs.Standings.{spell-laws}
+use Rattle.text_lines.proofs.lines.past_word.Goals as goal
+
+pub returns-in-Before : goal.returns-in-Before
+returns-in-Before c = search spell-laws
+
+pub returns-in-Inside : goal.returns-in-Inside
+returns-in-Inside c = search spell-laws
+
+pub returns-in-After : goal.returns-in-After
+returns-in-After c = search spell-laws
+
+pub returns-in-Faulty : goal.returns-in-Faulty
+returns-in-Faulty c = search spell-laws
