@@ -38,7 +38,7 @@ module _ (M : Measure) (σ : Environment) (Γ : Types) (Δ : Vars) where
 
   variable-room : (i : ℕ) {r : Elaborated} → elab_expr Γ Δ (read (var i)) ≡ some r → M.code r.code + 2 ≤ 4
   unfolding elab_expr
-  variable-room i h = bind-some h λ w hw h. bind-some hw λ v _ hw. rw (← some_inj h, ← some_inj hw) (omega (arith, M.load-Cell v.base (size_of Γ v.type)))
+  variable-room i h = bind-some h λ w hw h. bind-some hw λ v _ hw. rw (← some_inj h, ← some_inj hw) (omega (arith, M.load_cell v.base (size_of Γ v.type)))
 
   name-room : (s : NameSort) {x : Expr} {r : Elaborated} → as_expr s ≡ some x → elab_expr Γ Δ x ≡ some r → M.code r.code + 2 ≤ 4
   name-room (a_type t) h k = none-some h
@@ -78,7 +78,7 @@ module _ (M : Measure) (σ : Environment) (Γ : Types) (Δ : Vars) where
 
     pub target_room : (g : Syntax.Target) (u : Reached) (w : Located) → target_of σ g ≡ some u → elab_target Γ Δ u.target ≡ some w → Reaching w.place (4 * weight_t g)
     target_room (Syntax.var n) u w h k = bind-some h λ i _ h. bind-some h λ v _ h. bind-some (rw (← some_inj h) at k) λ v' _ k.
-        rw (← some_inj k) (record { at = omega (arith, M.of-cell v'.base); loaded = λ n. omega (arith, M.load-Cell v'.base n) })
+        rw (← some_inj k) (record { at = omega (arith, M.of-cell v'.base); loaded = λ n. omega (arith, M.load_cell v'.base n) })
     target_room (Syntax.at g e) u w h k = bind-some h λ y hy h. bind-some h λ z hz h. both_some (rw (← some_inj h) at k) λ c d hc hd k. given-some k λ _ k.
         let l = (target_room g y c hy hc).at in let m = expr-room e z d hz hd in
         rw (← k) (record { at = under (M.of-index c.place d.code _ _ _) (omega arith); loaded = λ n. under (M.load-index c.place d.code _ _ _ n) (omega arith) })
@@ -117,7 +117,7 @@ module _ (M : Measure) (σ : Environment) (Γ : Types) (Δ : Vars) where
   unfolding each elab_labels
   labels-room [] xs n zs h k = rw (← some_inj (rw (← some_inj h) at k)) (omega (arith, M.no-labels))
   labels-room (c ∷ cs) xs n zs h k = bind-some h λ y _ h. bind-some h λ ys hys h. both_some (rw (← some_inj h) at k) λ z us _ hus k.
-      rw (← some_inj k) (let l = labels-room cs ys n us hys hus in omega (arith, M.one_Label z us))
+      rw (← some_inj k) (let l = labels-room cs ys n us hys hus in omega (arith, M.one_label z us))
 
   mutual
     unfolding stmt_of elab_stmt weight_s

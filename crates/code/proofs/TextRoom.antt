@@ -11,7 +11,7 @@ use lib.Dec.{leb}
 use lib.ListN.{length, length-append, length-map, drop}
 use Rattle.law.specs.Base.{Name, each}
 use Rattle.law.specs.Syntax as Syntax
-use Rattle.law.specs.Types.{Types, TypeSort, facts}
+use Rattle.law.specs.Types.{Types, TypeSort, facts, size_of}
 use Rattle.law.specs.Script.{Decl, Entry, alias, array_of, enum, new_main, new_proc, new_type, new_var, range, record_of, set_of}
 use Rattle.law.specs.Environment.{Declared, Environment, decl_names, declare_line, enum_names, extend_types, frame_of, lay_fields, nothing_declared, parameter_types, type_sort_of, want_of, within}
 use Rattle.law.specs.Names.{decl_of, entry_of}
@@ -86,7 +86,7 @@ enum-length t n (v ∷ vs) = ap suc (enum-length t (suc n) vs)
 lay-length : (Γ : Types) (a : ℕ) (fs : List (Name × ℕ)) → length (lay_fields Γ a fs) ≡ length fs
 unfolding lay_fields
 lay-length Γ a [] = refl
-lay-length Γ a (f ∷ fs) = ap suc (lay-length Γ _ fs)
+lay-length Γ a (f ∷ fs) = ap suc (lay-length Γ (a + size_of Γ f.1) fs)
 
 types_more : (Γ : Types) (i : TypeSort) → size_types (Γ ++ (i ∷ [])) ≡ size_types Γ + (8 + 4 * length (facts i).fields)
 unfolding size_types

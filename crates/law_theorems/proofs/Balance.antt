@@ -67,6 +67,7 @@ Stack = List (Trees Run)
 pushed : (v w : Run) (k : Stack) (n : ℕ) → Levels (suc n) (ended w k) → Levels (suc n) (push (word v) k)
 pushed v [] (ts ∷ k) n (level h l) = level (Depth.◌then◌ Depth.word h) l
 pushed v (b ∷ w) k n (level (Depth.◌then◌ t h) l) = level (Depth.◌then◌ Depth.word h) l
+pushed v [] [] n x'' = elim x'' [ ]
 
 -- the bracket that opens at 31 - n is the form's
 same-depth : {ts : Trees Run} (n : ℕ) → n < 31 → ShallowAll (31 - suc n) ts → Shallow (31 - n) (form ts)
@@ -83,6 +84,7 @@ module _ (b : ℕ) (bs : List ℕ) (r : Reading) (ih : (q : Place) → balanced 
   spaced before (one-deep f e) = one-deep {r = with_byte Space b r} f (rw e)
   spaced (inside n) (open-deep e) = open-deep e
   spaced after (nothing-deep e) = nothing-deep {r = with_byte Space b r} (rw e)
+  spaced faulty x' = elim x' [ ]
 
   deep : (n : ℕ) (t : Bool) → ltb n 31 ≡ t → balanced bs (deeper t n) ≡ true → Deeply (inside n) (with_byte Open b r)
   unfolding deeper with_byte

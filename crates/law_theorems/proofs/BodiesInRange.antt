@@ -42,12 +42,16 @@ pub data Frames : Procs → List Frame → Type 0 where
 pub frames-last : (ps : Procs) (qs : List Frame) (q : Frame) (f : Proc) → Frames ps qs → q ≡ f.frame → Frames (ps ++ (f ∷ [])) (qs ++ (q ∷ []))
 frames-last [] [] q f no_frames e = frame e no_frames
 frames-last (g ∷ ps) (r ∷ qs) q f (frame d h) e = frame d (frames-last ps qs q f h e)
+frames-last [] (r ∷ qs) q f x4 e = elim x4 [ ]
+frames-last (g ∷ ps) [] q f x4 e = elim x4 [ ]
 
 pub frame-at : (ps : Procs) (qs : List Frame) → Frames ps qs → (p : ℕ) → (procedure_at ps p).frame ≡ get_or qs p no_frame
 unfolding procedure_at
 frame-at [] [] no_frames p = refl
 frame-at (g ∷ ps) (q ∷ qs) (frame e h) zero = sym e
 frame-at (g ∷ ps) (q ∷ qs) (frame e h) (suc p) = frame-at ps qs h p
+frame-at [] (q ∷ qs) x'' p = elim x'' [ ]
+frame-at (g ∷ ps) [] x3 p = elim x3 [ ]
 
 -- ---- bodies and scripts never stick, and keep each cell in its range
 

@@ -1,4 +1,5 @@
 -- What document 02 asks where an array or a record is assigned holds: the statement of law's specs/Copies.antt.
+use Rattle.std.proofs.Common.{zero-add}
 use mathlib.Core.Path.{◌≡◌, refl, sym, ap, ◌∙◌, fun_ext}
 use mathlib.Core.Bool.{Bool, true, false, ◌||◌}
 use mathlib.Core.List.{List, [], ◌∷◌}
@@ -48,7 +49,8 @@ once : (b a k j : ℕ) → j < k → times_written (a + j) (writes b a k) ≡ 1
 unfolding times_written writes pick
 once b a zero j h = absurd (omega arith)
 once b a (suc k) zero h = rw (eq-eqb a (a + 0) (omega arith), no-cell-before (suc b) (suc a) k (a + 0) (omega arith))
-once b a (suc k) (suc j) h = let e : a + suc j ≡ suc a + j = omega arith in rw (e, ne_eqb a (suc a + j) (λ e. omega arith), once (suc b) (suc a) k j (omega arith))
+once b a (suc k) (suc j) h = let e : a + suc j ≡ suc a + j = omega arith in
+    rw (ne_eqb a (a + suc j) (λ q. omega arith)) (zero-add (times_written (a + suc j) (writes (suc b) (suc a) k)) ∙ rw e (once (suc b) (suc a) k j (omega arith)))
 
 -- ---- what k cells hold from b on
 

@@ -105,6 +105,7 @@ mutual
   expr-deep (suc d) k (word w) s e h = atom-deep k (word w) h
   expr-deep (suc d) (suc k) (form ts) (Depth.form s) e h = bind-some h λ p hp h. bind-some h λ q _ h.
       expr-form-deep (λ t. expr d t) (λ t. target d t) k (λ t s e h. expr-deep d k t s e h) (λ t s g h. target-deep d k t (deeper s) g h) q (first-shallow (listed-shallow s) hp) h
+  expr-deep (suc d) zero (form ts) s e h = elim s [ ]
 
   pub target-deep : (d k : ℕ) (t : Item) → Shallow (suc k) t → (g : S.Target) → target d t ≡ some g → DeepT k g
   target-deep zero k t s g h = none-some h

@@ -48,10 +48,14 @@ single-set record_shape h = wrong h
 pub single-cells : (s : Shape) → Single s → (t : ℕ) (cs : List ℕ) → cells_by s t cs ≡ t ∷ []
 single-cells ordinal_shape an-ordinal t cs = refl
 single-cells set_shape a-set t cs = refl
+single-cells array_shape x' t cs = elim x' [ ]
+single-cells record_shape x'' t cs = elim x'' [ ]
 
 pub no-single : {P : Type 0} (s : Shape) → is_ordinal s ≡ false → is_set s ≡ false → Single s → P
 no-single ordinal_shape o t an-ordinal = wrong (sym o)
 no-single set_shape o t a-set = wrong (sym t)
+no-single {P = P} array_shape o t x3 = elim x3 [ ]
+no-single {P = P} record_shape o t x4 = elim x4 [ ]
 
 abbrev kind_by : Shape → ℤ → ℤ → Kind
 kind_by ordinal_shape lo hi = ordinals lo hi
@@ -91,6 +95,8 @@ module _ (Γ : Types) (Δ : Vars) (xs : List Test) (𝓕 : Formed Γ Δ xs) wher
       let i = v.ranged (rw e) in let w = 𝓕.small k (rw e) in
       rw (e, one-cell zs (rw e at v.long)) (ordinal i (record { ok = inside-wide Γ Δ xs 𝓕 _ _ _ _ (sole zs) w.0 w.1 i }))
   has_value k set_shape a-set e zs v = let i = set-value Γ Δ xs 𝓕 (rw e) v in rw (e, one-cell zs (rw e at v.long)) (set i)
+  has_value k array_shape x3 e zs v = elim x3 [ ]
+  has_value k record_shape x4 e zs v = elim x4 [ ]
 
   -- ---- operands and results are of one cell
 

@@ -146,6 +146,21 @@ module _ (E : Item → Option Expr) (G : Item → Option Target) where
       go false true = k
       go false false = refl
 
+-- what the law reads behind each head word: what stands in `Law.expr_form`
+abbrev expr-by : Trees Word → Head → Option Expr
+expr-by us h = elim h [
+  | h_at ↦ Law.at_form us >>= λ g. some (S.read g)
+  | h_dot ↦ Law.dot_form us >>= λ g. some (S.read g)
+  | h_members ↦ Law.members_form us
+  | h_minus ↦
+      either (one (list us) >>= is_number >>= λ z. some (S.const (S.minus z)))
+      (Law.exprs us >>= λ es. either (Law.one_sided (S.unary negate) es) (Law.two_sided (S.binary minus) es))
+  | h_bound b ↦ one (list us) >>= type_name >>= λ n. some (S.end_of b n)
+  | h_lazy q ↦ Law.exprs us >>= Law.two_sided (S.short_circuit q)
+  | h_op op ↦ Law.exprs us >>= Law.two_sided (S.binary op)
+  | h_fun f ↦ Law.exprs us >>= Law.one_sided (S.unary f)
+]
+
 mutual
   unfolding Law.expr Law.target Law.expr_form Law.target_form Law.exprs Law.members_form Law.at_form Law.dot_form ByDepth.expr ByDepth.target ByDepth.expr_form ByDepth.at_form ByDepth.dot_form two first? list each ◌>>=◌
 
@@ -159,7 +174,8 @@ mutual
       → Law.expr_form ts ≡ (first? (list ts) >>= λ p. among heads p.0 >>= λ h. ByDepth.expr_form (λ t. ByDepth.expr d t) (λ t. ByDepth.target d t) h p.1)
   expr-form-same end d l = refl
   expr-form-same (◌then◌ {t = t} {ts = us} s ts) d l =
-      head-bind (key_of t) (among heads) (list us) _ (λ h xs. ByDepth.expr_form (λ t. ByDepth.expr d t) (λ t. ByDepth.target d t) h xs) λ h. elim h [
+      head-bind (key_of t) (among heads) (list us) (expr-by us) (λ h xs. ByDepth.expr_form (λ t. ByDepth.expr d t) (λ t. ByDepth.target d t) h xs) λ h.
+      elim h as (λ h. expr-by us h ≡ ByDepth.expr_form (λ t. ByDepth.expr d t) (λ t. ByDepth.target d t) h (list us)) [
         | h_at ↦ ap (λ (o : Option Target). o >>= λ g. some (S.read g)) (at_same ts d l)
         | h_dot ↦ ap (λ (o : Option Target). o >>= λ g. some (S.read g)) (dot-same ts d l)
         | h_members ↦ members-same ts d l
@@ -483,6 +499,20 @@ last-is r n t (T.◌then◌ u vs) o q h k =
     ∙ ended-then r n (u ∷ list vs) (λ p. some (t ∷ p.0, p.1))
     ∙ sym (bind_assoc {B = List Item × Item} {C = List Item × (Stmt × ℕ)} (ending (u ∷ list vs)) (λ p. some (t ∷ p.0, p.1)) (λ p. r n p.1 >>= λ s. some (p.0, s)))
 
+-- what the law reads of statement n behind each head word: what stands in `Law.stmt_form`
+abbrev stmt-by : ℕ → Trees Word → Verb → Option (Stmt × ℕ)
+stmt-by n us v = elim v [
+  | v_assign ↦ two (list us) >>= λ p. Law.target p.0 >>= λ g. Law.expr p.1 >>= λ e. some (S.assign n g e, n)
+  | v_begin ↦ Law.stmts n us >>= λ p. some (S.begin n p.0, p.1)
+  | v_if ↦ Law.if_form n us
+  | v_while ↦ Law.lastly n us >>= λ p. one p.0 >>= Law.expr >>= λ e. some (S.while n e p.1.0, p.1.1)
+  | v_for ↦ Law.lastly n us >>= λ p. three p.0 >>= λ q. free q.0 >>= λ i. Law.expr q.1.0 >>= λ a. Law.expr q.1.1 >>= λ b.
+      some (S.for n i a b p.1.0, p.1.1)
+  | v_case ↦ Law.case_form n us
+  | v_call ↦ some? (list us) >>= λ p. free p.0 >>= λ w. each Law.expr p.1 >>= λ es. some (S.call n w (exprs_of es), n)
+  | v_raise ↦ one (list us) >>= Law.expr >>= λ e. some (S.raise n e, n)
+]
+
 mutual
   unfolding Law.stmt Law.stmt_form Law.stmts Law.lastly Law.if_form Law.case_form Law.arms Law.labelled Law.arm_form ByDepth.stmt ByDepth.stmt_form ByDepth.stmts ByDepth.arms ByDepth.if_form ByDepth.case_form ending headed first? list ◌>>=◌
 
@@ -496,7 +526,8 @@ mutual
       → Law.stmt_form n ts ≡ (first? (list ts) >>= λ p. among verbs p.0 >>= λ v. ByDepth.stmt_form (ByDepth.stmt d) v n p.1)
   stmt-form-same end b d l n = refl
   stmt-form-same (◌then◌ {t = t} {ts = us} s ts) b d l n =
-      head-bind (key_of t) (among verbs) (list us) _ (λ v xs. ByDepth.stmt_form (ByDepth.stmt d) v n xs) λ v. elim v [
+      head-bind (key_of t) (among verbs) (list us) (stmt-by n us) (λ v xs. ByDepth.stmt_form (ByDepth.stmt d) v n xs) λ v.
+      elim v as (λ v. stmt-by n us v ≡ ByDepth.stmt_form (ByDepth.stmt d) v n (list us)) [
         | v_assign ↦ assign-is b (ByDepth.stmt d) n (listed-shallow ts)
         | v_begin ↦ ap {B = Option (Stmt × ℕ)} (λ (q : Option (Stmts × ℕ)). q >>= λ p. some (S.begin n p.0, p.1)) (stmts-same ts b d l n)
         | v_if ↦ if-same ts b d l n
