@@ -156,7 +156,7 @@ want-told : {s l ts : List ℕ} {scope : Scope} {low : ℕ} {σ : Environment} {
 unfolding want_by want_numbers shape_number
 want-told {s} {l} {ts} {scope} {low} {σ} S k =
     let T = S.types k in
-    rw (T.Shape-is, T.low-is, T.high_is) (go (info_at σ.types k).shape)
+    rw (T.shape_is, T.low-is, T.high_is) (go (info_at σ.types k).shape)
   where
     go : (h : Shape) → cond (eqb (shape_number h) 0) (bits (info_at σ.types k).low ∷ bits (info_at σ.types k).high ∷ []) (1 ∷ 0 ∷ [])
         ≡ want_numbers (cond (is_ordinal h) (ranged (info_at σ.types k).low (info_at σ.types k).high) any_set)

@@ -264,6 +264,8 @@ module _ (s l ts : List ℕ) (scope : Scope) (loops : Loops) (d n at top : ℕ) 
           leaves = case-leaves _ (λ i. absurd (true≢false (sym (ap is_form (sym N.fault-is ∙ q)) ∙ i))) N;
           says = λ σ bs js A. act-none (case-shape d n (first (stack_at s at)) ∙ rw (case-rest, case-cased n (expr_in 33 (first (stack_at s at))) (arms_in d n (first (stack_at s x.next)))) (no-arms n (expr_in 33 (first (stack_at s at))) (cased (arms_in d n (first (stack_at s x.next)))) (Z d n))) (ap is_form q);
         }
+    case-made Kind x3 M = elim x3 [ ]
+    case-made Name x4 M = elim x4 [ ]
 
   pub case-right : (r : Got) (l' : List ℕ) → t ≡ false → CaseBy s l₁ ts scope loops x d n r l' → GivesVerb s l ts scope loops VB.Case d n at top r l'
   case-right r l' h (case-parts u v k m l₂ l₃ K ev ek GA (case-ends f w F R M)) = case-made h u k m r l₂ l₃ l' K ek (rw ev at GA) w R f F M

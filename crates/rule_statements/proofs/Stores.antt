@@ -8,7 +8,7 @@ use lib.Dec.{eqb}
 use lib.IntN.{ℤ}
 use lib.ListN.{get_or}
 use Rattle.law.specs.Base.{Name, ◌>>=◌, both, given, find}
-use Rattle.law.specs.Code.{Code, Act, Place, assign_ordinal, assign_cell, copy_cells, for_loop, load}
+use Rattle.law.specs.Code.{Code, Act, Place, assign_ordinal, assign_cell, copy_cells, for_loop, load, literal, last_number, make_set, calculate, short_cut, calculate1}
 use Rattle.law.specs.Elaborate.{Elaborated, Located, copying, elab_expr, elab_stmt, expects, assigning}
 use Rattle.law.specs.Environment.{Environment}
 use Rattle.code.specs.Layout.{Out, out, lay, bits, lay_code, lay_place, lay_act}
@@ -89,6 +89,12 @@ module _ (σ : Environment) (bs js : List ℕ) (n top : ℕ) (l : List ℕ) wher
         copied : (c : Code) → Loads c → out e.place e.top l₂ ≡ lay_code c g.top l₁
             → Told (or_unfit (some (copying n w.place c))) (λ _. n) (lay_act bs) top l (node_made n e.next (lay (52 ∷ n ∷ g.place ∷ e.place ∷ []) e.top l₂)).got (node_made n e.next (lay (52 ∷ n ∷ g.place ∷ e.place ∷ []) e.top l₂)).list
         copied (load q k) loads ep = told-fits (copy_cells n w.place q k) refl refl (rw (← gp, ← ep) refl)
+        copied (literal z) l ep = elim l [ ]
+        copied last_number l ep = elim l [ ]
+        copied (make_set lo hi cs) l ep = elim l [ ]
+        copied (calculate o c d) l ep = elim l [ ]
+        copied (short_cut o c d) l ep = elim l [ ]
+        copied (calculate1 f c) l ep = elim l [ ]
 
         go : (b o s : Bool) (lo hi : ℤ) → eqb (host_of σ.types w.type) x.kind ≡ b → ordinal? σ.types w.type ≡ o → set? σ.types w.type ≡ s
             → Told (or_unfit (given b x.code >>= λ c. some (cond o (assign_ordinal n w.place lo hi c) (cond s (assign_cell n w.place c) (copying n w.place c))))) (λ _. n) (lay_act bs) top l

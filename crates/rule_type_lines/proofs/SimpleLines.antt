@@ -345,7 +345,7 @@ module _ (s l ts : List ℕ) (st : State) (p : ℕ) (g : Shaped) (h : Fault) (c 
 
           go : (e : Fault) → EndFault s h g.next e → Comes w o g after e
           go _ (was-form q) =
-              let z : entry_staged k (o >>= λ (t : TypeForm). some (type_line w t)) ≡ wrong = M.Stage-is w ∙ newly-wrong (is_known k.env w) M.stage (λ (d : Decl). fits (new_type w d)) (sym M.fault-is ∙ sym c ∙ q) in
+              let z : entry_staged k (o >>= λ (t : TypeForm). some (type_line w t)) ≡ wrong = M.stage_is w ∙ newly-wrong (is_known k.env w) M.stage (λ (d : Decl). fits (new_type w d)) (sym M.fault-is ∙ sym c ∙ q) in
               let y : o ≡ none = bound-back o (λ (t : TypeForm). type_line w t) (none-wrong (o >>= λ (t : TypeForm). some (type_line w t)) (entry_of k.env) (keeps_rules k.env.types) some (sym (ap fault_of z))) in
               comes-none (bound-none o _ y) refl
           go _ (at-end q r) = let z : first (later (stack_at s at)) ≡ end = rest-is q ∙ r in comes-made (rw z refl) c
@@ -362,7 +362,7 @@ module _ (s l ts : List ℕ) (st : State) (p : ℕ) (g : Shaped) (h : Fault) (c 
           go (comes-none a q) = rw a (n ∙ ap (λ (x : Fault). new_fault x (meaning_here s l st.scope p)) q ∙ form-new (meaning_here s l st.scope p))
           go (comes-made a q) =
               n ∙ ap (λ (x : Fault). new_fault x (meaning_here s l st.scope p)) (q ∙ M.fault-is)
-              ∙ decl-fault w (meaning_here s l st.scope p) meaning-told M.stage ∙ ap fault_of (sym (ap (entry_staged k) a ∙ M.Stage-is w))
+              ∙ decl-fault w (meaning_here s l st.scope p) meaning-told M.stage ∙ ap fault_of (sym (ap (entry_staged k) a ∙ M.stage_is w))
 
       line_clear : b ≡ true → (d : Decl) × (entry_staged k after ≡ fits (new_type w d)) × Simple d × (type_bounded k.env.types d ≡ true → Describes g.info (facts (type_sort_of k.env.types d))) × (g.within ≡ type_bounded k.env.types d)
       unfolding newly on_fits
@@ -377,7 +377,7 @@ module _ (s l ts : List ℕ) (st : State) (p : ℕ) (g : Shaped) (h : Fault) (c 
               let x = decl-clear w (meaning_here s l st.scope p) meaning-told M.stage
               (sym (n ∙ ap (λ (y : Fault). new_fault y (meaning_here s l st.scope p)) (q ∙ M.fault-is)) ∙ clear-is f (sym i ∙ j)) in
               let z : entry_staged k after ≡ fits (new_type w x.0) =
-              ap (entry_staged k) a ∙ M.Stage-is w ∙ ap (λ (v : Bool). newly v M.stage (λ (d : Decl). fits (new_type w d))) x.2
+              ap (entry_staged k) a ∙ M.stage_is w ∙ ap (λ (v : Bool). newly v M.stage (λ (d : Decl). fits (new_type w d))) x.2
               ∙ ap (λ (T : Staged Decl). newly false T (λ (d : Decl). fits (new_type w d))) x.1 in
               let y = M.made x.0 x.1 in
               (x.0, z, y.0, y.1, y.2)

@@ -179,6 +179,11 @@ module _ (s l : List ℕ) (scope : Scope) (ρ : Environment) (w : Name) where
           let a = longer σ.vars (record { type = t; base = 2048 + length σ.parameters }) in
           let b = longer σ.parameters t in
           rw (next_small j (omega arith)) (among_later (rw (find, e) refl) (rw (a, b) at A))
+  among-pairs end (_ ∷ qs) x7 d σ j h = elim x7 [ ]
+  among-pairs (word _ then ts) qs x7 d σ j h = elim x7 [ ]
+  among-pairs (form end then ts) qs x9 d σ j h = elim x9 [ ]
+  among-pairs (form (word x then vs) then ts) [] x14 d σ j h = elim x14 [ ]
+  among-pairs (form (form _ then vs) then ts) qs x14 d σ j h = elim x14 [ ]
 
 -- ---- the environment in a procedure
 
