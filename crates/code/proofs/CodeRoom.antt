@@ -13,10 +13,10 @@ use Rattle.law.specs.Trees.{nodes}
 use Rattle.law.specs.Forms.{Item}
 use Rattle.law_theorems.specs.FormsByDepth.{expr, target, stmt}
 use Rattle.law.specs.Types.{Types, Vars, ordinal?, set?, size_of}
-use Rattle.law.specs.Script.{Const, Expr, Exprs, Target, Stmt, Stmts, Arms, Body, const, read, var}
+use Rattle.law.specs.Script.{Const, Expr, Exprs, Stmt, Stmts, Arms, Body, const, read, var}
 use Rattle.law.specs.Environment.{Environment, NameSort, a_proc, a_type, a_value, a_var}
 use Rattle.law.specs.Names.{Reached, as_expr, atom_of, constant_of, expr_of, target_of, exprs_of, stmt_of, stmts_of, arms_of, body_of}
-use Rattle.law.specs.Code.{Code, load, assign_ordinal, assign_cell, copy_cells, Place, Codes, Act, Acts, Cases, Frame, BodyCode}
+use Rattle.law.specs.Code.{Code, load, assign_ordinal, assign_cell, Place, Codes, Act, Acts, Cases, Frame, BodyCode}
 use Rattle.law_theorems.proofs.Copying.{wholly-by}
 use Rattle.law.specs.Elaborate.{Elaborated, Located, assigning, copying, elab_expr, elab_target, elab_members, expects, elab_labels, elab_arguments, elab_stmt, elab_stmts, elab_arms, elab_body}
 use Rattle.code.specs.LayoutSize.{size_load, size_code, size_place, size_act, size_parameters, size_body}

@@ -20,7 +20,7 @@ use Rattle.law.specs.Names.{Reached, arms_of, as_expr, atom_of, body_of, expr_of
 use Rattle.law.specs.Rules.{all_plain, differ, kept_arms, kept_body, kept_stmt, kept_stmts, labels_of, looping, plain_expr}
 use Rattle.law.specs.Script as X
 use Rattle.law.specs.Syntax as S
-use Rattle.law.specs.Types.{Types, Vars, array?, base_of, host_of, info_at, ordinal?, set?, size_of}
+use Rattle.law.specs.Types.{Types, Vars, array?, host_of, info_at, ordinal?, set?, size_of}
 use Rattle.law_theorems.proofs.Inversion.{none-some, and-true, some_inj, both_some, bind-some, given-some}
 use Rattle.law_theorems.proofs.ValuesInRange.{ord-layout, own-host}
 use Rattle.law_theorems.specs.ValuesInRange.{Formed, Test}

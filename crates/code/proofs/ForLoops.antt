@@ -1,10 +1,10 @@
 -- How many `for` loops stand in code. A measure of 16 for each (Measure), so that an accepted text has at most 1,024.
 use mathlib.Core.Path.{◌≡◌, refl}
 use mathlib.Core.List.{List, [], ◌∷◌}
-use Prim.Native.Nat.{ℕ, suc, ◌+◌, ◌*◌, ◌≤◌}
+use Prim.Native.Nat.{ℕ, ◌+◌, ◌*◌}
 use native.Mathlib.Omega.{arith}
 use lib.ListN.{length}
-use Rattle.law.specs.Code.{Act, assign_ordinal, assign_cell, copy_cells, sequence, branch_on, while_loop, for_loop, case_of, call_to, raise_with, no_act, Acts, stop, ◌also◌, Cases, else_case, no_case, one_case, BodyCode}
+use Rattle.law.specs.Code.{BodyCode}
 use Rattle.code.proofs.Measure.{Measure, total}
 use Rattle.code.specs.ForLoops.{fors_act, fors_acts, fors_cases}
 

@@ -13,7 +13,7 @@ use Rattle.code.specs.Layout.{lay_body}
 use Rattle.code.specs.Readback.{read_body, body_at_places}
 use Rattle.code.specs.LayoutSize.{size_body, BodyFits}
 use Rattle.code.proofs.LayoutRegions.{Lays}
-use Rattle.code.specs.LayoutRegions.{Same, Room}
+use Rattle.code.specs.LayoutRegions.{Room}
 use Rattle.code.proofs.LayoutActs.{BodyAt, laid-body}
 use Rattle.code.specs.LayoutActs.{Begins}
 use Rattle.code.specs.LayoutBodies.{Bodies, BodiesAt}

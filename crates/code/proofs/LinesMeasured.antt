@@ -32,7 +32,6 @@ use Rattle.law_theorems.proofs.Inversion.{some_inj, bind-some, given-some, and-t
 use Rattle.law_theorems.proofs.TextsAgree.{accepted-inj, bad-good, body-frame, good-inj, musted, onward-is, opening-is, stage}
 use Rattle.law_theorems.proofs.ValuesInRange.{wrong}
 use Rattle.law_theorems.proofs.TypeSizes.{small-declared, small-start}
-use Rattle.law_theorems.specs.TypeSizes.{SmallTypes}
 use Rattle.law_theorems.specs.ValuesInRange.{Formed, Test}
 use Rattle.law_theorems.proofs.LinesKeep.{Bounds, Heading, heading-formed, heading-known, heading-less, keeps-formed, keeps-start, line-heading, line-keeps, proc-bounds, text-stand, text-tests, within-types}
 use Rattle.law_theorems.specs.LinesKeep.{Callee, Keeps, Stand, frames_of, store_tests}

@@ -2,7 +2,6 @@
 use Rattle.std.specs.Prelude.{◌≡◌, true, false, List, map, ◌≤◌, length}
 use Rattle.law.specs.Code.{BodyCode}
 use Rattle.law.specs.Environment.{Declared}
-use Rattle.law.specs.Trees.{nodes}
 use Rattle.law_theorems.specs.TypeSizes.{SmallTypes}
 use Rattle.law_theorems.specs.LinesKeep.{Keeps, frames_of}
 use Rattle.law_theorems.specs.CodeCalls.{CallsBody, frame_by}

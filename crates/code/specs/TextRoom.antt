@@ -3,7 +3,6 @@ use Rattle.std.specs.Prelude.{Bool, true, false, List, ℕ, ◌+◌, ◌*◌, �
 use Rattle.law.specs.Environment.{Declared}
 use Rattle.law.specs.Code.{BodyCode}
 use Rattle.code.specs.LayoutSize.{size_bodies, size_symbols}
-use Rattle.law.specs.Trees.{nodes}
 
 -- what the last line leaves over
 abbrev pub spare : Bool → ℕ

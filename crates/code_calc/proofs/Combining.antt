@@ -1,13 +1,12 @@
 -- The ways through operators on words.
-use Rattle.std.proofs.Common.{◌≡◌, ℕ, zero, suc, ◌+◌, ◌-◌, ◌<◌, ◌≤◌, Bool, true, false, not, ◌&&◌, ◌||◌, eqb, List, [], ◌∷◌, length, get_or, ℤ, pos, negsuc, ◌+ℤ◌, ◌-ℤ◌, ◌*ℤ◌, neg_ℤ, nat_abs, sym, refl, ap, ◌∙◌, arith, to_z-of_z, w32, w64, Fits, SFits, to_z, of_z, eq-eqb, ne_eqb}
-use mathlib.Core.Bool.{and-false}
+use Rattle.std.proofs.Common.{◌≡◌, ℕ, zero, suc, ◌+◌, ◌-◌, ◌<◌, Bool, true, false, not, ◌&&◌, ◌||◌, length, ℤ, pos, ◌+ℤ◌, ◌-ℤ◌, ◌*ℤ◌, neg_ℤ, nat_abs, sym, refl, ap, ◌∙◌, arith, to_z-of_z, w32, w64, Fits, SFits, to_z, of_z}
 use borrow.Author.Rules.{sfits_of}
 use lib.IntN.{ -ℤ-+ℤ_cancel, +ℤ_invr, +ℤ_idl}
 use lib.Signed.{le_z, lt_z}
 use mir.Facts.{to_z_pos}
 use Rattle.leaf_integers.proofs.Machine.{wire, same_bits}
 use Rattle.leaf_integers.proofs.Ranges.{is-zero, not-zero}
-use Rattle.leaf_integers.specs.Integers.{inside, exact, is_zero, quotient, modulus, is_odd, next, previous}
+use Rattle.leaf_integers.specs.Integers.{inside, exact, quotient, modulus, is_odd, next, previous}
 use Rattle.leaf_powers.specs.Powers.{power}
 use Rattle.leaf_integers.specs.declared.Fault.{Fault}
 use Rattle.leaf_integers.specs.declared.Fault.TheVariants.{Overflow, Divisor, Exponent, Bound}
@@ -17,10 +16,9 @@ use Rattle.leaf_sets.specs.declared.Member.{Member}
 use Rattle.leaf_sets.specs.declared.Member.TheVariants.{Ordinal, Empty}
 use Rattle.leaf_sets.specs.Sets.{members, members_of, pattern_of, value_of, holds, least, greatest as greatest_of, union_of, difference_of, intersection_of, within}
 use Rattle.leaf_sets.proofs.Digits.{members-length, value-is}
-use Rattle.leaf_sets.proofs.Signed.{pattern_lt}
 use Rattle.law.specs.Base.{pick}
-use Rattle.law.specs.Calculate.{Result, is, fails, stuck, ◌>>=◌, integer, exception_of, member_in, truth, is_true, equal_z, set_value, tested, range_error, compute, compute1}
-use Rattle.law.specs.Operators.{Operation, int_add, int_sub, int_mul, int_power, int_div, int_mod, set_union, set_difference, set_intersection, num_equal, num_unequal, num_less, num_at_most, num_greater, num_at_least, set_within, set_holds, member_of, bool_and, bool_or, Operation1, int_negate, bool_not, int_abs, int_sqr, int_odd, ordinal_of, pred_in, succ_in, set_card, set_least, set_greatest}
+use Rattle.law.specs.Calculate.{is, fails, integer, exception_of, member_in, truth, is_true, equal_z, set_value, tested, compute, compute1}
+use Rattle.law.specs.Operators.{Operation, int_add, Operation1, int_negate, pred_in, succ_in}
 use Rattle.code.specs.Readback.{operations, operations1, operation_at, operation1_at}
 use Rattle.code_calc.specs.Words.{greatest, fault_base, range_word, numeric_word, word_of, result_of, applied, applied1, tested_word}
 

@@ -1,17 +1,16 @@
 -- The ways through the places of elements and fields.
-use Rattle.std.proofs.Common.{◌≡◌, ℕ, zero, suc, ◌+◌, ◌-◌, ◌*◌, ◌<◌, ◌≤◌, min, Bool, true, false, cond, ltb, leb, ℤ, pos, negsuc, ◌+ℤ◌, ◌-ℤ◌, nat_abs, sym, refl, ap, ◌∙◌, subst, true≢false, mul-le-mul, arith, to_z-of_z, w32, w64, Fits, SFits, to_z, of_z, ltb-false, ltb-true, le-leb, leb-true}
+use Rattle.std.proofs.Common.{◌≡◌, ℕ, zero, suc, ◌+◌, ◌-◌, ◌*◌, ◌<◌, ◌≤◌, min, Bool, true, false, cond, ltb, ℤ, pos, negsuc, ◌-ℤ◌, sym, refl, ap, ◌∙◌, mul-le-mul, arith, to_z-of_z, w32, w64, Fits, SFits, ltb-true, leb-true}
 use borrow.Author.Rules.{sfits_of}
 use lib.IntN.{sub_ℕ, -ℤ-+ℤ_cancel}
-use lib.Signed.{mag, non_neg, le_z, lt_z}
-use mir.Facts.{to_z_pos}
+use lib.Signed.{mag, non_neg, lt_z}
 use Rattle.leaf_integers.proofs.Machine.{wire, fits-mag}
 use Rattle.leaf_integers.proofs.Order.{le_z-diff, le_z-trans}
 use Rattle.leaf_integers.proofs.Ranges.{inside_is, inside_both, inside-mag}
 use Rattle.leaf_integers.specs.Integers.{inside, least, most}
 use Rattle.leaf_words.specs.Numbers.{signed}
 use Rattle.law.specs.Base.{pick}
-use Rattle.law.specs.Calculate.{Result, is, fails, stuck, ◌>>=◌, nat_of, tested, range_error}
-use Rattle.code_calc.specs.Words.{greatest, fault_base, range_word, word_of, result_of, cell_of, place_word, distance_word, element_word, shifted_word}
+use Rattle.law.specs.Calculate.{is, fails, nat_of, tested}
+use Rattle.code_calc.specs.Words.{greatest, fault_base, range_word, word_of, cell_of, place_word, distance_word, element_word, shifted_word}
 use Rattle.code_calc.proofs.Leaves.{small_signed}
 use Rattle.code_calc.proofs.Combining.{fault-again, value-again}
 

@@ -1,13 +1,13 @@
 -- The sizes of integers.
 use mathlib.Core.Path.{◌≡◌, refl, sym, ap, ◌∙◌}
 use mathlib.Core.Bool.{Bool, cond, true, false, true≢false}
-use Prim.Native.Nat.{ℕ, zero, suc, ◌+◌, ◌-◌, ◌<◌, ◌≤◌}
+use Prim.Native.Nat.{ℕ, zero, suc, ◌+◌, ◌-◌, ◌<◌}
 use native.Mathlib.Omega.{arith}
 use borrow.Author.Tests.{le-ltb}
-use lib.Signed.{lt_z, mag}
+use lib.Signed.{lt_z}
 use lib.IntN.{ℤ, pos, negsuc, nat_abs, ◌-ℤ◌}
 use mir.Syntax.{w64}
-use mir.Val.{SFits, Fits, to_z, of_z}
+use mir.Val.{SFits, Fits}
 use mir.Facts.{to_z-of_z}
 use Rattle.leaf_integers.proofs.Machine.{wire, fits-mag}
 use Rattle.host_writing.specs.Written.{natural_of, turn_of}

@@ -1,5 +1,5 @@
 -- Document 01, "Names other than fields share one space": what the lines so far have declared.
-use Rattle.std.specs.Prelude.{Bool, true, false, cond, List, [], ◌∷◌, ◌++◌, map, ℕ, zero, suc, ◌+◌, ℤ, pos, ◌-ℤ◌, length, get_or, replicate}
+use Rattle.std.specs.Prelude.{Bool, true, false, cond, List, [], ◌∷◌, ◌++◌, map, ℕ, zero, suc, ◌+◌, pos, ◌-ℤ◌, length, get_or, replicate}
 use Rattle.std.proofs.Math.IntN.{suc_ℤ}
 use Rattle.leaf_integers.specs.Integers.{least, most}
 use Rattle.law.specs.Base.{Name}

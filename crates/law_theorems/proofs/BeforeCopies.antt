@@ -10,11 +10,10 @@ use lib.IntN.{ℤ}
 use Rattle.law.specs.Base.{◌>>=◌}
 use Rattle.law.specs.Chair.{eval_code, run_act, run_acts, run_cases}
 use Rattle.law.specs.Code.{Act, Acts, BodyCode, Cases, Code, Place, ◌also◌, assign_cell, assign_ordinal, branch_on, calculate, calculate1, call_to, case_of, copy_cells, else_case, for_loop, last_number, literal, load, make_set, no_act, no_case, one_case, raise_with, sequence, short_cut, stop, while_loop}
-use Rattle.law.specs.Elaborate.{Elaborated, Located, assigning, copying, elab_stmt, elab_target, expects}
-use Rattle.law.specs.Machine.{Answer, Procs, State, handled, proc, sole, step, with_result}
+use Rattle.law.specs.Elaborate.{Located, assigning, copying, elab_stmt, elab_target, expects}
+use Rattle.law.specs.Machine.{Procs, proc, sole, step, with_result}
 use Rattle.law.specs.Script as X
 use Rattle.law.specs.Types.{Types, Vars, host_of, info_at, ordinal?, set?}
-use Rattle.law.specs.Verdict.{Read}
 use Rattle.law.specs.Whole.{Report, on_store, run_all, run_body, run_of, unless, verdict_of}
 
 -- ---- the code as it was

@@ -4,7 +4,6 @@ use mathlib.Core.Bool.{Bool, true, false, cond}
 use mathlib.Core.List.{List, [], ◌∷◌}
 use mathlib.Core.Option.{some}
 use Prim.Native.Nat.{ℕ, ◌<◌}
-use lib.IntN.{ℤ}
 use lib.ListN.{length}
 use Rattle.law.specs.Code as C
 use Rattle.law.specs.Elaborate.{elab_arguments, elab_arms, elab_body, elab_stmt, elab_stmts}

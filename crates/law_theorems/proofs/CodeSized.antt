@@ -17,8 +17,7 @@ use Rattle.law.specs.Code as C
 use Rattle.law.specs.Machine.{lent_cells, store_cells}
 use Rattle.law.specs.Elaborate.{Elaborated, Located, copying, elab_arguments, elab_arms, elab_body, elab_expr, elab_labels, elab_members, elab_stmt, elab_stmts, elab_target, expects}
 use Rattle.law.specs.Environment.{Environment, frame_of, parameter_types, want_of}
-use Rattle.law.specs.Operators as O
-use Rattle.law.specs.Operators.{Fun, Operation, Operation1, Rule1, abs, card, function_rule, negate, not_of, odd, ord, pred, setmax, setmin, sqr, succ}
+use Rattle.law.specs.Operators.{Fun, Rule1, abs, card, function_rule, negate, not_of, odd, ord, pred, setmax, setmin, sqr, succ}
 use Rattle.law.specs.Rules.{all_plain, differ, kept_arms, kept_body, kept_stmt, kept_stmts, labels_of, looping, plain, plain_expr}
 use Rattle.law.specs.Script as X
 use Rattle.law.specs.Types.{Field, Types, Var, Vars, field_of, info_at, ordinal?, set?, size_of, variable}

@@ -1,17 +1,15 @@
 -- The cells of targets. Two parts of variables lie one in the other or apart, so that two of one size are the same cells or have none in common:
 -- a copy in ascending order reads no cell that it has written before.
 use mathlib.Core.Path.{◌≡◌, refl, sym, ap, ◌∙◌}
-use mathlib.Core.Bool.{Bool, true, false, ◌&&◌}
-use mathlib.Core.List.{List, [], ◌∷◌}
+use mathlib.Core.Bool.{Bool, true, false}
+use mathlib.Core.List.{List, []}
 use mathlib.Core.Logic.{◌⊎◌, inl, inr}
-use mathlib.Core.Option.{none, some}
-use Prim.Native.Nat.{ℕ, zero, suc, ◌+◌, ◌*◌, ◌≤◌, ◌<◌}
-use native.Mathlib.Decide.{ℕ_discrete}
+use mathlib.Core.Option.{some}
+use Prim.Native.Nat.{ℕ, suc, ◌+◌, ◌*◌, ◌≤◌, ◌<◌}
 use native.Mathlib.Nat.{mul-le-mul_right, suc-mul}
 use native.Mathlib.Omega.{arith}
-use lib.Dec.{eqb}
 use lib.IntN.{ℤ, ◌-ℤ◌}
-use lib.ListN.{get_or, length}
+use lib.ListN.{get_or}
 use Rattle.leaf_integers.specs.Integers.{inside}
 use Rattle.leaf_integers.proofs.Order.{le-or-lt}
 use Rattle.law.specs.Base.{Name, pick}
@@ -21,7 +19,7 @@ use Rattle.law.specs.Code.{cell}
 use Rattle.law.specs.Elaborate.{Located, elab_target}
 use Rattle.law.specs.Machine.{Store, sole}
 use Rattle.law.specs.Script.{Target, at, dot, var}
-use Rattle.law.specs.Types.{Field, TypeSort, Types, Var, Vars, array?, array_type, cells_of, facts, field_of, info_at, is_array, ordinal_type, record_type, set_type, size_of, undeclared, variable}
+use Rattle.law.specs.Types.{Field, TypeSort, Types, Var, Vars, array?, array_type, facts, field_of, info_at, is_array, ordinal_type, record_type, set_type, size_of, undeclared, variable}
 use Rattle.law_theorems.proofs.Inversion.{and-true, bind-some, both_some, given-some, none-some, some_inj}
 use Rattle.law_theorems.proofs.ValuesInRange.{wrong}
 use Rattle.law_theorems.specs.Components.{Aside, above, below, same}

@@ -2,7 +2,7 @@
 use mathlib.Core.Path.{◌≡◌, refl}
 use mathlib.Core.Bool.{Bool, true, false, cond}
 use Prim.Native.Nat.{ℕ}
-use Rattle.law.specs.Chair.{eval_code, run_act}
+use Rattle.law.specs.Chair.{run_act}
 use Rattle.law.specs.Code.{Act, Code, Place, assign_cell, calculate, calculate1, copy_cells, last_number, literal, load, make_set, short_cut}
 use Rattle.law.specs.Elaborate.{copying}
 use Rattle.law.specs.Machine.{Procs}

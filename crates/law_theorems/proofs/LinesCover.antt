@@ -13,13 +13,13 @@ use lib.Seq.{get_or-append-add}
 use Rattle.law.specs.Base.{Name}
 use Rattle.law.specs.Ceilings.{line_bounded, type_bounded}
 use Rattle.law.specs.Code.{BodyCode}
-use Rattle.law.specs.Environment.{Declared, NameSort, a_proc, a_type, a_value, a_var, built_in, copies, decl_names, declare_line, enum_names, extend_types, field_cells, lay_fields, nothing_declared, type_sort_of, value_count}
+use Rattle.law.specs.Environment.{Declared, NameSort, built_in, copies, decl_names, declare_line, enum_names, extend_types, field_cells, lay_fields, nothing_declared, type_sort_of, value_count}
 use Rattle.law.specs.Lines.{Line, lines_of}
 use Rattle.law.specs.Names.{entry_of}
 use Rattle.law.specs.Rules.{keeps_rules}
-use Rattle.law.specs.Script.{Const, Decl, Entry, alias, array_of, enum, new_type, new_var, range, record_of, set_of}
+use Rattle.law.specs.Script.{Decl, Entry, alias, array_of, enum, new_type, new_var, range, record_of, set_of}
 use Rattle.law.specs.Syntax.{LineForm, main_line, proc_line, type_line, var_line}
-use Rattle.law.specs.Types.{TypeInfo, TypeSort, facts, Types, Var, Vars, cells_of, info_at, is_array, is_record, size_of, undeclared, variable}
+use Rattle.law.specs.Types.{TypeInfo, TypeSort, facts, Types, Var, Vars, cells_of, info_at, size_of, undeclared, variable}
 use Rattle.law.specs.Verdict.{Fitting, Read, accepted, has, judge, judge_lines, strictly}
 use Rattle.law.specs.Whole.{verdict_of}
 use Rattle.law_theorems.proofs.TextsAgree.{accepted-inj, onward-is, opening-is, line-good}

@@ -20,7 +20,6 @@ use Rattle.law.specs.Syntax as Syntax
 use Rattle.law.specs.Base.{Name, ◌>>=◌, each, find}
 use Rattle.law.specs.Ceilings.{cells_in, line_bounded, type_bounded, variables_in}
 use Rattle.law.specs.Code.{BodyCode, Frame, no_frame}
-use Rattle.law.specs.Elaborate.{in_kind}
 use Rattle.law.specs.Environment.{Declared, Environment, NameSort, PlacedBody, a_proc, a_type, a_value, a_var, decl_names, declare_line, enum_names, extend_types, frame_of, nothing_declared, parameter_types, type_sort_of, want_of, with_body, with_parameter, within}
 use Rattle.law.specs.Lines.{Line, lines_of}
 use Rattle.law.specs.Machine.{lent_cells, store_cells}
@@ -41,7 +40,7 @@ use Rattle.law_theorems.specs.ScriptCalls.{CallingBody}
 use Rattle.law_theorems.proofs.ValuesInRange.{here-trans, none-some, ord-layout, set-layout}
 use Rattle.law_theorems.specs.ValuesInRange.{Test, any, Here, Formed, Parted, before, behind, one}
 use Rattle.law_theorems.proofs.TypeTables.{all_append, all_more, all-get, at_left, at_right, Valid, declared as table-declared, parted-as, started, formed, old, new}
-use Rattle.law_theorems.specs.TypeTables.{All, AllIn, empty, more, Table, Laid}
+use Rattle.law_theorems.specs.TypeTables.{All, AllIn, empty, more, Table}
 use Rattle.law_theorems.specs.LinesKeep as Keeping
 use Rattle.law_theorems.specs.LinesKeep.{AllFair, AllFormed, AllNames, Apart, Callee, Extends, Fair, Framed, Keeps, Known, Simple, Stand, a-frame, body, frames_of, name, no-bodies, no_frames, no_names, proc, store_tests, tests, type, value, var}
 

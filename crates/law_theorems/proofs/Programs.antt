@@ -2,10 +2,10 @@
 use mathlib.Core.Path.{◌≡◌, refl}
 use mathlib.Core.Bool.{Bool, true, false}
 use mathlib.Core.List.{List, [], ◌∷◌, ◌++◌}
-use Prim.Native.Nat.{ℕ, zero, suc, ◌+◌, ◌-◌, ◌≤◌}
+use Prim.Native.Nat.{ℕ, zero, suc, ◌≤◌}
 use native.Mathlib.Omega.{arith}
 use Rattle.law.specs.Code.{BodyCode, no_frame}
-use Rattle.law.specs.Machine.{Answer, Outcome, Proc, Procs, State, answer, caught, handled, normal, proc, procedure_at, raised, spent, state, sticks}
+use Rattle.law.specs.Machine.{Answer, Outcome, Proc, Procs, State, answer, caught, handled, normal, proc, procedure_at, raised, spent, sticks}
 use Rattle.law.specs.Whole.{run_all, run_body}
 use Rattle.law_theorems.proofs.SpentOnly as Spent
 use Rattle.law_theorems.proofs.MoreBudget.{Ends, more, more_a, Stable, runs-f, answer-f}

@@ -3,12 +3,12 @@ use mathlib.Core.Path.{◌≡◌, refl}
 use mathlib.Core.Bool.{Bool, true, false, cond, ◌&&◌, ◌||◌}
 use mathlib.Core.List.{List, [], ◌∷◌, map}
 use mathlib.Core.Option.{some}
-use Prim.Native.Nat.{ℕ, zero, suc, ◌+◌, ◌<◌}
+use Prim.Native.Nat.{ℕ, zero, suc, ◌<◌}
 use native.Mathlib.Omega.{arith}
 use lib.IntN.{ℤ, pos, suc_ℤ, ◌+ℤ◌, ◌-ℤ◌, +ℤ_idr, suc_ℤ-+ℤ, +ℤ-suc_ℤ}
 use lib.Signed.{le_z}
 use borrow.Author.Tests.{eqb-true}
-use lib.ListN.{get_or, length}
+use lib.ListN.{length}
 use Rattle.leaf_integers.specs.Integers.{inside, is_zero}
 use Rattle.law.specs.Base.{pick}
 use Rattle.law.specs.Calculate.{Result, case_error, is_true, nat_of, system_error, tested}

@@ -16,10 +16,9 @@ use Rattle.law.specs.Ceilings.{field_sizes, type_bounded}
 use Rattle.law.specs.Environment.{built_in, copies, extend_types, field_cells, type_sort_of, value_count}
 use Rattle.law.specs.Rules.{kept_decl, plain}
 use Rattle.law.specs.Script.{Decl, alias, array_of, enum, range, record_of, set_of}
-use Rattle.law.specs.Types.{Shape, TypeInfo, TypeSort, facts, Types, array_shape, cells_by, cells_of, info_at, is_set, ordinal_shape, record_shape, set_shape, size_of, undeclared}
+use Rattle.law.specs.Types.{Shape, TypeSort, facts, Types, array_shape, cells_by, cells_of, info_at, ordinal_shape, record_shape, set_shape, size_of, undeclared}
 use Rattle.law_theorems.proofs.Inversion.{and-true}
 use Rattle.law_theorems.proofs.ValuesInRange.{wrong, int-pos}
-use Rattle.law_theorems.specs.ValuesInRange.{InInt}
 use Rattle.law_theorems.specs.TypeSizes.{Small, SmallTypes}
 
 small-none : Small (facts undeclared)

@@ -3,26 +3,25 @@ use mathlib.Core.Path.{◌≡◌, refl, sym, ap, ◌∙◌}
 use mathlib.Core.Bool.{Bool, true, false}
 use mathlib.Core.List.{List, [], ◌∷◌, ◌++◌}
 use mathlib.Core.Option.{some}
-use Prim.Native.Nat.{ℕ, zero, suc, ◌+◌, ◌*◌, ◌-◌, ◌≤◌, ◌<◌}
+use Prim.Native.Nat.{ℕ, zero, suc, ◌+◌, ◌*◌, ◌≤◌, ◌<◌}
 use native.Mathlib.Decide.{ℕ_discrete, dec_lt}
 use native.Mathlib.Omega.{arith}
 use native.Mathlib.Nat.{add_assoc, add-zero, zero-add, suc-mul, zero-mul, add_comm}
-use lib.IntN.{ℤ, pos, ◌-ℤ◌}
+use lib.IntN.{ℤ, pos}
 use lib.ListN.{get_or, length, length-append, get_or-append, get_or-eq_default}
 use lib.Seq.{get_or-append-add}
 use lib.Signed.{le_z}
-use Rattle.leaf_integers.specs.Integers.{inside, least, most}
+use Rattle.leaf_integers.specs.Integers.{least, most}
 use Rattle.leaf_bytes.specs.Bytes.{same}
 use Rattle.law.specs.Base.{Name}
-use Rattle.law.specs.Calculate.{nat_of}
 use Rattle.law.specs.Environment.{built_in, copies, extend_types, field_cells, lay_fields, type_sort_of}
 use Rattle.law.specs.Script.{Const, Decl, alias, array_of, enum, range, record_of, set_of}
-use Rattle.law.specs.Types.{Field, Shape, TypeInfo, TypeSort, facts, ordinal_type, Types, Var, Vars, array_shape, cells_by, cells_of, field_of, host_by, info_at, is_array, is_ordinal, is_set, ordinal?, ordinal_shape, record_shape, set_shape, size_of, undeclared, variable}
+use Rattle.law.specs.Types.{Field, Shape, TypeInfo, TypeSort, facts, ordinal_type, Types, Vars, array_shape, cells_of, field_of, host_by, info_at, is_ordinal, ordinal?, ordinal_shape, record_shape, set_shape, size_of, undeclared}
 use Rattle.law_theorems.proofs.Spans.{inside-span}
 use Rattle.leaf_integers.proofs.Order.{le_z-refl}
 use borrow.Author.Tests.{le-leb}
 use Rattle.law_theorems.proofs.ValuesInRange.{wrong, at-trans, none-some}
-use Rattle.law_theorems.specs.ValuesInRange.{At, Test, Here, Formed, Parted, before, behind, one}
+use Rattle.law_theorems.specs.ValuesInRange.{At, Test, Formed, Parted, before, behind, one}
 use Rattle.law_theorems.proofs.Inversion.{some_inj}
 use Rattle.law_theorems.specs.TypeTables.{All, AllIn, Laid, Sane, Table, empty, more}
 

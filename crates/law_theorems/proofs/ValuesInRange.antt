@@ -4,7 +4,7 @@ use mathlib.Core.Path.{◌≡◌, refl, sym, ap, ◌∙◌}
 use mathlib.Core.Bool.{Bool, true, false, cond, ◌&&◌}
 use mathlib.Core.List.{List, [], ◌∷◌}
 use mathlib.Core.Option.{some}
-use Prim.Native.Nat.{ℕ, zero, suc, ◌+◌, ◌*◌, ◌-◌, ◌≤◌, ◌<◌}
+use Prim.Native.Nat.{ℕ, zero, suc, ◌+◌, ◌≤◌, ◌<◌}
 use native.Mathlib.Decide.{ℕ_discrete, dec_lt}
 use native.Mathlib.Omega.{arith}
 use native.Mathlib.Nat.{add_assoc, add-zero, add-suc, suc-add}
@@ -19,7 +19,7 @@ use Rattle.leaf_integers.specs.declared.Fault.{Fault}
 use Rattle.leaf_integers.specs.declared.Fault.TheVariants.{Overflow, Divisor, Exponent, Bound}
 use Rattle.leaf_integers.specs.declared.Num.{Num}
 use Rattle.leaf_integers.specs.declared.Num.TheVariants.{Value, Failed}
-use Rattle.leaf_integers.specs.Integers.{inside, least, most, is_zero, exact, quotient, modulus, next, previous}
+use Rattle.leaf_integers.specs.Integers.{inside, is_zero, exact, quotient, modulus, next, previous}
 use Rattle.leaf_integers.proofs.Ranges.{exact-value, ranged-value}
 use Rattle.leaf_integers.proofs.Division.{quotient-value, modulus-range}
 use Rattle.leaf_powers.proofs.Powers.{power-value}
@@ -29,8 +29,8 @@ use Rattle.leaf_sets.specs.declared.Member.TheVariants.{Ordinal, Empty}
 use Rattle.leaf_sets.specs.Sets.{lies_in, members_of, pattern_of}
 use Rattle.leaf_sets.proofs.Digits.{members-length}
 use Rattle.leaf_sets.proofs.Base.{empty-lies, union-lies, difference-lies, intersection-lies, with-lies, least-lies, greatest-lies}
-use Rattle.law.specs.Base.{Name, given, pick}
-use Rattle.law.specs.Calculate.{Result, is, fails, ◌>>=◌, nat_of, numeric_error, range_error, undefined_error, exception_of, integer, truth, tested, is_true, set_value, joined, member_in, compute, compute1}
+use Rattle.law.specs.Base.{given, pick}
+use Rattle.law.specs.Calculate.{Result, is, fails, ◌>>=◌, numeric_error, range_error, undefined_error, exception_of, integer, truth, tested, is_true, set_value, joined, member_in, compute, compute1}
 use Rattle.law.specs.Chair.{eval_code, gather_codes, place_code}
 use Rattle.law.specs.Code.{Codes}
 use Rattle.law.specs.Elaborate.{Elaborated, Located, elab_expr, elab_members, elab_target}
@@ -38,7 +38,7 @@ use Rattle.law.specs.Machine.{Store, defined, is_defined, one_cell, overwritten,
 use Rattle.law.specs.Operators.{Fun, Op, Operation, Rule, Rule1, abs, and_both, at_least, at_most, both_integers as ints?, card, divide, equal, function_rule, greater, int_div, int_mod, int_power, less, member, minus, modulo, negate, not_of, odd, operator_rule, or_both, ord, plus, power, pred, rule, same_sets as sets?, setmax, setmin, sqr, pred_in, succ_in, succ, times, unequal}
 use Rattle.law.specs.Script.{Expr, Exprs, Target, ◌and◌, at, binary, const, dot, end_of, error_number, members, nil, read, short_circuit, unary, var}
 use Rattle.law.specs.Store.{cell_fits}
-use Rattle.law.specs.Types.{Field, Shape, Types, Var, Vars, array?, array_shape, base_of, cells_by, cells_of, field_of, host_by, host_of, info_at, is_ordinal, is_set, ordinal?, ordinal_shape, record_shape, set_shape, set?, size_of, variable}
+use Rattle.law.specs.Types.{Shape, Types, Vars, array_shape, base_of, cells_by, cells_of, host_by, host_of, info_at, is_ordinal, is_set, ordinal?, ordinal_shape, record_shape, set_shape, set?, size_of}
 use borrow.Author.Tests.{le-leb}
 use Rattle.leaf_integers.proofs.Order.{le_z-trans}
 use Rattle.law_theorems.proofs.Inversion.{and-both, and-true, some_inj, both_some, bind-some, given-some, either-some}

@@ -1,17 +1,17 @@
 -- An expression whose kind is no ordinal and no set is a read: what an array or a record is given lies in cells.
-use mathlib.Core.Path.{◌≡◌, refl}
-use mathlib.Core.Bool.{Bool, true, false}
-use mathlib.Core.List.{List, []}
-use mathlib.Core.Option.{none, some}
+use mathlib.Core.Path.{◌≡◌}
+use mathlib.Core.Bool.{false}
+use mathlib.Core.List.{[]}
+use mathlib.Core.Option.{some}
 use Prim.Native.Nat.{ℕ}
 use Rattle.law.specs.Code as C
 use Rattle.law.specs.Elaborate.{Elaborated, elab_expr}
 use Rattle.law.specs.Script.{Expr, binary, const, end_of, error_number, members, read, short_circuit, unary}
-use Rattle.law.specs.Types.{Types, Vars, info_at, host_of, ordinal?, set?}
+use Rattle.law.specs.Types.{Types, Vars, ordinal?, set?}
 use Rattle.law_theorems.proofs.Inversion.{and-true, both_some, bind-some, given-some, none-some, some_inj}
 use Rattle.law_theorems.proofs.ElaboratedSafe.{One, argument, no-single, one-boolean, one-integer, one-ordinal, one_set, operands}
 use Rattle.law_theorems.proofs.TypeTables.{formed}
-use Rattle.law_theorems.specs.TypeTables.{Table, Laid}
+use Rattle.law_theorems.specs.TypeTables.{Table}
 use Rattle.law_theorems.specs.ValuesInRange.{Formed}
 
 pub data Loads : C.Code → Type 0 where

@@ -8,7 +8,7 @@ use native.Mathlib.Omega.{arith}
 use borrow.Author.Tests.{ne_eqb}
 use lib.Dec.{eqb, leb}
 use lib.ListN.{length, get_or, length-map, get_or-map}
-use Rattle.leaf_bytes.specs.Bytes.{bytes, small, same}
+use Rattle.leaf_bytes.specs.Bytes.{bytes, small}
 use Rattle.leaf_bytes.proofs.Same.{same-equal, small_at}
 use Rattle.leaf_reserved.specs.Table.{reserved, operators, fixed, is_fixed}
 use Rattle.leaf_reserved.specs.Slots.{slot_of, spot, guess}

@@ -17,7 +17,6 @@ use Rattle.law.specs.Machine.{Store, State, state, Answer, sole, raise_number, w
 use Rattle.law.specs.Marking.{TypedValue, TypedPlace, typed_value, mark_expr, mark_target, mark_stmt, mark_store, require, wanted}
 use Rattle.law.specs.Names as Names
 use Rattle.law.specs.Names.{target_of}
-use Rattle.law.specs.Script.{Expr}
 use Rattle.law.specs.Syntax as Syntax
 use Rattle.law.specs.Trees.{Trees, end, ◌then◌, Run, first}
 use Rattle.law_theorems.specs.Readings.{stack_at}

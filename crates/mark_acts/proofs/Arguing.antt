@@ -1,10 +1,10 @@
 -- The ways through the arguments of a call.
 use mathlib.Core.Path.{◌≡◌, refl, sym, ap, subst, ◌∙◌}
 use mathlib.Core.Bool.{Bool, true, false, true≢false}
-use mathlib.Core.List.{List, [], ◌∷◌, ◌++◌, map, append-nil}
+use mathlib.Core.List.{List, [], ◌∷◌, ◌++◌, append-nil}
 use mathlib.Core.Logic.{◌⊎◌, inl, inr}
 use mathlib.Core.Option.{some}
-use Prim.Native.Nat.{ℕ, zero, suc, ◌+◌, ◌<◌, ◌≤◌, min}
+use Prim.Native.Nat.{ℕ, suc, ◌+◌, ◌<◌, ◌≤◌, min}
 use native.Mathlib.Omega.{arith}
 use borrow.Author.Rules.{sfits_of}
 use borrow.Author.Tests.{lt-ltb, le-ltb}
@@ -20,13 +20,13 @@ use Rattle.leaf_integers.proofs.Machine.{wire}
 use Rattle.leaf_integers.proofs.Order.{le-or-lt}
 use Rattle.law.specs.Base.{pick}
 use Rattle.law.specs.Calculate.{Result, is, fails, stuck, ◌>>=◌}
-use Rattle.law.specs.Environment.{Environment, want_of}
-use Rattle.law.specs.Machine.{Store, sole}
+use Rattle.law.specs.Environment.{Environment}
+use Rattle.law.specs.Machine.{Store}
 use Rattle.law.specs.Marking.{mark_arguments, mark_expr, wanted}
 use Rattle.law.specs.Names.{exprs_of}
 use Rattle.law.specs.Script.{Expr, Exprs, nil, ◌and◌}
 use Rattle.law.specs.Syntax as Syntax
-use Rattle.law.specs.Trees.{Trees, end, ◌then◌, Run, first}
+use Rattle.law.specs.Trees.{Trees, end, Run, first}
 use Rattle.law_theorems.specs.Readings.{stack_at}
 use Rattle.law.specs.Types.{host_of}
 use Rattle.law_theorems.proofs.Inversion.{some_inj, bind-some}
@@ -39,7 +39,6 @@ use Rattle.text_parts.specs.Parts.{Shuts}
 use Rattle.text_skips.specs.Skips.{Skips}
 use Rattle.table_scope.specs.declared.Scope.{Scope}
 use Rattle.table_scope.specs.declared.frames.Frame.{Frame}
-use Rattle.mark_steps.specs.Stands.{Stands}
 use Rattle.mark_cells.specs.Cells.{Gives, Forgets}
 use Rattle.mark_cells.proofs.Stored.{given-stands}
 use Rattle.mark_values.specs.declared.values.Carried.{Carried}
@@ -52,7 +51,7 @@ use Rattle.mark_expressions.proofs.Inverting.{past-expr}
 use Rattle.mark_expressions.proofs.Gathering.{exprs-parts, exprs-end, value_there, broken-there, through, broken-through}
 use Rattle.mark_acts.specs.declared.arguments.Gathered.{Gathered}
 use Rattle.mark_acts.specs.declared.arguments.Gathered.TheVariants as gathered
-use Rattle.mark_acts.specs.Arguments.{Lists, arguments_of, InWords, GatheredBy, Given, Passed, returns, TakesBack, Argues, Gathers, Passes}
+use Rattle.mark_acts.specs.Arguments.{Lists, arguments_of, InWords, returns, TakesBack, Argues, Gathers, Passes}
 
 -- ---- `argued`
 

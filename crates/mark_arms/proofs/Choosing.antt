@@ -12,7 +12,6 @@ use mir.Facts.{to_z-of_z}
 use Rattle.leaf_integers.proofs.Machine.{wire}
 use Rattle.leaf_words.specs.declared.words.Word.{Word}
 use Rattle.law.specs.Base.{each}
-use Rattle.law.specs.Calculate.{is}
 use Rattle.law.specs.Environment.{Environment}
 use Rattle.law.specs.Forms.{is_arm, is_else}
 use Rattle.law.specs.Machine.{Answer, State, Procs, with_result, branch}
@@ -20,7 +19,7 @@ use Rattle.law.specs.Marking.{mark_labels, mark_arms, mark_stmt}
 use Rattle.law.specs.Names.{constant_of, stmt_of, arms_of}
 use Rattle.law.specs.Script as Script
 use Rattle.law.specs.Script.{Const}
-use Rattle.law.specs.Syntax.{Constant, Stmt, Arms, arm, else_arm, no_else}
+use Rattle.law.specs.Syntax.{Constant, Stmt, Arms, else_arm, no_else}
 use Rattle.law.specs.Trees.{Tree, word, form, Trees, end, ◌then◌, Run, first, later, word_at}
 use Rattle.law_theorems.specs.Readings.{stack_at}
 use Rattle.law_theorems.proofs.Inversion.{none-some, some_inj, bind-some}

@@ -16,7 +16,7 @@ use Rattle.leaf_integers.specs.Integers.{inside, is_zero}
 use Rattle.leaf_integers.proofs.Order.{le-or-lt}
 use Rattle.law.specs.Base.{pick}
 use Rattle.law.specs.Calculate.{Result, is, fails, stuck, nat_of, system_error}
-use Rattle.law.specs.Machine.{Store, state, Answer, answer, normal, spent, raised, raising, noting, read_cell, store_cells, branch, pass_on, raise_number}
+use Rattle.law.specs.Machine.{Store, state, answer, normal, spent, raised, raising, noting, read_cell, store_cells, branch, pass_on, raise_number}
 use Rattle.code_calc.specs.Words.{greatest, fault_base, InRange, Ranged, word_of, Means, latest_at, latest_in, place_at, store_word, store_words, undefined_word}
 use Rattle.code_calc.proofs.Ranging.{range-value, above-fault, small-fault}
 use Rattle.mark_steps.proofs.Noting.{fault-back}

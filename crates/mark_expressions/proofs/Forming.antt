@@ -13,7 +13,6 @@ use mir.Val.{SFits}
 use mir.Facts.{to_z-of_z}
 use Rattle.leaf_integers.proofs.Machine.{wire}
 use Rattle.leaf_bytes.specs.Bytes.{small}
-use Rattle.law.specs.Base.{Name}
 use Rattle.law.specs.Environment.{Environment}
 use Rattle.law.specs.Machine.{Store}
 use Rattle.law.specs.Marking.{mark_expr, mark_target, mark_members}

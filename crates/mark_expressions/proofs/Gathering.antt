@@ -19,7 +19,7 @@ use Rattle.law.specs.Environment.{Environment}
 use Rattle.law.specs.Machine.{Store}
 use Rattle.law.specs.Marking.{wanted, mark_expr, mark_members}
 use Rattle.law.specs.Names.{exprs_of}
-use Rattle.law.specs.Script.{Expr, Exprs, nil, ◌and◌}
+use Rattle.law.specs.Script.{Expr, Exprs, nil}
 use Rattle.law.specs.Syntax as Syntax
 use Rattle.law.specs.Trees.{Trees, end, ◌then◌, Run, first}
 use Rattle.law_theorems.specs.Readings.{stack_at}

@@ -9,7 +9,7 @@ use lib.IntN.{ℤ}
 use Rattle.leaf_words.specs.declared.words.Word.{Word}
 use Rattle.leaf_words.specs.Words.{word_of}
 use Rattle.law.specs.Base.{◌>>=◌}
-use Rattle.law.specs.Trees.{word, form, Trees, end, ◌then◌, Run, first, later, word_at}
+use Rattle.law.specs.Trees.{form, Trees, end, ◌then◌, Run, first, later, word_at}
 use Rattle.law_theorems.specs.Readings.{stack_at}
 use Rattle.text_heads.specs.declared.ExprHead.{ExprHead}
 use Rattle.text_heads.specs.declared.ExprHead.TheVariants as EH

@@ -20,8 +20,8 @@ use Rattle.law.specs.Environment.{Environment, NameSort, a_var, a_value}
 use Rattle.law.specs.Machine.{Store}
 use Rattle.law.specs.Marking.{typed_place, mark_expr, mark_target}
 use Rattle.law.specs.Names.{as_expr, as_var, const_of, expr_of, target_of, var_of, type_of, atom_of as atom_meant}
-use Rattle.law.specs.Script.{Expr, const, read, error_number, var}
-use Rattle.rule_stages.specs.Stages.{staged, named, ruled, fits}
+use Rattle.law.specs.Script.{const, read, error_number, var}
+use Rattle.rule_stages.specs.Stages.{staged, named, ruled}
 use Rattle.law.specs.Syntax as Syntax
 use Rattle.law.specs.Trees.{first, word_at}
 use Rattle.law_theorems.specs.Readings.{stack_at}

@@ -2,7 +2,7 @@
 use mathlib.Core.Path.{◌≡◌, refl, sym, ap, subst, ◌∙◌}
 use mathlib.Core.Bool.{Bool, true, false}
 use mathlib.Core.List.{List}
-use mathlib.Core.Option.{Option, none, some}
+use mathlib.Core.Option.{none, some}
 use Prim.Native.Nat.{ℕ, zero, suc, ◌+◌, ◌-◌, ◌<◌, ◌≤◌}
 use native.Mathlib.Omega.{arith}
 use borrow.Author.Rules.{sfits_of}
@@ -27,11 +27,11 @@ use Rattle.law.specs.Syntax.{Stmt}
 use Rattle.law.specs.Trees.{word, form, Trees, end, ◌then◌, Run, first, later, word_at}
 use Rattle.law_theorems.specs.Readings.{stack_at}
 use Rattle.law.specs.Types.{ordinal?}
-use Rattle.law_theorems.proofs.Inversion.{none-some, some_inj, bind-some}
+use Rattle.law_theorems.proofs.Inversion.{none-some, some_inj}
 use Rattle.text_heads.specs.declared.Verb.{Verb}
 use Rattle.text_heads.specs.declared.Verb.TheVariants as VB
 use Rattle.text_heads.specs.Heads.{verb_of}
-use Rattle.text_heads.specs.Parts.{part_of, rest, expr_in, stmt_in, stmts_in, else_in, arms_in}
+use Rattle.text_heads.specs.Parts.{part_of, rest, expr_in, stmt_in, else_in, arms_in}
 use Rattle.text_heads.proofs.Expressions.{expr-end}
 use Rattle.text_heads.proofs.Statements.{stmt-end, stmt-zero, stmt-word, stmt-empty, stmt-headless}
 use Rattle.text_parts.specs.declared.End.{End}
@@ -56,13 +56,13 @@ use Rattle.mark_values.proofs.Carrying.{view-broken, view-value, carried-broken,
 use Rattle.mark_expressions.proofs.Inverting.{last-part}
 use Rattle.mark_arms.specs.declared.Arm.{Arm}
 use Rattle.mark_arms.specs.declared.Arm.TheVariants as chosen
-use Rattle.mark_arms.specs.Arms.{ArmsLeft, StmtLeft, RaisesCase, Sticks, ChoosesBy, Chooses}
+use Rattle.mark_arms.specs.Arms.{StmtLeft, RaisesCase, Sticks, ChoosesBy, Chooses}
 use Rattle.mark_acts.specs.Ends.{stuck_word, MarkEnds, MarkRuns, Halts}
 use Rattle.mark_acts.specs.Acts.{Assigns, Raising, Conditions, Selects}
 use Rattle.mark_acts.proofs.Ending.{normal-marks, raising-marks, stuck-marks, stuck-fewer, halts-ends, goes_on}
 use Rattle.mark_acts.proofs.Shapes.{case-shape}
 use Rattle.table_bodies.specs.Procedures.{procs_of}
-use Rattle.mark_statements.specs.Marks.{Found, FoundAll, FoundExpr, Setting, machine, machines, testing, MarksStmt, MarksInner, MarksVerb, MarksElse, MarksWhile, MarksStmts}
+use Rattle.mark_statements.specs.Marks.{Found, FoundExpr, Setting, machine, machines, testing, MarksStmt, MarksInner, MarksVerb, MarksElse, MarksWhile, MarksStmts}
 use Rattle.mark_statements.proofs.Founding.{found_as, assign-found, raise-found, begin-found, while-found, if-found, case-found, found-spent, stmt-higher, past}
 use Rattle.mark_statements.proofs.Machines.{step-spends, step-takes}
 use Rattle.table_scope.specs.declared.Scope.{Scope}

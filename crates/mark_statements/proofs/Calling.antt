@@ -1,10 +1,10 @@
 -- The ways through calls.
 use mathlib.Core.Path.{◌≡◌, refl, sym, ap, subst, ◌∙◌}
 use mathlib.Core.Bool.{true, false}
-use mathlib.Core.List.{List, map}
+use mathlib.Core.List.{List}
 use mathlib.Core.Logic.{◌⊎◌, inl, inr}
 use mathlib.Core.Option.{Option, none, some}
-use Prim.Native.Nat.{ℕ, suc, ◌-◌, ◌<◌, ◌≤◌}
+use Prim.Native.Nat.{ℕ, ◌-◌, ◌<◌, ◌≤◌}
 use native.Mathlib.Omega.{arith}
 use borrow.Author.Rules.{sfits_of}
 use borrow.Author.Tests.{lt-ltb, le-ltb}
@@ -20,9 +20,9 @@ use Rattle.leaf_integers.proofs.Order.{le-or-lt}
 use Rattle.law.specs.Base as Base
 use Rattle.law.specs.Base.{Name}
 use Rattle.law.specs.Calculate.{Result}
-use Rattle.law.specs.Code.{Frame, Want, frame}
-use Rattle.law.specs.Environment.{Environment, NameSort, a_type, a_var, a_proc, a_value, want_of}
-use Rattle.law.specs.Machine.{Store, State, state, Answer, answer, Outcome, normal, spent, sticks, raised, Proc, proc, procedure_at, entered, forgotten, returned, returning, stored, with_result}
+use Rattle.law.specs.Code.{Frame, Want}
+use Rattle.law.specs.Environment.{NameSort, a_type, a_var, a_proc, a_value}
+use Rattle.law.specs.Machine.{Store, State, state, Answer, answer, Outcome, normal, spent, sticks, raised, Proc, procedure_at, entered, forgotten, returned, returning, stored, with_result}
 use Rattle.law.specs.Marking.{mark_arguments, mark_stmt}
 use Rattle.law.specs.Names as Names
 use Rattle.law.specs.Script as Script
@@ -33,10 +33,10 @@ use Rattle.law_theorems.proofs.Inversion.{none-some, some_inj}
 use Rattle.law_theorems.proofs.LinesKeep.{proc-in}
 use Rattle.code_calc.specs.Words.{greatest, latest_at, latest_in, place_at}
 use Rattle.text_heads.specs.declared.Verb.TheVariants as VB
-use Rattle.text_heads.specs.Parts.{rest, exprs_in}
+use Rattle.text_heads.specs.Parts.{exprs_in}
 use Rattle.table_scope.specs.declared.Scope.{Scope}
 use Rattle.table_scope.specs.declared.frames.Frame as Listed
-use Rattle.table_scope.specs.Frames.{frame_in, TellsFrame}
+use Rattle.table_scope.specs.Frames.{TellsFrame}
 use Rattle.table_bodies.specs.Procedures.{procs_of}
 use Rattle.table_bodies.specs.Table.{NodeStands}
 use Rattle.table_bodies.proofs.Calling.{called, procedure-is}
@@ -45,14 +45,13 @@ use Rattle.mark_steps.specs.Stands.{Stands, after}
 use Rattle.mark_cells.specs.Cells.{Forgets}
 use Rattle.mark_cells.proofs.Ending.{left-most}
 use Rattle.mark_cells.proofs.Stored.{forgotten-stands}
-use Rattle.mark_values.specs.Values.{Known}
 use Rattle.mark_acts.specs.Arguments.{Lists, arguments_of, Given, Passed, Passes, returns, TakesBack}
-use Rattle.mark_acts.specs.Ends.{mark_told, MarkEnds, MarkRuns, Halts}
+use Rattle.mark_acts.specs.Ends.{mark_told, MarkEnds, Halts}
 use Rattle.mark_acts.proofs.Arguing.{returns-normal, returns-spent, returns-raised}
 use Rattle.mark_acts.proofs.Ending.{halts-ends, goes_on}
 use Rattle.mark_statements.specs.declared.finding.Callee.{Callee}
 use Rattle.mark_statements.specs.Finding.{callee_at, CalleeIs, Calls}
-use Rattle.mark_statements.specs.Marks.{Found, Setting, machine, MarksVerb, MarksBody}
+use Rattle.mark_statements.specs.Marks.{Setting, machine, MarksVerb, MarksBody}
 use Rattle.mark_statements.proofs.Branching.{known}
 use Rattle.mark_statements.proofs.Founding.{call-found}
 use Rattle.mark_statements.proofs.Machines.{mark-normal, mark-spent, mark-raised, mark-sticks}

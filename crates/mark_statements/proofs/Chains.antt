@@ -3,7 +3,7 @@ use mathlib.Core.Path.{◌≡◌, refl, sym, ap, subst, ◌∙◌}
 use mathlib.Core.Bool.{Bool, true, false}
 use mathlib.Core.List.{List}
 use mathlib.Core.Option.{Option, none, some}
-use Prim.Native.Nat.{ℕ, suc, ◌+◌, ◌<◌, ◌≤◌}
+use Prim.Native.Nat.{ℕ, ◌+◌, ◌<◌, ◌≤◌}
 use native.Mathlib.Omega.{arith}
 use lib.Dec.{ltb}
 use lib.IntN.{ℤ}
@@ -16,11 +16,11 @@ use Rattle.law.specs.Script as Script
 use Rattle.law.specs.Syntax.{Body, Stmt, Stmts, done, ◌next◌}
 use Rattle.law.specs.Trees.{Tree, word, form, Trees, end, ◌then◌, Run, first, later}
 use Rattle.law_theorems.specs.Readings.{stack_at}
-use Rattle.law_theorems.proofs.Inversion.{none-some, some_inj, bind-some}
+use Rattle.law_theorems.proofs.Inversion.{some_inj, bind-some}
 use Rattle.text_heads.specs.Parts.{rest, stmt_in, stmts_in, body_in, handler_in}
 use Rattle.text_parts.specs.declared.End.{End}
 use Rattle.text_parts.specs.declared.End.TheVariants as ending
-use Rattle.text_parts.specs.Parts.{Before, Shuts}
+use Rattle.text_parts.specs.Parts.{Shuts}
 use Rattle.rule_stmt_nodes.specs.declared.last.Next.{Next}
 use Rattle.rule_stmt_nodes.specs.declared.last.Next.TheVariants as following
 use Rattle.rule_stmt_nodes.specs.Handlers.{Comes, HandlerAt, PlainAt}

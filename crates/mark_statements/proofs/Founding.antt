@@ -8,24 +8,24 @@ use Rattle.leaf_words.specs.Words.{word_of}
 use Rattle.law.specs.Base.{Name, ◌>>=◌, find}
 use Rattle.law.specs.Environment.{Environment}
 use Rattle.law.specs.Forms.{arms_first}
-use Rattle.law.specs.Machine.{Store, State, state, Answer, answer, spent, Procs}
+use Rattle.law.specs.Machine.{Store, state, Answer, answer, spent, Procs}
 use Rattle.law.specs.Marking.{mark_stmt}
 use Rattle.law.specs.Names as Names
 use Rattle.law.specs.Names.{as_proc, expr_of, exprs_of, target_of, var_of, stmt_of, stmts_of, arms_of}
 use Rattle.law.specs.Script as Script
 use Rattle.law.specs.Syntax as Syntax
 use Rattle.law.specs.Syntax.{Stmt, Stmts, Arms, arm, else_arm, no_else}
-use Rattle.law.specs.Trees.{Tree, word, form, Trees, end, ◌then◌, Run, first}
+use Rattle.law.specs.Trees.{word, form, Trees, end, ◌then◌, Run, first}
 use Rattle.law_theorems.specs.Readings.{stack_at}
 use Rattle.law.specs.Types.{Types, Vars}
 use Rattle.law_theorems.proofs.Inversion.{none-some, some_inj, bind-some}
 use Rattle.text_heads.specs.declared.Verb.{Verb}
 use Rattle.text_heads.specs.declared.Verb.TheVariants as VB
 use Rattle.text_heads.specs.Heads.{verb_of}
-use Rattle.text_heads.specs.Parts.{part_of, rest, closed, expr_in, exprs_in, target_in, name_in, stmt_in, stmts_in, else_in, arms_in}
+use Rattle.text_heads.specs.Parts.{rest, expr_in, exprs_in, target_in, name_in, stmt_in, stmts_in, else_in, arms_in}
 use Rattle.text_skips.specs.Skips.{Skips}
 use Rattle.mark_counts.specs.Statements.{one_for, head_verbs, verbs, verbs_in}
-use Rattle.mark_counts.proofs.Numbers.{stmt-number, stmts-number, else-number, arms-number}
+use Rattle.mark_counts.proofs.Numbers.{stmt-number, else-number}
 use Rattle.rule_statements.specs.Walks.{verb_in, for_in}
 use Rattle.rule_statements.proofs.Shapes as Shapes
 use Rattle.mark_expressions.proofs.Inverting.{last-part}

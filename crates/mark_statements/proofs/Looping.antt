@@ -3,7 +3,7 @@ use mathlib.Core.Path.{◌≡◌, refl, sym, ap, subst, ◌∙◌}
 use mathlib.Core.Bool.{Bool, true, false, ◌&&◌}
 use mathlib.Core.List.{List, [], ◌∷◌}
 use mathlib.Core.Option.{none, some}
-use Prim.Native.Nat.{ℕ, suc, ◌-◌, ◌<◌, ◌≤◌, min}
+use Prim.Native.Nat.{ℕ, suc, ◌-◌, ◌<◌, ◌≤◌}
 use native.Mathlib.Omega.{arith}
 use borrow.Author.Rules.{sfits_of}
 use lib.IntN.{ℤ, pos, negsuc, ◌-ℤ◌, suc_ℤ}
@@ -15,7 +15,7 @@ use Rattle.leaf_integers.specs.Integers.{inside}
 use Rattle.leaf_integers.proofs.Machine.{wire}
 use Rattle.leaf_integers.proofs.Order.{le_not, not-le}
 use Rattle.law.specs.Base.{Name, pick, ◌>>=◌}
-use Rattle.law.specs.Calculate.{Result, is, is_true, nat_of, range_error}
+use Rattle.law.specs.Calculate.{Result, is_true, nat_of, range_error}
 use Rattle.law.specs.Machine.{Store, State, state, Answer, answer, normal, spent, and_then, branch, count_up, ended, for_rounds, forgotten, raising, stored, while_rounds, with_result, no_round, outside, planned, rounds}
 use Rattle.law.specs.Script as Script
 use Rattle.law.specs.Syntax.{Expr}
@@ -39,7 +39,7 @@ use Rattle.mark_acts.specs.declared.bounds.Span.TheVariants as span
 use Rattle.mark_acts.specs.Acts.{Conditions}
 use Rattle.mark_acts.specs.Bounds.{Counted, counted, SpanIs, Bounding}
 use Rattle.mark_acts.specs.Ends.{MarkEnds, MarkRuns, Halts}
-use Rattle.mark_acts.proofs.Ending.{normal-marks, raising-marks, halts-ends, goes_on}
+use Rattle.mark_acts.proofs.Ending.{normal-marks, raising-marks, halts-ends}
 use Rattle.mark_acts.proofs.Shapes.{for-shape}
 use Rattle.table_bodies.specs.Procedures.{procs_of}
 use Rattle.mark_statements.specs.declared.finding.Plan.{Plan}

@@ -19,7 +19,7 @@ use Rattle.law.specs.Forms.{free}
 use Rattle.law.specs.Machine as Machine
 use Rattle.law.specs.Machine.{planned}
 use Rattle.law.specs.Names.{as_proc}
-use Rattle.law.specs.Syntax.{Body, Stmt, Stmts}
+use Rattle.law.specs.Syntax.{Body, Stmts}
 use Rattle.law.specs.Trees.{word, form, Trees, end, ◌then◌, Run, first, later, word_at}
 use Rattle.law_theorems.specs.Readings.{stack_at}
 use Rattle.law_theorems.proofs.Inversion.{none-some, some_inj}
@@ -39,7 +39,6 @@ use Rattle.table_scope.specs.declared.frames.Frame as Scoped
 use Rattle.table_scope.specs.Frames.{frame_in}
 use Rattle.table_scope.specs.declared.Scope.{Scope}
 use Rattle.table_scope.specs.declared.Meaning.{Meaning}
-use Rattle.table_scope.specs.declared.Meaning.TheVariants as meaning
 use Rattle.table_scope.specs.Scene.{Told, unknown, known, a-type, a-var, a-proc, a-value, meaning_here}
 use Rattle.table_scope.proofs.Telling.{meant}
 use Rattle.rule_stmt_nodes.specs.declared.last.Next.{Next}
@@ -53,14 +52,13 @@ use Rattle.rule_expressions.specs.Members.{many}
 use Rattle.mark_acts.specs.declared.bounds.Span.{Span}
 use Rattle.mark_acts.specs.declared.bounds.Span.TheVariants as span
 use Rattle.mark_statements.specs.declared.finding.Callee.{Callee}
-use Rattle.mark_statements.specs.declared.finding.Handler.{Handler}
 use Rattle.mark_statements.specs.declared.finding.Handler.TheVariants as handler
 use Rattle.mark_steps.specs.declared.turns.Plan as Steps
 use Rattle.mark_steps.specs.declared.turns.Plan.TheVariants as steps
 use Rattle.mark_steps.specs.Turns.{Plans, plan_from}
 use Rattle.mark_statements.specs.declared.finding.Plan.{Plan}
 use Rattle.mark_statements.specs.declared.finding.Plan.TheVariants as plan
-use Rattle.mark_statements.specs.Finding.{line_of, proc_in, callee_at, CalleeIs, Calls, HandlesBy, Handles, plan_as, plan_of, plan_by}
+use Rattle.mark_statements.specs.Finding.{line_of, proc_in, callee_at, Calls, HandlesBy, Handles, plan_as, plan_of, plan_by}
 
 -- ---- `line_of`
 pub line-is : (tb : List ℕ) (q a b c d e f g h : ℕ) → a ≡ get_or tb (8 * q) 0 → b ≡ get_or tb (8 * q + 1) 0 → c ≡ get_or tb (8 * q + 2) 0 → d ≡ get_or tb (8 * q + 3) 0 → e ≡ get_or tb (8 * q + 4) 0

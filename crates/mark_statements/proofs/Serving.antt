@@ -1,10 +1,10 @@
 -- The ways through bodies: their statements, their handler, and their line in the table.
 use mathlib.Core.Path.{◌≡◌, refl, sym, ap, subst, ◌∙◌}
-use mathlib.Core.Bool.{Bool, true, false}
+use mathlib.Core.Bool.{true}
 use mathlib.Core.List.{List, []}
 use mathlib.Core.Logic.{inl, inr}
 use mathlib.Core.Option.{some}
-use Prim.Native.Nat.{ℕ, suc, ◌+◌, ◌*◌, ◌<◌, ◌≤◌}
+use Prim.Native.Nat.{ℕ, suc, ◌<◌, ◌≤◌}
 use native.Mathlib.Omega.{arith}
 use lib.IntN.{ℤ}
 use lib.ListN.{length, get_or, replicate, take}
@@ -14,7 +14,7 @@ use Rattle.law.specs.Machine.{Store, State, state, Answer, handled}
 use Rattle.law.specs.Marking.{mark_stmts}
 use Rattle.law.specs.Names.{body_of, stmts_of}
 use Rattle.law.specs.Script as Script
-use Rattle.law.specs.Syntax.{Body, Stmts}
+use Rattle.law.specs.Syntax.{Body}
 use Rattle.law.specs.Trees.{first}
 use Rattle.law_theorems.specs.Readings.{stack_at}
 use Rattle.law.specs.Types.{Types, Vars}
@@ -23,7 +23,6 @@ use Rattle.law_theorems.proofs.Inversion.{some_inj, bind-some}
 use Rattle.text_heads.specs.Parts.{stmts_in, body_in}
 use Rattle.mark_steps.specs.Ends.{left_in}
 use Rattle.mark_steps.specs.Stands.{Stands}
-use Rattle.mark_cells.proofs.Ending.{left-most}
 use Rattle.mark_acts.specs.Ends.{MarkEnds, MarkRuns}
 use Rattle.table_bodies.specs.Procedures.{procs_of}
 use Rattle.table_bodies.specs.Table.{most_types, clip, Clips, offset_of, scope_of, stmts_before, types_of, BodyStands, AllStand}

@@ -17,7 +17,6 @@ use Rattle.law.specs.Base.{pick}
 use Rattle.law.specs.Calculate.{nat_of}
 use Rattle.law.specs.Machine as Machine
 use Rattle.law.specs.Machine.{planned}
-use Rattle.mark_steps.specs.declared.turns.Plan.{Plan}
 use Rattle.mark_steps.specs.declared.turns.Plan.TheVariants.{NoRound, Outside, Rounds}
 use Rattle.mark_steps.specs.Turns.{Increments, Plans}
 

@@ -2,22 +2,20 @@
 use mathlib.Core.Path.{◌≡◌, refl, sym, ap, subst, ◌∙◌}
 use mathlib.Core.Bool.{Bool, true, false}
 use mathlib.Core.List.{List}
-use Prim.Native.Nat.{ℕ, zero, suc, ◌+◌, ◌-◌, ◌%◌, ◌<◌, ◌≤◌}
+use Prim.Native.Nat.{ℕ, zero, suc, ◌+◌, ◌-◌, ◌%◌, ◌<◌}
 use native.Mathlib.Omega.{arith}
 use lib.IntN.{ℤ, pos, negsuc, ◌+ℤ◌, ◌-ℤ◌}
 use lib.ListN.{get_or, set}
 use lib.Signed.{lt_z}
-use lib.Dec.{eqb, T}
+use lib.Dec.{T}
 use mir.Syntax.{w32, w64}
 use mir.Val.{SFits, Fits, to_z, of_z}
 use mir.Facts.{to_z-of_z, to_z_pos}
-use borrow.Author.Rules.{sfits_of}
 use borrow.Author.Tests.{lt-ltb, eq-eqb, ne_eqb}
 use Rattle.leaf_integers.specs.Integers.{is_zero}
 use Rattle.leaf_integers.proofs.Machine.{wire, low, high, zero_bits, fits-between}
 use Rattle.leaf_integers.proofs.Order.{lt-le, lt-moved, moved-lt}
 use Rattle.law.specs.Base.{pick}
-use Rattle.law.specs.Calculate.{system_error}
 use Rattle.code_calc.specs.Words.{greatest, fault_base, latest_at, place_at, latest_in, Exceptional}
 use Rattle.code_calc.proofs.Ranging.{above-fault, back-fault}
 use Rattle.mark_steps.specs.Ends.{left_in, step_word, raised_word, fault_in, noted_in, number_in, Raises, RaisesNumber}

@@ -6,7 +6,7 @@ use Prim.Native.Nat.{ℕ, min}
 use native.Mathlib.Omega.{arith}
 use borrow.Author.Tests.{eq-eqb, ne_eqb}
 use borrow.Author.Rules.{sfits_of}
-use lib.IntN.{ℤ, pos, ◌+ℤ◌}
+use lib.IntN.{ℤ, pos}
 use lib.Signed.{lt_z}
 use mir.Syntax.{w64}
 use mir.Val.{SFits}
@@ -16,7 +16,7 @@ use Rattle.law.specs.Calculate.{Result, is, fails, stuck, ◌>>=◌}
 use Rattle.law.specs.Machine.{Store, read_cells, sole, one_cell}
 use Rattle.law.specs.Marking.{TypedValue, TypedPlace, typed_value, typed_as, wanted}
 use Rattle.law.specs.Types.{Types, size_of}
-use Rattle.code_calc.specs.Words.{no_result, greatest, fault_base, word_of, InRange, Ranged, Means}
+use Rattle.code_calc.specs.Words.{no_result, greatest, word_of, InRange, Ranged, Means}
 use Rattle.code_calc.proofs.Ranging.{range-value, above-fault}
 use Rattle.mark_values.specs.declared.values.Carried.{Carried}
 use Rattle.mark_values.specs.Values.{carried_of, reached_of, MarkRanged, MarkMeans, simple?, Carries, Reaches}

@@ -12,7 +12,7 @@ use lib.Signed.{lt_z}
 use mir.Syntax.{w64}
 use mir.Val.{SFits}
 use mir.Facts.{to_z-of_z}
-use Rattle.leaf_integers.specs.Integers.{inside, least, most, exact, ranged}
+use Rattle.leaf_integers.specs.Integers.{inside, least, most, exact}
 use Rattle.leaf_integers.specs.declared.Fault.{Fault}
 use Rattle.leaf_integers.specs.declared.Num.{Num}
 use Rattle.leaf_integers.specs.declared.Num.TheVariants.{Value, Failed}

@@ -8,7 +8,6 @@ use native.Mathlib.Omega.{arith}
 use lib.ListN.{length, get_or, set, drop, drop_of_length-le}
 use lib.Seq as Seq
 use Rattle.leaf_integers.proofs.Order.{le-or-lt}
-use Rattle.law.specs.Trees.{word_at}
 use Rattle.law_theorems.specs.Readings.{ended, read_bytes, stack_at, rest_at}
 use Rattle.code.proofs.LayoutRegions.{sets-at, sets_below}
 use Rattle.table_scope.specs.declared.Scope.{Scope}

@@ -1,6 +1,5 @@
 -- How many cells an accepted text has, and the variable of each (law, Environment: `cells`, `owners`).
 use Rattle.std.specs.Prelude.{cond, List, ◌≡◌, ℕ, ◌<◌, eqb, length, drop, get_or}
-use Rattle.law.specs.Verdict as Meaning
 use Rattle.law_answers.specs.declared.Counted.{Counted}
 use Rattle.law_answers.specs.declared.Counted.TheVariants.{Refused, Cells}
 use Rattle.rule_declarations.specs.declared.State.{State}

@@ -32,7 +32,7 @@ use Rattle.law.specs.Syntax as Syntax
 use Rattle.law.specs.Syntax.{Constant, TypeName}
 use Rattle.law.specs.Trees.{word, form, Trees, end, ◌then◌, Run, list}
 use Rattle.law.specs.Types.{info_at, ordinal?}
-use Rattle.law.specs.Words.{Word, worded_all}
+use Rattle.law.specs.Words.{worded_all}
 use Rattle.law_theorems.proofs.Inversion.{none-some, some_inj, bind-some, and-true}
 use Rattle.law_theorems.proofs.LinesKeep.{find-fair}
 use Rattle.law_theorems.specs.LinesKeep.{Fair, value, AllFair}

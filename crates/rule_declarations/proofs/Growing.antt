@@ -9,7 +9,6 @@ use Rattle.law.specs.Base.{Name}
 use Rattle.law.specs.Environment.{Declared, Environment, NameSort}
 use Rattle.code.specs.Layout.{lay}
 use Rattle.law.specs.Trees.{word_at}
-use Rattle.law.specs.Types.{variable}
 use Rattle.code.proofs.LayoutRegions.{lay-g}
 use Rattle.code.specs.LayoutRegions.{Same, Room}
 use Rattle.table_names.specs.Keys.{keyed}

@@ -9,7 +9,7 @@ use native.Mathlib.Omega.{arith}
 use borrow.Author.Tests.{le-leb, lt-leb, leb-true, leb-false}
 use lib.Dec.{leb}
 use lib.ListN.{length, length-append}
-use Rattle.leaf_bytes.specs.Bytes.{small, same}
+use Rattle.leaf_bytes.specs.Bytes.{small}
 use Rattle.law.specs.Base.{Name, ◌>>=◌, find, given}
 use Rattle.law.specs.Ceilings.{cells_in, line_bounded, variables_in}
 use Rattle.law.specs.Environment.{Declared, Environment, NameSort, a_proc, a_var, a_value, declare_line}
@@ -27,7 +27,7 @@ use Rattle.law.specs.Trees.{Trees, end, ◌then◌, Run, first, list, word_at}
 use Rattle.law_theorems.specs.Readings.{stack_at}
 use Rattle.law.specs.Types.{Var, Vars, variable, size_of}
 use Rattle.law.specs.Words.{Word, worded_all}
-use Rattle.law_theorems.proofs.Inversion.{none-some, some_inj, and-true}
+use Rattle.law_theorems.proofs.Inversion.{none-some, and-true}
 use Rattle.code.proofs.LayoutRegions.{lay-g, lay-l}
 use Rattle.code.specs.LayoutRegions.{Same, Room}
 use Rattle.law_theorems.proofs.LinesKeep.{line-keeps}

@@ -14,14 +14,14 @@ use Rattle.law_theorems.specs.Readings.{stack_at}
 use Rattle.text_heads.specs.declared.Atom.{Atom}
 use Rattle.text_heads.specs.declared.Atom.TheVariants as AT
 use Rattle.text_heads.specs.Heads.{atom_of, atom_name}
-use Rattle.text_heads.specs.Parts.{rest, closed, name_in, part_of}
+use Rattle.text_heads.specs.Parts.{closed, name_in, part_of}
 use Rattle.text_heads.proofs.Heads.{name-word}
 use Rattle.text_heads.proofs.Expressions.{name-form}
 use Rattle.text_parts.specs.declared.Part.{Part}
 use Rattle.text_parts.specs.declared.Part.TheVariants as part
 use Rattle.text_parts.specs.declared.End.{End}
 use Rattle.text_parts.specs.declared.End.TheVariants as ending
-use Rattle.text_parts.specs.Parts.{ShutAt, Stands, Shuts}
+use Rattle.text_parts.specs.Parts.{Stands, Shuts}
 use Rattle.rule_expr_leaves.specs.declared.fields.Sole.{Sole}
 use Rattle.rule_expr_leaves.specs.declared.fields.Sole.TheVariants as sole
 use Rattle.rule_expr_leaves.specs.Fields.{is_named, SoleWord, SoleName}

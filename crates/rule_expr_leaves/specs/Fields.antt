@@ -1,6 +1,6 @@
 -- A name that is the last part of a form.
 use Rattle.std.specs.Prelude.{Bool, true, false, List, map, ◌≡◌, ℕ}
-use Rattle.std.proofs.Math.Option.{Option, none, some}
+use Rattle.std.proofs.Math.Option.{none, some}
 use Rattle.leaf_words.specs.declared.words.Word.{Word}
 use Rattle.leaf_bytes.specs.Bytes.{small}
 use Rattle.law.specs.Base.{◌>>=◌}

@@ -17,7 +17,7 @@ use Rattle.rule_faults.specs.declared.Fault.{Fault}
 use Rattle.rule_faults.specs.declared.Fault.TheVariants.{Clear, Kind, Name, Form}
 use Rattle.rule_faults.specs.declared.Got.{Got}
 use Rattle.rule_faults.specs.Got.{lowest, is_form, fault_of, failed_got, past_bracket, Told}
-use Rattle.text_parts.specs.Parts.{Before, ShutAt}
+use Rattle.text_parts.specs.Parts.{Before}
 use Rattle.rule_expr_nodes.specs.Bracket.{Closes, shut, more}
 use Rattle.rule_expr_nodes.specs.Nodes.{Made, Makes, failed_made, node_made, if_clear}
 use Rattle.rule_expressions.specs.Walks.{Moves, Leaves}

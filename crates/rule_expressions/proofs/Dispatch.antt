@@ -1,21 +1,19 @@
 -- The walk's ways from a part to its form, its head word, and the parts after that.
-use mathlib.Core.Path.{◌≡◌, refl, sym, ap, ◌∙◌}
-use mathlib.Core.Bool.{Bool, true, false, true≢false}
-use mathlib.Core.List.{List, map}
-use mathlib.Core.Option.{Option, none, some}
+use mathlib.Core.Path.{◌≡◌, refl, ap, ◌∙◌}
+use mathlib.Core.Bool.{Bool, true≢false}
+use mathlib.Core.List.{List}
+use mathlib.Core.Option.{none}
 use Prim.Native.Nat.{ℕ, zero, suc, ◌-◌, ◌<◌, ◌≤◌}
 use native.Mathlib.Omega.{arith}
 use Rattle.leaf_words.specs.declared.words.Word.{Word}
 use Rattle.leaf_words.specs.Words.{word_of}
 use Rattle.law.specs.Base.{◌>>=◌}
-use Rattle.law.specs.Environment.{Environment}
-use Rattle.law.specs.Syntax as Syntax
 use Rattle.law.specs.Trees.{word, form, Trees, end, ◌then◌, Run, first, later, word_at}
 use Rattle.law_theorems.specs.Readings.{stack_at}
 use Rattle.text_heads.specs.declared.ExprHead.{ExprHead}
 use Rattle.text_heads.specs.declared.ExprHead.TheVariants as EH
-use Rattle.text_heads.specs.Heads.{expr_head_of, atom_expr, atom_target, atom_of}
-use Rattle.text_heads.specs.Parts.{rest, expr_in, target_in, target_by, part_of}
+use Rattle.text_heads.specs.Heads.{expr_head_of}
+use Rattle.text_heads.specs.Parts.{expr_in, target_in, target_by, part_of}
 use Rattle.text_heads.proofs.Heads.{expr-head-is, expr-word, target-word}
 use Rattle.text_heads.proofs.Expressions.{expr-form, expr-end, expr-zero, expr-empty, expr-headless, target-form, target-end, target-zero, target-empty, target-headless}
 use Rattle.table_scope.specs.declared.Scope.{Scope}
@@ -23,11 +21,11 @@ use Rattle.rule_faults.specs.declared.Fault.TheVariants.{Form}
 use Rattle.rule_faults.specs.declared.Got.{Got}
 use Rattle.text_parts.specs.declared.Part.{Part}
 use Rattle.text_parts.specs.declared.Part.TheVariants as part
-use Rattle.rule_faults.specs.Got.{is_form, failed_got}
-use Rattle.text_parts.specs.Parts.{Before, LeafAt, FormAt, ShutAt, Stands}
+use Rattle.rule_faults.specs.Got.{failed_got}
+use Rattle.text_parts.specs.Parts.{LeafAt, FormAt, Stands}
 use Rattle.table_kinds.specs.Kinds.{lazy, row_number}
 use Rattle.rule_expressions.specs.Sides.{GivesTwo}
-use Rattle.rule_expressions.specs.Walks.{Moves, Leaves, ExprTold, TargetTold, GivesExpr, GivesTarget, form_in, GivesForm, GivesPlace, GivesInner, GivesInnerPlace, GivesWord, GivesVar}
+use Rattle.rule_expressions.specs.Walks.{Moves, Leaves, GivesExpr, GivesTarget, form_in, GivesForm, GivesPlace, GivesInner, GivesInnerPlace, GivesWord, GivesVar}
 use Rattle.rule_expressions.proofs.Closing.{same_refl}
 use Rattle.rule_expressions.proofs.Operators.{expr-failed, two-gives, short-gives, two_none}
 use Rattle.rule_expressions.proofs.Targets.{target-failed}

@@ -1,16 +1,15 @@
 -- Answers for two parts, or one, joined into that for a form: the lower fault, or the node of what both elaborate to.
-use mathlib.Core.Path.{◌≡◌, refl, sym, ap, ◌∙◌, subst}
-use mathlib.Core.Bool.{Bool, true, false}
+use mathlib.Core.Path.{◌≡◌, refl, subst}
 use mathlib.Core.List.{List}
 use mathlib.Core.Option.{Option, none, some}
 use Prim.Native.Nat.{ℕ}
 use Rattle.code.specs.Layout.{Out, out}
-use Rattle.rule_stages.specs.Stages.{Staged, wrong, unnamed, unfit, fits, join, on_fits, or_unfit, kept_if, unknown}
+use Rattle.rule_stages.specs.Stages.{Staged, wrong, unnamed, unfit, fits, join, on_fits, or_unfit}
 use Rattle.rule_faults.specs.declared.Fault.{Fault}
 use Rattle.rule_faults.specs.declared.Fault.TheVariants.{Clear, Kind, Name, Form}
 use Rattle.rule_faults.specs.declared.Got.{Got}
-use Rattle.rule_faults.specs.Got.{lowest, is_form, fault_of, failed_got, Told}
-use Rattle.rule_expr_nodes.specs.Nodes.{Made, Makes, failed_made, if_clear}
+use Rattle.rule_faults.specs.Got.{lowest, fault_of, Told}
+use Rattle.rule_expr_nodes.specs.Nodes.{Made, if_clear}
 
 -- ---- a fault is no fit
 

@@ -3,25 +3,24 @@ use mathlib.Core.Path.{◌≡◌, refl, sym, ap, ◌∙◌}
 use mathlib.Core.Bool.{Bool, true, false, cond, true≢false, false≢true}
 use mathlib.Core.List.{List, [], ◌∷◌}
 use mathlib.Core.Option.{Option, none, some}
-use Prim.Native.Nat.{ℕ, suc, ◌+◌, ◌<◌, ◌≤◌}
+use Prim.Native.Nat.{ℕ, ◌+◌, ◌<◌, ◌≤◌}
 use native.Mathlib.Omega.{arith}
 use borrow.Author.Tests.{eq-eqb, ne_eqb, eqb-true}
 use lib.Dec.{eqb}
-use lib.ListN.{set, get_or}
+use lib.ListN.{get_or}
 use lib.Seq.{get_or-set_other}
 use Rattle.law.specs.Base.{◌>>=◌, given}
-use Rattle.law.specs.Code.{Code, Codes, no_codes, ◌with◌, make_set}
+use Rattle.law.specs.Code.{Codes, no_codes, ◌with◌, make_set}
 use Rattle.law.specs.Elaborate.{Elaborated, elaborated, elab_members}
 use Rattle.law.specs.Environment.{Environment}
-use Rattle.code.specs.Layout.{Out, out, lay, link, lay_code, lay_codes, bits}
+use Rattle.code.specs.Layout.{Out, lay, link, lay_code, lay_codes, bits}
 use Rattle.law.specs.Names.{exprs_of, type_of}
 use Rattle.law.specs.Rules.{plain_exprs}
-use Rattle.rule_stages.specs.Stages.{Staged, wrong, unnamed, unfit, fits, staged, named, ruled, join, on_fits, or_unfit, unknown, expr_staged, members_staged}
+use Rattle.rule_stages.specs.Stages.{Staged, wrong, unnamed, unfit, fits, staged, named, ruled, join, or_unfit, unknown, expr_staged, members_staged}
 use Rattle.law.specs.Syntax as Syntax
 use Rattle.law.specs.Trees.{Tree, Trees, end, ◌then◌, Run, first, later}
 use Rattle.law_theorems.specs.Readings.{stack_at}
-use Rattle.law.specs.Types.{Types, info_at, set?, base_of, host_of}
-use Rattle.law.specs.Words.{worded}
+use Rattle.law.specs.Types.{info_at, set?, base_of}
 use Rattle.law_theorems.proofs.Inversion.{none-some, some_inj}
 use Rattle.code.proofs.LayoutRegions.{lay-g}
 use Rattle.code.specs.LayoutRegions.{Same}
@@ -45,13 +44,13 @@ use Rattle.text_parts.specs.declared.End.{End}
 use Rattle.text_parts.specs.declared.End.TheVariants as ending
 use Rattle.rule_faults.specs.Got.{lowest, is_form, fault_of, failed_got, Told}
 use Rattle.rule_faults.proofs.Order.{lowest-assoc, lowest-clear}
-use Rattle.text_parts.specs.Parts.{Before, Shuts}
+use Rattle.text_parts.specs.Parts.{Shuts}
 use Rattle.rule_expr_nodes.specs.Nodes.{Made, Makes, failed_made, node_made, if_clear}
-use Rattle.rule_expressions.specs.Walks.{Moves, ExprTold, GivesExpr, form_in, GivesForm}
-use Rattle.rule_expressions.specs.Members.{many, MembersTold, GivesMembers}
+use Rattle.rule_expressions.specs.Walks.{ExprTold, GivesExpr, form_in, GivesForm}
+use Rattle.rule_expressions.specs.Members.{many, GivesMembers}
 use Rattle.rule_expr_nodes.specs.Members.{member_fault}
 use Rattle.rule_expr_leaves.specs.Links.{linked, set_node, set_made}
-use Rattle.rule_expressions.proofs.Joining.{wrong-fits, unnamed-fits, unfit-fits, fits-inj, told-wrong, told-unnamed, told-or, told-one}
+use Rattle.rule_expressions.proofs.Joining.{fits-inj, told-wrong, told-unnamed, told-or, told-one}
 use Rattle.rule_expressions.proofs.Closing.{form-true, same_refl, same-trans, right-lowest, clear-form, rest-is, Stays, stays-clear, stays-cond, stays-node, stays-failed}
 use Rattle.rule_expressions.proofs.Operators.{expr-missing, expr-failed}
 use Rattle.rule_expressions.proofs.Dispatch.{failed-leaves}

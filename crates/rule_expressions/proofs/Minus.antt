@@ -3,7 +3,7 @@ use mathlib.Core.Path.{◌≡◌, refl, sym, ap, ◌∙◌}
 use mathlib.Core.Bool.{Bool, true, false}
 use mathlib.Core.List.{List}
 use mathlib.Core.Option.{Option, none, some}
-use Prim.Native.Nat.{ℕ, zero, suc}
+use Prim.Native.Nat.{ℕ}
 use native.Mathlib.Omega.{arith}
 use lib.Dec.{lit<}
 use lib.IntN.{ℤ, neg_ℤ}
@@ -21,17 +21,16 @@ use Rattle.text_heads.specs.declared.ExprHead.TheVariants as EH
 use Rattle.text_heads.specs.Parts.{rest, closed, expr_in, number_in}
 use Rattle.text_heads.proofs.Expressions.{minus_one, minus-two, one-part, two-parts}
 use Rattle.table_scope.specs.declared.Scope.{Scope}
-use Rattle.rule_faults.specs.declared.Fault.TheVariants.{Form}
 use Rattle.rule_faults.specs.declared.Got.{Got}
 use Rattle.text_parts.specs.declared.End.{End}
 use Rattle.text_parts.specs.declared.End.TheVariants as ending
-use Rattle.rule_faults.specs.Got.{is_form, failed_got}
+use Rattle.rule_faults.specs.Got.{is_form}
 use Rattle.text_parts.specs.Parts.{Shuts}
 use Rattle.rule_expr_nodes.specs.Bracket.{Closes}
 use Rattle.rule_expr_leaves.specs.declared.words.Alone.{Alone}
 use Rattle.rule_expr_leaves.specs.declared.words.Alone.TheVariants as alone
 use Rattle.rule_expr_nodes.specs.Nodes.{Makes, literal_made}
-use Rattle.rule_expr_compounds.specs.Operators.{paired, applied}
+use Rattle.rule_expr_compounds.specs.Operators.{applied}
 use Rattle.rule_expressions.specs.Sides.{GivesSecond}
 use Rattle.rule_expressions.specs.Walks.{GivesExpr, form_in, GivesForm}
 use Rattle.rule_expressions.specs.MinusForm.{GivesMinus}

@@ -3,28 +3,27 @@ use mathlib.Core.Path.{◌≡◌, refl, sym, ap, ◌∙◌}
 use mathlib.Core.Bool.{Bool, true, false, cond, true≢false}
 use mathlib.Core.List.{List, [], ◌∷◌, map}
 use mathlib.Core.Option.{Option, none, some}
-use Prim.Native.Nat.{ℕ, zero, suc, ◌+◌, ◌<◌, ◌≤◌}
+use Prim.Native.Nat.{ℕ, zero, suc, ◌<◌, ◌≤◌}
 use native.Mathlib.Omega.{arith}
 use lib.Dec.{eqb, ltb}
-use lib.ListN.{get_or, get_or-eq_default}
+use lib.ListN.{get_or-eq_default}
 use Rattle.law.specs.Base.{◌>>=◌, given, pick}
-use Rattle.law.specs.Code.{Code, calculate, short_cut, calculate1}
+use Rattle.law.specs.Code.{calculate, short_cut, calculate1}
 use Rattle.law.specs.Elaborate.{Elaborated, elaborated}
 use Rattle.law.specs.Environment.{Environment}
 use Rattle.law.specs.Forms.{h_op, h_fun, h_lazy}
 use Rattle.law_theorems.specs.FormsByDepth.{expr, target, expr_form}
-use Rattle.code.specs.Layout.{Out, out, lay, lay_code, bits, both, node1, operation_number}
+use Rattle.code.specs.Layout.{out, lay, lay_code, bits, both, node1}
 use Rattle.law.specs.Names.{expr_of}
-use Rattle.law.specs.Operators.{Op, plus, minus, times, power, divide, modulo, equal, unequal, less, at_most, greater, at_least, member, and_both, or_both, Fun, negate, not_of, abs, sqr, odd, ord, pred, succ, card, setmin, setmax, Operation1, int_negate, bool_not, int_abs, int_sqr, int_odd, ordinal_of, pred_in, succ_in, set_card, set_least, set_greatest, Rule, Rule1, rule1, both_booleans, operator_rule, function_rule}
+use Rattle.law.specs.Operators.{Op, plus, minus, times, power, divide, modulo, equal, unequal, less, at_most, greater, at_least, member, and_both, or_both, Fun, negate, not_of, abs, sqr, odd, ord, pred, succ, card, setmin, setmax, Rule, Rule1, both_booleans, operator_rule, function_rule}
 use Rattle.law.specs.Rules.{plain_expr}
-use Rattle.rule_stages.specs.Stages.{Staged, wrong, fits, join, on_fits, or_unfit, expr_staged}
+use Rattle.rule_stages.specs.Stages.{wrong, join, or_unfit, expr_staged}
 use Rattle.law.specs.Syntax as Syntax
 use Rattle.law.specs.Trees.{Trees, Run, first, list}
 use Rattle.law_theorems.specs.Readings.{stack_at}
 use Rattle.law.specs.Types.{Types, info_at, ordinal?, set?}
 use Rattle.law.specs.Words.{worded_all}
 use Rattle.law.specs.Elaborate.{elab_expr}
-use Rattle.code.specs.LayoutRegions.{Same}
 use Rattle.law_theorems.proofs.Inversion.{none-some, some_inj}
 use Rattle.rule_stages.proofs.OnePassExprs.{binary-staged, short-staged, unary-staged}
 use Rattle.table_kinds.specs.Kinds.{TwoSided, strict, lazy, row_number, op_number, told, told_of}
@@ -40,23 +39,21 @@ use Rattle.text_heads.specs.Heads.{expr_head_meant}
 use Rattle.text_heads.specs.Parts.{rest, closed, expr_in}
 use Rattle.text_heads.proofs.Expressions.{two-parts, one-part}
 use Rattle.table_scope.specs.declared.Scope.{Scope}
-use Rattle.rule_faults.specs.declared.Fault.TheVariants.{Clear, Kind, Name, Form}
+use Rattle.rule_faults.specs.declared.Fault.TheVariants.{Kind, Form}
 use Rattle.table_scope.specs.declared.Info.{Info}
 use Rattle.table_scope.specs.Descriptions.{info_of}
 use Rattle.table_scope.specs.Scene.{Scene}
-use Rattle.table_scope.specs.Sides.{side_in}
 use Rattle.table_scope.proofs.Kept.{scene-kept}
 use Rattle.table_scope.proofs.Telling.{kinded, side-in, low_told, high-told}
 use Rattle.rule_faults.specs.declared.Got.{Got}
-use Rattle.rule_faults.specs.Got.{lowest, is_form, fault_of, failed_got, Told}
-use Rattle.text_parts.specs.Parts.{Before}
+use Rattle.rule_faults.specs.Got.{lowest, is_form, failed_got, Told}
 use Rattle.rule_expr_nodes.specs.Bracket.{Closes}
 use Rattle.rule_expr_nodes.specs.Nodes.{Makes}
 use Rattle.rule_expr_compounds.specs.Operators.{ruled_node, operated, paired, ruled_node1, applied_clear, applied}
 use Rattle.rule_expressions.specs.Sides.{GivesSecond, of_sides, two_in, GivesTwo}
-use Rattle.rule_expressions.specs.Walks.{Moves, Leaves, ExprTold, GivesExpr, form_in, GivesForm}
+use Rattle.rule_expressions.specs.Walks.{ExprTold, GivesExpr, form_in, GivesForm}
 use Rattle.rule_expressions.proofs.Joining.{told-wrong, told-join, told-one, told-or}
-use Rattle.rule_expressions.proofs.Closing.{staged-none, wrong-none, form-true, wrong-true, right-lowest, clear-form, closed-told, closes-top, closed-two, closed-one, Stays, stays-failed, stays-node, stays-clear, same-trans, rest-is, left-wrong, leaves-one, leaves-two}
+use Rattle.rule_expressions.proofs.Closing.{staged-none, wrong-none, form-true, wrong-true, right-lowest, clear-form, closed-told, closed-two, closed-one, Stays, stays-failed, stays-node, stays-clear, rest-is, left-wrong, leaves-one, leaves-two}
 
 -- ---- row 6 of an expression
 

@@ -3,30 +3,28 @@ use mathlib.Core.Path.{◌≡◌, refl, sym, ap, ◌∙◌}
 use mathlib.Core.Bool.{Bool, true, false, cond, ◌&&◌, true≢false}
 use mathlib.Core.List.{List, [], ◌∷◌, map}
 use mathlib.Core.Option.{Option, none, some}
-use Prim.Native.Nat.{ℕ, suc, ◌+◌, ◌<◌, ◌≤◌}
+use Prim.Native.Nat.{ℕ, ◌+◌, ◌≤◌}
 use native.Mathlib.Omega.{arith}
-use borrow.Author.Tests.{eq-eqb, ne_eqb, eqb-true}
+use borrow.Author.Tests.{ne_eqb}
 use lib.Dec.{eqb}
 use lib.IntN.{ℤ}
 use lib.ListN.{get_or}
 use Rattle.leaf_bytes.specs.Bytes.{small}
 use Rattle.law.specs.Base as Base
 use Rattle.law.specs.Base.{◌>>=◌, both, given}
-use Rattle.law.specs.Code.{Code, Place, cell, index, shift, load}
+use Rattle.law.specs.Code.{Code, Place, index, shift, load}
 use Rattle.law.specs.Elaborate.{Elaborated, Located, elaborated, located, elab_target}
 use Rattle.law.specs.Environment.{Environment}
 use Rattle.code.specs.Layout.{Out, out, lay, lay_code, lay_place, lay_load, bits}
-use Rattle.law.specs.Names.{Reached, reached, target_of, expr_of, element_of, field_in}
+use Rattle.law.specs.Names.{Reached, target_of, element_of, field_in}
 use Rattle.law.specs.Rules.{plain_target}
-use Rattle.law.specs.Script as Script
-use Rattle.rule_stages.specs.Stages.{Staged, wrong, unnamed, unfit, fits, ruled, named, staged, join, on_fits, or_unfit, dotted, expr_staged, target_staged, target_name, target_type, type_by}
+use Rattle.rule_stages.specs.Stages.{Staged, wrong, unnamed, unfit, fits, ruled, named, staged, on_fits, or_unfit, dotted, expr_staged, target_staged, target_name, target_type, type_by}
 use Rattle.law.specs.Syntax as Syntax
 use Rattle.law.specs.Trees.{Trees, end, Run, first, word_at}
 use Rattle.law_theorems.specs.Readings.{stack_at}
-use Rattle.law.specs.Types.{Types, Field, info_at, host_of, size_of, array?, record?, field_of}
+use Rattle.law.specs.Types.{Field, info_at, host_of, size_of, array?, record?, field_of}
 use Rattle.law_theorems.proofs.Inversion.{none-some, some_inj, bind-some, both_some, given-some}
-use Rattle.code.specs.LayoutRegions.{Same}
-use Rattle.rule_stages.proofs.OnePassExprs.{at-staged, dot-staged, read-staged, fits-type}
+use Rattle.rule_stages.proofs.OnePassExprs.{at-staged, dot-staged, read-staged}
 use Rattle.text_heads.specs.declared.ExprHead.{ExprHead}
 use Rattle.text_heads.specs.declared.ExprHead.TheVariants as EH
 use Rattle.text_heads.specs.Parts.{rest, closed, expr_in, target_in, name_in, target_by}
@@ -42,14 +40,13 @@ use Rattle.table_scope.proofs.Kept.{scene-kept}
 use Rattle.table_scope.proofs.Telling.{shape-array, shape-record, low_told, high-told, size-told, index-told, element-told, fields-short, field_told, FieldFound, no_field, a-field, host-in}
 use Rattle.rule_faults.specs.declared.Got.{Got}
 use Rattle.rule_faults.specs.Got.{lowest, is_form, fault_of, failed_got, Told}
-use Rattle.text_parts.specs.Parts.{Before}
 use Rattle.rule_expr_nodes.specs.Bracket.{Closes}
 use Rattle.rule_expr_nodes.specs.Nodes.{Made, Makes, failed_made, node_made, if_clear}
 use Rattle.rule_expr_compounds.specs.Targets.{loaded, element_kind, element, indexed, field_made, selected_made, Selects}
 use Rattle.rule_expr_leaves.specs.declared.fields.Sole.{Sole}
 use Rattle.rule_expr_leaves.specs.declared.fields.Sole.TheVariants as sole
 use Rattle.rule_expr_leaves.specs.Fields.{SoleName}
-use Rattle.rule_expressions.specs.Walks.{Moves, Leaves, ExprTold, TypeIs, a-type, no-type, TargetTold, GivesExpr, GivesTarget, form_in, GivesForm, GivesPlace}
+use Rattle.rule_expressions.specs.Walks.{ExprTold, TypeIs, a-type, no-type, TargetTold, GivesExpr, GivesTarget, form_in, GivesForm, GivesPlace}
 use Rattle.rule_expressions.proofs.Joining.{wrong-fits, unnamed-fits, unfit-fits, fits-inj, told-wrong, told-unnamed, told-unfit, told-fits, told-join, told-one, told-or}
 use Rattle.rule_expressions.proofs.Closing.{staged-none, wrong-none, form-true, wrong-true, right-lowest, clear-form, closed-two, Stays, stays-failed, stays-node, stays-clear, stays-cond, same-trans, rest-is, left-wrong, leaves-two}
 use Rattle.rule_expressions.proofs.Operators.{expr-closed}

@@ -7,14 +7,12 @@ use Rattle.leaf_bytes.specs.Bytes.{small}
 use Rattle.leaf_words.specs.Words.{word_of}
 use Rattle.law.specs.Base.{◌>>=◌}
 use Rattle.law.specs.Syntax as Syntax
-use Rattle.law.specs.Forms.{Head}
 use Rattle.law_theorems.specs.FormsByDepth.{expr, target, expr_form}
 use Rattle.law.specs.Trees.{Tree, form, Trees, end, ◌then◌, Run, first, later, list, word_at}
 use Rattle.law_theorems.specs.Readings.{stack_at}
 use Rattle.law.specs.Words.{worded_all}
 use Rattle.law.specs.Environment.{Environment}
-use Rattle.law.specs.Elaborate.{Elaborated, Located}
-use Rattle.code.specs.Layout.{Out, lay_code, lay_place}
+use Rattle.code.specs.Layout.{lay_code, lay_place}
 use Rattle.law.specs.Names.{Reached, target_of}
 use Rattle.rule_stages.specs.Stages.{expr_staged, target_staged}
 use Rattle.code.specs.LayoutRegions.{Same}

@@ -1,6 +1,5 @@
 -- The answer for a part of a line, and what it tells of the stages of rows 6 to 8 (rule_stages, Stages).
 use Rattle.std.specs.Prelude.{Bool, true, false, List, ◌≡◌, ℕ}
-use Rattle.std.proofs.Math.Option.{Option, none, some}
 use Rattle.code.specs.Layout.{Out, out}
 use Rattle.rule_stages.specs.Stages.{Staged, wrong, unnamed, unfit, fits}
 use Rattle.rule_faults.specs.declared.Fault.{Fault}

@@ -3,7 +3,7 @@ use mathlib.Core.Path.{◌≡◌, refl, sym, ap, ◌∙◌}
 use mathlib.Core.Bool.{Bool, true, false, cond, not, ◌&&◌}
 use mathlib.Core.Logic.{◌⊎◌, inl, inr}
 use native.Mathlib.Omega.{arith}
-use mathlib.Core.List.{List, [], ◌∷◌, ◌++◌}
+use mathlib.Core.List.{List, [], ◌∷◌}
 use mathlib.Core.Option.{Option, none, some}
 use Prim.Native.Nat.{ℕ}
 use Rattle.law.specs.Base.{Name, ◌>>=◌, each, given}
@@ -17,13 +17,12 @@ use Rattle.law_theorems.specs.FormsByDepth.{line_by}
 use Rattle.law.specs.Names.{entry_of, body_of, distinct, field_names, is_known, listed_in, new_names, none_known, pair_of}
 use Rattle.law.specs.Rules.{keeps_rules, kept_body, kept_parameters}
 use Rattle.law.specs.Script.{Body, Entry, new_proc, new_main}
-use Rattle.rule_stages.specs.Stages.{Staged, wrong, unnamed, unfit, fits, ruled, named, staged, body_staged}
+use Rattle.rule_stages.specs.Stages.{Staged, unnamed, fits, ruled, named, staged, body_staged}
 use Rattle.law.specs.Syntax as Syntax
 use Rattle.law.specs.Syntax.{LineForm, proc_line, main_line}
 use Rattle.law.specs.Trees.{Trees, Run, list}
 use Rattle.law.specs.Verdict.{strictly}
-use Rattle.law.specs.Words.{Word, worded_all}
-use Rattle.law_theorems.proofs.Inversion.{none-some, some_inj}
+use Rattle.law.specs.Words.{worded_all}
 use Rattle.rule_faults.specs.Got.{lowest, fault_of}
 use Rattle.text_heads.specs.Parts.{rest, name_in, body_in, part_of}
 use Rattle.text_heads.proofs.Statements.{body-parts}

@@ -1,38 +1,26 @@
 -- `main` and `proc` lines: what the answer for their parts tells.
 use mathlib.Core.Path.{◌≡◌, refl, sym, ap, ◌∙◌, subst}
-use mathlib.Core.Bool.{Bool, true, false, cond, ◌&&◌, true≢false, false≢true}
-use mathlib.Core.List.{List, [], ◌∷◌, ◌++◌, map}
-use mathlib.Core.Logic.{◌⊎◌, inl, inr}
-use mathlib.Core.Option.{Option, none, some}
-use Prim.Native.Nat.{ℕ, suc, ◌+◌, ◌*◌, ◌-◌, ◌%◌, ◌<◌, ◌≤◌}
-use native.Mathlib.Nat.{mod-eq_of_lt}
-use borrow.Author.Tests.{ltb-true, ltb-false, le-leb, lt-leb, leb-true}
-use lib.Dec.{ltb, leb}
-use Rattle.leaf_bytes.specs.Bytes.{small}
+use mathlib.Core.List.{List, [], ◌∷◌, ◌++◌}
+use mathlib.Core.Option.{Option, some}
+use Prim.Native.Nat.{ℕ, ◌+◌, ◌-◌, ◌<◌, ◌≤◌}
 use native.Mathlib.Omega.{arith}
 use lib.ListN.{length, get_or, get_elem?, length-append}
 use lib.Seq.{get_or-append_seam}
-use Rattle.law.specs.Base.{Name, find, ◌>>=◌, each}
+use Rattle.law.specs.Base.{◌>>=◌}
 use Rattle.law.specs.Ceilings.{line_bounded}
-use Rattle.law.specs.Code.{BodyCode, Frame, frame, no_frame}
+use Rattle.law.specs.Code.{BodyCode, Frame, no_frame}
 use Rattle.law.specs.Elaborate.{elab_body}
-use Rattle.law.specs.Environment.{Declared, Environment, NameSort, declare_line, frame_of, parameter_types, want_of, with_body, within}
-use Rattle.law.specs.Names.{body_of, new_names, distinct, none_known, is_known, listed_in, pair_of}
-use Rattle.law.specs.Rules.{kept_body, kept_parameters}
-use Rattle.table_names.specs.Keys.{keyed}
-use Rattle.rule_faults.specs.declared.Fault.{Fault}
-use Rattle.rule_faults.specs.declared.Fault.TheVariants.{Clear, Kind, Name as Unnamed, Form}
-use Rattle.table_scope.specs.declared.Meaning.{Meaning}
-use Rattle.table_scope.specs.Frames.{TellsFrame}
-use Rattle.table_scope.specs.Scene.{Scene, Told, unknown, known, a-type, a-var, a-proc, a-value, meaning_here}
-use Rattle.rule_declarations.specs.Names.{new_fault}
-use Rattle.law.specs.Forms.{is_proc, is_main}
-use Rattle.code.specs.Layout.{Out, out, lay, lay_body, lay_frame, lay_parameters}
+use Rattle.law.specs.Environment.{Declared, Environment, declare_line, with_body}
+use Rattle.law.specs.Names.{body_of}
+use Rattle.law.specs.Rules.{kept_body}
+use Rattle.table_scope.specs.Scene.{Scene}
+use Rattle.law.specs.Forms.{is_main}
+use Rattle.code.specs.Layout.{Out, out, lay_body, lay_frame, lay_parameters}
 use Rattle.code.specs.LayoutSize.{symbol_size, size_body, size_bodies, BodyFits, FrameFits}
-use Rattle.law.specs.Script.{Body, Entry, new_proc, new_main}
+use Rattle.law.specs.Script.{Body, Entry, new_main}
 use Rattle.rule_stages.specs.Stages.{fits, body_staged}
 use Rattle.law.specs.Syntax as Syntax
-use Rattle.law.specs.Trees.{nodes_in, first, word_at}
+use Rattle.law.specs.Trees.{nodes_in, first}
 use Rattle.law_theorems.specs.Readings.{stack_at}
 use Rattle.law.specs.Verdict.{Read}
 use Rattle.law_theorems.proofs.Bodies.{body_at}
@@ -41,31 +29,24 @@ use Rattle.code.proofs.LayoutActs.{laid-body}
 use Rattle.code.proofs.LayoutBodies.{body-next}
 use Rattle.code.specs.LayoutBodies.{Bodies}
 use Rattle.code.proofs.LayoutFits.{bodies-fit}
-use Rattle.code.proofs.LayoutRegions.{Has, Lays, lay-l}
+use Rattle.code.proofs.LayoutRegions.{Has}
 use Rattle.code.specs.LayoutRegions.{Room, Same}
 use Rattle.code.specs.LinesMeasured.{Measured}
 use Rattle.rule_faults.specs.declared.Got.{Got}
-use Rattle.rule_faults.specs.Got.{lowest, fault_of}
-use Rattle.text_parts.specs.Parts.{LeafAt}
-use Rattle.text_heads.specs.Parts.{rest, name_in, body_in}
-use Rattle.rule_statements.specs.Walks.{GivesBody, BodyTold, bare, lay_framed}
+use Rattle.text_heads.specs.Parts.{body_in}
+use Rattle.rule_statements.specs.Walks.{BodyTold, bare, lay_framed}
 use Rattle.rule_statements.proofs.Bodies.{body-laid}
-use Rattle.rule_declarations.specs.declared.State.{State}
-use Rattle.rule_declarations.specs.State.{Holds, body_state}
-use Rattle.rule_declarations.proofs.Growing.{laid_same}
 use Rattle.rule_expressions.proofs.Targets.{fits-inv}
 use Rattle.rule_known.specs.declared.Known.{Known}
-use Rattle.rule_known.specs.declared.Entered.{Entered}
-use Rattle.rule_stmt_nodes.specs.declared.last.Head.{Head}
-use Rattle.rule_parameters.specs.Framing.{Above, lay_types, opened_main, proc_fits, proc_state}
+use Rattle.rule_parameters.specs.Framing.{Above, lay_types, opened_main}
 use Rattle.rule_parameters.specs.declared.framing.Opened.{Opened}
-use Rattle.rule_judge.specs.Answers.{main_entry, proc_numbers, proc_entry}
-use Rattle.rule_judge.specs.Entering.{EntryStands, last_of, EntryTold, ProcLaid, GivesOpened, head_of}
+use Rattle.rule_judge.specs.Answers.{main_entry}
+use Rattle.rule_judge.specs.Entering.{EntryStands, last_of, EntryTold, GivesOpened, head_of}
 use Rattle.rule_judge.specs.Judging.{Standing}
-use Rattle.rule_judge.specs.Whole.{head_in, whole_staged}
-use Rattle.rule_judge.proofs.Bodies.{main_of, proc_of, main-shape, proc-shape, main-fault, main-fits, MainThere}
-use Rattle.rule_judge.proofs.BodyFrames.{laid-types, NodeAt, node-laid, frame-place, none-place, tells_none, tells-some}
-use Rattle.rule_judge.proofs.BodyStands.{main-holds, proc-holds}
+use Rattle.rule_judge.specs.Whole.{head_in}
+use Rattle.rule_judge.proofs.Bodies.{main_of, main-shape, main-fault, main-fits, MainThere}
+use Rattle.rule_judge.proofs.BodyFrames.{laid-types, NodeAt, node-laid}
+use Rattle.rule_judge.proofs.BodyStands.{main-holds}
 use Rattle.rule_judge.proofs.Declaring.{bodies_kept}
 
 -- the last of so many

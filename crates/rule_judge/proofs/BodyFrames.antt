@@ -1,17 +1,14 @@
 -- A procedure's body in the working list: the types of its parameters, its frame, and the node that tells of both.
 use mathlib.Core.Path.{◌≡◌, refl, sym, ap, ◌∙◌, subst}
-use mathlib.Core.Bool.{Bool, true, false, cond}
-use mathlib.Core.List.{List, [], ◌∷◌, map}
-use mathlib.Core.Option.{Option, none, some}
+use mathlib.Core.Bool.{Bool}
+use mathlib.Core.List.{List, [], ◌∷◌}
 use Prim.Native.Nat.{ℕ, zero, suc, ◌+◌, ◌-◌, ◌<◌, ◌≤◌}
 use native.Mathlib.Omega.{arith}
 use borrow.Author.Tests.{ne_eqb, le-ltb}
-use lib.Dec.{eqb, ltb}
 use lib.ListN.{length, get_or}
 use Rattle.law.specs.Code.{BodyCode, Frame, Want, frame, no_frame}
-use Rattle.code.specs.Layout.{Out, out, lay, lay_acts, lay_body, lay_frame, lay_parameters, flag, link}
-use Rattle.code.specs.LayoutRegions.{Room, Same}
-use Rattle.code.specs.LayoutSize.{BodyFits, size_body}
+use Rattle.code.specs.Layout.{out, lay, lay_acts, lay_body, lay_frame, lay_parameters, flag, link}
+use Rattle.code.specs.LayoutSize.{size_body}
 use Rattle.code.specs.Readback.{frame_from, read_frame, read_wants}
 use Rattle.code.proofs.LayoutActs.{laid-acts}
 use Rattle.code.proofs.LayoutFrame.{FrameAt, laid-frame}

@@ -2,7 +2,7 @@
 use mathlib.Core.Path.{◌≡◌, refl, sym, ap, ◌∙◌, subst}
 use mathlib.Core.Bool.{Bool, true, false}
 use mathlib.Core.List.{List, [], ◌∷◌, ◌++◌, map}
-use mathlib.Core.Option.{Option, none, some}
+use mathlib.Core.Option.{Option, some}
 use Prim.Native.Nat.{ℕ, suc, ◌+◌, ◌*◌, ◌%◌, ◌<◌, ◌≤◌}
 use native.Mathlib.Nat.{mod-eq_of_lt}
 use native.Mathlib.Omega.{arith}
@@ -20,7 +20,7 @@ use Rattle.code.proofs.LayoutRegions.{lay-g, lay-l}
 use Rattle.code.specs.LayoutRegions.{Same}
 use Rattle.law_theorems.proofs.Inversion.{some_inj}
 use Rattle.law_theorems.proofs.LinesKeep.{find-named, within-parameters}
-use Rattle.law_theorems.specs.LinesKeep.{Keeps, Fair, AllFair, type, var, proc, value, no_names as none-fair, name as one-fair}
+use Rattle.law_theorems.specs.LinesKeep.{Keeps, Fair, AllFair, proc, no_names as none-fair, name as one-fair}
 use Rattle.table_names.specs.Keys.{keyed}
 use Rattle.table_names.specs.Chain.{entries, values_by}
 use Rattle.table_names.specs.Chained.{Names, no_names, one_name}

@@ -1,11 +1,11 @@
 -- Lines that declare variables and types: what stands after them.
-use mathlib.Core.Path.{◌≡◌, refl, sym, ap, ◌∙◌, subst}
+use mathlib.Core.Path.{◌≡◌, refl, sym, ap, ◌∙◌}
 use mathlib.Core.Bool.{Bool, true, false, true≢false}
-use mathlib.Core.List.{List, [], ◌∷◌, ◌++◌, append-nil}
+use mathlib.Core.List.{List, [], ◌++◌, append-nil}
 use mathlib.Core.Option.{Option, none, some}
 use Prim.Native.Nat.{ℕ, ◌+◌, ◌≤◌}
 use native.Mathlib.Omega.{arith}
-use Rattle.law.specs.Base.{◌>>=◌, given}
+use Rattle.law.specs.Base.{◌>>=◌}
 use Rattle.law.specs.Ceilings.{line_bounded}
 use Rattle.law.specs.Code.{BodyCode}
 use Rattle.law.specs.Environment.{Declared, Environment, declare_line}
@@ -13,27 +13,25 @@ use Rattle.law.specs.Forms.{Item, is_type, is_var, two, free, type_name, type_fo
 use Rattle.law_theorems.specs.FormsByDepth.{line_by}
 use Rattle.law.specs.Forms as Forms
 use Rattle.code.specs.LayoutSize.{symbol_size, size_bodies}
-use Rattle.law.specs.Names.{entry_of, decl_of, type_of}
+use Rattle.law.specs.Names.{entry_of}
 use Rattle.law.specs.Rules.{keeps_rules}
-use Rattle.law.specs.Script.{Entry, new_type, new_var, new_proc, new_main}
+use Rattle.law.specs.Script.{Entry}
 use Rattle.rule_stages.specs.Stages.{Staged, wrong, unnamed, unfit, fits, ruled, named, staged, on_fits}
-use Rattle.law.specs.Syntax.{LineForm, type_line, var_line, proc_line, main_line}
-use Rattle.law.specs.Trees.{Trees, Run, list, first, nodes_in}
+use Rattle.law.specs.Syntax.{LineForm, type_line, var_line}
+use Rattle.law.specs.Trees.{Trees, Run, list, first}
 use Rattle.law_theorems.specs.Readings.{stack_at}
 use Rattle.law.specs.Verdict.{Read, strictly}
-use Rattle.law.specs.Words.{Word, worded_all}
-use Rattle.law_theorems.proofs.Inversion.{none-some, some_inj, bind-some, given-some}
+use Rattle.law.specs.Words.{worded_all}
+use Rattle.law_theorems.proofs.Inversion.{some_inj, bind-some, given-some}
 use Rattle.code.specs.LayoutBodies.{Bodies}
 use Rattle.code.specs.LinesMeasured.{Measured}
 use Rattle.code.specs.LayoutRegions.{Same}
 use Rattle.rule_faults.specs.Got.{fault_of}
 use Rattle.text_heads.specs.declared.LineHead.{LineHead}
-use Rattle.text_heads.specs.declared.LineHead.TheVariants as LH
 use Rattle.text_heads.specs.Heads.{line_head_meant}
 use Rattle.text_heads.proofs.Walks.{bind_assoc, bind-cong}
 use Rattle.rule_declarations.specs.declared.Lined.{Lined}
-use Rattle.rule_declarations.specs.Lines.{line_of, entry_staged, LineTold, GivesLine}
-use Rattle.rule_declarations.specs.State.{Holds}
+use Rattle.rule_declarations.specs.Lines.{line_of, entry_staged, GivesLine}
 use Rattle.rule_expressions.proofs.Targets.{fits-inv}
 use Rattle.rule_expressions.proofs.Joining.{wrong-fits, unnamed-fits, unfit-fits, fits-inj}
 use Rattle.rule_known.specs.declared.Known.{Known}

@@ -1,18 +1,16 @@
 -- From a line's head word to its judgement.
 use mathlib.Core.Path.{◌≡◌, refl, sym, ap, ◌∙◌, subst}
 use mathlib.Core.Bool.{Bool, true, false, true≢false, false≢true}
-use mathlib.Core.List.{List, [], ◌∷◌, map}
-use mathlib.Core.Option.{Option, none, some}
-use Prim.Native.Nat.{ℕ, ◌+◌, ◌*◌, ◌%◌, ◌<◌, ◌≤◌}
+use mathlib.Core.List.{List, [], ◌∷◌}
+use mathlib.Core.Option.{Option, none}
+use Prim.Native.Nat.{ℕ, ◌+◌, ◌*◌, ◌%◌, ◌≤◌}
 use native.Mathlib.Omega.{arith}
 use Rattle.leaf_words.specs.declared.words.Word as Kind
 use Rattle.leaf_words.specs.Words.{word_of}
 use Rattle.law.specs.Base.{◌>>=◌}
-use Rattle.law.specs.Forms as Forms
 use Rattle.law.specs.Forms.{is_type, is_var, is_proc, is_main}
 use Rattle.law.specs.Lines.{Line}
-use Rattle.rule_stages.specs.Stages.{wrong, staged}
-use Rattle.law.specs.Syntax as Syntax
+use Rattle.rule_stages.specs.Stages.{staged}
 use Rattle.law.specs.Trees.{word, form, Trees, ◌then◌, Run, nodes, nodes_in, first, later, word_at}
 use Rattle.law_theorems.specs.Readings.{stack_at}
 use Rattle.law.specs.Verdict.{Read, bad, strictly, judge_line}
@@ -21,7 +19,6 @@ use Rattle.table_names.specs.Keys.{keyed}
 use Rattle.table_scope.specs.Scene.{meaning_here}
 use Rattle.rule_faults.specs.declared.Fault.{Fault}
 use Rattle.rule_faults.specs.declared.Fault.TheVariants.{Clear, Kind, Name as Unnamed, Form}
-use Rattle.table_scope.specs.declared.Meaning.{Meaning}
 use Rattle.rule_faults.specs.declared.Got.{Got}
 use Rattle.text_parts.specs.declared.Part.{Part}
 use Rattle.text_parts.specs.declared.Part.TheVariants as part
@@ -32,14 +29,12 @@ use Rattle.text_parts.specs.Parts.{Stands}
 use Rattle.text_heads.specs.declared.LineHead.{LineHead}
 use Rattle.text_heads.specs.declared.LineHead.TheVariants as LH
 use Rattle.text_heads.specs.Heads.{line_head_of, line_head_meant}
-use Rattle.text_heads.specs.Parts.{name_in}
 use Rattle.rule_statements.specs.Walks.{GivesBody}
 use Rattle.rule_declarations.specs.declared.Lined.{Lined}
 use Rattle.rule_declarations.specs.Lines.{line_of, GivesLine}
 use Rattle.rule_declarations.specs.declared.Naming.{Naming}
 use Rattle.rule_declarations.specs.declared.Naming.TheVariants as naming
 use Rattle.rule_declarations.specs.Names.{GivesName, new_fault}
-use Rattle.rule_expressions.proofs.Joining.{wrong-fits}
 use Rattle.rule_known.specs.declared.Known.{Known}
 use Rattle.rule_known.specs.declared.Judgement.{Judgement}
 use Rattle.rule_known.specs.declared.Entered.{Entered}
@@ -50,19 +45,18 @@ use Rattle.rule_parameters.specs.Listing.{GivesList}
 use Rattle.rule_parameters.specs.declared.framing.Opened.{Opened}
 use Rattle.rule_parameters.specs.declared.listing.Listed.{Listed}
 use Rattle.rule_stmt_nodes.specs.declared.last.Head.{Head}
-use Rattle.rule_judge.specs.Entering.{EntryTold, Enters, ProcLaid, ProcEnds, ProcListed, ProcNamed, proc-wrong, proc-right, GivesOpened, head_of}
+use Rattle.rule_judge.specs.Entering.{Enters, ProcEnds, ProcListed, ProcNamed, proc-wrong, proc-right, GivesOpened, head_of}
 use Rattle.rule_judge.specs.Forms.{LineIs, JudgesForm}
 use Rattle.rule_judge.specs.Judging.{Standing}
 use Rattle.rule_judge.specs.Whole.{line_in, head_in, whole_staged}
-use Rattle.rule_judge.proofs.Bodies.{proc_of, proc-shape}
+use Rattle.rule_judge.proofs.Bodies.{proc-shape}
 use Rattle.rule_judge.proofs.BodyEnters.{main-told}
 use Rattle.rule_judge.proofs.ProcEnters.{wrong-told, proc-told}
 use Rattle.rule_judge.proofs.Declaring.{some_first, declared-enters, type-fixed, var-fixed}
 use Rattle.rule_judge.proofs.Lines.{line-judged, line-headed, line-empty, line-headless}
 use Rattle.rule_judge.proofs.Stepping.{line-answer}
-use Rattle.rule_declarations.specs.State.{with_names, body_state}
+use Rattle.rule_declarations.specs.State.{body_state}
 use Rattle.rule_declarations.specs.declared.State.{State}
-use lib.Dec.{ltb}
 
 -- ---- counts
 

@@ -1,10 +1,9 @@
 -- A line judged: rows 4 to 9 from the answer for its parts.
-use mathlib.Core.Path.{◌≡◌, refl, sym, ap, ◌∙◌}
+use mathlib.Core.Path.{◌≡◌, refl, ap, ◌∙◌}
 use mathlib.Core.Bool.{Bool, true, false, not, ◌&&◌}
-use mathlib.Core.List.{List, [], ◌∷◌}
+use mathlib.Core.List.{List}
 use mathlib.Core.Option.{Option, none, some}
-use Prim.Native.Nat.{ℕ, ◌+◌, ◌≤◌}
-use native.Mathlib.Omega.{arith}
+use Prim.Native.Nat.{ℕ, ◌+◌}
 use lib.Dec.{leb}
 use Rattle.leaf_words.specs.Words.{word_of}
 use Rattle.law.specs.Base as Base
@@ -15,26 +14,21 @@ use Rattle.law.specs.Forms as Forms
 use Rattle.law.specs.Forms.{Item, line_heads, among, headed}
 use Rattle.law_theorems.specs.FormsByDepth.{line_form, line_by}
 use Rattle.law_theorems.proofs.FormsAgree.{line_same}
-use Rattle.code.specs.LayoutSize.{symbol_size, size_bodies}
 use Rattle.law.specs.Lines.{Line}
 use Rattle.law.specs.Names.{entry_of}
 use Rattle.law.specs.Rules.{keeps_rules}
 use Rattle.law.specs.Script.{Entry}
-use Rattle.rule_stages.specs.Stages.{Staged, wrong, unnamed, unfit, fits, ruled, named, staged}
+use Rattle.rule_stages.specs.Stages.{ruled, named, staged}
 use Rattle.law.specs.Syntax.{LineForm}
 use Rattle.law.specs.Trees.{Tree, word, form, Trees, end, ◌then◌, Run, list, nodes, form_of}
-use Rattle.law.specs.Verdict.{Judged, good, bad, ◌>>=◌, or_bad, must, strictly, judge_line}
+use Rattle.law.specs.Verdict.{Judged, good, ◌>>=◌, or_bad, must, strictly, judge_line}
 use Rattle.law.specs.Words.{Word, worded, worded_all}
-use Rattle.law_theorems.proofs.Inversion.{bind-some, some_inj}
 use Rattle.rule_stages.proofs.OnePassLines.{judged_by}
-use Rattle.law_theorems.proofs.TextsAgree.{stage-on, must-on}
-use Rattle.code.proofs.TextRoom.{entry-room}
-use Rattle.law_theorems.proofs.Weights.{line-weighs, worded-nodes}
-use Rattle.text_heads.specs.declared.LineHead.{LineHead}
+use Rattle.law_theorems.proofs.TextsAgree.{stage-on}
 use Rattle.text_heads.specs.Heads.{line_head_of, line_head_meant}
 use Rattle.text_heads.specs.Parts.{key_in}
 use Rattle.text_heads.proofs.Heads.{line-head-is}
-use Rattle.text_heads.proofs.Walks.{headed-form, empty-form, headless-form, bind_assoc}
+use Rattle.text_heads.proofs.Walks.{headed-form, empty-form, headless-form}
 use Rattle.rule_judge.specs.Entering.{last_of}
 use Rattle.rule_judge.specs.Whole.{line_in, head_in, whole_staged}
 

@@ -1,31 +1,31 @@
 -- Rows 4 and 5, and the line after `main`.
 use mathlib.Core.Path.{◌≡◌, refl, sym, ap, ◌∙◌}
 use mathlib.Core.Bool.{Bool, true, false, not}
-use mathlib.Core.List.{List, [], ◌∷◌}
-use mathlib.Core.Option.{Option, none, some}
-use Prim.Native.Nat.{ℕ, ◌≤◌}
+use mathlib.Core.List.{List}
+use mathlib.Core.Option.{none, some}
+use Prim.Native.Nat.{ℕ}
 use native.Mathlib.Omega.{arith}
-use lib.ListN.{length, drop}
+use lib.ListN.{drop}
 use Rattle.leaf_words.specs.declared.words.Word as Kind
 use Rattle.law.specs.Environment.{Declared}
 use Rattle.law.specs.Lines.{Line}
 use Rattle.law.specs.Trees.{Tree, word, form, Trees, end, ◌then◌, Run, nodes, form_of, first, later, before, word_at}
 use Rattle.law_theorems.specs.Readings.{stack_at}
-use Rattle.law.specs.Verdict.{Read, Fitting, Judged, bad, ◌>>=◌, or_bad, must, strictly, judge_line}
+use Rattle.law.specs.Verdict.{Fitting, Judged, bad, ◌>>=◌, or_bad, must, strictly, judge_line}
 use Rattle.law.specs.Words.{Word, worded}
 use Rattle.law_theorems.proofs.TextsAgree.{stage-on}
 use Rattle.text_lines.specs.Passes.{line_at, balanced_from}
-use Rattle.text_words.specs.Passes.{known_tree, known_all, nodes_all}
+use Rattle.text_words.specs.Passes.{known_all, nodes_all}
 use Rattle.text_lines.proofs.Ties.{formed, unformed}
 use Rattle.text_words.proofs.Ties.{worded-some, worded-none, line_known, line-nodes}
 use Rattle.text_parts.specs.declared.Part.{Part}
 use Rattle.text_parts.specs.declared.Part.TheVariants as part
-use Rattle.text_parts.specs.Parts.{FormAt, Stands}
+use Rattle.text_parts.specs.Parts.{Stands}
 use Rattle.rule_known.specs.declared.Known.{Known}
 use Rattle.rule_known.specs.declared.Judgement.{Judgement}
 use Rattle.rule_known.specs.Answers.{refused_judgement}
-use Rattle.rule_judge.specs.Forms.{LineIs, JudgesForm, KnownLine, JudgesKnown}
-use Rattle.rule_judge.specs.Judging.{Standing, JudgedBy, JudgesLine}
+use Rattle.rule_judge.specs.Forms.{JudgesForm, KnownLine, JudgesKnown}
+use Rattle.rule_judge.specs.Judging.{JudgesLine}
 use Rattle.text_skips.proofs.Counts.{nodes-short}
 
 -- ---- a line's refusals 4 and 5, however kinds are judged

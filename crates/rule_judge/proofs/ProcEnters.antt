@@ -1,24 +1,22 @@
 -- `proc` lines: what the answer for their parts tells.
 use mathlib.Core.Path.{◌≡◌, refl, sym, ap, ◌∙◌, subst}
-use mathlib.Core.Bool.{Bool, true, false, cond, ◌&&◌, true≢false, false≢true}
+use mathlib.Core.Bool.{Bool, true, false, cond, ◌&&◌, true≢false}
 use mathlib.Core.List.{List, [], ◌∷◌, ◌++◌, map}
 use mathlib.Core.Logic.{◌⊎◌, inl, inr}
 use mathlib.Core.Option.{Option, none, some}
-use Prim.Native.Nat.{ℕ, suc, ◌+◌, ◌*◌, ◌-◌, ◌%◌, ◌<◌, ◌≤◌}
+use Prim.Native.Nat.{ℕ, suc, ◌+◌, ◌*◌, ◌%◌, ◌<◌, ◌≤◌}
 use native.Mathlib.Nat.{mod-eq_of_lt}
 use borrow.Author.Tests.{ltb-true, ltb-false, le-leb, lt-leb, leb-true, leb-false}
 use lib.Dec.{eqb, ltb, leb}
 use Rattle.leaf_bytes.specs.Bytes.{small}
 use native.Mathlib.Omega.{arith}
-use lib.ListN.{length, get_or, get_elem?, length-append, length-map}
-use lib.Seq.{get_or-append_seam}
+use lib.ListN.{length, length-map}
 use Rattle.law.specs.Base.{Name, find, ◌>>=◌, each}
 use Rattle.law.specs.Ceilings.{line_bounded}
-use Rattle.law.specs.Code.{BodyCode, Frame, frame, no_frame}
-use Rattle.law.specs.Elaborate.{elab_body}
-use Rattle.law.specs.Environment.{Declared, Environment, NameSort, declare_line, frame_of, parameter_types, want_of, with_body, within}
-use Rattle.law.specs.Names.{body_of, new_names, distinct, none_known, is_known, listed_in, pair_of}
-use Rattle.law.specs.Rules.{kept_body, kept_parameters}
+use Rattle.law.specs.Code.{BodyCode, Frame, no_frame}
+use Rattle.law.specs.Environment.{Declared, Environment, NameSort, declare_line, frame_of, parameter_types, want_of, within}
+use Rattle.law.specs.Names.{new_names, distinct, none_known, is_known, listed_in, pair_of}
+use Rattle.law.specs.Rules.{kept_parameters}
 use Rattle.table_names.specs.Keys.{keyed}
 use Rattle.rule_faults.specs.declared.Fault.{Fault}
 use Rattle.rule_faults.specs.declared.Fault.TheVariants.{Clear, Kind, Name as Unnamed, Form}
@@ -26,64 +24,53 @@ use Rattle.table_scope.specs.declared.Meaning.{Meaning}
 use Rattle.table_scope.specs.Frames.{TellsFrame}
 use Rattle.table_scope.specs.Scene.{Scene, Told, unknown, known, a-type, a-var, a-proc, a-value, meaning_here}
 use Rattle.rule_declarations.specs.Names.{new_fault}
-use Rattle.law.specs.Forms.{is_proc, is_main}
-use Rattle.code.specs.Layout.{Out, out, lay, lay_body, lay_frame, lay_parameters}
-use Rattle.code.specs.LayoutSize.{symbol_size, size_body, size_bodies, BodyFits, FrameFits}
-use Rattle.law.specs.Script.{Body, Entry, new_proc, new_main}
+use Rattle.law.specs.Forms.{is_proc}
+use Rattle.code.specs.Layout.{out, lay, lay_frame}
+use Rattle.code.specs.LayoutSize.{symbol_size, size_body, size_bodies}
+use Rattle.law.specs.Script.{Body, Entry, new_proc}
 use Rattle.rule_stages.specs.Stages.{fits, body_staged}
 use Rattle.law.specs.Syntax as Syntax
 use Rattle.law.specs.Trees.{nodes_in, first, word_at}
 use Rattle.law_theorems.specs.Readings.{stack_at}
 use Rattle.law.specs.Verdict.{Read}
-use Rattle.law_theorems.proofs.Bodies.{body_at}
-use Rattle.law_theorems.proofs.TextsAgree.{body-frame}
-use Rattle.code.proofs.LayoutActs.{laid-body}
-use Rattle.code.proofs.LayoutBodies.{body-next}
-use Rattle.code.specs.LayoutBodies.{Bodies}
-use Rattle.code.proofs.LayoutFits.{bodies-fit}
-use Rattle.code.proofs.LayoutRegions.{Has, Lays, lay-l}
-use Rattle.code.specs.LayoutRegions.{Room, Same}
+use Rattle.code.proofs.LayoutRegions.{lay-l}
 use Rattle.code.specs.LinesMeasured.{Measured}
 use Rattle.rule_faults.specs.declared.Got.{Got}
 use Rattle.rule_faults.specs.Got.{lowest, fault_of}
 use Rattle.text_parts.specs.Parts.{LeafAt}
 use Rattle.text_heads.specs.Parts.{rest, name_in, body_in}
-use Rattle.rule_statements.specs.Walks.{GivesBody, BodyTold, bare, lay_framed}
-use Rattle.rule_statements.proofs.Bodies.{body-laid}
+use Rattle.rule_statements.specs.Walks.{BodyTold, bare}
 use Rattle.rule_declarations.specs.declared.State.{State}
-use Rattle.rule_declarations.specs.State.{Holds, body_state}
+use Rattle.rule_declarations.specs.State.{Holds}
 use Rattle.rule_declarations.proofs.Growing.{laid_same}
-use Rattle.rule_expressions.proofs.Targets.{fits-inv}
 use Rattle.rule_known.specs.declared.Known.{Known}
 use Rattle.rule_known.specs.declared.Entered.{Entered}
-use Rattle.rule_stmt_nodes.specs.declared.last.Head.{Head}
-use Rattle.rule_parameters.specs.Framing.{Above, lay_types, opened_main, proc_fits, proc_state}
+use Rattle.rule_parameters.specs.Framing.{Above, lay_types, opened_main, proc_fits}
 use Rattle.rule_parameters.specs.declared.framing.Opened.{Opened}
-use Rattle.rule_judge.specs.Answers.{main_entry, proc_numbers, proc_entry}
-use Rattle.rule_judge.specs.Entering.{EntryStands, last_of, EntryTold, ProcLaid, GivesOpened, head_of}
+use Rattle.rule_judge.specs.Answers.{proc_numbers}
+use Rattle.rule_judge.specs.Entering.{EntryStands, last_of, EntryTold, GivesOpened, head_of}
 use Rattle.rule_judge.specs.Judging.{Standing}
 use Rattle.rule_judge.specs.Whole.{head_in, whole_staged}
 use Rattle.rule_judge.proofs.Bodies.{proc_of, proc-shape, proc-old, proc-new, proc-fits, ProcThere, list-old-or-new}
 use Rattle.rule_judge.proofs.BodyEnters.{next_fits, procs-here, procs-few, body-told, body-keeps, body-grows, LaidHere, laid-here, above-none, none-laid}
-use Rattle.rule_judge.proofs.BodyFrames.{laid-types, NodeAt, node-laid, frame-place, none-place, tells_none, tells-some}
-use Rattle.rule_judge.proofs.BodyStands.{main-holds, proc-holds}
+use Rattle.rule_judge.proofs.BodyFrames.{frame-place, none-place, tells_none, tells-some}
+use Rattle.rule_judge.proofs.BodyStands.{proc-holds}
 use Rattle.rule_judge.proofs.Declaring.{bodies_kept}
 use Rattle.law_theorems.proofs.Inversion.{none-some, some_inj, bind-some, and-true}
 use Rattle.law.specs.Ceilings.{variables_in, cells_in}
 use Rattle.rule_parameters.specs.Framing.{parameters_fit}
-use Rattle.rule_parameters.specs.Listing.{list_new, list_staged, list_of, kind_fault, parameters_by, parameters_in, body_by, body_part, ListTold, list-none, list-wrong, list_read, GivesList, no_list}
-use Rattle.rule_declarations.specs.Vars.{vars_fit, vars_held, cells_held}
+use Rattle.rule_parameters.specs.Listing.{list_new, list_staged, list_of, kind_fault, parameters_by, parameters_in, body_by, body_part, ListTold, list-none, list-wrong, list_read, no_list}
+use Rattle.rule_declarations.specs.Vars.{vars_fit}
 use Rattle.rule_declarations.proofs.VarLines.{vars-held, cells-held}
 use Rattle.rule_judge.specs.Entering.{ProcEnds, ProcListed, ProcNamed, proc-wrong, proc-right}
 use Rattle.law.specs.Names.{field_names}
 use Rattle.law.specs.Syntax.{TypeName}
 use Rattle.law.specs.Trees.{Tree, Trees, Run, word, form, end, ◌then◌, nodes}
 use Rattle.rule_faults.specs.Got.{is_form, is_clear}
-use Rattle.rule_stages.specs.Stages.{unnamed, staged, wrong}
+use Rattle.rule_stages.specs.Stages.{unnamed, staged}
 use Rattle.rule_atoms.proofs.Telling.{wrong-fits}
 use Rattle.rule_pairs.specs.Pairs.{pairs_in, pair_by, pair_parts}
-use Rattle.rule_parameters.specs.Framing.{Typed, FramesList, lay_opening, base_of, lets_in, opened_by, scope_after, nothing_framed}
-use Rattle.rule_parameters.specs.declared.framing.Framed.{Framed}
+use Rattle.rule_parameters.specs.Framing.{lay_opening, base_of, lets_in, opened_by, scope_after, nothing_framed}
 use Rattle.rule_parameters.specs.declared.listing.Listed.{Listed}
 use Rattle.rule_parameters.proofs.Lists.{each-inv, each_none}
 use Rattle.rule_parameters.proofs.Openings.{opened-scene}

@@ -1,19 +1,18 @@
 -- From what stands before a line to what stands after it.
 use mathlib.Core.Path.{◌≡◌, refl, sym, ap, ◌∙◌, subst}
-use mathlib.Core.Bool.{Bool, true, false, cond, ◌&&◌, true≢false}
-use mathlib.Core.List.{List, [], ◌∷◌, ◌++◌}
-use mathlib.Core.Option.{Option, none, some}
-use Prim.Native.Nat.{ℕ, ◌+◌, ◌*◌, ◌-◌, ◌%◌, ◌<◌, ◌≤◌}
+use mathlib.Core.Bool.{Bool, true, false, cond, ◌&&◌}
+use mathlib.Core.List.{List, ◌++◌}
+use mathlib.Core.Option.{Option, some}
+use Prim.Native.Nat.{ℕ, ◌+◌, ◌*◌, ◌≤◌}
 use native.Mathlib.Omega.{arith}
 use borrow.Author.Tests.{leb-true}
-use lib.Dec.{eqb, leb}
-use lib.ListN.{length, get_or}
+use lib.Dec.{leb}
 use Rattle.law.specs.Base as Base
 use Rattle.law.specs.Ceilings.{line_bounded}
 use Rattle.law.specs.Code.{BodyCode}
 use Rattle.law.specs.Environment.{Declared, declare_line}
 use Rattle.law_theorems.specs.FormsByDepth.{line_form}
-use Rattle.code.specs.LayoutSize.{symbol_size, size_symbols, size_bodies}
+use Rattle.code.specs.LayoutSize.{symbol_size, size_bodies}
 use Rattle.law.specs.Lines.{Line}
 use Rattle.law.specs.Names.{entry_of}
 use Rattle.law.specs.Rules.{keeps_rules}
@@ -21,23 +20,21 @@ use Rattle.law.specs.Script.{Entry, new_type, new_var, new_proc, new_main}
 use Rattle.rule_stages.specs.Stages.{Staged, wrong, unnamed, unfit, fits}
 use Rattle.law.specs.Syntax.{LineForm}
 use Rattle.law.specs.Trees.{Tree, Run, nodes, form_of}
-use Rattle.law.specs.Verdict.{Judged, good, bad, ◌>>=◌, must, Read, has, strictly, judge_line}
+use Rattle.law.specs.Verdict.{good, bad, ◌>>=◌, must, Read, has, strictly, judge_line}
 use Rattle.law.specs.Words.{Word, worded}
-use Rattle.law_theorems.proofs.Inversion.{bind-some, some_inj, and-true}
+use Rattle.law_theorems.proofs.Inversion.{bind-some, some_inj}
 use Rattle.rule_stages.proofs.OnePassLines.{judged_by}
 use Rattle.code.proofs.LinesMeasured.{measured-line}
 use Rattle.law_theorems.proofs.StatementNumbers.{line-counts}
 use Rattle.code.proofs.TextRoom.{room-line, entry-room, line-symbols, bodies-append}
-use Rattle.code.specs.TextRoom.{Room}
 use Rattle.law_theorems.proofs.Weights.{line-weighs, worded-nodes}
-use Rattle.rule_faults.specs.declared.Fault.TheVariants.{Clear, Kind, Name, Form}
 use Rattle.rule_faults.specs.Got.{fault_of}
 use Rattle.rule_expressions.proofs.Targets.{fits-inv}
 use Rattle.rule_known.specs.declared.Known.{Known}
 use Rattle.rule_known.specs.declared.Judgement.{Judgement}
 use Rattle.rule_known.specs.declared.Entered.{Entered}
 use Rattle.rule_known.specs.Answers.{refused_judgement, good_judgement, ninth_judgement, judgement}
-use Rattle.rule_judge.specs.Entering.{EntryStands, last_of, EntryTold}
+use Rattle.rule_judge.specs.Entering.{last_of, EntryTold}
 use Rattle.rule_judge.specs.Judging.{Standing, JudgedBy}
 use Rattle.rule_judge.specs.Whole.{line_in, whole_staged}
 use Rattle.rule_judge.proofs.Lines.{ninth, line-judged, line-in}

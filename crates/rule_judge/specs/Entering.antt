@@ -1,6 +1,5 @@
 -- What the answer for a line's parts tells.
-use Rattle.std.specs.Prelude.{Bool, true, false, List, ◌++◌, ◌≡◌, ℕ, ◌+◌, ◌-◌, ◌≤◌, length, get_or}
-use Rattle.std.proofs.Math.Option as Option
+use Rattle.std.specs.Prelude.{true, false, List, ◌++◌, ◌≡◌, ℕ, ◌+◌, ◌-◌, ◌≤◌, length, get_or}
 use Rattle.std.proofs.Math.Option.{Option}
 use Rattle.law.specs.Base.{◌>>=◌}
 use Rattle.law.specs.Ceilings.{line_bounded}

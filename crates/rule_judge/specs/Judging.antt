@@ -1,5 +1,5 @@
 -- What the checker knows after some lines, and what its answer for the next one says of `judge_line` (law, Verdict).
-use Rattle.std.specs.Prelude.{Bool, true, false, List, ◌++◌, ◌≡◌, ℕ, ◌+◌, ◌-◌, ◌≤◌, length, get_or, drop}
+use Rattle.std.specs.Prelude.{true, List, ◌++◌, ◌≡◌, ℕ, ◌+◌, ◌-◌, ◌≤◌, length, get_or, drop}
 use Rattle.law.specs.Code.{BodyCode}
 use Rattle.law.specs.Environment.{Declared}
 use Rattle.code.specs.LayoutSize.{size_symbols, size_bodies}

@@ -1,42 +1,39 @@
 -- What is laid before the body of a procedure: the ways through the code.
 use mathlib.Core.Path.{◌≡◌, refl, sym, ap, ◌∙◌}
-use mathlib.Core.Bool.{Bool, true, false, cond, ◌&&◌, true≢false}
+use mathlib.Core.Bool.{Bool, true, false, cond, true≢false}
 use mathlib.Core.List.{List, [], ◌∷◌, map}
-use mathlib.Core.Option.{Option, none, some}
-use Prim.Native.Nat.{ℕ, zero, suc, ◌+◌, ◌-◌, ◌%◌, ◌<◌, ◌≤◌}
+use mathlib.Core.Option.{none, some}
+use Prim.Native.Nat.{ℕ, suc, ◌-◌, ◌<◌, ◌≤◌}
 use native.Mathlib.Omega.{arith}
 use borrow.Author.Tests.{eq-eqb, ne_eqb, le-leb, lt-leb, lt-ltb, le-ltb}
-use lib.Dec.{eqb, leb, ltb}
+use lib.Dec.{eqb}
 use lib.ListN.{length}
-use Rattle.leaf_bytes.specs.Bytes.{small}
 use Rattle.law.specs.Base.{Name, ◌>>=◌, each}
-use Rattle.law.specs.Code.{Want, frame, ranged, any_set}
+use Rattle.law.specs.Code.{ranged, any_set}
 use Rattle.law.specs.Environment.{Environment, parameter_types, want_of}
 use Rattle.law.specs.Names.{pair_of, type_of}
 use Rattle.law.specs.Syntax.{TypeName}
-use Rattle.law.specs.Trees.{Tree, Trees, end, ◌then◌, Run, first, word_at}
+use Rattle.law.specs.Trees.{Trees, end, ◌then◌, Run, first}
 use Rattle.law_theorems.specs.Readings.{stack_at}
-use Rattle.law.specs.Types.{Shape, ordinal_shape, set_shape, array_shape, record_shape, TypeInfo, info_at, is_ordinal, ordinal?}
+use Rattle.law.specs.Types.{Shape, ordinal_shape, set_shape, array_shape, record_shape, info_at, is_ordinal}
 use Rattle.law_theorems.proofs.Inversion.{none-some, some_inj, bind-some}
-use Rattle.code.specs.Layout.{Out, out, lay, lay_wants, lay_parameters, lay_frame, want_numbers, bits}
-use Rattle.code.specs.LayoutRegions.{Same}
+use Rattle.code.specs.Layout.{out, lay, lay_wants, lay_parameters, lay_frame, want_numbers, bits}
 use Rattle.code.proofs.LayoutRegions.{lay-g}
 use Rattle.rule_faults.specs.declared.Fault.{Fault}
-use Rattle.rule_faults.specs.declared.Fault.TheVariants.{Clear}
-use Rattle.rule_faults.specs.Got.{is_clear, is_form}
+use Rattle.rule_faults.specs.Got.{is_clear}
 use Rattle.table_list.specs.Laid.{Laid}
 use Rattle.table_scope.specs.declared.Info.{Info}
 use Rattle.table_scope.specs.declared.Scope.{Scope}
-use Rattle.table_scope.specs.Descriptions.{info_of, shape_number, Tells}
+use Rattle.table_scope.specs.Descriptions.{info_of, shape_number}
 use Rattle.table_scope.specs.Scene.{Scene, with_pairs}
 use Rattle.table_scope.proofs.Kept.{scene-kept}
 use Rattle.rule_declarations.specs.State.{body_state, with_names, with_parameters}
 use Rattle.rule_declarations.specs.Vars.{vars_fit}
 use Rattle.rule_declarations.specs.declared.State.{State}
-use Rattle.rule_pairs.specs.Pairs.{pair_by, pair_first, pairs_in, PairTold, pair-wrong, pair_read, GivesPair}
+use Rattle.rule_pairs.specs.Pairs.{pair_first, pairs_in, PairTold, pair-wrong, pair_read, GivesPair}
 use Rattle.rule_pairs.specs.declared.Pair.{Pair}
 use Rattle.rule_parameters.proofs.Lists.{each-inv, each_none}
-use Rattle.rule_parameters.specs.Framing.{lets_in, scope_after, lay_types, lay_opening, want_by, Above, Typed, LaysTypes, LaysWants, base_of, LaysFrame, parameters_fit, proc_fits, proc_state, nothing_framed, FramesList, opened_by, Opens}
+use Rattle.rule_parameters.specs.Framing.{lets_in, scope_after, lay_types, lay_opening, want_by, Above, Typed, LaysTypes, LaysWants, base_of, LaysFrame, parameters_fit, proc_fits, proc_state, nothing_framed, FramesList, Opens}
 use Rattle.rule_parameters.specs.declared.framing.Framed.{Framed}
 use Rattle.rule_parameters.specs.declared.framing.Opened.{Opened}
 use Rattle.rule_parameters.specs.declared.listing.Listed.{Listed}

@@ -1,16 +1,14 @@
 -- The list of parameters: the ways through the code, and its fault by the stages.
 use mathlib.Core.Path.{◌≡◌, refl, sym, ap, ◌∙◌}
-use mathlib.Core.Bool.{Bool, true, false, cond, not, ◌&&◌, ◌||◌, false≢true, true≢false}
+use mathlib.Core.Bool.{Bool, true, false, cond, not, ◌&&◌, ◌||◌, false≢true}
 use mathlib.Core.List.{List, [], ◌∷◌, map}
-use mathlib.Core.Logic.{◌⊎◌, inl, inr}
 use mathlib.Core.Option.{Option, none, some}
-use Prim.Native.Nat.{ℕ, suc, ◌<◌, ◌≤◌}
+use Prim.Native.Nat.{ℕ, ◌<◌, ◌≤◌}
 use native.Mathlib.Omega.{arith}
 use borrow.Author.Tests.{lt-ltb, le-ltb}
 use lib.Dec.{ltb}
 use lib.ListN.{length}
 use Rattle.leaf_bytes.specs.Bytes.{small, same}
-use Rattle.leaf_integers.proofs.Order.{le-or-lt}
 use Rattle.law.specs.Base.{Name, ◌>>=◌, each, given}
 use Rattle.law.specs.Environment.{Environment}
 use Rattle.law.specs.Names.{distinct, field_names, is_known, listed_in, none_known, pair_of, type_of}
@@ -20,8 +18,7 @@ use Rattle.law.specs.Trees.{Trees, word, form, end, ◌then◌, Run, first, late
 use Rattle.law_theorems.specs.Readings.{stack_at}
 use Rattle.law.specs.Types.{Shape, ordinal_shape, set_shape, array_shape, record_shape, info_at, is_ordinal, is_set, ordinal?, set?}
 use Rattle.law_theorems.proofs.Inversion.{none-some, some_inj, bind-some, and-true}
-use Rattle.law_theorems.proofs.Reading.{none-stack}
-use Rattle.rule_stages.specs.Stages.{unnamed, unfit, fits, named, ruled}
+use Rattle.rule_stages.specs.Stages.{unnamed, named, ruled}
 use Rattle.rule_faults.specs.declared.Fault.{Fault}
 use Rattle.rule_faults.specs.declared.Fault.TheVariants.{Clear, Kind, Name as Unnamed, Form}
 use Rattle.rule_faults.specs.Got.{fault_of, lowest, is_clear, is_form}
@@ -38,12 +35,12 @@ use Rattle.text_words.specs.Sights.{Looks}
 use Rattle.rule_declarations.specs.Names.{new_fault}
 use Rattle.rule_declarations.proofs.VarLines.{clear-is, fault-new}
 use Rattle.rule_enum_lines.specs.Enums.{many}
-use Rattle.rule_pairs.specs.Pairs.{pairs_in, pair_by, firsts, resolve, known_type, types_known, pairs_good, GivesPair, PairsTold, pairs-wrong, pairs-empty, pairs-read, GivesPairs}
+use Rattle.rule_pairs.specs.Pairs.{pairs_in, pair_by, firsts, resolve, types_known, pairs_good, GivesPair, PairsTold, pairs-wrong, pairs-empty, pairs-read, GivesPairs}
 use Rattle.rule_pairs.proofs.Resolving.{Good, good-yes, good-no, good-told}
 use Rattle.rule_pairs.specs.declared.Pair.{Pair}
 use Rattle.rule_pairs.specs.declared.Pairs.{Pairs}
 use Rattle.rule_pairs.proofs.PairParts.{pairs-fewer, pairs-more, pairs-nothing}
-use Rattle.rule_parameters.specs.Listing.{list_of, parameters_by, parameters_in, list_after, StartsList, no-list, a-list, list_new, list_staged, kind_fault, pair_fault, faults_from, fault_by, GivesFaults, no_list, listed_by, ListTold, list-none, list-wrong, list_read, GivesList}
+use Rattle.rule_parameters.specs.Listing.{list_of, parameters_by, list_after, StartsList, no-list, a-list, list_new, list_staged, kind_fault, pair_fault, faults_from, fault_by, GivesFaults, no_list, listed_by, ListTold, list-none, list-wrong, list_read, GivesList}
 use Rattle.rule_parameters.specs.declared.listing.Listed.{Listed}
 
 -- ---- `list_in`

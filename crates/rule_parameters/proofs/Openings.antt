@@ -1,36 +1,32 @@
 -- What is known in the body after a list: the environment of its parameters.
 use mathlib.Core.Path.{◌≡◌, refl, sym, ap, ◌∙◌, subst}
-use mathlib.Core.Bool.{Bool, true, false, cond, not, ◌&&◌}
-use mathlib.Core.List.{List, [], ◌∷◌, map}
+use mathlib.Core.Bool.{true, not, ◌&&◌}
+use mathlib.Core.List.{List, ◌∷◌, map}
 use mathlib.Core.Option.{Option, none, some}
-use Prim.Native.Nat.{ℕ, zero, suc, ◌+◌, ◌<◌, ◌≤◌}
+use Prim.Native.Nat.{ℕ, zero, suc, ◌≤◌}
 use native.Mathlib.Omega.{arith}
-use borrow.Author.Tests.{eq-eqb, ne_eqb}
-use lib.Dec.{eqb}
+use borrow.Author.Tests.{ne_eqb}
 use lib.ListN.{length}
 use Rattle.leaf_bytes.specs.Bytes.{small}
 use Rattle.leaf_words.specs.Words.{word_of}
 use Rattle.law.specs.Base.{Name, ◌>>=◌, each, find}
 use Rattle.law.specs.Environment.{Declared, Environment, NameSort, within}
 use Rattle.law.specs.Names.{as_type, distinct, field_names, listed_in, none_known, pair_of, type_of}
-use Rattle.law.specs.Syntax.{TypeName, declared, integer, boolean}
-use Rattle.law.specs.Trees.{Tree, Trees, word, form, end, ◌then◌, Run, first}
+use Rattle.law.specs.Syntax.{TypeName}
+use Rattle.law.specs.Trees.{Trees, word, form, end, ◌then◌, Run, first}
 use Rattle.law_theorems.specs.Readings.{stack_at}
 use Rattle.law_theorems.proofs.Inversion.{none-some, some_inj, bind-some, and-true}
 use Rattle.text_heads.specs.declared.Atom.{Atom}
 use Rattle.text_heads.specs.declared.Atom.TheVariants as AT
 use Rattle.text_heads.specs.Heads.{atom_of, atom_name, atom_type}
-use Rattle.text_heads.specs.Parts.{rest, closed, name_in, part_of, type_name_in}
+use Rattle.text_heads.specs.Parts.{closed, name_in, part_of, type_name_in}
 use Rattle.text_heads.proofs.Expressions.{name-form, type-form}
 use Rattle.text_heads.proofs.Heads.{name-word, type-word}
-use Rattle.rule_faults.specs.declared.Fault.{Fault}
 use Rattle.table_scope.specs.declared.Meaning.{Meaning}
-use Rattle.table_scope.specs.declared.Meaning.TheVariants as meaning
 use Rattle.table_scope.specs.declared.Scope.{Scope}
-use Rattle.table_scope.specs.Scene.{kind_by, kind_of, declared_in, meaning_in, Means, a-type, a-var, a-proc, a-value, Scene, Told, unknown, known, with_pairs}
+use Rattle.table_scope.specs.Scene.{kind_by, kind_of, declared_in, a-type, a-var, a-proc, a-value, Scene, Told, unknown, known, with_pairs}
 use Rattle.table_scope.proofs.Kept.{scene-kept}
 use Rattle.table_scope.proofs.Within.{Pairs, no_pairs, a_pair, plain-meaning, scene-within}
-use Rattle.rule_atoms.proofs.Telling.{base-two}
 use Rattle.rule_declarations.specs.Names.{last_type}
 use Rattle.rule_declarations.specs.State.{Holds}
 use Rattle.rule_declarations.specs.declared.State.{State}

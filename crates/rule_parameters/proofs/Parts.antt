@@ -1,15 +1,13 @@
 -- The parts of a `proc` line after its name: the list, if there is one, and the body's.
-use mathlib.Core.Path.{◌≡◌, refl, sym, ap, ◌∙◌}
+use mathlib.Core.Path.{◌≡◌, refl, ap, ◌∙◌}
 use mathlib.Core.List.{List, [], ◌∷◌}
 use mathlib.Core.Option.{Option, none, some}
 use Rattle.law.specs.Base.{Name, ◌>>=◌, each}
 use Rattle.law.specs.Forms.{Item, field, pairs_of, parameters}
 use Rattle.law.specs.Syntax.{TypeName}
 use Rattle.law.specs.Trees.{Trees, word, form, end, ◌then◌, Run, list}
-use Rattle.law.specs.Words.{Word, word_by, worded, worded_all}
+use Rattle.law.specs.Words.{Word, word_by, worded_all}
 use Rattle.leaf_words.specs.Words.{word_of}
-use Rattle.text_heads.specs.Parts.{rest}
-use Rattle.rule_pairs.specs.Pairs.{pairs_in}
 use Rattle.rule_pairs.proofs.PairParts.{pairs-each}
 use Rattle.rule_parameters.specs.Listing.{list_of, parameters_by, parameters_in, body_by, body_part}
 

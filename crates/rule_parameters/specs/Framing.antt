@@ -2,7 +2,7 @@
 use Rattle.std.specs.Prelude.{Bool, true, false, cond, ◌&&◌, List, [], ◌∷◌, map, ◌≡◌, ℕ, ◌+◌, ◌%◌, ◌≤◌, eqb, leb, ltb, length}
 use Rattle.std.proofs.Math.Option.{some}
 use Rattle.law.specs.Base.{Name, each}
-use Rattle.law.specs.Code.{Frame, frame}
+use Rattle.law.specs.Code.{frame}
 use Rattle.law.specs.Environment.{Environment, parameter_types, want_of}
 use Rattle.law.specs.Names.{pair_of}
 use Rattle.law.specs.Syntax.{TypeName}

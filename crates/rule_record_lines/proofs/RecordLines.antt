@@ -12,11 +12,11 @@ use lib.ListN.{get_or, length, set, length-append, length-set}
 use Rattle.leaf_bytes.specs.Bytes.{small}
 use Rattle.law.specs.Base.{Name, ◌>>=◌, each, given, find}
 use Rattle.law.specs.Ceilings.{line_bounded, type_bounded, field_sizes}
-use Rattle.law.specs.Environment.{Declared, Environment, a_proc, a_type, declare_line, extend_types, decl_names, type_sort_of, lay_fields, field_cells}
+use Rattle.law.specs.Environment.{Declared, a_proc, a_type, declare_line, extend_types, decl_names, type_sort_of, lay_fields, field_cells}
 use Rattle.law.specs.Forms.{field, some?, made_type}
 use Rattle.code.specs.Layout.{bits, lay}
 use Rattle.code.specs.LayoutSize.{symbol_size, size_decl}
-use Rattle.law.specs.Names.{type_of, is_known, distinct, field_names, decl_of, entry_of}
+use Rattle.law.specs.Names.{is_known, distinct, field_names, decl_of, entry_of}
 use Rattle.law.specs.Rules.{keeps_rules, kept_decl}
 use Rattle.law.specs.Script.{Entry, new_type, Decl, record_of}
 use Rattle.rule_stages.specs.Stages as Stages
@@ -49,7 +49,7 @@ use Rattle.rule_declarations.specs.State.{scoped, Holds}
 use Rattle.rule_declarations.specs.Names.{new_fault}
 use Rattle.rule_declarations.specs.Lines.{entry_staged, newly, lined_by, LineTold}
 use Rattle.rule_type_lines.specs.TypeLines.{made_after, lines_fit, type_entry, info_numbers, type_state, GivesMade, EndFault, was-form, at-end, before-end}
-use Rattle.rule_pairs.specs.Pairs.{pairs_in, firsts, resolve, known_type, types_known, pairs_good, Tracks, PairsTold, pairs-wrong, pairs-empty, pairs-read, GivesPairs}
+use Rattle.rule_pairs.specs.Pairs.{pairs_in, firsts, resolve, pairs_good, Tracks, PairsTold, pairs-wrong, pairs-empty, pairs-read, GivesPairs}
 use Rattle.rule_pairs.proofs.Resolving.{Good, good-yes, good-no, good-told}
 use Rattle.rule_record_lines.specs.Records.{record_in, record_info, record_named, record_described, AddsRecord, record_fits}
 use Rattle.rule_declarations.specs.declared.State.{State}

@@ -1,29 +1,28 @@
 -- The arguments of a call, counted and looked through for constants past the integers.
 use mathlib.Core.Path.{◌≡◌, refl, sym, ap, ◌∙◌}
 use mathlib.Core.Bool.{Bool, true, false, ◌&&◌}
-use mathlib.Core.List.{List, [], ◌∷◌, map}
+use mathlib.Core.List.{List, map}
 use mathlib.Core.Option.{Option, none, some}
 use Prim.Native.Nat.compare
 use Prim.Native.Nat.{ℕ, zero, suc, ◌-◌}
 use native.Mathlib.Omega.{arith}
 use borrow.Author.Tests.{ne_eqb}
 use lib.Dec.{eqb}
-use lib.ListN.{length, get_or}
+use lib.ListN.{length}
 use Rattle.leaf_bytes.specs.Bytes.{small}
 use Rattle.leaf_words.specs.declared.words.Word.{Word}
 use Rattle.leaf_words.specs.Words.{word_of}
 use Rattle.law.specs.Base.{Name, ◌>>=◌, find}
-use Rattle.law.specs.Environment.{Environment, NameSort, a_proc}
-use Rattle.law.specs.Names.{as_proc, expr_of, exprs_of, stmt_of}
+use Rattle.law.specs.Environment.{Environment, NameSort}
+use Rattle.law.specs.Names.{as_proc, exprs_of, stmt_of}
 use Rattle.law.specs.Rules.{how_many, kept_stmt, plain_expr, plain_exprs}
 use Rattle.law.specs.Script as Script
 use Rattle.law.specs.Syntax as Syntax
-use Rattle.law.specs.Trees.{Tree, Trees, word, form, end, ◌then◌, Run, first, later, word_at}
+use Rattle.law.specs.Trees.{Tree, Trees, form, end, ◌then◌, Run, first, later, word_at}
 use Rattle.law_theorems.specs.Readings.{stack_at}
 use Rattle.law_theorems.proofs.Inversion.{none-some, some_inj, bind-some}
 use Rattle.text_heads.specs.declared.Atom.{Atom}
 use Rattle.text_heads.specs.declared.Atom.TheVariants as AT
-use Rattle.text_heads.specs.declared.Verb.TheVariants as VB
 use Rattle.text_heads.specs.Heads.{atom_of, atom_name}
 use Rattle.text_heads.specs.Parts.{part_of, rest, expr_in, exprs_in, name_in}
 use Rattle.text_heads.proofs.Expressions.{name-form}
@@ -40,12 +39,12 @@ use Rattle.table_scope.specs.declared.Meaning.{Meaning}
 use Rattle.table_scope.specs.declared.Meaning.TheVariants as meaning
 use Rattle.table_scope.specs.declared.Scope.{Scope}
 use Rattle.table_scope.specs.declared.frames.Frame.{Frame}
-use Rattle.table_scope.specs.Frames.{TellsFrame, frame_in}
-use Rattle.table_scope.specs.Scene.{Means, a-type, a-var, a-proc, a-value, Scene, Told, unknown, known, meaning_here}
+use Rattle.table_scope.specs.Frames.{frame_in}
+use Rattle.table_scope.specs.Scene.{a-type, a-var, a-proc, a-value, Scene, Told, unknown, known, meaning_here}
 use Rattle.rule_statements.proofs.Shapes.{call_shape}
 use Rattle.rule_restrictions.specs.Calls.{count_by, plain_count, KeepsCall}
 use Rattle.rule_restrictions.specs.Walks.{Near}
-use Rattle.rule_restrictions.proofs.Passing.{expr-first, no_end, split, skip-then}
+use Rattle.rule_restrictions.proofs.Passing.{expr-first, split, skip-then}
 
 -- ---- `plain_parts`: n parts from `at` on, of which `left` from p on
 

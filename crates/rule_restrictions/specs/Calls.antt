@@ -1,5 +1,5 @@
 -- A call's arguments: what rules it keeps beside kinds.
-use Rattle.std.specs.Prelude.{Bool, false, ◌&&◌, List, ◌≡◌, ℕ, zero, suc, eqb}
+use Rattle.std.specs.Prelude.{Bool, false, ◌&&◌, List, ℕ, zero, suc, eqb}
 use Rattle.law.specs.Trees.{Trees, end, ◌then◌, Run}
 use Rattle.text_heads.specs.declared.Verb.TheVariants as VB
 use Rattle.table_scope.specs.declared.Loops.{Loops}

@@ -10,17 +10,16 @@ use borrow.Author.Tests.{ne_eqb}
 use lib.Dec.{eqb}
 use lib.ListN.{length}
 use Rattle.law.specs.Base.{Name, ◌>>=◌, both, given}
-use Rattle.law.specs.Calculate as Calculate
 use Rattle.law.specs.Syntax as Syntax
 use Rattle.law.specs.Types.{Types, info_at, Vars, Var, Field, host_of, size_of, set?, array?, record?, base_of, field_of}
 use Rattle.law.specs.Operators.{Op, Fun, both_booleans, operator_rule, function_rule}
-use Rattle.law.specs.Script.{Expr, read, members, binary, short_circuit, unary, Target, var, at, dot, Exprs, nil, ◌and◌}
+use Rattle.law.specs.Script.{Expr, read, members, binary, short_circuit, unary, Target, at, dot, Exprs, ◌and◌}
 use Rattle.law.specs.Environment.{Environment}
 use Rattle.law.specs.Names.{Reached, reached, type_of, element_of, field_in, expr_of, target_of, exprs_of}
 use Rattle.law.specs.Code.{Code, Codes, load, make_set, calculate, short_cut, calculate1, no_codes, ◌with◌, index, shift}
 use Rattle.law.specs.Elaborate.{Elaborated, elaborated, Located, located, elab_expr, elab_target, elab_members, elab_arguments, expects}
 use Rattle.law.specs.Rules.{plain_expr, plain_target, plain_exprs, how_many}
-use Rattle.rule_stages.specs.Stages.{Staged, unnamed, unfit, fits, ruled, named, staged, join, or_unfit, on_fits, unknown, dotted, expr_staged, target_name, type_by, target_type, target_staged, members_staged, arguments_staged, wanted_staged}
+use Rattle.rule_stages.specs.Stages.{unnamed, unfit, fits, ruled, named, staged, join, or_unfit, on_fits, unknown, dotted, expr_staged, target_name, type_by, target_type, target_staged, members_staged, arguments_staged, wanted_staged}
 use Rattle.rule_stages.proofs.Staging.{bind-map, staged-unknown, staged-two, staged-never, staged-one, staged-then, one-ruled}
 use Rattle.law_theorems.proofs.Inversion.{none-some, some_inj, bind-some, both_some, given-some, and-true}
 

@@ -9,7 +9,7 @@ use lib.ListN.{length}
 use Rattle.law.specs.Base.{Name, ◌>>=◌, both, find, given, each}
 use Rattle.law.specs.Syntax as Syntax
 use Rattle.law.specs.Types.{Types, info_at, Vars, Var, variable, host_of, ordinal?}
-use Rattle.law.specs.Script.{Expr, Target, var, Stmt, assign, begin, if_else, while, for, case, call, raise, Stmts, ◌next◌, Arms, else_arm, arm}
+use Rattle.law.specs.Script.{Expr, Target, var, Stmt, assign, begin, if_else, while, for, case, call, raise, ◌next◌, else_arm, arm}
 use Rattle.law.specs.Environment.{Environment}
 use Rattle.law.specs.Names.{as_proc, var_of, constant_of, expr_of, exprs_of, target_of, stmt_of, stmts_of, arms_of, body_of}
 use Rattle.law.specs.Code.{Act, sequence, branch_on, while_loop, for_loop, case_of, call_to, raise_with, ◌also◌, else_case, one_case, Frame}

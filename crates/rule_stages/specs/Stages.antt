@@ -4,7 +4,7 @@ use Rattle.std.specs.Prelude.{Bool, true, false, not, ◌&&◌, List, ℕ, eqb, 
 use Rattle.std.proofs.Math.Option.{Option, none, some}
 use Rattle.law.specs.Base.{◌>>=◌, each}
 use Rattle.law.specs.Syntax as Syntax
-use Rattle.law.specs.Script.{Expr, Target, Exprs, Stmt, Stmts, Arms, Body}
+use Rattle.law.specs.Script.{Target}
 use Rattle.law.specs.Environment.{Environment}
 use Rattle.law.specs.Names.{Reached, expr_of, target_of, exprs_of, constant_of, stmt_of, stmts_of, arms_of, body_of}
 use Rattle.law.specs.Code.{Code, Codes, Act, Acts, Cases, Frame, BodyCode}

@@ -1,29 +1,26 @@
 -- What the answer for a statement tells, from the answers for its parts.
 use mathlib.Core.Path.{◌≡◌, refl, sym, ap, ◌∙◌}
-use mathlib.Core.Bool.{Bool, true, false, cond, not, true≢false}
+use mathlib.Core.Bool.{true, false, true≢false}
 use mathlib.Core.List.{List, [], ◌∷◌}
 use mathlib.Core.Option.{Option, none, some}
-use Prim.Native.Nat.{ℕ, ◌+◌, ◌≤◌}
-use lib.Dec.{eqb}
-use Rattle.law.specs.Base.{Name, ◌>>=◌, given}
-use Rattle.law.specs.Code.{Code, Act, Acts, raise_with, while_loop, branch_on, for_loop, no_act, sequence}
+use Prim.Native.Nat.{ℕ}
+use Rattle.law.specs.Base.{◌>>=◌}
+use Rattle.law.specs.Code.{Code, Act, raise_with, while_loop, branch_on}
 use Rattle.law.specs.Environment.{Environment}
-use Rattle.code.specs.Layout.{Out, out, lay, lay_code, lay_act, lay_acts}
-use Rattle.rule_stages.specs.Stages.{Staged, wrong, unnamed, unfit, fits, staged, named, ruled, join, on_fits, or_unfit, wanted_staged, stmt_staged, stmts_staged}
+use Rattle.code.specs.Layout.{out, lay, lay_code, lay_act}
+use Rattle.rule_stages.specs.Stages.{staged, named, ruled, join, on_fits, or_unfit, wanted_staged, stmt_staged}
 use Rattle.law.specs.Syntax as Syntax
 use Rattle.law_theorems.proofs.Inversion.{none-some, some_inj, bind-some}
 use Rattle.rule_stages.proofs.Staging.{pair}
-use Rattle.rule_stages.proofs.OnePassStmts.{raise-staged, begin-staged, while-staged, if-staged}
+use Rattle.rule_stages.proofs.OnePassStmts.{raise-staged, while-staged, if-staged}
 use Rattle.law.specs.Names.{stmt_of}
 use Rattle.law.specs.Rules.{kept_stmt}
 use Rattle.law.specs.Elaborate.{elab_stmt}
-use Rattle.rule_faults.specs.declared.Fault.{Fault}
-use Rattle.rule_faults.specs.declared.Fault.TheVariants.{Clear}
 use Rattle.rule_faults.specs.declared.Got.{Got}
 use Rattle.rule_faults.specs.Got.{lowest, is_form, fault_of}
 use Rattle.rule_stmt_nodes.specs.Nodes.{skip_got}
-use Rattle.rule_statements.specs.Walks.{bare, WantTold, ActTold, ActsTold}
-use Rattle.rule_statements.proofs.Faults.{join-fault, Both, join-fits, on-fault, Only, on-fits, Node, form-none, form-is}
+use Rattle.rule_statements.specs.Walks.{bare, WantTold, ActTold}
+use Rattle.rule_statements.proofs.Faults.{join-fault, join-fits, on-fault, on-fits, Node, form-is}
 use Rattle.rule_expressions.proofs.Joining.{wrong-fits, fits-inj}
 
 -- ---- without the numbers

@@ -40,12 +40,12 @@ use Rattle.rule_faults.specs.Got.{lowest, is_form, fault_of}
 use Rattle.rule_faults.proofs.Order.{lowest-assoc}
 use Rattle.rule_expr_nodes.specs.Members.{member_fault}
 use Rattle.rule_expressions.specs.Walks.{GivesExpr}
-use Rattle.rule_expressions.proofs.Joining.{wrong-fits, unnamed-fits, unfit-fits, fits-inj}
+use Rattle.rule_expressions.proofs.Joining.{wrong-fits, unfit-fits, fits-inj}
 use Rattle.rule_expressions.proofs.Membership.{one_more, more-fault}
 use Rattle.rule_expressions.proofs.Operators.{expr-missing}
 use Rattle.rule_stmt_nodes.specs.Calls.{Takes, argument_fault, argument_got, few_fault}
 use Rattle.rule_stmt_nodes.specs.Nodes.{next_number, linked, skip_got, finished_got}
-use Rattle.rule_statements.specs.Arguments.{ArgumentsTold, GivesArguments, ArgumentsLeft, Passing}
+use Rattle.rule_statements.specs.Arguments.{GivesArguments, ArgumentsLeft, Passing}
 use Rattle.rule_statements.specs.Chains.{many}
 use Rattle.rule_statements.proofs.Faults.{lowest-form, Both, tested-fits, form-is, same_refl}
 

@@ -1,28 +1,23 @@
 -- The loop over the arms of a `case`.
 use mathlib.Core.Path.{◌≡◌, refl, sym, ap, ◌∙◌}
-use mathlib.Core.Bool.{Bool, true, false, cond, true≢false}
+use mathlib.Core.Bool.{Bool, true, false, true≢false}
 use mathlib.Core.List.{List, [], ◌∷◌}
 use mathlib.Core.Option.{Option, none, some}
 use Prim.Native.Nat.{ℕ, suc, ◌+◌, ◌<◌, ◌≤◌}
 use native.Mathlib.Omega.{arith}
-use borrow.Author.Tests.{eq-eqb, ne_eqb}
-use lib.Dec.{eqb}
 use lib.IntN.{ℤ}
-use lib.ListN.{get_or, set}
+use lib.ListN.{get_or}
 use lib.Seq.{get_or-set_other}
-use Rattle.leaf_words.specs.declared.words.Word.{Word}
-use Rattle.leaf_words.specs.Words.{word_of}
 use Rattle.law.specs.Base.{◌>>=◌}
-use Rattle.law.specs.Code.{Act, Cases, else_case, no_case, one_case}
+use Rattle.law.specs.Code.{Act, Cases, else_case, one_case}
 use Rattle.law.specs.Elaborate.{elab_arms}
 use Rattle.law.specs.Environment.{Environment}
-use Rattle.law.specs.Forms as Forms
 use Rattle.law_theorems.specs.FormsByDepth as ByDepth
-use Rattle.law.specs.Forms.{ArmHead, is_arm, is_else, arms_first, among, arm_heads}
+use Rattle.law.specs.Forms.{is_arm, is_else}
 use Rattle.code.specs.Layout.{Out, out, lay, link, lay_labels, lay_act, lay_cases}
 use Rattle.law.specs.Names.{arms_of}
 use Rattle.law.specs.Rules.{kept_arms}
-use Rattle.rule_stages.specs.Stages.{Staged, wrong, fits, staged, named, ruled, join, on_fits, or_unfit, labels_staged, stmt_staged, arms_staged}
+use Rattle.rule_stages.specs.Stages.{Staged, fits, staged, named, ruled, join, on_fits, or_unfit, labels_staged, stmt_staged, arms_staged}
 use Rattle.law.specs.Syntax as Syntax
 use Rattle.law.specs.Trees.{word, form, Trees, end, ◌then◌, Run, first, later, nodes, nodes_in}
 use Rattle.law_theorems.specs.Readings.{stack_at}
@@ -31,42 +26,32 @@ use Rattle.code.proofs.LayoutRegions.{lay-g}
 use Rattle.code.specs.LayoutRegions.{Same}
 use Rattle.rule_stages.proofs.OnePassStmts.{arm-staged, else-staged}
 use Rattle.rule_stages.proofs.Staging.{pair}
-use Rattle.text_heads.specs.declared.ArmHead as Heads
-use Rattle.text_heads.specs.declared.ArmHead.TheVariants as AH
-use Rattle.text_heads.specs.Heads.{arm_head_of, arm_head_meant}
-use Rattle.text_heads.specs.Parts.{part_of, rest, closed, stmt_in, arm_in, arms_in, else_arm_in, arm_head_in}
-use Rattle.text_heads.proofs.Heads.{arm-head-is}
+use Rattle.text_heads.specs.Parts.{part_of, rest, closed, stmt_in, arm_in, arms_in, else_arm_in}
 use Rattle.table_scope.specs.declared.Scope.{Scope}
 use Rattle.rule_faults.specs.declared.Fault.{Fault}
-use Rattle.rule_faults.specs.declared.Fault.TheVariants.{Clear, Kind, Name, Form}
-use Rattle.table_scope.specs.declared.Info.{Info}
+use Rattle.rule_faults.specs.declared.Fault.TheVariants.{Form}
 use Rattle.table_scope.specs.declared.Loops.{Loops}
-use Rattle.table_scope.specs.Descriptions.{info_of}
 use Rattle.table_scope.specs.Scene.{Scene}
 use Rattle.table_scope.proofs.Kept.{scene-kept}
 use Rattle.table_list.specs.Laid.{Laid}
 use Rattle.rule_faults.specs.declared.Got.{Got}
-use Rattle.text_parts.specs.declared.Part.{Part}
-use Rattle.text_parts.specs.declared.Part.TheVariants as part
-use Rattle.rule_faults.specs.Got.{lowest, is_form, is_clear, fault_of, failed_got}
+use Rattle.rule_faults.specs.Got.{lowest, is_form, fault_of, failed_got}
 use Rattle.rule_faults.proofs.Order.{lowest-assoc, lowest-clear}
-use Rattle.text_parts.specs.Parts.{Before, LeafAt, FormAt, ShutAt, Stands}
-use Rattle.rule_expr_nodes.specs.Bracket.{Closes, shut, more}
-use Rattle.rule_expr_nodes.specs.Nodes.{Made, Makes}
+use Rattle.text_parts.specs.Parts.{ShutAt}
+use Rattle.rule_expr_nodes.specs.Bracket.{Closes}
+use Rattle.rule_expr_nodes.specs.Nodes.{Makes}
 use Rattle.rule_expressions.specs.Walks.{Moves, Leaves}
-use Rattle.rule_expressions.proofs.Joining.{wrong-fits, fits-inj}
+use Rattle.rule_expressions.proofs.Joining.{fits-inj}
 use Rattle.rule_statements.specs.declared.arms.NextArm.{NextArm}
 use Rattle.rule_statements.specs.declared.arms.NextArm.TheVariants as next-arm
-use Rattle.rule_stmt_nodes.specs.BaseNodes.{node_if}
 use Rattle.rule_stmt_nodes.specs.Nodes.{skip_got, joined_got, finished_got}
 use Rattle.rule_statements.specs.Walks.{bare, ActTold, Around, GivesStmt}
 use Rattle.rule_statements.specs.Chains.{many}
-use Rattle.rule_statements.specs.Cases.{LabelsTold, GivesLabels, ArmFormAt, ArmHeadAt, ArmComes, ArmInside, arm_made, ArmStmtBy, stmt-parts, ArmBy, arm-parts, ElseBy, else-parts, ArmsLeft, Arming, ArmsTold, GivesArms, selected_kind, cased, FirstArm, an-arm, no_arm, case_made, CaseEnds, case-ends, CaseBy, case-parts}
-use Rattle.rule_statements.proofs.Faults.{lowest-form, form-left, form-right, form-is, form-none, join-fault, Both, join-fits, on-fault, Only, on-fits, closes-leaves, same_refl, act-closed}
+use Rattle.rule_statements.specs.Cases.{LabelsTold, GivesLabels, ArmFormAt, ArmComes, arm_made, stmt-parts, ArmBy, arm-parts, ElseBy, else-parts, ArmsLeft, Arming, ArmsTold, GivesArms}
+use Rattle.rule_statements.proofs.Faults.{lowest-form, form-right, form-is, form-none, join-fault, join-fits, on-fault, on-fits, closes-leaves, same_refl, act-closed}
 use Rattle.rule_statements.proofs.Acts.{some_of}
-use Rattle.rule_statements.proofs.Shapes.{stmt-count, rest-few}
+use Rattle.rule_statements.proofs.Shapes.{stmt-count}
 use Rattle.rule_statements.proofs.ArmWays.{arms-head, arms-else}
-use Rattle.rule_statements.proofs.Chains.{none_of}
 
 -- ---- stages and layouts
 

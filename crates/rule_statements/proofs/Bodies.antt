@@ -5,17 +5,16 @@ use mathlib.Core.List.{List, [], ◌∷◌}
 use mathlib.Core.Option.{Option, none, some}
 use Prim.Native.Nat.{ℕ, suc, ◌+◌, ◌<◌, ◌≤◌}
 use native.Mathlib.Omega.{arith}
-use lib.ListN.{length}
 use Rattle.leaf_words.specs.Words.{word_of}
 use Rattle.law.specs.Base.{◌>>=◌, both, given}
-use Rattle.law.specs.Code.{Act, Acts, stop, Frame, BodyCode}
+use Rattle.law.specs.Code.{Acts, stop, Frame, BodyCode}
 use Rattle.law.specs.Elaborate.{elab_stmts, elab_body}
 use Rattle.law.specs.Environment.{Environment}
 use Rattle.law.specs.Forms.{plain_body}
-use Rattle.code.specs.Layout.{Out, out, lay, lay_act, lay_acts, lay_frame, lay_body, flag}
+use Rattle.code.specs.Layout.{out, lay, lay_act, lay_acts, lay_frame, lay_body, flag}
 use Rattle.law.specs.Names.{stmts_of, body_of}
 use Rattle.law.specs.Rules.{kept_stmts, kept_body}
-use Rattle.rule_stages.specs.Stages.{Staged, wrong, fits, staged, named, ruled, join, or_unfit, stmts_staged, body_staged}
+use Rattle.rule_stages.specs.Stages.{Staged, fits, staged, named, ruled, join, or_unfit, stmts_staged, body_staged}
 use Rattle.law.specs.Syntax as Syntax
 use Rattle.law.specs.Trees.{Tree, word, form, Trees, end, ◌then◌, Run, first, later, nodes, nodes_in}
 use Rattle.law_theorems.specs.Readings.{stack_at}
@@ -26,7 +25,6 @@ use Rattle.rule_stages.proofs.OnePassStmts.{body-staged}
 use Rattle.text_heads.specs.Heads.{is_exception}
 use Rattle.text_heads.specs.Parts.{stmt_in, stmts_in, body_in, handler_in, handler_last, handling}
 use Rattle.table_scope.specs.declared.Scope.{Scope}
-use Rattle.rule_faults.specs.declared.Fault.{Fault}
 use Rattle.rule_faults.specs.declared.Fault.TheVariants.{Clear, Form}
 use Rattle.table_scope.specs.declared.Loops.{Loops}
 use Rattle.table_scope.specs.Loops.{no_loops}
@@ -35,7 +33,7 @@ use Rattle.table_scope.proofs.Kept.{scene-kept}
 use Rattle.table_scope.proofs.Looping.{in-force-none}
 use Rattle.table_list.specs.Laid.{Laid}
 use Rattle.rule_faults.specs.declared.Got.{Got}
-use Rattle.rule_faults.specs.Got.{lowest, is_form, fault_of, failed_got, past_bracket}
+use Rattle.rule_faults.specs.Got.{lowest, is_form, fault_of, past_bracket}
 use Rattle.rule_faults.proofs.Order.{lowest-clear}
 use Rattle.text_parts.specs.Parts.{ShutAt}
 use Rattle.rule_expr_nodes.specs.Bracket.{Closes, shut, more}
@@ -46,11 +44,10 @@ use Rattle.rule_statements.specs.Chains.{many}
 use Rattle.rule_stmt_nodes.specs.declared.last.Head.{Head}
 use Rattle.rule_stmt_nodes.specs.declared.last.Next.{Next}
 use Rattle.rule_stmt_nodes.specs.declared.last.Next.TheVariants as following
-use Rattle.rule_statements.specs.Walks.{bare, ActsTold, Around, GivesActs, GivesStmt, lay_rest, lay_framed, BodyTold, GivesBody}
+use Rattle.rule_statements.specs.Walks.{bare, ActsTold, Around, GivesActs, GivesStmt, lay_rest, lay_framed, GivesBody}
 use Rattle.rule_stmt_nodes.specs.Handlers.{HandlerAt, PlainAt, Comes}
-use Rattle.rule_statements.specs.Fronts.{BodyLeft, Fronting, RestTold, GivesRest, HandledBy, by_parts}
-use Rattle.rule_statements.proofs.Faults.{lowest-form, join-fault, Both, join-fits, form-is, form-left, form-right, form-none, Node, node_of}
-use Rattle.rule_statements.proofs.Acts.{bare-last}
+use Rattle.rule_statements.specs.Fronts.{BodyLeft, Fronting, GivesRest, HandledBy, by_parts}
+use Rattle.rule_statements.proofs.Faults.{lowest-form, join-fault, join-fits, form-is, form-right, form-none, node_of}
 use Rattle.rule_statements.proofs.Chains.{none_of}
 use Rattle.rule_statements.proofs.Fronts.{body-none, front-start, front-next, front-falls}
 

@@ -13,7 +13,7 @@ use Rattle.law.specs.Names.{as_proc}
 use Rattle.law.specs.Syntax as Syntax
 use Rattle.law.specs.Trees.{first, word_at}
 use Rattle.law_theorems.specs.Readings.{stack_at}
-use Rattle.code.specs.Layout.{Out, lay, lay_act}
+use Rattle.code.specs.Layout.{lay, lay_act}
 use Rattle.code.specs.LayoutRegions.{Same}
 use Rattle.code.proofs.LayoutRegions.{lay-g}
 use Rattle.law_theorems.proofs.Inversion.{some_inj, bind-some}
@@ -39,7 +39,7 @@ use Rattle.rule_stmt_nodes.specs.declared.calls.Callee.{Callee}
 use Rattle.rule_stmt_nodes.specs.Calls.{callee_by, Takes, few_fault, called}
 use Rattle.rule_statements.specs.Walks.{bare, ActTold}
 use Rattle.rule_statements.specs.Arguments.{CalleeTold, known, unknown, ArgumentsTold, GivesArguments, GivesCallNamed}
-use Rattle.rule_statements.proofs.Faults.{form-left, form-right, on-fault, Only, on-fits, same_refl, Node, node_of, node-leaves}
+use Rattle.rule_statements.proofs.Faults.{form-left, form-right, on-fault, on-fits, same_refl, Node, node_of, node-leaves}
 use Rattle.rule_statements.proofs.Acts.{bare-one}
 use Rattle.rule_statements.proofs.Stores.{unknown-fault, unknown-fits}
 use Rattle.rule_statements.proofs.Arguments.{takes-kept}

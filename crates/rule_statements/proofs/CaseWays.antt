@@ -3,7 +3,7 @@ use mathlib.Core.Path.{◌≡◌, refl, sym, ap, ◌∙◌}
 use mathlib.Core.Bool.{Bool, true, false, cond, true≢false}
 use mathlib.Core.List.{List, [], ◌∷◌}
 use mathlib.Core.Option.{Option, none, some}
-use Prim.Native.Nat.{ℕ, suc, ◌+◌, ◌≤◌}
+use Prim.Native.Nat.{ℕ, suc, ◌≤◌}
 use native.Mathlib.Omega.{arith}
 use lib.Dec.{eqb}
 use Rattle.law.specs.Base.{◌>>=◌, given}
@@ -11,13 +11,13 @@ use Rattle.law.specs.Code.{Act, Cases, case_of}
 use Rattle.law.specs.Elaborate.{Elaborated}
 use Rattle.law.specs.Environment.{Environment}
 use Rattle.law.specs.Forms.{arms_first}
-use Rattle.code.specs.Layout.{Out, out, lay, lay_code, lay_act, lay_cases}
+use Rattle.code.specs.Layout.{out, lay, lay_code, lay_act, lay_cases}
 use Rattle.rule_stages.specs.Stages.{Staged, wrong, unnamed, unfit, fits, staged, join, on_fits, or_unfit, selected, expr_staged, stmt_staged, arms_staged, cases_staged}
 use Rattle.law.specs.Syntax as Syntax
 use Rattle.law.specs.Trees.{first}
 use Rattle.law_theorems.specs.Readings.{stack_at}
 use Rattle.law.specs.Types.{ordinal?}
-use Rattle.law_theorems.proofs.Inversion.{none-some, some_inj, bind-some}
+use Rattle.law_theorems.proofs.Inversion.{some_inj, bind-some}
 use Rattle.code.proofs.LayoutRegions.{lay-g}
 use Rattle.code.specs.LayoutRegions.{Same}
 use Rattle.rule_stages.proofs.OnePassStmts.{case-staged}
@@ -33,14 +33,13 @@ use Rattle.table_scope.proofs.Kept.{scene-kept}
 use Rattle.table_scope.proofs.Telling.{shape-ordinal}
 use Rattle.table_list.specs.Laid.{Laid}
 use Rattle.rule_faults.specs.declared.Got.{Got}
-use Rattle.rule_faults.specs.Got.{lowest, is_form, is_clear, fault_of}
+use Rattle.rule_faults.specs.Got.{lowest, is_form, fault_of}
 use Rattle.rule_expr_nodes.specs.Nodes.{Makes}
-use Rattle.rule_expressions.specs.Walks.{Moves, Leaves, ExprTold, GivesExpr}
+use Rattle.rule_expressions.specs.Walks.{Leaves, GivesExpr}
 use Rattle.rule_expressions.proofs.Joining.{wrong-fits, unnamed-fits, unfit-fits, fits-inj}
-use Rattle.rule_stmt_nodes.specs.BaseNodes.{node_if}
 use Rattle.rule_statements.specs.Walks.{bare, ActTold, Around, GivesVerb}
 use Rattle.rule_labels.specs.Repeating.{labels_differ, Repeating}
-use Rattle.rule_statements.specs.Cases.{ArmsTold, GivesArms, selected_kind, cased, FirstArm, an-arm, no_arm, case_made, CaseEnds, case-ends, CaseBy, case-parts}
+use Rattle.rule_statements.specs.Cases.{ArmsTold, GivesArms, selected_kind, cased, FirstArm, an-arm, no_arm, case_made, case-ends, CaseBy, case-parts}
 use Rattle.rule_statements.proofs.Faults.{lowest-form, form-left, form-right, form-is, form-none, Node, node_of}
 use Rattle.rule_statements.proofs.Acts.{bare-two, act-none}
 use Rattle.rule_statements.proofs.Shapes.{case-shape}

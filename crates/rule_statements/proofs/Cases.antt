@@ -1,5 +1,5 @@
 -- The stages of a `case`: its arms, and that all their labels differ; its selector, on whose kind the arms depend.
-use mathlib.Core.Path.{◌≡◌, refl, sym, ap, ◌∙◌}
+use mathlib.Core.Path.{◌≡◌, refl, sym}
 use mathlib.Core.Bool.{Bool, true, false, cond, ◌&&◌}
 use mathlib.Core.List.{List}
 use mathlib.Core.Option.{Option, none, some}
@@ -13,7 +13,7 @@ use Rattle.law.specs.Rules.{differ, labels_of, kept_arms}
 use Rattle.law.specs.Script as Script
 use Rattle.rule_stages.specs.Stages.{Staged, wrong, unnamed, unfit, fits, staged, named, ruled, join, on_fits, or_unfit, selected, arms_staged, cases_staged}
 use Rattle.law.specs.Syntax as Syntax
-use Rattle.rule_faults.specs.declared.Fault.TheVariants.{Clear, Kind, Name, Form}
+use Rattle.rule_faults.specs.declared.Fault.TheVariants.{Clear, Kind}
 use Rattle.rule_faults.specs.Got.{lowest, fault_of}
 use Rattle.rule_faults.proofs.Order.{lowest-clear}
 use Rattle.rule_expressions.proofs.Joining.{wrong-fits, unnamed-fits, unfit-fits}

@@ -3,29 +3,28 @@ use mathlib.Core.Path.{◌≡◌, refl, sym, ap, ◌∙◌}
 use mathlib.Core.Bool.{Bool, true, false, true≢false}
 use mathlib.Core.List.{List, [], ◌∷◌}
 use mathlib.Core.Option.{Option, none, some}
-use Prim.Native.Nat.{ℕ, suc, ◌+◌, ◌<◌, ◌≤◌}
+use Prim.Native.Nat.{ℕ, ◌+◌, ◌<◌, ◌≤◌}
 use native.Mathlib.Omega.{arith}
-use lib.ListN.{get_or, set}
 use lib.Seq.{get_or-set_other}
 use Rattle.law.specs.Base.{◌>>=◌}
-use Rattle.law.specs.Code.{Act, Acts, ◌also◌, stop, sequence}
+use Rattle.law.specs.Code.{Act, Acts, ◌also◌}
 use Rattle.law.specs.Elaborate.{elab_stmts}
 use Rattle.law.specs.Environment.{Environment}
 use Rattle.code.specs.Layout.{Out, out, lay, link, lay_act, lay_acts}
 use Rattle.law.specs.Names.{stmts_of}
 use Rattle.law.specs.Rules.{kept_stmts}
-use Rattle.rule_stages.specs.Stages.{Staged, fits, staged, named, ruled, join, on_fits, or_unfit, stmt_staged, stmts_staged}
+use Rattle.rule_stages.specs.Stages.{staged, named, ruled, join, or_unfit, stmt_staged, stmts_staged}
 use Rattle.law.specs.Syntax as Syntax
 use Rattle.law.specs.Trees.{Tree, Trees, end, ◌then◌, Run, first, nodes_in}
 use Rattle.law_theorems.specs.Readings.{stack_at}
 use Rattle.law_theorems.proofs.Inversion.{none-some, some_inj, bind-some}
 use Rattle.code.proofs.LayoutRegions.{lay-g}
 use Rattle.code.specs.LayoutRegions.{Same}
-use Rattle.rule_stages.proofs.OnePassStmts.{stmts-staged, begin-staged}
+use Rattle.rule_stages.proofs.OnePassStmts.{stmts-staged}
 use Rattle.text_heads.specs.Parts.{part_of, rest, stmt_in, stmts_in}
 use Rattle.table_scope.specs.declared.Scope.{Scope}
 use Rattle.rule_faults.specs.declared.Fault.{Fault}
-use Rattle.rule_faults.specs.declared.Fault.TheVariants.{Clear, Form}
+use Rattle.rule_faults.specs.declared.Fault.TheVariants.{Form}
 use Rattle.table_scope.specs.declared.Loops.{Loops}
 use Rattle.table_scope.proofs.Kept.{scene-kept}
 use Rattle.table_list.specs.Laid.{Laid}
@@ -39,7 +38,7 @@ use Rattle.rule_expressions.proofs.Joining.{wrong-fits, fits-inj}
 use Rattle.rule_stmt_nodes.specs.Nodes.{linked, skip_got}
 use Rattle.rule_statements.specs.Walks.{bare, ActTold, ActsTold, Around, GivesStmt, GivesActs}
 use Rattle.rule_statements.specs.Chains.{many, LeftTold, Doing}
-use Rattle.rule_statements.proofs.Faults.{lowest-form, join-fault, Both, join-fits, on-fault, Only, on-fits, Node, form-is, form-none, same_refl, same-trans}
+use Rattle.rule_statements.proofs.Faults.{lowest-form, join-fault, join-fits, form-is, form-none, same_refl}
 use Rattle.rule_statements.proofs.Acts.{some_of}
 use Rattle.rule_statements.proofs.Shapes.{stmt-count}
 

@@ -1,20 +1,19 @@
 -- Faults and layouts of forms from those of their parts, over any stages.
-use mathlib.Core.Path.{◌≡◌, refl, sym, ap, ◌∙◌, subst}
+use mathlib.Core.Path.{◌≡◌, refl, sym, ap, ◌∙◌}
 use mathlib.Core.Bool.{Bool, true, false, cond, true≢false}
-use mathlib.Core.List.{List, [], ◌∷◌}
+use mathlib.Core.List.{List}
 use mathlib.Core.Option.{Option, none, some}
-use Prim.Native.Nat.{ℕ, ◌+◌, ◌≤◌}
+use Prim.Native.Nat.{ℕ, ◌≤◌}
 use native.Mathlib.Omega.{arith}
 use lib.Dec.{eqb}
 use Rattle.law.specs.Base.{◌>>=◌, given}
-use Rattle.law.specs.Code.{Code, Act}
+use Rattle.law.specs.Code.{Code}
 use Rattle.law.specs.Elaborate.{Elaborated}
 use Rattle.law.specs.Environment.{Environment}
-use Rattle.code.specs.Layout.{Out, out, lay, lay_code, lay_act}
-use Rattle.law.specs.Names.{expr_of}
+use Rattle.code.specs.Layout.{out, lay, lay_code}
 use Rattle.rule_stages.specs.Stages.{Staged, wrong, unnamed, unfit, fits, ruled, named, staged, join, on_fits, or_unfit, expr_staged, wanted_staged, stmt_staged}
 use Rattle.law.specs.Syntax as Syntax
-use Rattle.law.specs.Trees.{Trees, end, ◌then◌, Tree, Run, first, later}
+use Rattle.law.specs.Trees.{Trees, end, ◌then◌, Run, first}
 use Rattle.law_theorems.specs.Readings.{stack_at}
 use Rattle.code.proofs.LayoutRegions.{lay-g}
 use Rattle.code.specs.LayoutRegions.{Same}
@@ -23,11 +22,11 @@ use Rattle.rule_stages.proofs.OnePassExprs.{wanted-staged}
 use Rattle.rule_faults.specs.declared.Fault.{Fault}
 use Rattle.rule_faults.specs.declared.Fault.TheVariants.{Clear, Kind, Name, Form}
 use Rattle.rule_faults.specs.declared.Got.{Got}
-use Rattle.rule_faults.specs.Got.{lowest, is_form, is_clear, fault_of, failed_got, past_bracket, Told}
-use Rattle.text_parts.specs.Parts.{Before, ShutAt}
+use Rattle.rule_faults.specs.Got.{lowest, is_form, is_clear, fault_of, failed_got, past_bracket}
+use Rattle.text_parts.specs.Parts.{ShutAt}
 use Rattle.rule_expr_nodes.specs.Bracket.{Closes, shut, more}
 use Rattle.text_heads.specs.Parts.{rest, closed}
-use Rattle.rule_expr_nodes.specs.Nodes.{Made, Makes, node_made, if_clear}
+use Rattle.rule_expr_nodes.specs.Nodes.{Makes, node_made, if_clear}
 use Rattle.rule_expressions.specs.Walks.{Moves, Leaves, ExprTold}
 use Rattle.rule_expressions.proofs.Joining.{wrong-fits, unnamed-fits, unfit-fits, fits-inj}
 use Rattle.rule_stmt_nodes.specs.BaseNodes.{node_if, with_fault}

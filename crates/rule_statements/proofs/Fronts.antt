@@ -1,33 +1,29 @@
 -- The statements of a body before its handler, one by one.
 use mathlib.Core.Path.{◌≡◌, refl, sym, ap, ◌∙◌}
-use mathlib.Core.Bool.{Bool, true, false, ◌&&◌, true≢false}
+use mathlib.Core.Bool.{Bool, true, false, ◌&&◌}
 use mathlib.Core.List.{List, [], ◌∷◌}
 use mathlib.Core.Option.{Option, none, some}
-use Prim.Native.Nat.{ℕ, suc, ◌+◌, ◌<◌, ◌≤◌}
+use Prim.Native.Nat.{ℕ, ◌+◌, ◌<◌, ◌≤◌}
 use native.Mathlib.Omega.{arith}
-use lib.ListN.{get_or, set}
 use lib.Seq.{get_or-set_other}
 use Rattle.law.specs.Base.{◌>>=◌, both}
 use Rattle.law.specs.Code.{Act, Acts, ◌also◌, Frame, BodyCode}
 use Rattle.law.specs.Elaborate.{elab_stmt, elab_stmts, elab_body}
 use Rattle.law.specs.Environment.{Environment}
-use Rattle.law.specs.Forms.{plain_body}
-use Rattle.code.specs.Layout.{Out, out, lay, link, lay_act, lay_acts}
+use Rattle.code.specs.Layout.{lay, link, lay_acts}
 use Rattle.law.specs.Names.{stmt_of, stmts_of, body_of}
 use Rattle.law.specs.Rules.{kept_stmt, kept_stmts, kept_body}
 use Rattle.law.specs.Script as Script
-use Rattle.rule_stages.specs.Stages.{Staged, fits, staged, named, ruled, join, or_unfit, stmt_staged, body_staged}
+use Rattle.rule_stages.specs.Stages.{join, or_unfit, stmt_staged, body_staged}
 use Rattle.law.specs.Syntax as Syntax
 use Rattle.law.specs.Trees.{Tree, Trees, ◌then◌, Run, first, nodes_in}
 use Rattle.law_theorems.specs.Readings.{stack_at}
-use Rattle.law_theorems.proofs.Inversion.{none-some, some_inj, bind-some}
+use Rattle.law_theorems.proofs.Inversion.{some_inj, bind-some}
 use Rattle.code.proofs.LayoutRegions.{lay-g}
-use Rattle.code.specs.LayoutRegions.{Same}
 use Rattle.rule_stages.proofs.Staging.{staged-two}
 use Rattle.text_heads.specs.Parts.{part_of, rest, stmt_in, body_in, handler_in, with_first}
 use Rattle.table_scope.specs.declared.Scope.{Scope}
 use Rattle.rule_faults.specs.declared.Fault.{Fault}
-use Rattle.rule_faults.specs.declared.Fault.TheVariants.{Clear, Form}
 use Rattle.table_scope.specs.Loops.{no_loops}
 use Rattle.table_scope.proofs.Kept.{scene-kept}
 use Rattle.table_list.specs.Laid.{Laid}
@@ -39,10 +35,10 @@ use Rattle.rule_statements.specs.Walks.{bare, ActTold, Around, GivesStmt}
 use Rattle.rule_statements.specs.Chains.{many}
 use Rattle.rule_stmt_nodes.specs.Handlers.{PlainAt}
 use Rattle.rule_statements.specs.Fronts.{BodyLeft, Fronting}
-use Rattle.rule_statements.proofs.Faults.{lowest-form, join-fault, Both, join-fits, form-is, same_refl}
+use Rattle.rule_statements.proofs.Faults.{join-fault, join-fits, same_refl}
 use Rattle.rule_statements.proofs.Acts.{some_of}
 use Rattle.rule_statements.proofs.Shapes.{stmt-count}
-use Rattle.rule_statements.proofs.Chains.{none_of, link-lay}
+use Rattle.rule_statements.proofs.Chains.{link-lay}
 
 -- ---- stages
 

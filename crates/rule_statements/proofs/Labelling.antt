@@ -1,6 +1,6 @@
 -- The labels of an arm, one by one.
 use mathlib.Core.Path.{◌≡◌, refl, sym, ap, ◌∙◌}
-use mathlib.Core.Bool.{Bool, true, false, cond, ◌&&◌, true≢false}
+use mathlib.Core.Bool.{Bool, true, false, cond, true≢false}
 use mathlib.Core.List.{List, [], ◌∷◌, ◌++◌}
 use mathlib.Core.Option.{Option, none, some}
 use Prim.Native.Nat.{ℕ, suc, ◌+◌, ◌<◌, ◌≤◌}
@@ -8,13 +8,12 @@ use native.Mathlib.Omega.{arith}
 use borrow.Author.Tests.{eq-eqb, ne_eqb, eqb-true}
 use lib.Dec.{eqb}
 use lib.IntN.{ℤ}
-use lib.ListN.{get_or, set}
 use lib.Seq.{get_or-set_other}
 use mir.Syntax.{w64}
 use mir.Val.{SFits, to_z, of_z}
 use mir.Facts.{to_z-of_z}
 use Rattle.leaf_integers.specs.Integers.{inside, least, most}
-use Rattle.law.specs.Base.{◌>>=◌, given, both, each}
+use Rattle.law.specs.Base.{◌>>=◌, given, each}
 use Rattle.law.specs.Elaborate.{elab_labels}
 use Rattle.law.specs.Environment.{Environment}
 use Rattle.law.specs.Forms.{constant}
@@ -23,19 +22,17 @@ use Rattle.code.specs.Layout.{Out, out, lay, link, bits, lay_labels}
 use Rattle.law.specs.Names.{constant_of}
 use Rattle.law.specs.Rules.{plain, all_plain}
 use Rattle.law.specs.Script.{Const}
-use Rattle.rule_stages.specs.Stages.{Staged, wrong, fits, staged, named, ruled, join, or_unfit, labels_staged}
+use Rattle.rule_stages.specs.Stages.{Staged, fits, staged, named, ruled, join, or_unfit, labels_staged}
 use Rattle.law.specs.Syntax.{Constant, Stmt}
 use Rattle.law.specs.Trees.{Tree, Trees, end, ◌then◌, Run, first, nodes, nodes_in}
 use Rattle.law_theorems.specs.Readings.{stack_at}
 use Rattle.law.specs.Words.{worded}
-use Rattle.law_theorems.proofs.Inversion.{none-some, some_inj}
 use Rattle.code.proofs.LayoutRegions.{lay-g}
-use Rattle.code.specs.LayoutRegions.{Same}
 use Rattle.rule_stages.proofs.Staging.{staged-two}
 use Rattle.text_heads.specs.Parts.{part_of, rest, closed, constant_in, stmt_in, arm_in}
 use Rattle.table_scope.specs.declared.Scope.{Scope}
 use Rattle.rule_faults.specs.declared.Fault.{Fault}
-use Rattle.rule_faults.specs.declared.Fault.TheVariants.{Clear, Kind, Name, Form}
+use Rattle.rule_faults.specs.declared.Fault.TheVariants.{Clear, Form}
 use Rattle.table_scope.specs.Scene.{Scene}
 use Rattle.table_scope.proofs.Kept.{scene-kept}
 use Rattle.table_list.specs.Laid.{Laid}
@@ -53,7 +50,7 @@ use Rattle.rule_expressions.proofs.Joining.{wrong-fits, unnamed-fits, unfit-fits
 use Rattle.rule_stmt_nodes.specs.Nodes.{linked, skip_got}
 use Rattle.rule_statements.specs.Chains.{many}
 use Rattle.rule_statements.specs.Cases.{arm_from, prefixed, some_labels, counts, labelled_got, counted_got, LinksLabel, LabelsLeft, Labelling, LabelsTold, GivesLabels}
-use Rattle.rule_statements.proofs.Faults.{join-fault, Both, join-fits, form-is, form-none, same_refl}
+use Rattle.rule_statements.proofs.Faults.{join-fault, join-fits, form-is, form-none, same_refl}
 
 -- ---- leaves
 

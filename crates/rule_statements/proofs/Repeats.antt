@@ -1,24 +1,23 @@
 -- The ways of `for`, of `begin` and of the chain of its statements.
 use mathlib.Core.Path.{◌≡◌, refl, sym, ap, ◌∙◌}
-use mathlib.Core.Bool.{Bool, true, false, cond, not, true≢false}
+use mathlib.Core.Bool.{Bool, true, false}
 use mathlib.Core.List.{List, [], ◌∷◌, map}
 use mathlib.Core.Option.{Option, none, some}
-use Prim.Native.Nat.{ℕ, zero, suc, ◌+◌, ◌<◌, ◌≤◌}
+use Prim.Native.Nat.{ℕ, suc, ◌+◌, ◌<◌, ◌≤◌}
 use native.Mathlib.Omega.{arith}
 use lib.ListN.{length}
 use Rattle.leaf_words.specs.declared.words.Word.{Word}
 use Rattle.leaf_bytes.specs.Bytes.{small}
-use Rattle.leaf_words.specs.Words.{word_of}
 use Rattle.law.specs.Base.{Name, ◌>>=◌}
 use Rattle.law.specs.Code.{Act, Acts, sequence}
 use Rattle.law.specs.Environment.{Environment}
-use Rattle.code.specs.Layout.{Out, out, lay, lay_act, lay_acts}
-use Rattle.rule_stages.specs.Stages.{Staged, fits, on_fits, or_unfit, stmt_staged, stmts_staged}
+use Rattle.code.specs.Layout.{lay, lay_act, lay_acts}
+use Rattle.rule_stages.specs.Stages.{on_fits, or_unfit, stmt_staged, stmts_staged}
 use Rattle.law.specs.Syntax as Syntax
 use Rattle.law.specs.Trees.{word, ◌then◌, first, later, nodes, nodes_in, word_at}
 use Rattle.law_theorems.specs.Readings.{stack_at}
-use Rattle.law.specs.Types.{Var, host_of}
-use Rattle.law_theorems.proofs.Inversion.{none-some, some_inj, bind-some}
+use Rattle.law.specs.Types.{host_of}
+use Rattle.law_theorems.proofs.Inversion.{some_inj, bind-some}
 use Rattle.code.proofs.LayoutRegions.{lay-g}
 use Rattle.code.specs.LayoutRegions.{Same}
 use Rattle.rule_stages.proofs.OnePassStmts.{begin-staged}
@@ -28,9 +27,7 @@ use Rattle.text_heads.specs.Parts.{rest, closed, expr_in, name_in, stmt_in, stmt
 use Rattle.text_heads.proofs.Heads.{name-word}
 use Rattle.text_heads.proofs.Expressions.{name-form}
 use Rattle.table_scope.specs.declared.Scope.{Scope}
-use Rattle.rule_faults.specs.declared.Fault.{Fault}
-use Rattle.rule_faults.specs.declared.Fault.TheVariants.{Clear, Form, Name as Unnamed}
-use Rattle.table_scope.specs.declared.Info.{Info}
+use Rattle.rule_faults.specs.declared.Fault.TheVariants.{Form}
 use Rattle.table_scope.specs.declared.Loops.{Loops}
 use Rattle.table_scope.specs.declared.Meaning.{Meaning}
 use Rattle.table_scope.specs.Descriptions.{info_of}
@@ -47,15 +44,14 @@ use Rattle.text_parts.specs.declared.Part.TheVariants as part
 use Rattle.text_parts.specs.declared.End.{End}
 use Rattle.text_parts.specs.declared.End.TheVariants as ending
 use Rattle.rule_faults.specs.Got.{lowest, is_form, fault_of, failed_got}
-use Rattle.text_parts.specs.Parts.{Before, LeafAt, FormAt, ShutAt, Stands, Shuts}
+use Rattle.text_parts.specs.Parts.{FormAt, ShutAt, Stands, Shuts}
 use Rattle.rule_expr_nodes.specs.Bracket.{Closes}
 use Rattle.rule_expr_nodes.specs.Nodes.{Makes}
-use Rattle.rule_expressions.specs.Walks.{Moves, Leaves, GivesExpr}
 use Rattle.rule_stmt_nodes.specs.declared.nodes.Control.{Control}
-use Rattle.rule_stmt_nodes.specs.Nodes.{wanted_got, control_is, control_by, control_fault, repeated, repeated_by, linked, sequenced, skip_got, joined_got, finished_got, is_named}
-use Rattle.rule_statements.specs.Walks.{bare, WantTold, ActTold, ActsTold, ControlTold, known, unknown, Around, GivesStmt, GivesVerb, GivesWanted, for_in, GivesFor, to_in, GivesTo, do_in, GivesDo, GivesActs}
+use Rattle.rule_stmt_nodes.specs.Nodes.{control_by, control_fault, repeated, repeated_by, linked, sequenced, skip_got, joined_got, finished_got, is_named}
+use Rattle.rule_statements.specs.Walks.{bare, WantTold, ActTold, ControlTold, known, unknown, Around, GivesStmt, GivesVerb, GivesWanted, for_in, GivesFor, to_in, GivesTo, do_in, GivesDo, GivesActs}
 use Rattle.rule_statements.specs.Chains.{many, Doing}
-use Rattle.rule_statements.proofs.Faults.{form-is, form-left, form-right, closes-leaves, same_refl, then-leaves, Node, node_of, node-leaves, want-told, wanted-moves, act-closed, on-fault, Only, on-fits}
+use Rattle.rule_statements.proofs.Faults.{form-left, form-right, closes-leaves, then-leaves, Node, node_of, node-leaves, act-closed, on-fault, on-fits}
 use Rattle.rule_statements.proofs.Acts.{bare-last, act-none}
 use Rattle.rule_statements.proofs.Stores.{control-told, for-known, for-not-known}
 use Rattle.rule_statements.proofs.Shapes.{for-shape, begin-shape}

@@ -1,7 +1,7 @@
 -- A statement's form by its verb: what it gives is what its parts give one by one. And the numbers of statements: a statement counts at
 -- most its brackets and words.
 use mathlib.Core.Path.{◌≡◌, refl, sym, ap, ◌∙◌}
-use mathlib.Core.List.{List, []}
+use mathlib.Core.List.{List}
 use mathlib.Core.Option.{Option, none, some}
 use Prim.Native.Nat.{ℕ, zero, suc, ◌+◌, ◌≤◌}
 use native.Mathlib.Omega.{arith}
@@ -10,16 +10,16 @@ use Rattle.law.specs.Base.{Name, ◌>>=◌}
 use Rattle.law.specs.Forms as Forms
 use Rattle.law.specs.Forms.{arms_first, is_arm, is_else, v_assign, v_begin, v_if, v_while, v_for, v_case, v_call, v_raise}
 use Rattle.law_theorems.specs.FormsByDepth.{stmt, stmt_form}
-use Rattle.law.specs.Syntax.{Constant, Stmt, Stmts, Arms, Body, Expr, Target, assign, begin, if_else, while, for, case, call, raise, else_arm, arm}
-use Rattle.law.specs.Trees.{Tree, word, form, Trees, end, ◌then◌, Run, list, nodes, nodes_in}
+use Rattle.law.specs.Syntax.{Constant, Stmt, Stmts, Arms, assign, begin, if_else, while, for, case, call, raise, arm}
+use Rattle.law.specs.Trees.{word, form, Trees, end, ◌then◌, Run, list, nodes, nodes_in}
 use Rattle.law.specs.Words.{Word, worded_all}
 use Rattle.law_theorems.proofs.Inversion.{none-some, some_inj, bind-some}
 use Rattle.text_heads.specs.declared.Verb.{Verb}
 use Rattle.text_heads.specs.declared.Verb.TheVariants as VB
 use Rattle.text_heads.specs.Heads.{verb_of, verb_meant}
-use Rattle.text_heads.specs.Parts.{part_of, rest, closed, expr_in, exprs_in, target_in, name_in, stmt_in, stmts_in, else_in, arm_in, arms_in, else_arm_in, arm_head_in}
+use Rattle.text_heads.specs.Parts.{part_of, rest, closed, expr_in, exprs_in, target_in, name_in, stmt_in, stmts_in, else_in, arm_in, arms_in, else_arm_in}
 use Rattle.text_heads.proofs.Heads.{verb-is}
-use Rattle.text_heads.proofs.Walks.{bind-none, bind-cong}
+use Rattle.text_heads.proofs.Walks.{bind-cong}
 use Rattle.text_heads.proofs.Statements.{verbed, stmt-end, stmt-zero, stmt-word, stmt-empty, stmt-headless, assign-parts, while-parts, call-parts, raise-parts, for-parts, begin-parts, if-parts, case-parts}
 use Rattle.rule_statements.specs.Walks.{verb_in, for_in}
 

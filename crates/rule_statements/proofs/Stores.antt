@@ -1,24 +1,23 @@
 -- What the answers for an assignment and a `for` tell, from the answers for their parts.
 use mathlib.Core.Path.{◌≡◌, refl, sym, ap, ◌∙◌}
-use mathlib.Core.Bool.{Bool, true, false, cond, not, ◌&&◌, true≢false}
+use mathlib.Core.Bool.{Bool, true, false, cond, not, ◌&&◌}
 use mathlib.Core.List.{List, [], ◌∷◌}
 use mathlib.Core.Option.{Option, none, some}
-use Prim.Native.Nat.{ℕ, ◌+◌, ◌≤◌}
+use Prim.Native.Nat.{ℕ}
 use lib.Dec.{eqb}
 use lib.IntN.{ℤ}
-use lib.ListN.{get_or}
 use Rattle.law.specs.Base.{Name, ◌>>=◌, both, given, find}
-use Rattle.law.specs.Code.{Code, Act, Place, assign_ordinal, assign_cell, copy_cells, for_loop, load, literal, last_number, make_set, calculate, short_cut, calculate1}
+use Rattle.law.specs.Code.{Code, Act, assign_ordinal, assign_cell, copy_cells, for_loop, load, literal, last_number, make_set, calculate, short_cut, calculate1}
 use Rattle.law.specs.Elaborate.{Elaborated, Located, copying, elab_expr, elab_stmt, expects, assigning}
 use Rattle.law.specs.Environment.{Environment}
-use Rattle.code.specs.Layout.{Out, out, lay, bits, lay_code, lay_place, lay_act}
+use Rattle.code.specs.Layout.{out, lay, bits, lay_code, lay_place, lay_act}
 use Rattle.law.specs.Names.{var_of, expr_of, stmt_of}
 use Rattle.law.specs.Rules.{plain_expr, kept_stmt, looping}
 use Rattle.law.specs.Script as Script
-use Rattle.rule_stages.specs.Stages.{Staged, wrong, unnamed, unfit, fits, staged, named, ruled, join, on_fits, or_unfit, kept_if, unknown, expr_staged, wanted_staged, assigned_staged, stmt_staged}
+use Rattle.rule_stages.specs.Stages.{Staged, wrong, unnamed, unfit, fits, staged, named, ruled, join, or_unfit, kept_if, unknown, expr_staged, wanted_staged, assigned_staged, stmt_staged}
 use Rattle.law.specs.Syntax as Syntax
 use Rattle.law.specs.Types.{Var, variable, info_at, host_of, ordinal?, set?}
-use Rattle.law_theorems.proofs.Inversion.{none-some, some_inj, bind-some}
+use Rattle.law_theorems.proofs.Inversion.{some_inj, bind-some}
 use Rattle.law_theorems.proofs.ValuesInRange.{own-host}
 use Rattle.law_theorems.proofs.WholeValues.{Loads, loads, from-cells}
 use borrow.Author.Tests.{eqb-true}
@@ -35,16 +34,15 @@ use Rattle.table_scope.specs.Scene.{Scene, a-type, a-var, a-proc, a-value}
 use Rattle.table_scope.specs.Sides.{host_in}
 use Rattle.table_scope.proofs.Telling.{shape-ordinal, shape-set, low_told, high-told, host-in}
 use Rattle.rule_faults.specs.declared.Got.{Got}
-use Rattle.rule_faults.specs.Got.{lowest, is_form, fault_of, Told}
+use Rattle.rule_faults.specs.Got.{lowest, fault_of, Told}
 use Rattle.rule_faults.proofs.Order.{lowest-assoc, lowest-clear}
-use Rattle.rule_expr_nodes.specs.Nodes.{Made, Makes, failed_made, node_made, if_clear}
+use Rattle.rule_expr_nodes.specs.Nodes.{Makes, failed_made, node_made, if_clear}
 use Rattle.rule_expressions.specs.Walks.{ExprTold}
 use Rattle.rule_expressions.proofs.Joining.{wrong-fits, unnamed-fits, unfit-fits, fits-inj, told-join, told-as, told-fits, told-unfit}
 use Rattle.rule_stmt_nodes.specs.declared.nodes.Control.{Control}
-use Rattle.rule_stmt_nodes.specs.Nodes.{stored, assigned, control_is, control_by, control_fault}
+use Rattle.rule_stmt_nodes.specs.Nodes.{stored, assigned, control_by, control_fault}
 use Rattle.rule_statements.specs.Walks.{bare, WantTold, ActTold, StoreTold, ControlTold, known, unknown as not_known}
 use Rattle.rule_statements.proofs.Faults.{join-fault, Both, join-fits, tested-fits, Node}
-use Rattle.rule_statements.proofs.Acts.{bare-two}
 
 -- ---- an assignment
 

@@ -1,19 +1,18 @@
 -- The ways of an assignment and of the target that is assigned.
 use mathlib.Core.Path.{◌≡◌, refl, sym, ap, ◌∙◌}
-use mathlib.Core.Bool.{Bool, true, false, cond, not, true≢false}
+use mathlib.Core.Bool.{Bool, true, false, cond, not}
 use mathlib.Core.List.{List, [], ◌∷◌, map}
 use mathlib.Core.Option.{Option, none, some}
-use Prim.Native.Nat.{ℕ, zero, suc, ◌+◌, ◌<◌, ◌≤◌}
+use Prim.Native.Nat.{ℕ, ◌≤◌}
 use native.Mathlib.Omega.{arith}
 use lib.Dec.{eqb}
-use lib.ListN.{length, get_elem?}
 use Rattle.leaf_words.specs.declared.words.Word.{Word}
 use Rattle.leaf_bytes.specs.Bytes.{small}
 use Rattle.leaf_words.specs.Words.{word_of}
 use Rattle.law.specs.Base.{Name, ◌>>=◌, find}
 use Rattle.law.specs.Elaborate.{Located}
 use Rattle.law.specs.Environment.{Environment}
-use Rattle.code.specs.Layout.{Out, out, lay, lay_place}
+use Rattle.code.specs.Layout.{Out, lay, lay_place}
 use Rattle.law.specs.Names.{var_of, target_of}
 use Rattle.law.specs.Rules.{looping, steers}
 use Rattle.law.specs.Script as Script
@@ -21,7 +20,6 @@ use Rattle.rule_stages.specs.Stages.{Staged, wrong, unnamed, unfit, fits, staged
 use Rattle.law.specs.Syntax as Syntax
 use Rattle.law.specs.Trees.{word, form, Trees, end, ◌then◌, Run, first, later, word_at}
 use Rattle.law_theorems.specs.Readings.{stack_at}
-use Rattle.law.specs.Types.{Var, variable}
 use Rattle.law_theorems.proofs.Inversion.{none-some, some_inj, bind-some}
 use Rattle.code.proofs.LayoutRegions.{lay-g}
 use Rattle.code.specs.LayoutRegions.{Same}
@@ -30,9 +28,8 @@ use Rattle.text_heads.specs.declared.Atom.{Atom}
 use Rattle.text_heads.specs.declared.Atom.TheVariants as AT
 use Rattle.text_heads.specs.declared.ExprHead.{ExprHead}
 use Rattle.text_heads.specs.declared.ExprHead.TheVariants as EH
-use Rattle.text_heads.specs.declared.Verb.TheVariants as VB
 use Rattle.text_heads.specs.Heads.{atom_of, atom_target, expr_head_of}
-use Rattle.text_heads.specs.Parts.{rest, closed, expr_in, target_in, name_in, target_by}
+use Rattle.text_heads.specs.Parts.{rest, closed, expr_in, target_in, target_by}
 use Rattle.text_heads.proofs.Heads.{target-word}
 use Rattle.text_heads.proofs.Expressions.{target-form, target-end, target-empty, target-headless}
 use Rattle.table_scope.specs.declared.Scope.{Scope}
@@ -51,15 +48,15 @@ use Rattle.table_scope.proofs.Telling.{meant}
 use Rattle.rule_faults.specs.declared.Got.{Got}
 use Rattle.text_parts.specs.declared.Part.{Part}
 use Rattle.text_parts.specs.declared.Part.TheVariants as part
-use Rattle.rule_faults.specs.Got.{lowest, is_form, fault_of, failed_got, Told}
-use Rattle.text_parts.specs.Parts.{Before, LeafAt, FormAt, ShutAt, Stands}
+use Rattle.rule_faults.specs.Got.{lowest, is_form, failed_got, Told}
+use Rattle.text_parts.specs.Parts.{LeafAt, FormAt, ShutAt, Stands}
 use Rattle.rule_expr_nodes.specs.Bracket.{Closes}
 use Rattle.rule_expr_nodes.specs.Nodes.{Makes, failed_made, node_made, if_clear}
-use Rattle.rule_expressions.specs.Walks.{Moves, Leaves, ExprTold, GivesExpr, GivesTarget}
+use Rattle.rule_expressions.specs.Walks.{Moves, GivesExpr, GivesTarget}
 use Rattle.rule_expressions.proofs.Joining.{wrong-fits, unnamed-fits, unfit-fits}
 use Rattle.rule_stmt_nodes.specs.BaseNodes.{with_fault, steered}
 use Rattle.rule_stmt_nodes.specs.Nodes.{stored, assigned}
-use Rattle.rule_statements.specs.Walks.{StoreTold, ActTold, Around, GivesVerb, GivesAssign, GivesStore}
+use Rattle.rule_statements.specs.Walks.{GivesAssign, GivesStore}
 use Rattle.rule_statements.proofs.Faults.{form-is, form-left, form-right, form-none, closes-leaves, same_refl, then-leaves, expr-closed}
 use Rattle.rule_statements.proofs.Acts.{act-none}
 use Rattle.rule_statements.proofs.Stores.{assign-act}

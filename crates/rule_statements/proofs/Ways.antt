@@ -1,9 +1,9 @@
 -- The ways through the walk over statements.
 use mathlib.Core.Path.{◌≡◌, refl, sym, ap, ◌∙◌}
-use mathlib.Core.Bool.{Bool, true, false, cond, not, true≢false}
-use mathlib.Core.List.{List, [], ◌∷◌, map}
+use mathlib.Core.Bool.{Bool, true, false, true≢false}
+use mathlib.Core.List.{List, map}
 use mathlib.Core.Option.{Option, none, some}
-use Prim.Native.Nat.{ℕ, zero, suc, ◌+◌, ◌-◌, ◌<◌, ◌≤◌}
+use Prim.Native.Nat.{ℕ, suc, ◌+◌, ◌-◌, ◌≤◌}
 use native.Mathlib.Omega.{arith}
 use borrow.Author.Tests.{lt-ltb}
 use Rattle.leaf_words.specs.declared.words.Word.{Word}
@@ -11,7 +11,7 @@ use Rattle.leaf_bytes.specs.Bytes.{small}
 use Rattle.leaf_words.specs.Words.{word_of}
 use Rattle.law.specs.Base.{Name, ◌>>=◌}
 use Rattle.law.specs.Environment.{Environment}
-use Rattle.rule_stages.specs.Stages.{staged, wanted_staged, expr_staged, stmt_staged}
+use Rattle.rule_stages.specs.Stages.{wanted_staged}
 use Rattle.law.specs.Syntax as Syntax
 use Rattle.law.specs.Trees.{word, form, Trees, end, ◌then◌, Run, first, later, nodes, nodes_in, word_at}
 use Rattle.law_theorems.specs.Readings.{stack_at}
@@ -25,7 +25,6 @@ use Rattle.text_heads.proofs.Heads.{name-word}
 use Rattle.text_heads.proofs.Expressions.{name-form}
 use Rattle.text_heads.proofs.Statements.{stmt-end, stmt-zero, stmt-word, stmt-empty, stmt-headless}
 use Rattle.table_scope.specs.declared.Scope.{Scope}
-use Rattle.rule_faults.specs.declared.Fault.{Fault}
 use Rattle.rule_faults.specs.declared.Fault.TheVariants.{Form}
 use Rattle.table_scope.specs.declared.Loops.{Loops}
 use Rattle.rule_statements.proofs.Chains.{none_of}
@@ -35,16 +34,15 @@ use Rattle.text_parts.specs.declared.Part.{Part}
 use Rattle.text_parts.specs.declared.Part.TheVariants as part
 use Rattle.text_parts.specs.declared.End.{End}
 use Rattle.text_parts.specs.declared.End.TheVariants as ending
-use Rattle.rule_faults.specs.Got.{lowest, is_form, fault_of, failed_got}
-use Rattle.text_parts.specs.Parts.{Before, LeafAt, FormAt, ShutAt, Stands, Shuts}
+use Rattle.rule_faults.specs.Got.{lowest, is_form, failed_got}
+use Rattle.text_parts.specs.Parts.{LeafAt, FormAt, ShutAt, Stands, Shuts}
 use Rattle.rule_expr_nodes.specs.Bracket.{Closes}
 use Rattle.rule_expr_nodes.specs.Nodes.{Makes}
-use Rattle.rule_expressions.specs.Walks.{Moves, Leaves, ExprTold, GivesExpr}
-use Rattle.rule_stmt_nodes.specs.declared.nodes.Control.{Control}
+use Rattle.rule_expressions.specs.Walks.{Moves, Leaves, GivesExpr}
 use Rattle.rule_stmt_nodes.specs.Nodes.{next_number, wanted_got, raised, looped, branched, skip_got, is_named}
-use Rattle.rule_statements.specs.Walks.{bare, WantTold, ActTold, Around, GivesStmt, GivesInner, verb_in, GivesVerb, GivesAssign, GivesRaise, GivesCall, GivesElse, GivesWanted, then_in, GivesThen}
+use Rattle.rule_statements.specs.Walks.{WantTold, Around, GivesStmt, GivesInner, verb_in, GivesVerb, GivesAssign, GivesRaise, GivesCall, GivesElse, GivesWanted, then_in, GivesThen}
 use Rattle.rule_statements.specs.Arguments.{GivesCallNamed}
-use Rattle.rule_statements.proofs.Faults.{form-is, form-left, form-right, form-none, closes-leaves, same_refl, then-leaves, Node, node_of, node-leaves, want-told, wanted-moves, wanted-leaves, expr-closed, act-closed}
+use Rattle.rule_statements.proofs.Faults.{form-is, form-right, form-none, closes-leaves, same_refl, then-leaves, node_of, node-leaves, want-told, wanted-moves, wanted-leaves, expr-closed, act-closed}
 use Rattle.rule_statements.proofs.Acts.{act-none, some_of, raise-act, while-act, if-act, skip-act}
 use Rattle.rule_statements.proofs.Shapes.{form-shape, none-shape, raise-shape, call_shape, while-shape, if-shape, stmt-count}
 

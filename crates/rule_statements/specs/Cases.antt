@@ -6,7 +6,7 @@ use Rattle.law.specs.Code.{Cases}
 use Rattle.law.specs.Environment.{Environment}
 use Rattle.law.specs.Forms.{ArmHead, is_arm, is_else, arms_first, constant}
 use Rattle.law_theorems.specs.FormsByDepth.{stmt}
-use Rattle.code.specs.Layout.{Out, lay, link, lay_labels, lay_cases}
+use Rattle.code.specs.Layout.{lay, link, lay_labels, lay_cases}
 use Rattle.rule_stages.specs.Stages.{fits, labels_staged, arms_staged}
 use Rattle.law.specs.Syntax.{Constant, Stmt, Arms}
 use Rattle.law.specs.Trees.{word, form, Trees, end, ◌then◌, Run, first, later, nodes_in}
@@ -16,7 +16,7 @@ use Rattle.code.specs.LayoutRegions.{Same}
 use Rattle.text_heads.specs.Parts.{rest, closed, stmt_in, arm_in, arms_in, arm_head_in}
 use Rattle.table_scope.specs.declared.Scope.{Scope}
 use Rattle.rule_faults.specs.declared.Fault.{Fault}
-use Rattle.rule_faults.specs.declared.Fault.TheVariants.{Clear, Kind, Name, Form}
+use Rattle.rule_faults.specs.declared.Fault.TheVariants.{Clear, Kind, Form}
 use Rattle.table_scope.specs.declared.Info.{Info}
 use Rattle.table_scope.specs.declared.Loops.{Loops}
 use Rattle.table_scope.specs.Descriptions.{info_of}

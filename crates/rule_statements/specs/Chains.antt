@@ -1,5 +1,5 @@
 -- A chain of statements while it is laid: what is done and what is left.
-use Rattle.std.specs.Prelude.{false, List, ◌≡◌, ℕ, suc, ◌+◌, ◌≤◌}
+use Rattle.std.specs.Prelude.{List, ◌≡◌, ℕ, suc, ◌+◌, ◌≤◌}
 use Rattle.std.proofs.Math.Option.{Option, some}
 use Rattle.law.specs.Code.{Acts}
 use Rattle.law.specs.Environment.{Environment}
@@ -14,7 +14,7 @@ use Rattle.table_scope.specs.declared.Scope.{Scope}
 use Rattle.rule_faults.specs.declared.Fault.{Fault}
 use Rattle.table_scope.specs.declared.Loops.{Loops}
 use Rattle.rule_faults.specs.declared.Got.{Got}
-use Rattle.rule_faults.specs.Got.{lowest, is_form, fault_of}
+use Rattle.rule_faults.specs.Got.{lowest, fault_of}
 use Rattle.rule_statements.specs.Walks.{bare, Around}
 
 -- how many parts there are

@@ -1,9 +1,9 @@
 -- The statements of a body before its handler while they are laid: what is done and what is left.
-use Rattle.std.specs.Prelude.{false, List, [], ◌∷◌, ◌≡◌, ℕ, ◌+◌, ◌≤◌, length}
+use Rattle.std.specs.Prelude.{false, List, [], ◌∷◌, ◌≡◌, ℕ, ◌+◌, ◌≤◌}
 use Rattle.std.proofs.Math.Option.{Option, some}
-use Rattle.law.specs.Code.{Acts, Frame, BodyCode}
+use Rattle.law.specs.Code.{Frame, BodyCode}
 use Rattle.law.specs.Environment.{Environment}
-use Rattle.code.specs.Layout.{Out, out, lay, lay_acts}
+use Rattle.code.specs.Layout.{out, lay, lay_acts}
 use Rattle.rule_stages.specs.Stages.{fits, body_staged}
 use Rattle.law.specs.Syntax.{Body}
 use Rattle.law.specs.Trees.{first, later, nodes_in}

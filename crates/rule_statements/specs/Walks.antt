@@ -4,7 +4,6 @@ use Rattle.std.specs.Prelude.{false, List, [], ◌∷◌, ◌≡◌, ℕ, suc, �
 use Rattle.std.proofs.Math.Option.{Option, none, some}
 use Rattle.law.specs.Base.{Name, ◌>>=◌}
 use Rattle.law.specs.Code.{Code, Act, Acts, Frame, BodyCode}
-use Rattle.law.specs.Elaborate.{Located}
 use Rattle.law.specs.Environment.{Environment}
 use Rattle.law_theorems.specs.FormsByDepth.{stmt, stmt_form}
 use Rattle.code.specs.Layout.{Out, out, lay, lay_code, lay_place, lay_act, lay_acts, flag}

@@ -2,7 +2,7 @@
 use mathlib.Core.Path.{◌≡◌, refl, sym, ap, ◌∙◌, subst}
 use mathlib.Core.Bool.{Bool, true, false}
 use mathlib.Core.List.{List, [], ◌∷◌}
-use mathlib.Core.Option.{Option, none, some}
+use mathlib.Core.Option.{none}
 use Prim.Native.Nat.{ℕ}
 use Rattle.leaf_words.specs.declared.words.Word.{Word}
 use Rattle.leaf_words.specs.Words.{word_of}
@@ -25,7 +25,7 @@ use Rattle.rule_stmt_nodes.specs.declared.last.Next.{Next}
 use Rattle.rule_stmt_nodes.specs.declared.last.Next.TheVariants as following
 use Rattle.rule_stmt_nodes.specs.BaseNodes.{node_if}
 use Rattle.rule_stmt_nodes.specs.Nodes.{plain_made, handled_made}
-use Rattle.rule_stmt_nodes.specs.Handlers.{HandlerAt, PlainAt, HeadAt, HandlerIn, Comes}
+use Rattle.rule_stmt_nodes.specs.Handlers.{HandlerIn, Comes}
 
 no_end : {t : Tree Run} {ts : Trees Run} → (t then ts) ≡ end → ⊥
 no_end h = subst more? h tt

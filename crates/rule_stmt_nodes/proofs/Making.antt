@@ -4,11 +4,10 @@ use mathlib.Core.Bool.{Bool, true, false}
 use mathlib.Core.List.{List, [], ◌∷◌}
 use Prim.Native.Nat.{ℕ, ◌+◌, ◌<◌, ◌≤◌}
 use borrow.Author.Tests.{eq-eqb, ne_eqb, lt-ltb, le-ltb}
-use lib.Dec.{eqb, ltb}
 use lib.ListN.{set}
-use Rattle.code.specs.Layout.{Out, lay, link}
+use Rattle.code.specs.Layout.{lay, link}
 use Rattle.rule_faults.specs.declared.Fault.{Fault}
-use Rattle.rule_faults.specs.declared.Fault.TheVariants.{Clear, Kind, Name, Form}
+use Rattle.rule_faults.specs.declared.Fault.TheVariants.{Clear, Kind, Name}
 use Rattle.table_scope.specs.declared.Info.{Info}
 use Rattle.table_scope.specs.declared.Loops.{Loops}
 use Rattle.table_scope.specs.declared.Meaning.{Meaning}

@@ -1,8 +1,8 @@
 -- The nodes of statements, as the code makes them from the answers for their parts.
-use Rattle.std.specs.Prelude.{Bool, true, false, cond, ◌&&◌, List, [], ◌∷◌, ℕ, ◌+◌, eqb, ltb, set}
-use Rattle.code.specs.Layout.{Out, out, lay, link, flag}
+use Rattle.std.specs.Prelude.{Bool, true, false, cond, List, [], ◌∷◌, ℕ, ◌+◌, eqb, ltb}
+use Rattle.code.specs.Layout.{Out, lay, link}
 use Rattle.rule_faults.specs.declared.Fault.{Fault}
-use Rattle.rule_faults.specs.declared.Fault.TheVariants.{Clear, Kind, Name, Form}
+use Rattle.rule_faults.specs.declared.Fault.TheVariants.{Clear, Kind, Name}
 use Rattle.table_scope.specs.declared.Info.{Info}
 use Rattle.table_scope.specs.declared.Loops.{Loops}
 use Rattle.table_scope.specs.declared.Meaning.{Meaning}
@@ -11,7 +11,7 @@ use Rattle.table_scope.specs.Descriptions.{info_of}
 use Rattle.table_scope.specs.Loops.{loops_over}
 use Rattle.table_scope.specs.Sides.{host_in}
 use Rattle.rule_faults.specs.declared.Got.{Got}
-use Rattle.rule_faults.specs.Got.{lowest, failed_got}
+use Rattle.rule_faults.specs.Got.{lowest}
 use Rattle.rule_expr_nodes.specs.Nodes.{Made, failed_made, node_made, if_clear}
 use Rattle.rule_stmt_nodes.specs.BaseNodes.{with_fault, node_if}
 use Rattle.text_heads.specs.declared.Atom.{Atom}

@@ -1,6 +1,6 @@
 -- The answers that need no lists: nothing known, a refusal at once, the end of the lines, the verdict told.
-use mathlib.Core.Path.{◌≡◌, refl, ◌∙◌}
-use mathlib.Core.Bool.{Bool, true, false}
+use mathlib.Core.Path.{◌≡◌, refl}
+use mathlib.Core.Bool.{true, false}
 use Prim.Native.Nat.{ℕ}
 use borrow.Author.Tests.{eq-eqb, ne_eqb}
 use Rattle.law_answers.specs.declared.Verdict.TheVariants.{Accepted, Refused}

@@ -1,13 +1,13 @@
 -- Whole texts: rows 1 to 3, then the lines with nothing declared; the verdict told, and the working list left.
 use mathlib.Core.Path.{◌≡◌, refl, sym, ap, ◌∙◌}
-use mathlib.Core.Bool.{Bool, true, false, cond}
+use mathlib.Core.Bool.{Bool, true, false}
 use mathlib.Core.List.{List, [], ◌∷◌, ◌++◌}
 use mathlib.Core.Option.{Option, none, some}
-use Prim.Native.Nat.{ℕ, zero, suc, ◌+◌, ◌-◌, ◌<◌, ◌≤◌, min}
+use Prim.Native.Nat.{ℕ, zero, suc, ◌<◌, ◌≤◌, min}
 use native.Mathlib.Omega.{arith}
 use native.Mathlib.Nat.{min-eq_left}
 use borrow.Author.Tests.{le-leb, lt-leb, leb-true, leb-false, eq-eqb, ne_eqb}
-use lib.Dec.{eqb, leb}
+use lib.Dec.{leb}
 use lib.ListN.{length, get_or, take, drop, replicate, drop_of_length-le}
 use lib.Seq.{drop_at, take_at, length_front, length-take-le}
 use Rattle.leaf_bytes.specs.declared.bytes.Class.{Class}
@@ -15,7 +15,7 @@ use Rattle.leaf_bytes.specs.declared.bytes.Class.TheVariants.{Feed, Space, Open,
 use Rattle.leaf_bytes.specs.Bytes.{class_of}
 use Rattle.law.specs.Environment.{nothing_declared}
 use Rattle.code.specs.LayoutSize.{size_bodies, size_symbols, size_types}
-use Rattle.law.specs.Lines.{lines_of, refused_at}
+use Rattle.law.specs.Lines.{refused_at}
 use Rattle.law.specs.Verdict as Meaning
 use Rattle.law.specs.Verdict.{Fitting, Read, has, accepted, refused, opening, judge, judge_lines, strictly}
 use Rattle.law.specs.Whole.{verdict_of, work_after}
@@ -23,7 +23,6 @@ use Rattle.code.proofs.LayoutBodies.{no-bodies}
 use Rattle.code.proofs.LinesMeasured.{measured-start}
 use Rattle.code.proofs.TextRoom.{room-start}
 use Rattle.law_answers.specs.declared.Verdict.{Verdict}
-use Rattle.law_answers.specs.declared.Verdict.TheVariants as verdict
 use Rattle.law_answers.specs.Verdicts.{told_verdict}
 use Rattle.text_lines.specs.Passes.{line_or}
 use Rattle.rule_declarations.specs.State.{notes, start_state}

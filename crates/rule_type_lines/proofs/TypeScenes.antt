@@ -11,7 +11,7 @@ use borrow.Author.Tests.{ne_eqb, leb-true}
 use lib.Dec.{leb}
 use lib.ListN.{length, get_or, set, length-append, get_or-eq_default}
 use lib.Seq.{get_or-set_same, get_or-set_other}
-use Rattle.leaf_bytes.specs.Bytes.{small, same}
+use Rattle.leaf_bytes.specs.Bytes.{small}
 use Rattle.law.specs.Base.{Name}
 use Rattle.law.specs.Ceilings.{line_bounded, type_bounded}
 use Rattle.law.specs.Environment.{Declared, Environment, NameSort, a_proc, a_type, a_value, declare_line, extend_types}

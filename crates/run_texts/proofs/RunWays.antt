@@ -1,21 +1,19 @@
 -- Runs: rows 10 and 11 by the tables, the run by the code that the list holds, and the whole by the verdict.
 use mathlib.Core.Path.{◌≡◌, refl, sym, ap, subst, ◌∙◌}
-use mathlib.Core.Bool.{Bool, true, false}
 use mathlib.Core.List.{List, [], ◌++◌}
 use mathlib.Core.Option.{Option, none, some}
-use Prim.Native.Nat.{ℕ, ◌-◌, ◌≤◌, min}
+use Prim.Native.Nat.{ℕ, ◌≤◌, min}
 use native.Mathlib.Omega.{arith}
 use lib.IntN.{ℤ}
-use lib.ListN.{length, get_or, take, drop, replicate}
+use lib.ListN.{length, take, drop, replicate}
 use lib.Seq.{take_at}
 use Rattle.rule_declarations.specs.State.{notes}
 use Rattle.code.specs.ListMachine.{called}
 use Rattle.law.specs.Machine.{Answer, State, state}
-use Rattle.law.specs.Store.{fault_of, store_fault}
+use Rattle.law.specs.Store.{store_fault}
 use Rattle.law.specs.Verdict as Meaning
 use Rattle.law.specs.Verdict.{Read, accepted, refused}
-use Rattle.law.specs.Whole as Whole
-use Rattle.law.specs.Whole.{refusal, ran, reported, report, fresh, lent, on_store, unless, run_all, run_of, verdict_of}
+use Rattle.law.specs.Whole.{report, fresh, lent, on_store, unless, run_all, run_of, verdict_of}
 use Rattle.code.proofs.Texts as Demand3
 use Rattle.law_theorems.specs.StatementsNoted.{Notes}
 use Rattle.law_theorems.proofs.LinesCover.{text-covered}
@@ -23,10 +21,9 @@ use Rattle.code.proofs.LinesMeasured.{text-measured}
 use Rattle.law_answers.specs.declared.Answer.{Answer as Told}
 use Rattle.law_answers.specs.declared.Report.{Report}
 use Rattle.law_answers.specs.declared.Report.TheVariants.{Refused, Ran}
-use Rattle.law_answers.specs.RunReports.{outcome_of, ending_of, Reports}
+use Rattle.law_answers.specs.RunReports.{ending_of, Reports}
 use Rattle.rule_stores.specs.Stores.{StoreFault, row_number}
 use Rattle.rule_known.specs.declared.Known.{Known}
-use Rattle.rule_judge.specs.Judging.{Standing}
 use Rattle.code_store.specs.Answers.{Answers}
 use Rattle.run_fit.proofs.Texts.{text-fits}
 use Rattle.run_chair.specs.Answers.{Running}

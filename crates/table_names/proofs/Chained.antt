@@ -3,7 +3,7 @@ use mathlib.Core.Path.{◌≡◌, refl, sym, ap, subst, ◌∙◌}
 use mathlib.Core.Bool.{Bool, true, false, cond, ◌&&◌, and-false}
 use mathlib.Core.List.{List, [], ◌∷◌, ◌++◌, map}
 use mathlib.Core.Option.{none, some}
-use Prim.Native.Nat.{ℕ, zero, suc, ◌+◌, ◌*◌, ◌-◌, ◌/◌, ◌%◌, ◌<◌, ◌≤◌}
+use Prim.Native.Nat.{ℕ, zero, suc, ◌+◌, ◌*◌, ◌-◌, ◌<◌, ◌≤◌}
 use native.Mathlib.Nat.{mod-eq_of_lt}
 use native.Mathlib.Omega.{arith}
 use borrow.Author.Tests.{eq-eqb, ne_eqb, ltb-true}
@@ -18,7 +18,6 @@ use Rattle.code.proofs.LayoutRegions.{Has, lay-l}
 use Rattle.code.specs.LayoutRegions.{Same, Room}
 use Rattle.table_names.specs.Keys.{key_of, keyed}
 use Rattle.table_names.specs.Chain.{entries, name_at, key_at, Called, is_called, place_in, values_by, values_behind, first_value, places, order_at, ranked, middle, by_order, halved, value_in, or_else, place_by}
-use Rattle.table_names.specs.declared.order.Order.{Order}
 use Rattle.table_names.proofs.Keying.{keyed-offset, keyed-key}
 use Rattle.table_names.proofs.Names.{place_none, place-on}
 use Rattle.table_names.specs.Chained.{Below, Block, Names, no-entry, no_names, one_block, one_entry, one_name}

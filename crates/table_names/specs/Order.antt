@@ -1,5 +1,5 @@
 -- The order of words: letter by letter, and a word before those that go on from it.
-use Rattle.std.specs.Prelude.{cond, List, [], ◌∷◌, ℕ, eqb, ltb}
+use Rattle.std.specs.Prelude.{cond, [], ◌∷◌, ℕ, eqb, ltb}
 use Rattle.law.specs.Base.{Name}
 use Rattle.table_names.specs.declared.order.Order.{Order}
 use Rattle.table_names.specs.declared.order.Order.TheVariants as order

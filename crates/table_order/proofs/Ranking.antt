@@ -2,22 +2,20 @@
 use mathlib.Core.Path.{◌≡◌, refl, sym, ap, ◌∙◌}
 use mathlib.Core.Bool.{Bool, true, false, false≢true}
 use mathlib.Core.List.{List, map}
-use mathlib.Core.Logic.{◌⊎◌, inl, inr}
-use Prim.Native.Nat.{ℕ, suc, ◌+◌, ◌*◌, ◌-◌, ◌%◌, ◌<◌, ◌≤◌}
+use Prim.Native.Nat.{ℕ, ◌+◌, ◌*◌, ◌%◌, ◌<◌, ◌≤◌}
 use native.Mathlib.Nat.{mod-lt}
 use native.Mathlib.Decide.{ℕ_discrete, dec_lt}
 use native.Mathlib.Omega.{arith}
-use mir.Syntax.{w32, w64}
+use mir.Syntax.{w32}
 use mir.Val.{Fits}
-use lib.ListN.{length, get_or, set, length-set, get_or-eq_default}
+use lib.ListN.{length, get_or, set, length-set}
 use lib.Seq.{get_or-set_same, get_or-set_other, set_out}
 use Rattle.leaf_bytes.specs.Bytes.{small}
 use Rattle.law.specs.Trees.{word_at}
-use Rattle.code.specs.LayoutRegions.{Same}
 use Rattle.table_names.specs.Keys.{key_of}
-use Rattle.table_names.specs.Chain.{name_at, place_in, first_value, places, value_in}
+use Rattle.table_names.specs.Chain.{name_at, first_value, value_in}
 use Rattle.table_names.proofs.Chained.{first-low}
-use Rattle.table_order.specs.Ordered.{Ranks, Finds, Marks, unmarked, marked, Marking, Ordered}
+use Rattle.table_order.specs.Ordered.{Ranks, Finds, unmarked, marked, Marking, Ordered}
 use Rattle.table_order.proofs.Finding.{found_all}
 
 pub ranks-start : (b : ℕ) (l : List ℕ) → Ranks b l l

@@ -2,15 +2,15 @@
 use mathlib.Core.Path.{◌≡◌, refl, sym, ap, ◌∙◌}
 use mathlib.Core.Bool.{Bool, true, false, cond}
 use mathlib.Core.List.{List, map}
-use mathlib.Core.Option.{Option, none, some}
+use mathlib.Core.Option.{some}
 use Prim.Native.Nat.{ℕ, suc, ◌+◌, ◌<◌, ◌≤◌}
 use native.Mathlib.Omega.{arith}
 use borrow.Author.Tests.{lt-ltb, le-ltb}
 use lib.ListN.{length}
 use Rattle.leaf_bytes.specs.Bytes.{small, same}
 use Rattle.law.specs.Base.{Name}
-use Rattle.law.specs.Trees.{Tree, word, form, Trees, end, ◌then◌, list, Run, first, later, push, word_at}
-use Rattle.law_theorems.specs.Readings.{rest_at, stack_at}
+use Rattle.law.specs.Trees.{form, Trees, end, list, Run, first, later, push, word_at}
+use Rattle.law_theorems.specs.Readings.{stack_at}
 use Rattle.law_theorems.proofs.Reading.{none-word, none-stack, wordless}
 use Rattle.text_words.specs.Sights.{Looks, Ends}
 use Rattle.text_words.specs.declared.sight.Sight.{Sight}

@@ -6,7 +6,7 @@ use mathlib.Core.Option.{none, some}
 use Prim.Native.Nat.{ℕ, zero, suc, ◌+◌, ◌*◌, ◌≤◌}
 use native.Mathlib.Omega.{arith}
 use borrow.Author.Tests.{ne_eqb}
-use lib.Dec.{eqb, lit≤}
+use lib.Dec.{eqb}
 use lib.ListN.{get_or}
 use Rattle.leaf_bytes.specs.Bytes.{small, same}
 use Rattle.law.specs.Base.{Name, find}
@@ -17,11 +17,10 @@ use Rattle.law.specs.Types.{Shape, ordinal_shape, set_shape, array_shape, record
 use Rattle.table_kinds.specs.Kinds.{Kinded, ordinal_by, class_by, side_of}
 use Rattle.table_kinds.specs.declared.Class.TheVariants.{Integer, Boolean, Enum}
 use Rattle.table_kinds.proofs.Tables.{table-kinded}
-use Rattle.table_scope.specs.Descriptions.{shape_number, integer_info, boolean_info, no_info, read_info, info_of, fields_at, field_place, EndsBelow}
+use Rattle.table_scope.specs.Descriptions.{shape_number, info_of, fields_at, field_place}
 use Rattle.table_scope.specs.Sides.{host_in, class_in, side_in}
 use Rattle.table_scope.specs.declared.Scope.{Scope}
 use Rattle.table_scope.specs.Scene.{meaning_in, Told, Scene}
-use Rattle.table_scope.proofs.Kept.{info-by}
 
 -- ---- shapes by number
 

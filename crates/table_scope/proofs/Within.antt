@@ -7,8 +7,7 @@ use Prim.Native.Nat.{ℕ, zero, suc, ◌+◌, ◌%◌, ◌<◌, ◌≤◌}
 use native.Mathlib.Nat.{mod-eq_of_lt}
 use native.Mathlib.Omega.{arith}
 use borrow.Author.Tests.{eq-eqb, ne_eqb, lt-ltb}
-use lib.Dec.{eqb, ltb}
-use lib.ListN.{get_or, get_elem?, length}
+use lib.ListN.{length}
 use Rattle.leaf_bytes.specs.Bytes.{small, same}
 use Rattle.leaf_bytes.proofs.Same.{same-equal}
 use Rattle.law.specs.Base.{Name, find}

@@ -12,7 +12,7 @@ use lib.Seq.{drop-cons}
 use Rattle.leaf_bytes.specs.Bytes.{class_of}
 use Rattle.law.specs.Base.{◌>>=◌, given}
 use Rattle.law.specs.Lines.{Line, line, in_front, lines_of}
-use Rattle.law.specs.Trees.{Tree, form, Trees, end, ◌then◌, Run, Place, before, is_after, past, balanced, first, single, form_of}
+use Rattle.law.specs.Trees.{form, Trees, end, ◌then◌, Run, Place, before, is_after, past, balanced, first, single, form_of}
 use Rattle.law_theorems.specs.Readings.{Reading, reading, ended, with_byte, read_bytes, rest_at, stack_at}
 use Rattle.law_theorems.proofs.Reading.{trees-read}
 use Rattle.law_theorems.proofs.Balance.{Reads, one, reads}

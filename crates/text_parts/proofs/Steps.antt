@@ -3,8 +3,7 @@ use mathlib.Core.Path.{◌≡◌, refl, sym, ap, ◌∙◌, subst}
 use mathlib.Core.List.{List}
 use Prim.Native.Nat.{ℕ}
 use Rattle.leaf_words.specs.declared.words.Word.{Word}
-use Rattle.leaf_words.specs.Words.{word_of}
-use Rattle.law.specs.Trees.{Tree, word, form, Trees, end, ◌then◌, Run, first, later, push, word_at}
+use Rattle.law.specs.Trees.{Tree, word, Trees, end, ◌then◌, Run, first, later, push, word_at}
 use Rattle.law_theorems.specs.Readings.{rest_at, stack_at}
 use Rattle.text_words.specs.declared.sight.Sight.{Sight}
 use Rattle.text_words.specs.declared.sight.Sight.TheVariants as sight
@@ -12,7 +11,6 @@ use Rattle.text_words.specs.declared.sight.Seen.{Seen}
 use Rattle.text_words.specs.Sights.{Looks, Reads}
 use Rattle.text_parts.specs.declared.Part.{Part}
 use Rattle.text_parts.specs.declared.Part.TheVariants as part
-use Rattle.text_parts.specs.declared.End.{End}
 use Rattle.text_parts.specs.declared.End.TheVariants as ending
 use Rattle.text_parts.specs.Parts.{LeafAt, FormAt, ShutAt, LeafStands, Stands, Shuts}
 

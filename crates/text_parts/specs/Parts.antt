@@ -1,7 +1,7 @@
 -- Parts of a form by offset: what stands there, in terms of the trees from there on, and how a walk moves over them.
 use Rattle.std.specs.Prelude.{List, ◌≡◌, ℕ}
 use Rattle.leaf_words.specs.Words.{word_of}
-use Rattle.law.specs.Trees.{Tree, word, form, Trees, end, ◌then◌, Run, first, later, word_at}
+use Rattle.law.specs.Trees.{Tree, word, form, end, ◌then◌, Run, first, later, word_at}
 use Rattle.law_theorems.specs.Readings.{rest_at, stack_at}
 use Rattle.text_parts.specs.declared.Part as part
 use Rattle.text_parts.specs.declared.Part.{Part}
