@@ -1,4 +1,4 @@
-/* Drive scripts, checked, run and marked: the functions of libhostlink.a (`rt staticlib hostlink`). Each function is proved to do what
+/* Drive scripts, checked, run and marked: the functions of libhostlink.a (`rt lib` in crates/hostlink). Each function is proved to do what
    it says here, for every text, list and budget; docs/EMBEDDING.md says what that covers on machines other than x86-64 (`tools/cross`).
 
    All widths are fixed, lengths too: the proof's lengths have 64 bits, on every machine. C99, C11 or later, or C++11 or later.

@@ -19,8 +19,8 @@ use host_input::{Input, read_text};
 use host_printing::markings::mark_scripted;
 use host_printing::reports::scripted;
 use host_writing::rows::refused;
-use libc::STDOUT_FILENO;
 use lines::{case_from, line_after, line_end, sign_from, stands};
+use std::io::{Read, Write};
 
 // How many cells a script has at most.
 const CELLS: usize = MOST_CELLS as usize;
@@ -247,26 +247,26 @@ fn passes_at(case: &[u8], a: usize, work: &mut [u32], out: &mut [u8]) -> bool
 }
 
 // Prints the number of a case and the line at p; whether that was written.
-fn tell(text: &[u8], p: usize, number: u64) -> bool
+fn tell<W: Write>(to: &mut W, text: &[u8], p: usize, number: u64) -> bool
     requires { p ≤ length text.now }
 {
-    if io::print_decimal(STDOUT_FILENO, number) {
-        if io::write_all(STDOUT_FILENO, b" ") {
+    if write!(to, "{number}").is_ok() {
+        if to.write_all(b" ").is_ok() {
             let q = line_end(text, p);
-            if io::write_all(STDOUT_FILENO, &text[p..q]) {
-                return io::write_all(STDOUT_FILENO, b"\n");
+            if to.write_all(&text[p..q]).is_ok() {
+                return to.write_all(b"\n").is_ok();
             }
         }
     }
     false
 }
 
-// Prints how many cases there are and how many differ.
-fn tell_all(cases: u64, differ: u64) {
-    if io::print_decimal(STDOUT_FILENO, cases) {
-        if io::write_all(STDOUT_FILENO, b" cases, ") {
-            if io::print_decimal(STDOUT_FILENO, differ) {
-                io::write_all(STDOUT_FILENO, b" differ\n");
+// Prints how many cases there are and how many differ. After a failed write nothing more is tried: nobody would read it.
+fn tell_all<W: Write>(to: &mut W, cases: u64, differ: u64) {
+    if write!(to, "{cases}").is_ok() {
+        if to.write_all(b" cases, ").is_ok() {
+            if write!(to, "{differ}").is_ok() {
+                let _ = to.write_all(b" differ\n");
             }
         }
     }
@@ -281,21 +281,27 @@ enum Result {
 }
 
 // Runs a case.
-fn try_case(case: &[u8], number: u64, work: &mut [u32], out: &mut [u8]) -> Result
+fn try_case<W: Write>(
+    to: &mut W,
+    case: &[u8],
+    number: u64,
+    work: &mut [u32],
+    out: &mut [u8],
+) -> Result
     requires { 0 < length case.now }
 {
     let a = line_after(case, 0);
     if passes_at(case, a, work, out) {
         return Result::Same;
     }
-    if tell(case, a, number) {
+    if tell(to, case, a, number) {
         return Result::Differs;
     }
     Result::Unwritten
 }
 
 // Runs every case.
-fn try_all(text: &[u8], work: &mut [u32], out: &mut [u8]) {
+fn try_all<W: Write>(to: &mut W, text: &[u8], work: &mut [u32], out: &mut [u8]) {
     let mut p = 0;
     let mut n = 0;
     let mut bad = 0;
@@ -303,7 +309,7 @@ fn try_all(text: &[u8], work: &mut [u32], out: &mut [u8]) {
         let a = line_after(text, p);
         let e = case_from(text, a);
         n += 1;
-        let r = try_case(&text[p..e], n, work, out);
+        let r = try_case(to, &text[p..e], n, work, out);
         match r {
             Result::Same => {}
             Result::Differs => {
@@ -315,25 +321,37 @@ fn try_all(text: &[u8], work: &mut [u32], out: &mut [u8]) {
         }
         p = e;
     }
-    tell_all(n, bad);
+    tell_all(to, n, bad);
 }
 
-// Runs the cases that come from standard input; a file that fills the list is not run.
-fn serve(text: &mut [u8], work: &mut [u32], out: &mut [u8]) {
-    let came = read_text(text);
+// Runs the cases that come from a reader; a file that fills the list is not run.
+fn serve<R: Read, W: Write>(
+    from: &mut R,
+    to: &mut W,
+    text: &mut [u8],
+    work: &mut [u32],
+    out: &mut [u8],
+) {
+    let came = read_text(from, text);
     match came {
         Input::Failed => {}
         Input::Came(n) => {
             if n < text.len() {
-                try_all(&text[..n], work, out);
+                try_all(to, &text[..n], work, out);
             }
         }
     }
 }
 
-fn main() {
+fn main(rt: HostRuntime) {
     let mut text = [0u8; CASES_LENGTH];
     let mut work = [0u32; WORK_LENGTH];
     let mut out = [0u8; OUT_LENGTH];
-    serve(&mut text, &mut work, &mut out);
+    serve(
+        &mut rt.stdin(),
+        &mut rt.stdout(),
+        &mut text,
+        &mut work,
+        &mut out,
+    );
 }

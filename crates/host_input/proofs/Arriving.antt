@@ -1,11 +1,11 @@
 -- The bytes that came are a part of the text.
-use mathlib.Core.Path.{◌≡◌, sym, ◌∙◌}
+use mathlib.Core.Path.{◌≡◌, sym}
 use mathlib.Core.List.{List}
 use Prim.Native.Nat.{ℕ, ◌≤◌}
 use lib.ListN.{length, take}
 use lib.Seq.{length-take-le}
 use Rattle.host_input.specs.declared.Input.{Input}
-use Rattle.host_input.specs.declared.Input.TheVariants.{Failed, Came}
+use Rattle.host_input.specs.declared.Input.TheVariants.{Came}
 use Rattle.host_input.specs.Coming.{Within}
 
 pub came-within : (r : Input) (xs : List ℕ) (n : ℕ) → Within r (length xs) → r ≡ Came n → n ≤ length xs

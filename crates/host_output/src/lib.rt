@@ -1,10 +1,10 @@
-// Standard output: the first bytes of a lent list.
+// The first bytes of a lent list, written to a writer, as standard output is one.
 
 #![tactic(auto)]
 
 ghost use Rattle.std.specs.Prelude.{◌≤◌, length};
 
-use libc::STDOUT_FILENO;
+use std::io::Write;
 
 // The smaller of two numbers.
 pub fn least(a: usize, b: usize) -> usize
@@ -16,11 +16,12 @@ pub fn least(a: usize, b: usize) -> usize
     b
 }
 
-// Prints the first n bytes, or all if there are fewer; how many these are.
-pub fn tell(out: &[u8], n: usize) -> usize
+// Writes the first n bytes, or all if there are fewer; how many these are. Whether the writer takes them changes nothing for the caller, so a failed
+// write is let go.
+pub fn tell<W: Write>(to: &mut W, out: &[u8], n: usize) -> usize
     ensures { (result ≤ n) × (result ≤ length out.now) }
 {
     let k = least(n, out.len());
-    io::write_all(STDOUT_FILENO, &out[..k]);
+    let _ = to.write_all(&out[..k]);
     k
 }

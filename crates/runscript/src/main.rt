@@ -9,6 +9,7 @@ use host_input::{Input, read_text};
 use host_output::{least, tell};
 use host_printing::reports::scripted;
 use host_writing::rows::refused;
+use std::io::{Read, Write};
 
 // How many cells a script has at most.
 const CELLS: usize = MOST_CELLS as usize;
@@ -56,26 +57,38 @@ fn answer(
 }
 
 // Answers for a script.
-fn serve(text: &[u8], work: &mut [u32], out: &mut [u8]) {
+fn serve<W: Write>(to: &mut W, text: &[u8], work: &mut [u32], out: &mut [u8]) {
     let mut names = [0usize; CELLS];
     let mut values = [0i64; CELLS];
     let mut marks = [0u8; CELLS];
     let n = answer(text, work, &mut names, &mut values, &mut marks, out);
-    tell(out, n);
+    tell(to, out, n);
 }
 
-// Answers for what comes from standard input; text holds one byte more than a script may have.
-fn read_and_serve(text: &mut [u8], work: &mut [u32], out: &mut [u8]) {
-    let came = read_text(text);
+// Answers for what comes from a reader; text holds one byte more than a script may have.
+fn read_and_serve<R: Read, W: Write>(
+    from: &mut R,
+    to: &mut W,
+    text: &mut [u8],
+    work: &mut [u32],
+    out: &mut [u8],
+) {
+    let came = read_text(from, text);
     match came {
         Input::Failed => {}
-        Input::Came(n) => serve(&text[..n], work, out),
+        Input::Came(n) => serve(to, &text[..n], work, out),
     }
 }
 
-fn main() {
+fn main(rt: HostRuntime) {
     let mut text = [0u8; TEXT_LENGTH + 1];
     let mut work = [0u32; WORK_LENGTH];
     let mut out = [0u8; OUT_LENGTH];
-    read_and_serve(&mut text, &mut work, &mut out);
+    read_and_serve(
+        &mut rt.stdin(),
+        &mut rt.stdout(),
+        &mut text,
+        &mut work,
+        &mut out,
+    );
 }

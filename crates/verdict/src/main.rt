@@ -7,24 +7,24 @@ ghost use Rattle.std.specs.Prelude.{◌≤◌, length};
 
 use host_input::{Input, read_text};
 use law_answers::Verdict;
-use libc::STDOUT_FILENO;
 use rule_texts::{TEXT_LENGTH, WORK_LENGTH, verdict_of};
+use std::io::{Read, Write};
 use text_lines::lines::next_line;
 
 // Prints the word of a refusal; whether it was written.
-fn print_word(number: u32) -> bool {
+fn print_word<W: Write>(to: &mut W, number: u32) -> bool {
     match number {
-        1 => io::write_all(STDOUT_FILENO, b"bench"),
-        2 => io::write_all(STDOUT_FILENO, b"length"),
-        3 => io::write_all(STDOUT_FILENO, b"byte"),
-        4 => io::write_all(STDOUT_FILENO, b"bracket"),
-        5 => io::write_all(STDOUT_FILENO, b"word"),
-        6 => io::write_all(STDOUT_FILENO, b"form"),
-        7 => io::write_all(STDOUT_FILENO, b"name"),
-        8 => io::write_all(STDOUT_FILENO, b"type"),
-        9 => io::write_all(STDOUT_FILENO, b"limit"),
-        10 => io::write_all(STDOUT_FILENO, b"store"),
-        _ => io::write_all(STDOUT_FILENO, b"cell"),
+        1 => to.write_all(b"bench").is_ok(),
+        2 => to.write_all(b"length").is_ok(),
+        3 => to.write_all(b"byte").is_ok(),
+        4 => to.write_all(b"bracket").is_ok(),
+        5 => to.write_all(b"word").is_ok(),
+        6 => to.write_all(b"form").is_ok(),
+        7 => to.write_all(b"name").is_ok(),
+        8 => to.write_all(b"type").is_ok(),
+        9 => to.write_all(b"limit").is_ok(),
+        10 => to.write_all(b"store").is_ok(),
+        _ => to.write_all(b"cell").is_ok(),
     }
 }
 
@@ -55,52 +55,52 @@ fn line_end(text: &[u8], p: usize) -> usize
 }
 
 // A line's text, if there is such a line.
-fn print_line(text: &[u8], line: usize) {
+fn print_line<W: Write>(to: &mut W, text: &[u8], line: usize) {
     if line == 0 {
         return;
     }
     let p = line_start(text, line);
     if p < text.len() {
         let q = line_end(text, p);
-        io::write_all(STDOUT_FILENO, &text[p..q]);
-        io::write_all(STDOUT_FILENO, b"\n");
+        let _ = to.write_all(&text[p..q]);
+        let _ = to.write_all(b"\n");
     }
 }
 
-// A refusal, and the line that it names.
-fn print_refusal(text: &[u8], number: u32, line: usize) {
-    io::write_all(STDOUT_FILENO, b"refused ");
-    io::print_decimal(STDOUT_FILENO, number as u64);
-    io::write_all(STDOUT_FILENO, b" ");
-    io::print_decimal(STDOUT_FILENO, line as u64);
-    io::write_all(STDOUT_FILENO, b" ");
-    print_word(number);
-    io::write_all(STDOUT_FILENO, b"\n");
-    print_line(text, line);
+// A refusal, and the line that it names. Where a write fails, the writes after it are still tried, and the program ends as ever.
+fn print_refusal<W: Write>(to: &mut W, text: &[u8], number: u32, line: usize) {
+    let _ = to.write_all(b"refused ");
+    let _ = write!(to, "{number}");
+    let _ = to.write_all(b" ");
+    let _ = write!(to, "{line}");
+    let _ = to.write_all(b" ");
+    print_word(to, number);
+    let _ = to.write_all(b"\n");
+    print_line(to, text, line);
 }
 
 // The verdict on a text.
-fn answer(text: &[u8], work: &mut [u32]) {
+fn answer<W: Write>(to: &mut W, text: &[u8], work: &mut [u32]) {
     let v = verdict_of(text, work);
     match v {
         Verdict::Accepted => {
-            io::write_all(STDOUT_FILENO, b"accepted\n");
+            let _ = to.write_all(b"accepted\n");
         }
-        Verdict::Refused(number, line) => print_refusal(text, number, line),
+        Verdict::Refused(number, line) => print_refusal(to, text, number, line),
     }
 }
 
-// The verdict on what comes from standard input; text holds one byte more than a script may have.
-fn serve(text: &mut [u8], work: &mut [u32]) {
-    let came = read_text(text);
+// The verdict on what comes from a reader; text holds one byte more than a script may have.
+fn serve<R: Read, W: Write>(from: &mut R, to: &mut W, text: &mut [u8], work: &mut [u32]) {
+    let came = read_text(from, text);
     match came {
         Input::Failed => {}
-        Input::Came(n) => answer(&text[..n], work),
+        Input::Came(n) => answer(to, &text[..n], work),
     }
 }
 
-fn main() {
+fn main(rt: HostRuntime) {
     let mut text = [0u8; TEXT_LENGTH + 1];
     let mut work = [0u32; WORK_LENGTH];
-    serve(&mut text, &mut work);
+    serve(&mut rt.stdin(), &mut rt.stdout(), &mut text, &mut work);
 }
