@@ -1,14 +1,10 @@
 -- Document 01, "Arithmetic" and "Exceptions": what operators and functions give, on values without types.
-use Rattle.std.specs.Prelude.{Bool, true, false, not, ◌&&◌, ◌||◌, List, ℕ, ℤ, pos, negsuc, ◌+ℤ◌, ◌-ℤ◌, ◌*ℤ◌, neg_ℤ, nat_abs, length}
+use Rattle.std.specs.Prelude.{Bool, true, false, not, ◌&&◌, ◌||◌, List, ℕ, ℤ, pos, negsuc, ◌+ℤ◌, ◌-ℤ◌, ◌*ℤ◌, neg_ℤ, nat_abs, length, Ok, Err, Option, Some, None}
 use Rattle.std.specs.Int.Signed.{le_z, lt_z}
 use Rattle.leaf_integers.specs.declared.Fault.{Fault}
 use Rattle.leaf_integers.specs.declared.Fault.TheVariants.{Overflow, Divisor, Exponent, Bound}
-use Rattle.leaf_integers.specs.Integers.{Num}
-use Rattle.std.specs.Prelude.{Ok, Err}
-use Rattle.leaf_integers.specs.Integers.{inside, exact, is_zero, quotient, modulus, is_odd, next, previous}
+use Rattle.leaf_integers.specs.Integers.{Num, inside, exact, is_zero, quotient, modulus, is_odd, next, previous}
 use Rattle.leaf_powers.specs.Powers.{power}
-use Rattle.std.specs.Prelude.{Option}
-use Rattle.std.specs.Prelude.{Some, None}
 use Rattle.leaf_sets.specs.Sets.{members_of, value_of, holds, with, least, greatest, union_of, difference_of, intersection_of, within}
 use Rattle.law.specs.Base.{pick}
 use Rattle.law.specs.Operators.{Operation, int_add, int_sub, int_mul, int_power, int_div, int_mod, set_union, set_difference, set_intersection, num_equal, num_unequal, num_less, num_at_most, num_greater, num_at_least, set_within, set_holds, member_of, bool_and, bool_or, Operation1, int_negate, bool_not, int_abs, int_sqr, int_odd, ordinal_of, pred_in, succ_in, set_card, set_least, set_greatest}

@@ -1,9 +1,7 @@
 -- Document 01, "Arithmetic": `x ** n`.
-use Rattle.std.specs.Prelude.{Bool, true, false, ◌&&◌, ◌||◌, ℕ, zero, suc, ◌%◌, ◌^◌, leb, ℤ, pos, negsuc, neg_ℤ, nat_abs}
+use Rattle.std.specs.Prelude.{Bool, true, false, ◌&&◌, ◌||◌, ℕ, zero, suc, ◌%◌, ◌^◌, leb, ℤ, pos, negsuc, neg_ℤ, nat_abs, Err}
 use Rattle.leaf_integers.specs.declared.Fault.TheVariants.{Overflow, Exponent}
-use Rattle.leaf_integers.specs.Integers.{Num}
-use Rattle.std.specs.Prelude.{Err}
-use Rattle.leaf_integers.specs.Integers.{exact, is_zero, pick}
+use Rattle.leaf_integers.specs.Integers.{Num, exact, is_zero, pick}
 
 -- m, or -m where the digit is not 0
 unfoldable pub signed : ℕ → ℕ → ℤ

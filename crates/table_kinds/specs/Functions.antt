@@ -1,5 +1,5 @@
 -- The table of function by class, and what a one-sided operator or function comes to at its side.
-use Rattle.std.specs.Prelude.{Bool, cond, List, [], map, ℕ, eqb, get_or}
+use Rattle.std.specs.Prelude.{Bool, cond, List, [], map, ℕ, eqb, get_or, None}
 use Rattle.std.proofs.Math.Option.{Option, none, some}
 use Rattle.law.specs.Base.{pick}
 use Rattle.code.specs.Layout.{node1}
@@ -8,7 +8,6 @@ use Rattle.table_kinds.specs.Kinds.{row_of, classes, integer_class, boolean_clas
 use Rattle.table_kinds.specs.declared.Class.{Class}
 use Rattle.table_kinds.specs.declared.Side.{Side}
 use Rattle.table_kinds.specs.Kinds.{Ruling, fits}
-use Rattle.std.specs.Prelude.{None}
 use Rattle.code_ops.specs.Functions.{functions}
 
 -- the number of a node of one part, as it is laid

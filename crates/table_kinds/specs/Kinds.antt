@@ -1,5 +1,5 @@
 -- The table of operator by left class by right class, and what an operator comes to at its sides (law, Operators and Layout).
-use Rattle.std.specs.Prelude.{◌≡◌, Bool, true, false, cond, ◌&&◌, List, [], ◌∷◌, ◌++◌, map, ℕ, zero, suc, ◌+◌, eqb, ltb, get_or}
+use Rattle.std.specs.Prelude.{◌≡◌, Bool, true, false, cond, ◌&&◌, List, [], ◌∷◌, ◌++◌, map, ℕ, zero, suc, ◌+◌, eqb, ltb, get_or, Some, None}
 use Rattle.std.proofs.Math.Option.{Option, none, some}
 use Rattle.law.specs.Base.{given, either, pick}
 use Rattle.code.specs.Layout.{both, operation_number}
@@ -9,7 +9,6 @@ use Rattle.table_kinds.specs.declared.Class.{Class}
 use Rattle.table_kinds.specs.declared.Class.TheVariants.{Integer, Boolean, Enum, Set, Whole}
 use Rattle.table_kinds.specs.declared.Side.{Side}
 use Rattle.std.specs.Prelude as P
-use Rattle.std.specs.Prelude.{Some, None}
 use Rattle.table_kinds.specs.declared.Ruled.{Ruled}
 use Rattle.code_ops.specs.Operators.{operators}
 
