@@ -10,10 +10,10 @@ use Rattle.leaf_integers.specs.Integers.{inside, exact, quotient, modulus, is_od
 use Rattle.leaf_powers.specs.Powers.{power}
 use Rattle.leaf_integers.specs.declared.Fault.{Fault}
 use Rattle.leaf_integers.specs.declared.Fault.TheVariants.{Overflow, Divisor, Exponent, Bound}
-use Rattle.leaf_integers.specs.declared.Num.{Num}
-use Rattle.leaf_integers.specs.declared.Num.TheVariants.{Value, Failed}
-use Rattle.leaf_sets.specs.declared.Member.{Member}
-use Rattle.leaf_sets.specs.declared.Member.TheVariants.{Ordinal, Empty}
+use Rattle.leaf_integers.specs.Integers.{Num}
+use Rattle.std.specs.Prelude.{Ok, Err}
+use Rattle.std.specs.Prelude.{Option}
+use Rattle.std.specs.Prelude.{Some, None}
 use Rattle.leaf_sets.specs.Sets.{members, members_of, pattern_of, value_of, holds, least, greatest as greatest_of, union_of, difference_of, intersection_of, within}
 use Rattle.leaf_sets.proofs.Digits.{members-length, value-is}
 use Rattle.law.specs.Base.{pick}
@@ -23,38 +23,36 @@ use Rattle.code.specs.Readback.{operations, operations1, operation_at, operation
 use Rattle.code_calc.specs.Words.{greatest, fault_base, range_word, numeric_word, word_of, result_of, applied, applied1, tested_word}
 
 -- ---- `word`, `member`
-pub word_value : (n : Num) (z : ℤ) → n ≡ Value z → SFits w64 z → wire z ≡ word_of (integer n)
+pub word_value : (n : Num) (z : ℤ) → n ≡ Ok z → SFits w64 z → wire z ≡ word_of (integer n)
 unfolding word_of integer
 word_value n z e s = to_z-of_z s ∙ rw e
 
-module _ (n : Num) (f : Fault) (e : n ≡ Failed f) where
-  pub word-overflow : f ≡ Overflow → numeric_word ≡ word_of (integer n)
-  unfolding word_of integer exception_of
-  word-overflow g = rw (e, g)
-
-  pub word-divisor : f ≡ Divisor → numeric_word ≡ word_of (integer n)
-  unfolding word_of integer exception_of
-  word-divisor g = rw (e, g)
-
-  pub word-exponent : f ≡ Exponent → numeric_word ≡ word_of (integer n)
-  unfolding word_of integer exception_of
-  word-exponent g = rw (e, g)
-
+module _ (n : Num) (f : Fault) (e : n ≡ Err f) where
   pub word_bound : f ≡ Bound → range_word ≡ word_of (integer n)
   unfolding word_of integer exception_of
   word_bound g = rw (e, g)
 
-pub ruleset word_laws = (word_value, word-overflow, word-divisor, word-exponent, word_bound, sfits_of)
+  pub word-other : (f ≡ Bound → ⊥) → numeric_word ≡ word_of (integer n)
+  unfolding word_of integer exception_of
+  word-other g = rw e (go f g)
+    where
+      go : (f : Fault) → (f ≡ Bound → ⊥) → numeric_word ≡ word_of (fails (exception_of f))
+      go Overflow h = refl
+      go Divisor h = refl
+      go Exponent h = refl
+      go Bound h = absurd (h refl)
 
-pub member-ordinal : (m : Member) (i : ℕ) → m ≡ Ordinal i → Fits w32 i → to_z w64 i ≡ word_of (member_in m)
+pub ruleset word_laws = (word_value, word_bound, word-other, sfits_of)
+
+pub member-ordinal : (m : Option ℕ) (i : ℕ) → m ≡ Some i → Fits w32 i → to_z w64 i ≡ word_of (member_in m)
 unfolding word_of member_in
 member-ordinal m i e f = to_z_pos w64 {n = i} (omega (arith, f.fits)) ∙ rw e
 
-pub member-empty : (m : Member) → m ≡ Empty → range_word ≡ word_of (member_in m)
+pub member-empty : (m : Option ℕ) → m ≡ None → range_word ≡ word_of (member_in m)
 unfolding word_of member_in
 member-empty m e = rw e
 
-pub ruleset member-laws = (member-ordinal, member-empty)
+pub ruleset member_laws = (member-ordinal, member-empty)
 
 -- ---- operators on sets
 module _ (x y : ℤ) (p q s : ℕ) (z : ℤ) (fx : SFits w64 x) (fy : SFits w64 y) (e : p ≡ pattern_of (wire x)) (f : q ≡ pattern_of (wire y)) (k : SFits w64 z) where
@@ -135,7 +133,7 @@ module _ (x y : ℤ) (fx : SFits w64 x) (fy : SFits w64 y) where
   pub either_second : (z : ℤ) → lt_z (pos 0) (wire x) ≡ false → z ≡ truth (lt_z (pos 0) (wire y)) → SFits w64 z → wire z ≡ truth (is_true x || is_true y)
   either_second z h e k = to_z-of_z k ∙ e ∙ rw (to_z-of_z fy, rw (to_z-of_z fx) at h)
 
-pub ruleset compare-laws = (equal-yes, equal-no, unequal-no, unequal-yes, less-yes, less-no, most-yes, most-no, both-second, both-not, either_first, either_second, sfits_of)
+pub ruleset compare_laws = (equal-yes, equal-no, unequal-no, unequal-yes, less-yes, less-no, most-yes, most-no, both-second, both-not, either_first, either_second, sfits_of)
 
 -- ---- two-sided operators
 off : (op b i : ℕ) → op - b ≡ suc i → op ≡ suc i + b
@@ -312,7 +310,7 @@ pub ruleset binary-laws = (binary-left, binary-right, binary-values, sfits_of)
 
 pub ruleset unary-laws = (unary-fault, unary-value, pred-value, succ-value, sfits_of)
 
-pub ruleset test-laws = (test_in, test-out, test-fault)
+pub ruleset test_laws = (test_in, test-out, test-fault)
 
 -- ---- one-sided operators
 pub negated-yes : (x : ℤ) → SFits w64 x → lt_z (pos 0) (wire x) ≡ true → pos 0 ≡ truth (not (is_true x))
@@ -323,7 +321,7 @@ pub negated-no : (x : ℤ) → SFits w64 x → lt_z (pos 0) (wire x) ≡ false �
 unfolding truth
 negated-no x f h = rw (rw (to_z-of_z f) at h)
 
-pub ruleset negated-laws = (negated-yes, negated-no)
+pub ruleset negated_laws = (negated-yes, negated-no)
 
 negate-at : (k : ℕ) → ((k ≡ 1) → ⊥) → ((k ≡ 2) → ⊥) → ((k ≡ 3) → ⊥) → ((k ≡ 4) → ⊥) → ((k ≡ 5) → ⊥) → ((k ≡ 6) → ⊥) → ((k ≡ 7) → ⊥) → ((k ≡ 8) → ⊥) → operation1_at k ≡ int_negate
 unfolding operation1_at operations1
@@ -364,11 +362,11 @@ module _ (op : ℕ) (x : ℤ) (fx : SFits w64 x) where
     unfolding operation1_at operations1 compute1 word_of
     odd-word b o e h = to_z-of_z k ∙ h ∙ rw (e, o, to_z-of_z fx)
 
-    pub least-word : (p : ℕ) (m : Member) → op ≡ 36 → p ≡ pattern_of (wire x) → m ≡ least (members p) → z ≡ word_of (member_in m) → wire z ≡ word_of (compute1 (operation1_at (op - 29)) x)
+    pub least-word : (p : ℕ) (m : Option ℕ) → op ≡ 36 → p ≡ pattern_of (wire x) → m ≡ least (members p) → z ≡ word_of (member_in m) → wire z ≡ word_of (compute1 (operation1_at (op - 29)) x)
     unfolding operation1_at operations1 compute1 members_of
     least-word p m o e f h = to_z-of_z k ∙ h ∙ rw (f, e, o, to_z-of_z fx)
 
-    pub greatest-word : (p : ℕ) (m : Member) → op ≡ 37 → p ≡ pattern_of (wire x) → m ≡ greatest_of (members p) → z ≡ word_of (member_in m) → wire z ≡ word_of (compute1 (operation1_at (op - 29)) x)
+    pub greatest-word : (p : ℕ) (m : Option ℕ) → op ≡ 37 → p ≡ pattern_of (wire x) → m ≡ greatest_of (members p) → z ≡ word_of (member_in m) → wire z ≡ word_of (compute1 (operation1_at (op - 29)) x)
     unfolding operation1_at operations1 compute1 members_of
     greatest-word p m o e f h = to_z-of_z k ∙ h ∙ rw (f, e, o, to_z-of_z fx)
 

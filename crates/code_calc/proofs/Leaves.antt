@@ -101,7 +101,7 @@ module _ (z : ℤ) (f : SFits w64 z) where
   pub natural-is : lt_z (wire z) (pos 0) ≡ false → nat_abs (wire z) ≡ nat_of z
   natural-is h = rw (to_z-of_z f) (natural-abs z (rw (to_z-of_z f) at h))
 
-pub ruleset natural-laws = (natural-none, natural-is)
+pub ruleset natural_laws = (natural-none, natural-is)
 
 past-cap : (z : ℤ) → lt_z (pos 4294967295) z ≡ true → 4294967295 ≡ min (nat_of z) 4294967295
 past-cap (pos n) h = let k : 4294967295 < n = ltb-true 4294967295 n h in omega arith
@@ -181,7 +181,7 @@ pub cells-none : (ws : List ℤ) (a n : ℕ) → n ≡ 0 → pos 0 ≡ cells_wor
 unfolding cells_word
 cells-none ws a n e = rw e
 
-pub ruleset cells-laws = (cells-none, left-fault, left_end, sfits_of)
+pub ruleset cells_laws = (left-start, left_step, cells-none, left-fault, left_end, sfits_of)
 
 module _ (ws : List ℤ) (w : ℤ) (n : ℕ) (f : SFits w64 w) where
   pub at-fault : lt_z greatest (wire w) ≡ true → wire w ≡ cells_at ws w n
@@ -201,3 +201,7 @@ module _ (ws : List ℤ) (w : ℤ) (n : ℕ) (f : SFits w64 w) where
     at_more z o g k = to_z-of_z k ∙ g ∙ rw (rw (to_z-of_z f) at h, ne_eqb n 1 o, e, to_z-of_z f)
 
 pub ruleset at-laws = (at-fault, at_one, at_more, sfits_of)
+
+pub ruleset truth_laws = (truth-yes, truth-not)
+
+pub ruleset cell_laws = (cell-here, cell-past)

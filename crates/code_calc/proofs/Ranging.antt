@@ -4,16 +4,16 @@ use lib.Signed.{le_z, lt_z}
 use Rattle.leaf_integers.specs.Integers.{inside, least, most, exact, quotient, modulus, next, previous, is_odd}
 use Rattle.leaf_powers.specs.Powers.{power}
 use Rattle.leaf_integers.specs.declared.Fault.TheVariants.{Overflow, Divisor, Exponent, Bound}
-use Rattle.leaf_integers.specs.declared.Num.{Num}
-use Rattle.leaf_integers.specs.declared.Num.TheVariants.{Value, Failed}
+use Rattle.leaf_integers.specs.Integers.{Num}
+use Rattle.std.specs.Prelude.{Ok, Err}
 use Rattle.leaf_integers.proofs.Order.{le_z-trans, add_low, le_not}
 use Rattle.leaf_integers.proofs.Ranges.{inside_is, inside_both, exact-value}
 use Rattle.leaf_integers.proofs.Division.{quotient-value, modulus-value}
 use Rattle.leaf_powers.proofs.Powers.{power-value}
 use Rattle.leaf_integers.proofs.RangeTests.{next-value, previous-value}
 use Rattle.leaf_sets.specs.Sets.{members_of, pattern_of, those, value_of, holds, least as least_of, greatest as greatest_of, union_of, difference_of, intersection_of, within}
-use Rattle.leaf_sets.specs.declared.Member.{Member}
-use Rattle.leaf_sets.specs.declared.Member.TheVariants.{Ordinal, Empty}
+use Rattle.std.specs.Prelude.{Option}
+use Rattle.std.specs.Prelude.{Some, None}
 use Rattle.leaf_sets.proofs.Digits.{value-lt, members-length}
 use Rattle.leaf_sets.proofs.Base.{least_lt, greatest-lt}
 use Rattle.law.specs.Base.{pick}
@@ -38,13 +38,13 @@ pub range-value : (z : ℤ) → InRange z → lt_z greatest z ≡ false
 unfolding InRange
 range-value z h = le_not z greatest (inside_is lowest greatest z h).1
 
-num-ranged : (n : Num) → ((v : ℤ) → n ≡ Value v → InRange v) → Ranged (integer n)
+num-ranged : (n : Num) → ((v : ℤ) → n ≡ Ok v → InRange v) → Ranged (integer n)
 unfolding Ranged Exceptional inside integer exception_of
-num-ranged (Value z) h = h z refl
-num-ranged (Failed Overflow) h = refl
-num-ranged (Failed Divisor) h = refl
-num-ranged (Failed Exponent) h = refl
-num-ranged (Failed Bound) h = refl
+num-ranged (Ok z) h = h z refl
+num-ranged (Err Overflow) h = refl
+num-ranged (Err Divisor) h = refl
+num-ranged (Err Exponent) h = refl
+num-ranged (Err Bound) h = refl
 
 exact-ranged : (z : ℤ) → Ranged (integer (exact z))
 exact-ranged z = num-ranged (exact z) (λ v e. wide v (exact-value z v e).0)
@@ -58,17 +58,17 @@ those-ranged : (f : ℕ → Bool) → InRange (set_value (those f 0 32))
 unfolding set_value
 those-ranged f = low-range (value_of (those f 0 32)) (omega (arith, value-lt f))
 
-mod-range : (i j v : ℤ) → InRange j → modulus i j ≡ Value v → InRange v
+mod-range : (i j v : ℤ) → InRange j → modulus i j ≡ Ok v → InRange v
 unfolding InRange
 mod-range i j v h e =
     let w = inside_is (pos 0) (j -ℤ pos 1) v (modulus-value i j v e) in
     inside_both lowest greatest v (le_z-trans lowest (pos 0) v refl w.0)
     (le_z-trans v (j -ℤ pos 1) greatest w.1 (le_z-trans (j -ℤ pos 1) j greatest (add_low j (negsuc 0) refl) (inside_is lowest greatest j h).1))
 
-member-ranged : (m : Member) → ((x : ℕ) → m ≡ Ordinal x → x < 32) → Ranged (member_in m)
+member-ranged : (m : Option ℕ) → ((x : ℕ) → m ≡ Some x → x < 32) → Ranged (member_in m)
 unfolding Ranged Exceptional inside member_in
-member-ranged (Ordinal i) h = low-range i (omega (arith, h i refl))
-member-ranged Empty h = refl
+member-ranged (Some i) h = low-range i (omega (arith, h i refl))
+member-ranged None h = refl
 
 card-small : (a : ℤ) → length (members_of a) ≤ 4294967295
 unfolding members_of

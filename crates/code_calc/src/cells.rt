@@ -5,13 +5,11 @@ ghost use Rattle.code_calc.specs.Words.{store_word, latest_in, cells_word, cells
 use crate::words::{CELLS, GREATEST, LATEST, Store, UNDEFINED, reach};
 
 // The word of a cell.
+#[tactic(auto, using(crate::proofs::Leaves::cell_laws))]
 pub fn cell(store: &Store, a: usize) -> i64
     ensures { result ≡ store_word store.now a }
 {
-    if a < CELLS {
-        return store[a];
-    }
-    UNDEFINED
+    if a < CELLS { store[a] } else { UNDEFINED }
 }
 
 // The last exception's number, 0 before any.
@@ -22,19 +20,17 @@ pub fn latest(store: &Store) -> i64
 }
 
 // The first of n cells from a on, all of which must be defined; 0 for no cell.
+#[tactic(auto, using(crate::proofs::Leaves::cells_laws))]
 pub fn cells(store: &Store, a: u32, n: u32) -> i64
     ensures { result ≡ cells_word store.now a n }
 {
     if n == 0 {
         return 0;
     }
-    let mut i = 0;
-    while i < n {
-        let w = cell(store, a as usize + i as usize);
-        if w > GREATEST {
+    for i in 0..n {
+        if cell(store, a as usize + i as usize) > GREATEST {
             return UNDEFINED;
         }
-        i += 1;
     }
     cell(store, a as usize)
 }

@@ -8,31 +8,28 @@ ghost use Rattle.code.specs.Readback.{operation_at, operation1_at};
 ghost use Rattle.code_calc.specs.Words.{word_of, applied, applied1, tested_word, distance_word, element_word, shifted_word};
 
 use crate::words::{GREATEST, NUMERIC, RANGE, capped, reach, signed_of, truth_of};
-use leaf_integers::{Fault, Num};
-use leaf_sets::Member;
+use leaf_integers::Fault;
 
 // The word of an arithmetic result.
-pub fn word(n: Num) -> i64
+#[tactic(auto, using(crate::proofs::Combining::word_laws))]
+pub fn word(n: Result<i64, Fault>) -> i64
     ensures { result ≡ word_of (integer n) }
 {
     match n {
-        Num::Value(z) => z,
-        Num::Failed(f) => match f {
-            Fault::Overflow => NUMERIC,
-            Fault::Divisor => NUMERIC,
-            Fault::Exponent => NUMERIC,
-            Fault::Bound => RANGE,
-        },
+        Ok(z) => z,
+        Err(Fault::Bound) => RANGE,
+        Err(_) => NUMERIC,
     }
 }
 
 // The word of a member.
-pub fn member(m: Member) -> i64
+#[tactic(auto, using(crate::proofs::Combining::member_laws))]
+pub fn member(m: Option<u32>) -> i64
     ensures { result ≡ word_of (member_in m) }
 {
     match m {
-        Member::Ordinal(i) => i as i64,
-        Member::Empty => RANGE,
+        Some(i) => i as i64,
+        None => RANGE,
     }
 }
 
@@ -75,63 +72,51 @@ fn contained(x: i64, y: i64) -> i64
 }
 
 // `=`.
+#[tactic(auto, using(crate::proofs::Combining::compare_laws))]
 fn equal(x: i64, y: i64) -> i64
     ensures { result ≡ truth (equal_z x y) }
 {
-    if x == y {
-        return 1;
-    }
-    0
+    if x == y { 1 } else { 0 }
 }
 
 // `<>`.
+#[tactic(auto, using(crate::proofs::Combining::compare_laws))]
 fn unequal(x: i64, y: i64) -> i64
     ensures { result ≡ truth (not (equal_z x y)) }
 {
-    if x == y {
-        return 0;
-    }
-    1
+    if x == y { 0 } else { 1 }
 }
 
 // `<`.
+#[tactic(auto, using(crate::proofs::Combining::compare_laws))]
 fn less(x: i64, y: i64) -> i64
     ensures { result ≡ truth (int_lt x y) }
 {
-    if x < y {
-        return 1;
-    }
-    0
+    if x < y { 1 } else { 0 }
 }
 
 // `<=`.
+#[tactic(auto, using(crate::proofs::Combining::compare_laws))]
 fn at_most(x: i64, y: i64) -> i64
     ensures { result ≡ truth (int_le x y) }
 {
-    if x <= y {
-        return 1;
-    }
-    0
+    if x <= y { 1 } else { 0 }
 }
 
 // `and`.
+#[tactic(auto, using(crate::proofs::Combining::compare_laws))]
 fn both(x: i64, y: i64) -> i64
     ensures { result ≡ truth (is_true x && is_true y) }
 {
-    if 0 < x {
-        return less(0, y);
-    }
-    0
+    if 0 < x { less(0, y) } else { 0 }
 }
 
 // `or`.
+#[tactic(auto, using(crate::proofs::Combining::compare_laws))]
 fn either(x: i64, y: i64) -> i64
     ensures { result ≡ truth (is_true x || is_true y) }
 {
-    if 0 < x {
-        return 1;
-    }
-    less(0, y)
+    if 0 < x { 1 } else { less(0, y) }
 }
 
 // A two-sided operator on values, by its node's number.
@@ -176,13 +161,11 @@ pub fn binary(op: u32, x: i64, y: i64) -> i64
 }
 
 // `not`.
+#[tactic(auto, using(crate::proofs::Combining::negated_laws))]
 fn negated(x: i64) -> i64
     ensures { result ≡ truth (not (is_true x)) }
 {
-    if 0 < x {
-        return 0;
-    }
-    1
+    if 0 < x { 0 } else { 1 }
 }
 
 // A one-sided operator on a value, by its node's number.
@@ -233,16 +216,15 @@ pub fn succ(x: i64, lo: i64, hi: i64) -> i64
 }
 
 // A word tested against bounds.
+#[tactic(auto, using(crate::proofs::Combining::test_laws))]
 pub fn test(x: i64, lo: i64, hi: i64) -> i64
     ensures { result ≡ tested_word lo hi x }
 {
-    if x > GREATEST {
-        return x;
+    if x > GREATEST || leaf_integers::in_range(x, lo, hi) {
+        x
+    } else {
+        RANGE
     }
-    if leaf_integers::in_range(x, lo, hi) {
-        return x;
-    }
-    RANGE
 }
 
 // How far an index is from its lower bound, after the test against both.

@@ -51,13 +51,11 @@ pub fn signed_of(n: u32) -> i64
 }
 
 // A truth value's word.
+#[tactic(auto, using(crate::proofs::Leaves::truth_laws))]
 pub fn truth_of(b: bool) -> i64
     ensures { result ≡ truth b }
 {
-    if b {
-        return 1;
-    }
-    0
+    if b { 1 } else { 0 }
 }
 
 // A number as a long one.
@@ -68,13 +66,11 @@ pub fn wide(n: u32) -> u64
 }
 
 // The natural number that a word is, 0 of a negative one.
+#[tactic(auto, using(crate::proofs::Leaves::natural_laws, leaf_powers::proofs::Powers::raise_cast))]
 pub fn natural(w: i64) -> u64
     ensures { result ≡ nat_of w }
 {
-    if w < 0 {
-        return 0;
-    }
-    w as u64
+    if w < 0 { 0 } else { w as u64 }
 }
 
 // The place that a word is: 0 of a negative one, and none past the greatest place.

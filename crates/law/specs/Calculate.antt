@@ -1,14 +1,10 @@
 -- Document 01, "Arithmetic" and "Exceptions": what operators and functions give, on values without types.
-use Rattle.std.specs.Prelude.{Bool, true, false, not, ◌&&◌, ◌||◌, List, ℕ, ℤ, pos, negsuc, ◌+ℤ◌, ◌-ℤ◌, ◌*ℤ◌, neg_ℤ, nat_abs, length}
+use Rattle.std.specs.Prelude.{Bool, true, false, not, ◌&&◌, ◌||◌, List, ℕ, ℤ, pos, negsuc, ◌+ℤ◌, ◌-ℤ◌, ◌*ℤ◌, neg_ℤ, nat_abs, length, Ok, Err, Option, Some, None}
 use Rattle.std.specs.Int.Signed.{le_z, lt_z}
 use Rattle.leaf_integers.specs.declared.Fault.{Fault}
 use Rattle.leaf_integers.specs.declared.Fault.TheVariants.{Overflow, Divisor, Exponent, Bound}
-use Rattle.leaf_integers.specs.declared.Num.{Num}
-use Rattle.leaf_integers.specs.declared.Num.TheVariants.{Value, Failed}
-use Rattle.leaf_integers.specs.Integers.{inside, exact, is_zero, quotient, modulus, is_odd, next, previous}
+use Rattle.leaf_integers.specs.Integers.{Num, inside, exact, is_zero, quotient, modulus, is_odd, next, previous}
 use Rattle.leaf_powers.specs.Powers.{power}
-use Rattle.leaf_sets.specs.declared.Member.{Member}
-use Rattle.leaf_sets.specs.declared.Member.TheVariants.{Ordinal, Empty}
 use Rattle.leaf_sets.specs.Sets.{members_of, value_of, holds, with, least, greatest, union_of, difference_of, intersection_of, within}
 use Rattle.law.specs.Base.{pick}
 use Rattle.law.specs.Operators.{Operation, int_add, int_sub, int_mul, int_power, int_div, int_mod, set_union, set_difference, set_intersection, num_equal, num_unequal, num_less, num_at_most, num_greater, num_at_least, set_within, set_holds, member_of, bool_and, bool_or, Operation1, int_negate, bool_not, int_abs, int_sqr, int_odd, ordinal_of, pred_in, succ_in, set_card, set_least, set_greatest}
@@ -49,8 +45,8 @@ exception_of Exponent = numeric_error
 exception_of Bound = range_error
 
 unfoldable pub integer : Num → Result ℤ
-integer (Value z) = is z
-integer (Failed f) = fails (exception_of f)
+integer (Ok z) = is z
+integer (Err f) = fails (exception_of f)
 
 -- a number in lo to hi, else an exception
 unfoldable pub tested : ℤ → ℤ → ℤ → ℤ → Result ℤ
@@ -84,9 +80,9 @@ unfoldable pub joined : ℤ → ℤ → ℤ
 joined z s = set_value (with z (members_of s))
 
 -- `setmin` and `setmax` of an empty set are a Range_Error
-unfoldable pub member_in : Member → Result ℤ
-member_in (Ordinal i) = is (pos i)
-member_in Empty = fails range_error
+unfoldable pub member_in : Option ℕ → Result ℤ
+member_in (Some i) = is (pos i)
+member_in None = fails range_error
 
 -- ---- two-sided operators. `and` and `or` have both sides worked out
 

@@ -17,15 +17,15 @@ use lib.Seq.{get_or-set_same, get_or-set_other, set_out}
 use Rattle.leaf_powers.specs.Powers as Powers
 use Rattle.leaf_integers.specs.declared.Fault.{Fault}
 use Rattle.leaf_integers.specs.declared.Fault.TheVariants.{Overflow, Divisor, Exponent, Bound}
-use Rattle.leaf_integers.specs.declared.Num.{Num}
-use Rattle.leaf_integers.specs.declared.Num.TheVariants.{Value, Failed}
+use Rattle.leaf_integers.specs.Integers.{Num}
+use Rattle.std.specs.Prelude.{Ok, Err}
 use Rattle.leaf_integers.specs.Integers.{inside, is_zero, exact, quotient, modulus, next, previous}
 use Rattle.leaf_integers.proofs.Ranges.{exact-value, ranged-value}
 use Rattle.leaf_integers.proofs.Division.{quotient-value, modulus-range}
 use Rattle.leaf_powers.proofs.Powers.{power-value}
 use Rattle.leaf_sets.specs.Sets as Sets
-use Rattle.leaf_sets.specs.declared.Member.{Member}
-use Rattle.leaf_sets.specs.declared.Member.TheVariants.{Ordinal, Empty}
+use Rattle.std.specs.Prelude.{Option}
+use Rattle.std.specs.Prelude.{Some, None}
 use Rattle.leaf_sets.specs.Sets.{lies_in, members_of, pattern_of}
 use Rattle.leaf_sets.proofs.Digits.{members-length}
 use Rattle.leaf_sets.proofs.Base.{empty-lies, union-lies, difference-lies, intersection-lies, with-lies, least-lies, greatest-lies}
@@ -118,10 +118,10 @@ e-fault Exponent = e-numeric
 e-fault Bound = e-range
 
 -- what an integer leaf gives
-num-g : {P : ℤ → Type 0} (n : Num) → ((v : ℤ) → n ≡ Value v → P v) → Good P (integer n)
+num-g : {P : ℤ → Type 0} (n : Num) → ((v : ℤ) → n ≡ Ok v → P v) → Good P (integer n)
 unfolding integer
-num-g (Value v) k = value (k v refl)
-num-g (Failed f) k = failure (e-fault f)
+num-g (Ok v) k = value (k v refl)
+num-g (Err f) k = failure (e-fault f)
 
 exact-g : (z : ℤ) → Good InInt (integer (exact z))
 exact-g z = num-g (exact z) λ v e. record { ok = (exact-value z v e).0 }
@@ -151,10 +151,10 @@ unfolding inside
 int-pos n l = record { ok = le-leb n 2147483647 l }
 
 -- a member that is asked for
-member-g : (lo hi : ℤ) (m : Member) → ((x : ℕ) → m ≡ Ordinal x → (le_z lo (pos x) && le_z (pos x) hi) ≡ true) → Good (λ z. inside lo hi z ≡ true) (member_in m)
+member-g : (lo hi : ℤ) (m : Option ℕ) → ((x : ℕ) → m ≡ Some x → (le_z lo (pos x) && le_z (pos x) hi) ≡ true) → Good (λ z. inside lo hi z ≡ true) (member_in m)
 unfolding member_in inside
-member-g lo hi (Ordinal x) k = value (k x refl)
-member-g lo hi Empty k = failure e-range
+member-g lo hi (Some x) k = value (k x refl)
+member-g lo hi None k = failure e-range
 
 -- a set of a base with a member of the base more
 joined-lies : (lo hi z s : ℤ) → inside lo hi z ≡ true → lies_in lo hi s ≡ true → lies_in lo hi (joined z s) ≡ true

@@ -40,7 +40,7 @@ module _ (b : ℕ) where
     pub class-high : 127 ≤ b → Refused ≡ class_of b
     class-high h = rw (class-range, le-leb 33 b (omega arith), lt-leb b 126 (omega arith))
 
-pub ruleset class-laws = (class-feed, class-space, class-open, class-close, class-visible, class_low, class-high)
+pub ruleset class_laws = (class-feed, class-space, class-open, class-close, class-visible, class_low, class-high)
 
 module _ (b : ℕ) where
   pub small_low : b < 65 → b ≡ small b
@@ -55,10 +55,10 @@ module _ (b : ℕ) where
   unfolding small
   small-capital h g = simp (le-leb 65 b h, le-leb b 90 g)
 
-pub ruleset small-laws = (small_low, small-high, small-capital)
+pub ruleset small_laws = (small_low, small-high, small-capital)
 
 module _ (b c : ℕ) (e : c ≡ small b) where
-  pub letter-low : c < 97 → false ≡ is_letter b
+  pub letter-low : c < 97 → leb 97 c ≡ is_letter b
   unfolding is_letter
   letter-low h = rw (← e, lt-leb 97 c h)
 
@@ -66,7 +66,7 @@ module _ (b c : ℕ) (e : c ≡ small b) where
   unfolding is_letter
   letter-within h = rw (← e, le-leb 97 c h)
 
-pub ruleset letter-laws = (letter-low, letter-within)
+pub ruleset letter_laws = (letter-low, letter-within)
 
 module _ (b : ℕ) (t : Bool) (e : t ≡ is_letter b) where
   pub alnum-letter : t ≡ true → true ≡ is_alnum b
@@ -74,7 +74,7 @@ module _ (b : ℕ) (t : Bool) (e : t ≡ is_letter b) where
   alnum-letter f = rw (← e, f)
 
   module _ (f : t ≡ false) where
-    pub alnum-low : b < 48 → false ≡ is_alnum b
+    pub alnum-low : b < 48 → leb 48 b ≡ is_alnum b
     unfolding is_alnum is_digit
     alnum-low h = rw (← e, f, lt-leb 48 b h)
 
@@ -82,7 +82,7 @@ module _ (b : ℕ) (t : Bool) (e : t ≡ is_letter b) where
     unfolding is_alnum is_digit
     alnum-within h = rw (← e, f, le-leb 48 b h)
 
-pub ruleset alnum-laws = (alnum-letter, alnum-low, alnum-within)
+pub ruleset alnum_laws = (alnum-letter, alnum-low, alnum-within)
 
 module _ (b : ℕ) where
   pub digit_low : b < 48 → 16 ≡ digit_of b
@@ -107,4 +107,4 @@ module _ (b : ℕ) where
     pub digit-letter : 97 ≤ c → c ≤ 102 → c - 87 ≡ digit_of b
     digit-letter l m = rw (digit-range, le-leb 97 c l, le-leb c 102 m)
 
-pub ruleset digit-laws = (digit_low, digit-decimal, digit-before, digit-after, digit-letter)
+pub ruleset digit_laws = (digit_low, digit-decimal, digit-before, digit-after, digit-letter)

@@ -34,7 +34,7 @@ module _ (w : List ℕ) (i : ℕ) (h : i < length w) where
         unfolding alnum_first
         part-last l = rw (part-is, ← e, f, eq-eqb (get_or w i 0) 95 u, drop_of_length-le w l)
 
-pub ruleset part-laws = (part-alnum, part-other, part-before, part-last)
+pub ruleset part_laws = (part-alnum, part-other, part-before, part-last)
 
 -- `all` is what the whole loop gives
 module _ (w : List ℕ) (i : ℕ) (all : Bool) (a : all ≡ goes_on (drop i w)) where
@@ -53,7 +53,7 @@ module _ (w : List ℕ) (i : ℕ) (all : Bool) (a : all ≡ goes_on (drop i w)) 
     pub goes-more : t ≡ true → all ≡ goes_on (drop (i + 1) w)
     goes-more f = a ∙ rw (goes_step, ← e, f)
 
-pub ruleset goes-laws = (goes_end, goes-not, goes-more)
+pub ruleset goes_laws = (goes_end, goes-not, goes-more)
 
 pub name-none : (w : List ℕ) → length w ≡ 0 → false ≡ is_name w
 unfolding is_name
@@ -77,4 +77,4 @@ module _ (w : List ℕ) (n : (length w ≡ 0) → ⊥) (l : length w ≤ 31) (t 
   pub name-goes-on : (r : Bool) → t ≡ true → r ≡ goes_on (drop 1 w) → r ≡ is_name w
   name-goes-on r f g = rw (name-is w n l, ← e, f) g
 
-pub ruleset name-laws = (name-none, name-long, name-no-letter, name-goes-on)
+pub ruleset name_laws = (name-none, name-long, name-no-letter, name-goes-on)

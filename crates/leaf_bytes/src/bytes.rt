@@ -3,7 +3,7 @@ ghost use Rattle.std.specs.Prelude.{◌≡◌};
 ghost use Rattle.leaf_bytes.specs.Bytes.{class_of, small, is_letter, is_alnum, digit_of};
 
 // The class of a byte of the text.
-#[derive(Clone, Copy)]
+#[derive(Clone, Copy, PartialEq, Eq)]
 pub enum Class {
     Feed,
     Space,
@@ -14,71 +14,59 @@ pub enum Class {
 }
 
 // The class of b.
+#[tactic(auto, using(crate::proofs::Letters::class_laws))]
 pub fn class_of(b: u8) -> Class
     ensures { result ≡ class_of b }
 {
     match b {
-        10 => Class::Feed,
-        32 => Class::Space,
-        40 => Class::Open,
-        41 => Class::Close,
+        b'\n' => Class::Feed,
+        b' ' => Class::Space,
+        b'(' => Class::Open,
+        b')' => Class::Close,
         33..=126 => Class::Visible,
         _ => Class::Refused,
     }
 }
 
 // The small letter of a capital letter; any other byte is itself.
+#[tactic(auto, using(crate::proofs::Letters::small_laws))]
 pub fn small_of(b: u8) -> u8
     ensures { result ≡ small b }
 {
-    if b < 65 {
-        return b;
-    }
-    if b > 90 {
-        return b;
-    }
-    b + 32
+    if b < b'A' || b > b'Z' { b } else { b + 32 }
 }
 
 // Whether b is a letter.
+#[tactic(auto, using(crate::proofs::Letters::letter_laws))]
 pub(crate) fn is_letter(b: u8) -> bool
     ensures { result ≡ is_letter b }
 {
     let c = small_of(b);
-    if c < 97 {
-        return false;
-    }
-    c <= 122
+    b'a' <= c && c <= b'z'
 }
 
 // Whether b is a letter or a decimal digit.
+#[tactic(auto, using(crate::proofs::Letters::alnum_laws))]
 pub(crate) fn is_alnum(b: u8) -> bool
     ensures { result ≡ is_alnum b }
 {
-    if is_letter(b) {
-        return true;
-    }
-    if b < 48 {
-        return false;
-    }
-    b <= 57
+    is_letter(b) || b'0' <= b && b <= b'9'
 }
 
 // The value of b as a hexadecimal digit, 16 if it is none.
+// Kept: 16 is no digit of any base, so the one test against the base serves; an Option would need two, and is no plainer.
+#[tactic(auto, using(crate::proofs::Letters::digit_laws))]
 pub fn digit_of(b: u8) -> u64
     ensures { result ≡ digit_of b }
 {
-    if b < 48 {
+    if b < b'0' {
         return 16;
     }
-    if b <= 57 {
-        return (b - 48) as u64;
+    if b <= b'9' {
+        return (b - b'0') as u64;
     }
     let c = small_of(b);
-    if c < 97 {
-        return 16;
-    }
-    if c > 102 {
+    if c < b'a' || c > b'f' {
         return 16;
     }
     (c - 87) as u64

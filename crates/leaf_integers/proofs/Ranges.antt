@@ -11,8 +11,8 @@ use lib.Signed.{mag, le_z}
 use Rattle.leaf_integers.specs.Integers.{least, most, inside, pick, ranged, exact, is_zero}
 use Rattle.leaf_integers.specs.declared.Fault.{Fault}
 use Rattle.leaf_integers.specs.declared.Fault.TheVariants.{Overflow}
-use Rattle.leaf_integers.specs.declared.Num.{Num}
-use Rattle.leaf_integers.specs.declared.Num.TheVariants.{Value, Failed}
+use Rattle.leaf_integers.specs.Integers.{Num}
+use Rattle.std.specs.Prelude.{Ok, Err}
 
 -- z is an integer of the language: `mag` is n both of n and of -(n + 1)
 abbrev pub Narrow : ℤ → Type 0
@@ -52,10 +52,10 @@ inside-abs n (negsuc a) = and-true (leb a n) ∙ sym (leb-suc-suc a n)
 
 -- ---- the answers
 
-pub value-fault : {z : ℤ} {f : Fault} → Value z ≡ Failed f → ⊥
+pub value-fault : {z : ℤ} {f : Fault} → Ok z ≡ Err f → ⊥
 value-fault e = let z : ◌≡◌ {A = ℕ} 0 1 = cc in omega arith
 
-pub same-value : {z v : ℤ} → Value z ≡ Value v → z ≡ v
+pub same-value : {z v : ℤ} → ◌≡◌ {A = Num} (Ok z) (Ok v) → z ≡ v
 same-value e = cc
 
 pub pick_yes : (t : Bool) (a b : Num) → t ≡ true → pick t a b ≡ a
@@ -67,59 +67,59 @@ unfolding pick
 pick_no t a b h = rw h
 
 -- where the first answer is a fault, a value is the second one
-pub pick-value : (t : Bool) (a : Num) (f : Fault) (v : ℤ) → pick t (Failed f) a ≡ Value v → (t ≡ false) × (a ≡ Value v)
+pub pick-value : (t : Bool) (a : Num) (f : Fault) (v : ℤ) → pick t (Err f) a ≡ Ok v → (t ≡ false) × (a ≡ Ok v)
 unfolding pick
 pick-value true a f v h = absurd (value-fault (sym h))
 pick-value false a f v h = (refl, h)
 
-pub ranged-in : (f : Fault) (lo hi z : ℤ) → inside lo hi z ≡ true → ranged f lo hi z ≡ Value z
+pub ranged-in : (f : Fault) (lo hi z : ℤ) → inside lo hi z ≡ true → ranged f lo hi z ≡ Ok z
 unfolding ranged pick
 ranged-in f lo hi z h = rw h
 
-pub ranged-out : (f : Fault) (lo hi z : ℤ) → inside lo hi z ≡ false → ranged f lo hi z ≡ Failed f
+pub ranged-out : (f : Fault) (lo hi z : ℤ) → inside lo hi z ≡ false → ranged f lo hi z ≡ Err f
 unfolding ranged pick
 ranged-out f lo hi z h = rw h
 
-pub ranged-value : (f : Fault) (lo hi z v : ℤ) → ranged f lo hi z ≡ Value v → (inside lo hi v ≡ true) × (z ≡ v)
+pub ranged-value : (f : Fault) (lo hi z v : ℤ) → ranged f lo hi z ≡ Ok v → (inside lo hi v ≡ true) × (z ≡ v)
 unfolding ranged pick
 ranged-value f lo hi z v h = of (inside lo hi z) refl h
   where
-    of : (t : Bool) → inside lo hi z ≡ t → pick t (Value z) (Failed f) ≡ Value v → (inside lo hi v ≡ true) × (z ≡ v)
+    of : (t : Bool) → inside lo hi z ≡ t → pick t (Ok z) (Err f) ≡ Ok v → (inside lo hi v ≡ true) × (z ≡ v)
     of true e k = let same : z ≡ v = cc in (rw same at e, same)
     of false e k = absurd (value-fault (sym k))
 
-pub ranged-fault : (f g : Fault) (lo hi z : ℤ) → ranged f lo hi z ≡ Failed g → (inside lo hi z ≡ false) × (f ≡ g)
+pub ranged-fault : (f g : Fault) (lo hi z : ℤ) → ranged f lo hi z ≡ Err g → (inside lo hi z ≡ false) × (f ≡ g)
 unfolding ranged pick
 ranged-fault f g lo hi z h = of (inside lo hi z) refl h
   where
-    of : (t : Bool) → inside lo hi z ≡ t → pick t (Value z) (Failed f) ≡ Failed g → (inside lo hi z ≡ false) × (f ≡ g)
+    of : (t : Bool) → inside lo hi z ≡ t → pick t (Ok z) (Err f) ≡ Err g → (inside lo hi z ≡ false) × (f ≡ g)
     of true e k = absurd (value-fault k)
     of false e k = (e, (cc))
 
-pub exact-inside : (z : ℤ) → inside least most z ≡ true → exact z ≡ Value z
+pub exact-inside : (z : ℤ) → inside least most z ≡ true → exact z ≡ Ok z
 unfolding exact
 exact-inside z h = ranged-in Overflow least most z h
 
-pub exact-outside : (z : ℤ) → inside least most z ≡ false → exact z ≡ Failed Overflow
+pub exact-outside : (z : ℤ) → inside least most z ≡ false → exact z ≡ Err Overflow
 unfolding exact
 exact-outside z h = ranged-out Overflow least most z h
 
-pub exact-in : (z : ℤ) → Narrow z → exact z ≡ Value z
+pub exact-in : (z : ℤ) → Narrow z → exact z ≡ Ok z
 exact-in z h = exact-inside z (inside-mag 2147483647 z ∙ le-leb (mag z) 2147483647 (omega arith))
 
-pub exact-out : (z : ℤ) → 2147483648 ≤ mag z → exact z ≡ Failed Overflow
+pub exact-out : (z : ℤ) → 2147483648 ≤ mag z → exact z ≡ Err Overflow
 exact-out z h = exact-outside z (inside-mag 2147483647 z ∙ lt-leb (mag z) 2147483647 (omega arith))
 
 -- a value is in range and the number itself
-pub exact-value : (z v : ℤ) → exact z ≡ Value v → (inside least most v ≡ true) × (z ≡ v)
+pub exact-value : (z v : ℤ) → exact z ≡ Ok v → (inside least most v ≡ true) × (z ≡ v)
 unfolding exact
 exact-value z v h = ranged-value Overflow least most z v h
 
-pub exact-narrow : (z v : ℤ) → exact z ≡ Value v → Narrow v × (z ≡ v)
+pub exact-narrow : (z v : ℤ) → exact z ≡ Ok v → Narrow v × (z ≡ v)
 exact-narrow z v h =
     let w = exact-value z v h in (omega (arith, leb-true (mag v) 2147483647 (sym (inside-mag 2147483647 v) ∙ w.0)), w.1)
 
-pub exact-fault : (z : ℤ) (f : Fault) → exact z ≡ Failed f → (2147483648 ≤ mag z) × (Overflow ≡ f)
+pub exact-fault : (z : ℤ) (f : Fault) → exact z ≡ Err f → (2147483648 ≤ mag z) × (Overflow ≡ f)
 unfolding exact
 exact-fault z f h =
     let w = ranged-fault Overflow f least most z h in

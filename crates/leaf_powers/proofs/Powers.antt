@@ -19,8 +19,8 @@ use Rattle.leaf_integers.specs.Integers.{least, most, inside, exact, is_zero}
 use Rattle.leaf_powers.specs.Powers.{signed, pow_z, small, power}
 use Rattle.leaf_integers.specs.declared.Fault.{Fault}
 use Rattle.leaf_integers.specs.declared.Fault.TheVariants.{Overflow, Exponent}
-use Rattle.leaf_integers.specs.declared.Num.{Num}
-use Rattle.leaf_integers.specs.declared.Num.TheVariants.{Value, Failed}
+use Rattle.leaf_integers.specs.Integers.{Num}
+use Rattle.std.specs.Prelude.{Ok, Err}
 use Rattle.leaf_integers.proofs.Order.{le-or-lt}
 use Rattle.leaf_integers.proofs.Ranges.{Narrow, pick_yes, pick_no, pick-value, value-fault, is-zero, not-zero, exact-in, exact-out, exact-value, exact-narrow, exact-fault}
 use Rattle.leaf_integers.proofs.Machine.{wire, fits-mag, zero_bits}
@@ -110,22 +110,22 @@ not_zeros x (suc n) h = ap (◌&&◌ (is_zero x)) (not-zero (pos (suc n)) (λ e.
 pub power-is : (x : ℤ) (n : ℕ) → (x ≡ pos 0 → n ≡ 0 → ⊥) → power x (pos n) ≡ exact (pow_z x n)
 unfolding power
 power-is x n h =
-    pick_no (is_zero x && is_zero (pos n)) (Failed Exponent) (small (leb n 31 || leb (nat_abs x) 1) x n) (not_zeros x n h)
+    pick_no (is_zero x && is_zero (pos n)) (Err Exponent) (small (leb n 31 || leb (nat_abs x) 1) x n) (not_zeros x n h)
     ∙ powers-exact x n
 
-pub power-zeros : (x : ℤ) (n : ℕ) → x ≡ pos 0 → n ≡ 0 → power x (pos n) ≡ Failed Exponent
+pub power-zeros : (x : ℤ) (n : ℕ) → x ≡ pos 0 → n ≡ 0 → power x (pos n) ≡ Err Exponent
 unfolding power
 power-zeros x n e f =
-    pick_yes (is_zero x && is_zero (pos n)) (Failed Exponent) (small (leb n 31 || leb (nat_abs x) 1) x n)
+    pick_yes (is_zero x && is_zero (pos n)) (Err Exponent) (small (leb n 31 || leb (nat_abs x) 1) x n)
     (ap (λ (t : Bool). t && is_zero (pos n)) (is-zero x e) ∙ is-zero (pos n) (ap pos f))
 
-pub power-negative : (x n : ℤ) → lt_z n (pos 0) ≡ true → power x n ≡ Failed Exponent
+pub power-negative : (x n : ℤ) → lt_z n (pos 0) ≡ true → power x n ≡ Err Exponent
 unfolding power
 power-negative x (pos n) h = absurd (not-suc-le-zero (ltb-true n 0 h))
 power-negative x (negsuc n) h = refl
 
 -- a value is in range, and is the power
-pub power-value : (x n v : ℤ) → power x n ≡ Value v → (inside least most v ≡ true) × (pow_z x (nat_abs n) ≡ v)
+pub power-value : (x n v : ℤ) → power x n ≡ Ok v → (inside least most v ≡ true) × (pow_z x (nat_abs n) ≡ v)
 unfolding power
 power-value x (pos n) v h =
     exact-value (pow_z x n) v
@@ -158,7 +158,7 @@ unfolding pow_z signed
 odd (pos a) n e = ap pos (pow-odd a n e)
 odd (negsuc a) n e = rw (e, square (negsuc a) (n / 2)) (ap (λ (k : ℕ). neg_ℤ (pos k)) (pow-odd (suc a) n e))
 
-fault-half : (x : ℤ) (n : ℕ) → 2147483648 ≤ mag (pow_z x (n / 2)) → exact (pow_z x n) ≡ Failed Overflow
+fault-half : (x : ℤ) (n : ℕ) → 2147483648 ≤ mag (pow_z x (n / 2)) → exact (pow_z x n) ≡ Err Overflow
 fault-half x n e =
     let m = nat_abs x in let h = n / 2 in
     let q : 2147483648 ≤ m ^ h = le_trans e (le_trans (abs-below (pow_z x h)) (le_of_eq (abs-pow x h))) in
@@ -167,10 +167,10 @@ fault-half x n e =
     let sq : 2147483648 * 2147483648 ≤ m ^ h * m ^ h = mul-le-mul q q in
     large-out (pow_z x n) (rw (abs-pow x n) (omega (arith, pow-add m h h)))
 
-fault-square : (x : ℤ) (n : ℕ) → 2147483648 ≤ mag (pow_z x (n / 2) *ℤ pow_z x (n / 2)) → exact (pow_z x n) ≡ Failed Overflow
+fault-square : (x : ℤ) (n : ℕ) → 2147483648 ≤ mag (pow_z x (n / 2) *ℤ pow_z x (n / 2)) → exact (pow_z x n) ≡ Err Overflow
 fault-square x n e = ⊎_elim (λ z. exact-out (pow_z x n) (rw (even x n z) e)) odd-case (bit n)
   where
-    odd-case : n % 2 ≡ 1 → exact (pow_z x n) ≡ Failed Overflow
+    odd-case : n % 2 ≡ 1 → exact (pow_z x n) ≡ Err Overflow
     odd-case o =
         let m = nat_abs x in let h = n / 2 in
         let q : 2147483648 ≤ m ^ h * m ^ h = rw (square x h) at e in
@@ -183,7 +183,7 @@ narrow-fits z h = fits-mag z (omega arith)
 
 -- ---- the laws of `halved`, with each number as its local holds it
 
-pub halved_none : (x : ℤ) (n : ℕ) → n ≡ 0 → Value (pos 1) ≡ exact (pow_z x n)
+pub halved_none : (x : ℤ) (n : ℕ) → n ≡ 0 → Ok (pos 1) ≡ exact (pow_z x n)
 halved_none x n e = rw (e, power-none x) (sym (exact-in (pos 1) (omega arith)))
 
 -- r is what the call at half the exponent gave
@@ -191,25 +191,25 @@ module _ (x : ℤ) (n : ℕ) (p : SFits w64 x) (r : Num) (hr : r ≡ exact (pow_
   half_is : r ≡ exact (pow_z x (n / 2))
   half_is = rw (to_z-of_z p) at hr
 
-  pub half-fault : (f : Fault) → r ≡ Failed f → Failed Overflow ≡ exact (pow_z x n)
-  half-fault f e = sym (fault-half x n (exact-fault (pow_z x (n / 2)) f (sym half_is ∙ e)).0)
+  pub half-fault : (f : Fault) → r ≡ Err f → Err f ≡ exact (pow_z x n)
+  half-fault f e = let w = exact-fault (pow_z x (n / 2)) f (sym half_is ∙ e) in ap Err (sym w.1) ∙ sym (fault-half x n w.0)
 
   -- q is what its square gave
-  module _ (v : ℤ) (rv : r ≡ Value v) (q : Num) (hq : q ≡ exact (wire v *ℤ wire v)) where
+  module _ (v : ℤ) (rv : r ≡ Ok v) (q : Num) (hq : q ≡ exact (wire v *ℤ wire v)) where
     square-of : q ≡ exact (pow_z x (n / 2) *ℤ pow_z x (n / 2))
     square-of =
         let w = exact-narrow (pow_z x (n / 2)) v (sym half_is ∙ rv) in
         hq ∙ ap (λ (z : ℤ). exact (z *ℤ z)) (to_z-of_z (narrow-fits v w.0) ∙ sym w.1)
 
-    pub square-fault : (f : Fault) → q ≡ Failed f → Failed Overflow ≡ exact (pow_z x n)
-    square-fault f e = sym (fault-square x n (exact-fault (pow_z x (n / 2) *ℤ pow_z x (n / 2)) f (sym square-of ∙ e)).0)
+    pub square-fault : (f : Fault) → q ≡ Err f → Err f ≡ exact (pow_z x n)
+    square-fault f e = let w = exact-fault (pow_z x (n / 2) *ℤ pow_z x (n / 2)) f (sym square-of ∙ e) in ap Err (sym w.1) ∙ sym (fault-square x n w.0)
 
-    module _ (s : ℤ) (qs : q ≡ Value s) where
+    module _ (s : ℤ) (qs : q ≡ Ok s) where
       squared : Narrow s × (pow_z x (n / 2) *ℤ pow_z x (n / 2) ≡ s)
       squared = exact-narrow (pow_z x (n / 2) *ℤ pow_z x (n / 2)) s (sym square-of ∙ qs)
 
-      pub even-done : n % 2 ≡ 0 → Value (wire s) ≡ exact (pow_z x n)
-      even-done z = ap Value (to_z-of_z (narrow-fits s squared.0)) ∙ sym qs ∙ square-of ∙ ap exact (sym (even x n z))
+      pub even-done : n % 2 ≡ 0 → Ok (wire s) ≡ exact (pow_z x n)
+      even-done z = ap Ok (to_z-of_z (narrow-fits s squared.0)) ∙ sym qs ∙ square-of ∙ ap exact (sym (even x n z))
 
       pub odd-done : (u : Num) → (n % 2 ≡ 0 → ⊥) → u ≡ exact (wire s *ℤ wire x) → u ≡ exact (pow_z x n)
       odd-done u z e =
@@ -220,23 +220,21 @@ module _ (x : ℤ) (n : ℕ) (p : SFits w64 x) (r : Num) (hr : r ≡ exact (pow_
 -- ---- the laws of `raise`
 
 module _ (x n : ℤ) (p : SFits w64 x) (q : SFits w64 n) where
-  pub raise-negative : lt_z (wire n) (pos 0) ≡ true → Failed Exponent ≡ power x n
+  pub raise-negative : lt_z (wire n) (pos 0) ≡ true → Err Exponent ≡ power x n
   raise-negative h = sym (power-negative x n (rw (to_z-of_z q) at h))
 
-  pub raise-zeros : of_z w64 n ≡ 0 → of_z w64 x ≡ 0 → Failed Exponent ≡ power x n
+  pub raise-zeros : of_z w64 n ≡ 0 → of_z w64 x ≡ 0 → Err Exponent ≡ power x n
   raise-zeros e f = rw (zero_bits n q e) (sym (power-zeros x 0 (zero_bits x p f) refl))
 
-  pub raise-first : of_z w64 n ≡ 0 → (of_z w64 x ≡ 0 → ⊥) → Value (pos 1) ≡ power x n
-  raise-first e f = rw (zero_bits n q e) (halved_none x 0 refl ∙ sym (power-is x 0 (λ z w. f (ap (of_z w64) z))))
-
-  pub raise-is : (r : Num) → lt_z (wire n) (pos 0) ≡ false → (of_z w64 n ≡ 0 → ⊥) → r ≡ exact (pow_z (wire x) (nat_abs (wire n))) → r ≡ power x n
+  pub raise-is : (r : Num) → lt_z (wire n) (pos 0) ≡ false → (of_z w64 n ≡ 0 → of_z w64 x ≡ 0 → ⊥) → r ≡ exact (pow_z (wire x) (nat_abs (wire n)))
+      → r ≡ power x n
   raise-is r h f e =
       let k = size-other n (rw (to_z-of_z q) at h) in
-      rw (to_z-of_z p, to_z-of_z q) at e ∙ sym (power-is x (nat_abs n) (λ z w. f (ap (of_z w64) (k ∙ ap pos w)))) ∙ ap (power x) (sym k)
+      rw (to_z-of_z p, to_z-of_z q) at e ∙ sym (power-is x (nat_abs n) (λ z w. f (ap (of_z w64) (k ∙ ap pos w)) (ap (of_z w64) z))) ∙ ap (power x) (sym k)
 
-pub raise-cast : (n : ℤ) → SFits w64 n → lt_z (wire n) (pos 0) ≡ false → T (non_neg (wire n)) × Fits w64 (nat_abs (wire n))
-raise-cast n q h = rw (to_z-of_z q) (subst (λ (z : ℤ). T (non_neg z)) (sym (size-other n (rw (to_z-of_z q) at h))) tt, Fits-nat_abs tt q)
+pub raise_cast : (n : ℤ) → SFits w64 n → lt_z (wire n) (pos 0) ≡ false → T (non_neg (wire n)) × Fits w64 (nat_abs (wire n))
+raise_cast n q h = rw (to_z-of_z q) (subst (λ (z : ℤ). T (non_neg z)) (sym (size-other n (rw (to_z-of_z q) at h))) tt, Fits-nat_abs tt q)
 
-pub ruleset halved-laws = (halved_none, half-fault, square-fault, even-done, odd-done)
+pub ruleset halved_laws = (halved_none, half-fault, square-fault, even-done, odd-done)
 
-pub ruleset raise-laws = (raise-negative, raise-zeros, raise-first, raise-is)
+pub ruleset raise_laws = (raise-negative, raise-zeros, raise-is, raise_cast)

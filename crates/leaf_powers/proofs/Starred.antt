@@ -5,8 +5,8 @@ use lib.IntN.{pos, negsuc}
 use Rattle.leaf_integers.specs.Integers.{inside, pick, ranged, exact, is_zero, quotient, modℕ, modulus}
 use Rattle.leaf_powers.specs.Powers.{signed, pow_z, small, power}
 use Rattle.leaf_integers.specs.declared.Fault.TheVariants.{Overflow, Divisor, Exponent}
-use Rattle.leaf_integers.specs.declared.Num.{Num}
-use Rattle.leaf_integers.specs.declared.Num.TheVariants.{Value, Failed}
+use Rattle.leaf_integers.specs.Integers.{Num}
+use Rattle.std.specs.Prelude.{Ok, Err}
 
 record Case : Type 0 where
   given : Num
@@ -14,17 +14,17 @@ record Case : Type 0 where
 
 cases : List Case
 cases =
-    record { given = quotient (negsuc 6) (pos 2); wanted = Value (negsuc 2) }
-    ∷ record { given = modulus (negsuc 6) (pos 3); wanted = Value (pos 2) }
-    ∷ record { given = modulus (pos 7) (negsuc 2); wanted = Failed Divisor }
-    ∷ record { given = modulus (pos 7) (pos 0); wanted = Failed Divisor }
-    ∷ record { given = quotient (negsuc 2147483647) (negsuc 0); wanted = Failed Overflow }
-    ∷ record { given = power (negsuc 1) (pos 31); wanted = Value (negsuc 2147483647) }
-    ∷ record { given = power (pos 2) (pos 31); wanted = Failed Overflow }
-    ∷ record { given = power (negsuc 0) (pos 2147483647); wanted = Value (negsuc 0) }
-    ∷ record { given = power (pos 0) (pos 0); wanted = Failed Exponent }
-    ∷ record { given = power (pos 5) (pos 0); wanted = Value (pos 1) }
-    ∷ record { given = power (pos 2) (pos 2147483647); wanted = Failed Overflow }
+    record { given = quotient (negsuc 6) (pos 2); wanted = Ok (negsuc 2) }
+    ∷ record { given = modulus (negsuc 6) (pos 3); wanted = Ok (pos 2) }
+    ∷ record { given = modulus (pos 7) (negsuc 2); wanted = Err Divisor }
+    ∷ record { given = modulus (pos 7) (pos 0); wanted = Err Divisor }
+    ∷ record { given = quotient (negsuc 2147483647) (negsuc 0); wanted = Err Overflow }
+    ∷ record { given = power (negsuc 1) (pos 31); wanted = Ok (negsuc 2147483647) }
+    ∷ record { given = power (pos 2) (pos 31); wanted = Err Overflow }
+    ∷ record { given = power (negsuc 0) (pos 2147483647); wanted = Ok (negsuc 0) }
+    ∷ record { given = power (pos 0) (pos 0); wanted = Err Exponent }
+    ∷ record { given = power (pos 5) (pos 0); wanted = Ok (pos 1) }
+    ∷ record { given = power (pos 2) (pos 2147483647); wanted = Err Overflow }
     ∷ []
 
 Hold : List Case → Type 0

@@ -1,9 +1,7 @@
 -- Document 01, "Arithmetic": `x ** n`.
-use Rattle.std.specs.Prelude.{Bool, true, false, ◌&&◌, ◌||◌, ℕ, zero, suc, ◌%◌, ◌^◌, leb, ℤ, pos, negsuc, neg_ℤ, nat_abs}
+use Rattle.std.specs.Prelude.{Bool, true, false, ◌&&◌, ◌||◌, ℕ, zero, suc, ◌%◌, ◌^◌, leb, ℤ, pos, negsuc, neg_ℤ, nat_abs, Err}
 use Rattle.leaf_integers.specs.declared.Fault.TheVariants.{Overflow, Exponent}
-use Rattle.leaf_integers.specs.declared.Num.{Num}
-use Rattle.leaf_integers.specs.declared.Num.TheVariants.{Failed}
-use Rattle.leaf_integers.specs.Integers.{exact, is_zero, pick}
+use Rattle.leaf_integers.specs.Integers.{Num, exact, is_zero, pick}
 
 -- m, or -m where the digit is not 0
 unfoldable pub signed : ℕ → ℕ → ℤ
@@ -19,9 +17,9 @@ pow_z (negsuc a) n = signed (n % 2) (suc a ^ n)
 -- (`powers-exact` in proofs: this is `exact (pow_z x n)`); said so, it computes for every exponent
 unfoldable pub small : Bool → ℤ → ℕ → Num
 small true x n = exact (pow_z x n)
-small false x n = Failed Overflow
+small false x n = Err Overflow
 
 -- `**`: a negative exponent is a fault, and so is 0 with an exponent of 0
 unfoldable pub power : ℤ → ℤ → Num
-power x (pos n) = pick (is_zero x && is_zero (pos n)) (Failed Exponent) (small (leb n 31 || leb (nat_abs x) 1) x n)
-power x (negsuc n) = Failed Exponent
+power x (pos n) = pick (is_zero x && is_zero (pos n)) (Err Exponent) (small (leb n 31 || leb (nat_abs x) 1) x n)
+power x (negsuc n) = Err Exponent

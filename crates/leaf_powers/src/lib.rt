@@ -6,41 +6,33 @@ ghost use Rattle.std.specs.Prelude.{◌≡◌};
 ghost use Rattle.leaf_integers.specs.Integers.{exact};
 ghost use Rattle.leaf_powers.specs.Powers.{pow_z, power};
 
-use leaf_integers::{Fault, Num, mul};
+use leaf_integers::{Fault, mul};
 
 // x to the power n, by half the exponent: the square of that power, and once more x where n is odd.
 // A half or a square that is past the integers means that the whole power is.
-pub fn halved(x: i64, n: u64) -> Num
+#[tactic(auto, using(crate::proofs::Powers::halved_laws))]
+pub fn halved(x: i64, n: u64) -> Result<i64, Fault>
     ensures { result ≡ exact (pow_z x n) }
 {
     if n == 0 {
-        return Num::Value(1);
+        return Ok(1);
     }
-    let half = halved(x, n / 2);
-    match half {
-        Num::Failed(_) => Num::Failed(Fault::Overflow),
-        Num::Value(v) => {
-            let square = mul(v, v);
-            match square {
-                Num::Failed(_) => Num::Failed(Fault::Overflow),
-                Num::Value(s) => { if n % 2 == 0 { Num::Value(s) } else { mul(s, x) } }
-            }
-        }
+    let half = halved(x, n / 2)?;
+    let square = mul(half, half)?;
+    if n % 2 == 0 {
+        Ok(square)
+    } else {
+        mul(square, x)
     }
 }
 
 // `**`.
-pub fn raise(x: i64, n: i64) -> Num
+#[tactic(auto, using(crate::proofs::Powers::raise_laws))]
+pub fn raise(x: i64, n: i64) -> Result<i64, Fault>
     ensures { result ≡ power x n }
 {
-    if n < 0 {
-        return Num::Failed(Fault::Exponent);
-    }
-    if n == 0 {
-        if x == 0 {
-            return Num::Failed(Fault::Exponent);
-        }
-        return Num::Value(1);
+    if n < 0 || n == 0 && x == 0 {
+        return Err(Fault::Exponent);
     }
     halved(x, n as u64)
 }

@@ -14,7 +14,7 @@ use Rattle.leaf_reserved.specs.Table.{reserved, operators, fixed, letter, letter
 use Rattle.leaf_reserved.specs.Slots.{slot_of, guess, has_letters}
 use Rattle.leaf_reserved.proofs.Arms.{count}
 use Rattle.leaf_reserved.proofs.Rows.{letters-short, row-letter, row-letters}
-use Rattle.leaf_reserved.proofs.Guesses.{guess-is, guess-most, numbered}
+use Rattle.leaf_reserved.proofs.Guesses.{guess-is, numbered}
 use Rattle.leaf_bytes.proofs.Same.{other_length, other_byte, all-bytes}
 
 pub fixed-count : length fixed ≡ 57
@@ -69,19 +69,19 @@ fails : (t : Bool) → ((t ≡ true) → ⊥) → t ≡ false
 fails true h = absurd (h refl)
 fails false h = refl
 
-pub place-empty : (w : List ℕ) → length w ≡ 0 → 57 ≡ place_of w
+pub place-empty : (w : List ℕ) → length w ≡ 0 → place_of w ≡ 57
 unfolding place_of position same fixed reserved operators bytes
 place-empty [] e = refl
 place-empty (b ∷ w) e = absurd (omega arith)
 
 module _ (w : List ℕ) where
   -- no word of the table is w
-  place_none : ((j : ℕ) → j < 57 → is_fixed w j ≡ false) → 57 ≡ place_of w
+  place_none : ((j : ℕ) → j < 57 → is_fixed w j ≡ false) → place_of w ≡ 57
   unfolding is_fixed place_of
-  place_none off = sym fixed-count ∙ none_is (map small w) fixed (λ j h. off j (omega (arith, fixed-count)))
+  place_none off = sym (sym fixed-count ∙ none_is (map small w) fixed (λ j h. off j (omega (arith, fixed-count))))
 
   -- it has more bytes than any word
-  pub place-long : 12 < length w → 57 ≡ place_of w
+  pub place-long : 12 < length w → place_of w ≡ 57
   place-long l = place_none (λ j h. sym (fixed-other w j (λ e. omega (arith, letters-short j))))
 
   -- by the guess k
@@ -89,26 +89,22 @@ module _ (w : List ℕ) where
     other : (j : ℕ) → j < 57 → ((j ≡ k) → ⊥) → is_fixed w j ≡ false
     other j l d = fails (is_fixed w j) (λ t. d (sym (f ∙ ap guess e ∙ guess-is w j l t)))
 
-    pub place-missed : k ≡ 57 → 57 ≡ place_of w
+    pub place-missed : 57 ≤ k → place_of w ≡ 57
     place-missed g = place_none (λ j l. other j l (λ d. omega arith))
 
-    pub place-room : ((k ≡ 57) → ⊥) → k < 57
-    place-room d = omega (arith, guess-most h, fixed-count)
+    module _ (l : k < 57) (t : Bool) (g : t ≡ is_fixed w k) where
+      pub place_found : t ≡ true → k ≡ place_of w
+      unfolding is_fixed place_of
+      place_found i = first-is (map small w) fixed k (λ j m. other j (omega arith) (λ o. omega arith)) (subst (λ (n : ℕ). k < n) (sym fixed-count) l) (sym g ∙ i)
 
-    pub place_found : (t : Bool) → ((k ≡ 57) → ⊥) → t ≡ is_fixed w k → t ≡ true → k ≡ place_of w
-    unfolding is_fixed place_of
-    place_found t d g i =
-        first-is (map small w) fixed k (λ j l. other j (omega (arith, place-room d)) (λ o. omega arith))
-        (subst (λ (n : ℕ). k < n) (sym fixed-count) (place-room d)) (sym g ∙ i)
+      pub place_other : t ≡ false → place_of w ≡ 57
+      place_other i = place_none (λ j m. go j m (eqb j k) refl)
+        where
+          go : (j : ℕ) → j < 57 → (b : Bool) → eqb j k ≡ b → is_fixed w j ≡ false
+          go j m true b = subst (λ (n : ℕ). is_fixed w n ≡ false) (sym (eqb-true j k b)) (sym g ∙ i)
+          go j m false b = other j m (eqb-false j k b)
 
-    pub place_other : (t : Bool) → ((k ≡ 57) → ⊥) → t ≡ is_fixed w k → t ≡ false → 57 ≡ place_of w
-    place_other t d g i = place_none (λ j l. go j l (eqb j k) refl)
-      where
-        go : (j : ℕ) → j < 57 → (b : Bool) → eqb j k ≡ b → is_fixed w j ≡ false
-        go j l true b = subst (λ (n : ℕ). is_fixed w n ≡ false) (sym (eqb-true j k b)) (sym g ∙ i)
-        go j l false b = other j l (eqb-false j k b)
-
-pub ruleset place-laws = (place-empty, place-long, place-missed, place-room, place_found, place_other)
+pub ruleset place_laws = (place-empty, place-long, place-missed, place_found, place_other)
 
 -- ---- no word stands twice: each word's place is where it stands
 places : map place_of fixed ≡ count 0 57

@@ -1,5 +1,5 @@
 -- The table of the source is the specification's list of words, by computation: each row that the code names is that of `rows`. Assumes nothing.
-use mathlib.Core.Path.{◌≡◌, refl, sym, ◌∙◌}
+use mathlib.Core.Path.{◌≡◌, refl, sym}
 use mathlib.Core.Bool.{Bool, true, false, cond, ◌&&◌, ◌||◌, and-eq-true_iff}
 use mathlib.Core.List.{List, [], ◌∷◌, ◌++◌, map}
 use Prim.Native.Nat.{ℕ, zero, suc, ◌-◌, ◌<◌, ◌≤◌}
@@ -99,11 +99,11 @@ module _ (row : List ℕ) (n : ℕ) where
   unfolding has_letters
   has_all e d = simp (ne_eqb _ _ d, eq-eqb _ _ e)
 
-  pub has_end : (t : Bool) → ((n ≡ 12) → ⊥) → ((get_or row (n - 1) 0 ≡ 0) → ⊥) → t ≡ eqb (get_or row n 0) 0 → t ≡ has_letters row n
+  pub has_end : ((n ≡ 12) → ⊥) → ((get_or row (n - 1) 0 ≡ 0) → ⊥) → eqb (get_or row n 0) 0 ≡ has_letters row n
   unfolding has_letters
-  has_end t m d e = e ∙ simp (ne_eqb _ _ d, ne_eqb _ _ m)
+  has_end m d = simp (ne_eqb _ _ d, ne_eqb _ _ m)
 
-pub ruleset has-laws = (has-none, has_all, has_end)
+pub ruleset has_laws = (has-none, has_all, has_end)
 
 -- ---- of a row of the table: it has n letters exactly where its word is n bytes long
 pub row-letters : (k n : ℕ) (row : List ℕ) → 0 < n → row ≡ get_or rows k [] → has_letters row n ≡ eqb (letters k) n

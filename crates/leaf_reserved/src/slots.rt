@@ -21,6 +21,7 @@ pub(crate) fn slot_of(w: &[u8]) -> usize
 }
 
 // The place in the table of the word whose slot is h, or 57.
+// Kept: an Option is no plainer, 57 times `Some`; `tools/word-slots` prints these arms.
 pub(crate) fn guess_at(h: usize) -> usize
     ensures { result ≡ guess h }
 {

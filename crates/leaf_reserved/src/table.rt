@@ -1,5 +1,5 @@
 // The fixed table of reserved words and operators, and the place of a word in it.
-ghost use Rattle.std.specs.Prelude.{◌≡◌, [], ◌<◌, ◌≤◌, length, get_or};
+ghost use Rattle.std.specs.Prelude.{◌≡◌, [], ◌<◌, ◌≤◌, length, get_or, MatchOption};
 ghost use Rattle.leaf_reserved.specs.Table.{rows, is_fixed, place_of};
 ghost use Rattle.leaf_reserved.specs.Slots.{has_letters};
 
@@ -77,6 +77,7 @@ const TABLE: [[u8; 12]; 57] = [
 
 // The row k of the table, for `is_fixed`. Each row is named by its number: the compiler knows it then, and lays that row alone
 // on the stack. For a number that it does not know it would lay the whole table there for each word.
+// Kept: `TABLE[k]` was tried, and misses the bar of speed, by that copy of the table.
 fn row_of(k: usize) -> [u8; 12]
     requires { k < 57 }
     ensures { result ≡ get_or rows k [] }
@@ -144,55 +145,45 @@ fn row_of(k: usize) -> [u8; 12]
 }
 
 // Whether a row has n letters and then zeros. `is_fixed` passes the length of a word that a row has room for.
+#[tactic(auto, using(crate::proofs::Rows::has_laws))]
 fn has_letters(row: &[u8; 12], n: usize) -> bool
     requires { (0 < n) × (n ≤ 12) }
     ensures { result ≡ has_letters row.now n }
 {
-    if row[n - 1] == 0 {
-        return false;
-    }
-    if n == LONGEST {
-        return true;
-    }
-    row[n] == 0
+    row[n - 1] != 0 && (n == LONGEST || row[n] == 0)
 }
 
 // Whether w is the word k of the table, case ignored. `place_of` has a k below 57 and a word that a row has room for.
+#[tactic(auto, using(crate::proofs::Places::fixed_laws))]
 fn is_fixed(w: &[u8], k: usize) -> bool
     requires { (k < 57) × (0 < length w.now) × (length w.now ≤ 12) }
     ensures { result ≡ is_fixed w.now k }
 {
     let n = w.len();
     let row = row_of(k);
-    if has_letters(&row, n) {
-        let mut i = 0;
-        while i < n {
-            if small_of(w[i]) != row[i] {
-                return false;
-            }
-            i += 1;
-        }
-        return true;
+    if !has_letters(&row, n) {
+        return false;
     }
-    false
+    for i in 0..n {
+        if small_of(w[i]) != row[i] {
+            return false;
+        }
+    }
+    true
 }
 
-// The place of w in the table, case ignored, or 57: at most one row is compared with it, that of its slot.
-pub fn place_of(w: &[u8]) -> usize
-    ensures { result ≡ place_of w.now }
+// The place of w in the table, case ignored, if it is there: at most one row is compared with it, that of its slot.
+#[tactic(auto, using(crate::proofs::Places::place_laws))]
+pub fn place_of(w: &[u8]) -> Option<usize>
+    ensures { MatchOption result (place_of w.now ≡ 57) (λ k. (k < 57) × (k ≡ place_of w.now)) }
 {
-    if w.len() == 0 {
-        return FIXED;
-    }
-    if w.len() > LONGEST {
-        return FIXED;
+    if w.is_empty() || w.len() > LONGEST {
+        return None;
     }
     let k = guess_at(slot_of(w));
-    if k == FIXED {
-        return FIXED;
+    if k < FIXED && is_fixed(w, k) {
+        Some(k)
+    } else {
+        None
     }
-    if is_fixed(w, k) {
-        return k;
-    }
-    FIXED
 }

@@ -13,7 +13,7 @@ use mir.Syntax.{w64}
 use mir.Val.{SFits}
 use mir.Facts.{to_z-of_z}
 use Rattle.leaf_sets.specs.Sets.{those, members, value_of, pattern_of, members_of, has, holds, least, greatest, with, union_of, difference_of, intersection_of, all, all_in, lies_in}
-use Rattle.leaf_sets.specs.declared.Member.TheVariants.{Ordinal}
+use Rattle.std.specs.Prelude.{Some}
 use Rattle.leaf_sets.proofs.Those.{those-has, has_all, all-has}
 use Rattle.leaf_sets.proofs.Digits.{members-value, value-lt, has-lt}
 use Rattle.leaf_sets.proofs.Counts.{no_member, none_is}
@@ -28,12 +28,12 @@ Inside lo hi z = (le_z lo z && le_z z hi) ≡ true
 
 -- ---- a member that was asked for is there
 
-pub least-has : (l : List ℕ) (x : ℕ) → least l ≡ Ordinal x → has x l ≡ true
+pub least-has : (l : List ℕ) (x : ℕ) → least l ≡ Some x → has x l ≡ true
 unfolding least has
 least-has [] x e = absurd (no_member x e)
 least-has (y ∷ l) x e = let q : y ≡ x = cc in rw (eq-eqb y x q)
 
-pub greatest-has : (l : List ℕ) (x : ℕ) → greatest l ≡ Ordinal x → has x l ≡ true
+pub greatest-has : (l : List ℕ) (x : ℕ) → greatest l ≡ Some x → has x l ≡ true
 unfolding greatest has
 greatest-has [] x e = absurd (no_member x e)
 greatest-has (y ∷ []) x e = let q : y ≡ x = cc in rw (eq-eqb y x q)
@@ -44,10 +44,10 @@ module _ (a : ℤ) (x : ℕ) where
   unfolding members_of
   member-lt e = has-lt (pattern_of a) x e
 
-  pub least_lt : least (members_of a) ≡ Ordinal x → x < 32
+  pub least_lt : least (members_of a) ≡ Some x → x < 32
   least_lt e = member-lt (least-has (members_of a) x e)
 
-  pub greatest-lt : greatest (members_of a) ≡ Ordinal x → x < 32
+  pub greatest-lt : greatest (members_of a) ≡ Some x → x < 32
   greatest-lt e = member-lt (greatest-has (members_of a) x e)
 
 either : {P : Type 0} (x y : Bool) → (x || y) ≡ true → (x ≡ true → P) → (y ≡ true → P) → P
@@ -90,10 +90,10 @@ module _ (lo hi : ℤ) where
       all-has (in_base lo hi) (members n) x p.1 (rw (mod-eq_of_lt p.0) at m)
   lies-member (negsuc n) x h m = absurd (false≢true h)
 
-  pub least-lies : (a : ℤ) (x : ℕ) → lies_in lo hi a ≡ true → least (members_of a) ≡ Ordinal x → Inside lo hi (pos x)
+  pub least-lies : (a : ℤ) (x : ℕ) → lies_in lo hi a ≡ true → least (members_of a) ≡ Some x → Inside lo hi (pos x)
   least-lies a x h e = lies-member a x h (least-has (members_of a) x e)
 
-  pub greatest-lies : (a : ℤ) (x : ℕ) → lies_in lo hi a ≡ true → greatest (members_of a) ≡ Ordinal x → Inside lo hi (pos x)
+  pub greatest-lies : (a : ℤ) (x : ℕ) → lies_in lo hi a ≡ true → greatest (members_of a) ≡ Some x → Inside lo hi (pos x)
   greatest-lies a x h e = lies-member a x h (greatest-has (members_of a) x e)
 
   -- ---- which values lie in the base
@@ -154,3 +154,5 @@ module _ (lo hi : ℤ) where
   lies-here z r fl fh fz e f q =
       let p = reach z fz e 4294967295 f in
       (rw (to_z-of_z fl, to_z-of_z fh) at q) ∙ lies-there (nat_abs (wire z)) z p.2 p.1
+
+pub ruleset lies_laws = (lies-none, lies-here)

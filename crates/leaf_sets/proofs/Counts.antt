@@ -10,7 +10,7 @@ use native.Mathlib.Omega.{arith}
 use lib.Count.{ones, ones_in, ones_step, count_trailing_zeros, count_leading_zeros, under, leading_of_zero, leading_top}
 use lib.ListN.{length}
 use Rattle.leaf_sets.specs.Sets.{those, bit, members, least, greatest}
-use Rattle.leaf_sets.specs.declared.Member.TheVariants.{Ordinal, Empty}
+use Rattle.std.specs.Prelude.{Some, None}
 use Rattle.leaf_sets.proofs.Those.{digit, cond-length}
 use Rattle.leaf_sets.proofs.Digits.{number, number_lt, number_is, digit-mod, digit-div, members-are}
 
@@ -32,19 +32,19 @@ ones-number f i (suc k) =
 
 -- ---- `setmin`
 
-min-number : (f : ℕ → Bool) (i k : ℕ) → 0 < number f i k → Ordinal (i + count_trailing_zeros k (number f i k)) ≡ least (those f i k)
+min-number : (f : ℕ → Bool) (i k : ℕ) → 0 < number f i k → Some (i + count_trailing_zeros k (number f i k)) ≡ least (those f i k)
 unfolding number those count_trailing_zeros least
 min-number f i zero p = absurd (omega arith)
 min-number f i (suc k) p =
     let n = number f (suc i) k in
-    ap₂ (λ (d m : ℕ). Ordinal (i + under d (count_trailing_zeros k m))) (digit-mod (f i) n) (digit-div (f i) n)
+    ap₂ (λ (d m : ℕ). Some (i + under d (count_trailing_zeros k m))) (digit-mod (f i) n) (digit-div (f i) n)
     ∙ of (f i) p (λ q. min-number f (suc i) k q)
   where
     of : (b : Bool) → 0 < digit b + 2 * number f (suc i) k
-        → (0 < number f (suc i) k → Ordinal (suc i + count_trailing_zeros k (number f (suc i) k)) ≡ least (those f (suc i) k))
-        → Ordinal (i + under (digit b) (count_trailing_zeros k (number f (suc i) k))) ≡ least (cond b (i ∷ those f (suc i) k) (those f (suc i) k))
-    of true p rest = ap Ordinal (add-zero i)
-    of false p rest = ap Ordinal (omega arith) ∙ rest (omega arith)
+        → (0 < number f (suc i) k → Some (suc i + count_trailing_zeros k (number f (suc i) k)) ≡ least (those f (suc i) k))
+        → Some (i + under (digit b) (count_trailing_zeros k (number f (suc i) k))) ≡ least (cond b (i ∷ those f (suc i) k) (those f (suc i) k))
+    of true p rest = ap Some (add-zero i)
+    of false p rest = ap Some (omega arith) ∙ rest (omega arith)
 
 -- ---- `setmax`
 
@@ -57,11 +57,11 @@ none_number f i (suc k) e = of (f i) e (none_number f (suc i) k (omega arith))
     of true e rest = absurd (omega arith)
     of false e rest = rest
 
-pub no_member : (x : ℕ) → Empty ≡ Ordinal x → ⊥
+pub no_member : (x : ℕ) → None ≡ Some x → ⊥
 no_member x e = let z : ◌≡◌ {A = ℕ} 0 1 = cc in omega arith
 
 -- one more before the last
-keeps-last : (b : Bool) (i m : ℕ) (l : List ℕ) → Ordinal m ≡ greatest l → Ordinal m ≡ greatest (cond b (i ∷ l) l)
+keeps-last : (b : Bool) (i m : ℕ) (l : List ℕ) → Some m ≡ greatest l → Some m ≡ greatest (cond b (i ∷ l) l)
 unfolding greatest
 keeps-last true i m [] e = absurd (no_member m (sym e))
 keeps-last true i m (x ∷ l) e = e
@@ -73,13 +73,13 @@ leading_step k zero p = absurd (not-suc-le-zero p)
 leading_step k (suc n) p = refl
 
 -- nothing above the lowest digit: it is a one, and the last
-alone : (b : Bool) (i j k n : ℕ) (l : List ℕ) → 0 < digit b + 2 * n → n ≡ 0 → k + suc j ≡ suc k → l ≡ [] → Ordinal (i + j) ≡ greatest (cond b (i ∷ l) l)
+alone : (b : Bool) (i j k n : ℕ) (l : List ℕ) → 0 < digit b + 2 * n → n ≡ 0 → k + suc j ≡ suc k → l ≡ [] → Some (i + j) ≡ greatest (cond b (i ∷ l) l)
 unfolding greatest
-alone true i j k n l p z e q = rw q (ap Ordinal (omega arith))
+alone true i j k n l p z e q = rw q (ap Some (omega arith))
 alone false i j k n l p z e q = absurd (omega arith)
 
 -- the zeros above, the one at place j and the j digits below it make k
-max-number : (f : ℕ → Bool) (i k j : ℕ) → 0 < number f i k → count_leading_zeros k (number f i k) + suc j ≡ k → Ordinal (i + j) ≡ greatest (those f i k)
+max-number : (f : ℕ → Bool) (i k j : ℕ) → 0 < number f i k → count_leading_zeros k (number f i k) + suc j ≡ k → Some (i + j) ≡ greatest (those f i k)
 unfolding number those
 max-number f i zero j p e = absurd (omega arith)
 max-number f i (suc k) j p e =
@@ -90,23 +90,23 @@ max-number f i (suc k) j p e =
     (none_number f (suc i) k z))
     (λ q.
     let top = leading_top k n q (number_lt f (suc i) k) in
-    keeps-last (f i) i (i + j) (those f (suc i) k) (ap Ordinal (omega (arith, top.1)) ∙ max-number f (suc i) k top.0 q top.1))
+    keeps-last (f i) i (i + j) (those f (suc i) k) (ap Some (omega (arith, top.1)) ∙ max-number f (suc i) k top.0 q top.1))
     (eq-zero-or-pos n)
 
 -- ---- a pattern's count, least and greatest member
 
 module _ (s : ℕ) (h : s < 2 ^ 32) where
-  pub card-is : ones s ≡ length (members s)
-  card-is = ap ones (sym (number_is s 32 h)) ∙ ones-number (bit s) 0 32 ∙ ap length (sym (members-are s))
+  pub card_is : ones s ≡ length (members s)
+  card_is = ap ones (sym (number_is s 32 h)) ∙ ones-number (bit s) 0 32 ∙ ap length (sym (members-are s))
 
   pub none_is : s ≡ 0 → members s ≡ []
   none_is e = members-are s ∙ none_number (bit s) 0 32 (number_is s 32 h ∙ e)
 
-  pub min-none : s ≡ 0 → Empty ≡ least (members s)
+  pub min-none : s ≡ 0 → None ≡ least (members s)
   unfolding least
   min-none e = rw (none_is e)
 
-  pub max_none : s ≡ 0 → Empty ≡ greatest (members s)
+  pub max_none : s ≡ 0 → None ≡ greatest (members s)
   unfolding greatest
   max_none e = rw (none_is e)
 
@@ -114,18 +114,22 @@ module _ (s : ℕ) (h : s < 2 ^ 32) where
     some : 0 < number (bit s) 0 32
     some = rw (number_is s 32 h) (omega arith)
 
-    pub min-is : Ordinal (count_trailing_zeros 32 s) ≡ least (members s)
+    pub min-is : Some (count_trailing_zeros 32 s) ≡ least (members s)
     min-is =
-        ap Ordinal (sym (zero-add (count_trailing_zeros 32 s))) ∙ ap (λ (m : ℕ). Ordinal (0 + count_trailing_zeros 32 m)) (sym (number_is s 32 h))
+        ap Some (sym (zero-add (count_trailing_zeros 32 s))) ∙ ap (λ (m : ℕ). Some (0 + count_trailing_zeros 32 m)) (sym (number_is s 32 h))
         ∙ min-number (bit s) 0 32 some ∙ ap least (sym (members-are s))
 
     -- there is room for a one below the zeros
     pub leading_le : count_leading_zeros 32 s ≤ 31
     leading_le = omega (arith, (leading_top 32 s (omega arith) h).1)
 
-    pub max-is : Ordinal (31 - count_leading_zeros 32 s) ≡ greatest (members s)
+    pub max-is : Some (31 - count_leading_zeros 32 s) ≡ greatest (members s)
     max-is =
         let top = leading_top 32 s (omega arith) h in
-        ap Ordinal (omega (arith, top.1))
+        ap Some (omega (arith, top.1))
         ∙ max-number (bit s) 0 32 top.0 some (subst (λ (m : ℕ). count_leading_zeros 32 m + suc top.0 ≡ 32) (sym (number_is s 32 h)) top.1)
         ∙ ap greatest (sym (members-are s))
+
+pub ruleset min_laws = (min-none, min-is)
+
+pub ruleset max_laws = (max_none, max-is, leading_le)

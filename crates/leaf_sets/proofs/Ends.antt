@@ -5,15 +5,15 @@ use mathlib.Core.List.{List, [], ◌∷◌}
 use Prim.Native.Nat.{ℕ, zero, suc, ◌-◌, ◌^◌, ◌≤◌, ◌<◌}
 use native.Mathlib.Nat.{le_refl}
 use native.Mathlib.Omega.{arith}
-use borrow.Author.Tests.{le-leb, lt-leb, leb-true, ltb-true, ltb-false}
+use borrow.Author.Tests.{le-leb, leb-true}
 use lib.Count.{count_trailing_zeros, count_leading_zeros, trailing_le}
 use lib.IntN.{ℤ, pos, negsuc}
-use lib.Signed.{le_z, lt_z}
+use lib.Signed.{le_z}
 use mir.Syntax.{w64}
 use mir.Val.{SFits, to_z}
 use mir.Facts.{to_z-of_z, to_z_pos}
 use Rattle.leaf_sets.specs.Sets.{those, bit, members, least, greatest, all, all_in}
-use Rattle.leaf_sets.specs.declared.Member.TheVariants.{Ordinal}
+use Rattle.std.specs.Prelude.{Some}
 use Rattle.leaf_sets.proofs.Digits.{members-are}
 use Rattle.leaf_sets.proofs.Counts.{no_member, none_is, min-is, max-is}
 use Rattle.leaf_sets.proofs.Signed.{wire}
@@ -49,14 +49,6 @@ under : (hi : ℤ) (x y : ℕ) → le_z (pos y) hi ≡ true → x ≤ y → le_z
 under (pos a) x y e l = le-leb x a (omega (arith, leb-true y a e))
 under (negsuc a) x y e l = absurd (false≢true e)
 
-low : (lo : ℤ) (x : ℕ) → lt_z (pos x) lo ≡ true → le_z lo (pos x) ≡ false
-low (pos a) x e = lt-leb a x (ltb-true x a e)
-low (negsuc a) x e = absurd (false≢true e)
-
-not_low : (lo : ℤ) (x : ℕ) → lt_z (pos x) lo ≡ false → le_z lo (pos x) ≡ true
-not_low (pos a) x e = le-leb a x (ltb-false x a e)
-not_low (negsuc a) x e = refl
-
 implied : (a b : Bool) → (a ≡ true → b ≡ true) → a ≡ (b && a)
 implied true b f = sym (rw (f refl))
 implied false b f = sym (and-false b)
@@ -76,7 +68,7 @@ last-read : (s : ℕ) → to_z w64 (31 - count_leading_zeros 32 s) ≡ pos (31 -
 last-read s = to_z_pos w64 (omega arith)
 
 module _ (lo hi : ℤ) where
-  last-high : (x y : ℕ) (l : List ℕ) → Rising (suc x) l → le_z lo (pos x) ≡ true → Ordinal y ≡ greatest (x ∷ l)
+  last-high : (x y : ℕ) (l : List ℕ) → Rising (suc x) l → le_z lo (pos x) ≡ true → Some y ≡ greatest (x ∷ l)
       → le_z (pos y) hi ≡ all (in_base lo hi) (x ∷ l)
   unfolding greatest all
   last-high x y [] r p e = let q : y ≡ x = cc in rw (p, q, and-true (le_z (pos x) hi))
@@ -87,15 +79,15 @@ module _ (lo hi : ℤ) where
       ((and-eq-true_iff (in_base lo hi z) (all (in_base lo hi) l)).0 (sym rest ∙ t)).0).1 in
       rw p (implied (le_z (pos y) hi) (le_z (pos x) hi) (λ t. under hi x z (next t) (omega (arith, r.0))) ∙ ap (λ (b : Bool). le_z (pos x) hi && b) rest)
 
-  first-low : (x : ℕ) (l : List ℕ) → Ordinal x ≡ least l → lt_z (pos x) lo ≡ true → false ≡ all_in lo hi l
+  first-low : (x : ℕ) (l : List ℕ) → Some x ≡ least l → le_z lo (pos x) ≡ false → false ≡ all_in lo hi l
   unfolding least all_in all
   first-low x [] e t = absurd (no_member x (sym e))
-  first-low x (y ∷ l) e t = let q : x ≡ y = cc in rw (low lo y (rw q at t))
+  first-low x (y ∷ l) e t = let q : x ≡ y = cc in rw (rw q at t)
 
-  ends : (x y : ℕ) (l : List ℕ) → Rising 0 l → Ordinal x ≡ least l → Ordinal y ≡ greatest l → lt_z (pos x) lo ≡ false → le_z (pos y) hi ≡ all_in lo hi l
+  ends : (x y : ℕ) (l : List ℕ) → Rising 0 l → Some x ≡ least l → Some y ≡ greatest l → le_z lo (pos x) ≡ true → le_z (pos y) hi ≡ all_in lo hi l
   unfolding least all_in
   ends x y [] r e f t = absurd (no_member x (sym e))
-  ends x y (z ∷ l) r e f t = let q : x ≡ z = cc in last-high z y l r.1 (not_low lo z (rw q at t)) f
+  ends x y (z ∷ l) r e f t = let q : x ≡ z = cc in last-high z y l r.1 (rw q at t) f
 
   module _ (s : ℕ) (h : s < 2 ^ 32) where
     pub base-none : s ≡ 0 → true ≡ all_in lo hi (members s)
@@ -104,12 +96,14 @@ module _ (lo hi : ℤ) where
 
     module _ (n : (s ≡ 0) → ⊥) (fl : SFits w64 lo) where
       -- the tests speak of numbers read back from their bits
-      pub base-low : lt_z (to_z w64 (count_trailing_zeros 32 s)) (wire lo) ≡ true → false ≡ all_in lo hi (members s)
-      base-low t = first-low (count_trailing_zeros 32 s) (members s) (min-is s h n) (rw (zeros-read s, to_z-of_z fl) at t)
+      pub base-low : le_z (wire lo) (to_z w64 (count_trailing_zeros 32 s)) ≡ false → le_z (wire lo) (to_z w64 (count_trailing_zeros 32 s)) ≡ all_in lo hi (members s)
+      base-low t = t ∙ first-low (count_trailing_zeros 32 s) (members s) (min-is s h n) (rw (zeros-read s, to_z-of_z fl) at t)
 
-      pub base-ends : SFits w64 hi → lt_z (to_z w64 (count_trailing_zeros 32 s)) (wire lo) ≡ false
+      pub base-ends : SFits w64 hi → le_z (wire lo) (to_z w64 (count_trailing_zeros 32 s)) ≡ true
           → le_z (to_z w64 (31 - count_leading_zeros 32 s)) (wire hi) ≡ all_in lo hi (members s)
       base-ends fh t =
           rw (last-read s, to_z-of_z fh)
           (ends (count_trailing_zeros 32 s) (31 - count_leading_zeros 32 s) (members s) (rw (members-are s) (those-rise (bit s) 0 32))
           (min-is s h n) (max-is s h n) (rw (zeros-read s, to_z-of_z fl) at t))
+
+pub ruleset base_laws = (zeros-fit, base-none, base-low, base-ends)

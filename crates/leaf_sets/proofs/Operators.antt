@@ -80,17 +80,17 @@ module _ (s t : ℕ) (h : s < 2 ^ 32) (k : t < 2 ^ 32) where
   by_bits r g l e =
       value-of r (λ i. g (has i (members s)) (has i (members t))) l (λ j m. e j ∙ sym (ap₂ g (has-is s j m) (has-is t j m)))
 
-  pub union-is : bit_or s t ≡ value_of (union_of (members s) (members t))
+  pub union_is : bit_or s t ≡ value_of (union_of (members s) (members t))
   unfolding union_of
-  union-is = by_bits (bit_or s t) ◌||◌ (or_lt 32 s t h k) (or-bit s t)
+  union_is = by_bits (bit_or s t) ◌||◌ (or_lt 32 s t h k) (or-bit s t)
 
-  pub difference-is : bit_xor s (bit_and s t) ≡ value_of (difference_of (members s) (members t))
+  pub difference_is : bit_xor s (bit_and s t) ≡ value_of (difference_of (members s) (members t))
   unfolding difference_of
-  difference-is = by_bits (bit_xor s (bit_and s t)) (λ x y. x && not y) (xor_lt 32 s (bit_and s t) h (and_lt 32 s t h k)) (less-bit s t)
+  difference_is = by_bits (bit_xor s (bit_and s t)) (λ x y. x && not y) (xor_lt 32 s (bit_and s t) h (and_lt 32 s t h k)) (less-bit s t)
 
-  pub intersection-is : bit_and s t ≡ value_of (intersection_of (members s) (members t))
+  pub intersection_is : bit_and s t ≡ value_of (intersection_of (members s) (members t))
   unfolding intersection_of
-  intersection-is = by_bits (bit_and s t) ◌&&◌ (and_lt 32 s t h k) (and-bit s t)
+  intersection_is = by_bits (bit_and s t) ◌&&◌ (and_lt 32 s t h k) (and-bit s t)
 
 -- ---- `<=` and `=`
 
@@ -116,9 +116,9 @@ module _ (s t : ℕ) (h : s < 2 ^ 32) (k : t < 2 ^ 32) where
       (λ j l. and-bit s t j ∙ absorbed (bit s j) (bit t j) (λ e. sym (has-is t j l) ∙ f j (has-is s j l ∙ e)))
       ∙ ap value_of (sym (members-are s)) ∙ value-is s h
 
-  pub included-is : eqb (bit_and s t) s ≡ within (members s) (members t)
+  pub included_is : eqb (bit_and s t) s ≡ within (members s) (members t)
   unfolding within
-  included-is =
+  included_is =
       same_truth (eqb (bit_and s t) s) (all (λ i. has i (members t)) (members s))
       (λ e. has_all (λ i. has i (members t)) (members s) (kept (eqb-true (bit_and s t) s e)))
       (λ e. eq-eqb (bit_and s t) s (common (λ i m. all-has (λ i. has i (members t)) (members s) i e m)))
@@ -130,7 +130,7 @@ equal_is s t h k =
     (λ e. let q = eqb-true s t e in rw (eq-eqb (bit_and s t) s (ap (bit_and s) (sym q) ∙ and_self s), eq-eqb (bit_and t s) t (ap (bit_and t) q ∙ and_self t)))
     (λ e. let p = (and-eq-true_iff (eqb (bit_and s t) s) (eqb (bit_and t s) t)).0 e in
     eq-eqb s t (sym (eqb-true (bit_and s t) s p.0) ∙ and_comm s t ∙ eqb-true (bit_and t s) t p.1))
-    ∙ ap₂ ◌&&◌ (included-is s t h k) (included-is t s k h)
+    ∙ ap₂ ◌&&◌ (included_is s t h k) (included_is t s k h)
 
 -- ---- `in` and one ordinal more, for an ordinal n below 32 and for one that is in no set
 
@@ -190,3 +190,7 @@ module _ (s : ℕ) (h : s < 2 ^ 32) where
   insert-none z o =
       value-of s (λ j. has j (members s) || holds z (j ∷ [])) h
       (λ j l. sym (ap₂ ◌||◌ (has-is s j l) (unmoved z o j l) ∙ or-false (bit s j)))
+
+pub ruleset in_laws = (in-none, in-here)
+
+pub ruleset insert_laws = (insert-none, insert-here)

@@ -99,3 +99,7 @@ module _ (z : ℤ) (h : SFits w64 z) where
 
       pub ordinal-lt : nat_abs (wire z) < 32
       ordinal-lt = omega (arith, (reach 31 f).1)
+
+pub ruleset pattern_laws = (pattern-none, pattern-divides, pattern-fits, pattern-is)
+
+pub ruleset ordinal_laws = (outside-negative, outside-past, cast-pattern, cast-ordinal, ordinal-lt)

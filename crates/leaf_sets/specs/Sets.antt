@@ -1,8 +1,6 @@
 -- Document 01, "The store and the run": a set is the list of its members, and its value is the sum of 2 to each member's ordinal.
-use Rattle.std.specs.Prelude.{Bool, true, false, not, cond, ◌&&◌, ◌||◌, List, [], ◌∷◌, ℕ, zero, suc, ◌+◌, ◌/◌, ◌%◌, ◌^◌, eqb, leb, ℤ, pos, negsuc}
+use Rattle.std.specs.Prelude.{Bool, true, false, not, cond, ◌&&◌, ◌||◌, List, [], ◌∷◌, ℕ, zero, suc, ◌+◌, ◌/◌, ◌%◌, ◌^◌, eqb, leb, ℤ, pos, negsuc, Option, Some, None}
 use Rattle.std.specs.Int.Signed.{le_z}
-use Rattle.leaf_sets.specs.declared.Member.{Member}
-use Rattle.leaf_sets.specs.declared.Member.TheVariants.{Ordinal, Empty}
 
 -- those of the k ordinals from i on that pass the test, in order
 unfoldable pub those : (ℕ → Bool) → ℕ → ℕ → List ℕ
@@ -42,13 +40,13 @@ holds (pos i) l = has i l
 holds (negsuc i) l = false
 
 -- `setmin` and `setmax`: the first and the last of a list in order
-unfoldable pub least : List ℕ → Member
-least [] = Empty
-least (x ∷ l) = Ordinal x
+unfoldable pub least : List ℕ → Option ℕ
+least [] = None
+least (x ∷ l) = Some x
 
-unfoldable pub greatest : List ℕ → Member
-greatest [] = Empty
-greatest (x ∷ []) = Ordinal x
+unfoldable pub greatest : List ℕ → Option ℕ
+greatest [] = None
+greatest (x ∷ []) = Some x
 greatest (x ∷ (y ∷ l)) = greatest (y ∷ l)
 
 -- one ordinal more

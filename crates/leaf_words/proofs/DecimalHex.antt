@@ -1,4 +1,5 @@
 -- Laws of decimal and hexadecimal numbers, over those of digits. Assumes nothing.
+use Rattle.std.specs.Prelude.{Option, Some, None}
 use mathlib.Core.Path.{◌≡◌, refl, ap, ◌∙◌}
 use mathlib.Core.Bool.{cond}
 use mathlib.Core.List.{List, [], ◌∷◌}
@@ -12,8 +13,6 @@ use lib.Seq.{take_all}
 use mir.Syntax.{w64}
 use mir.Val.{SFits, to_z, of_z}
 use mir.Facts.{to_z_pos, to_z-of_z}
-use Rattle.leaf_words.specs.declared.numbers.Numeral.{Numeral}
-use Rattle.leaf_words.specs.declared.numbers.Numeral.TheVariants.{Of, Neither}
 use Rattle.leaf_words.specs.declared.words.Word.{Word}
 use Rattle.leaf_words.specs.declared.words.Word.TheVariants.{Number, Unknown}
 use Rattle.leaf_words.specs.Numbers.{numeral, decimal, decimal_of, signed, hexadecimal, hex_of, number_of}
@@ -39,11 +38,11 @@ module _ (n : ℕ) where
     unfolding signed
     signed_high = to_z-of_z signed-fits ∙ rw (narrow l, lt-leb n 2147483647 h)
 
-pub ruleset signed-laws = (signed_low, signed-fits, signed_high)
+pub ruleset signed_laws = (signed_low, signed-fits, signed_high)
 
 -- ---- `decimal_of`
-module _ (w : List ℕ) (n : Numeral) (e : n ≡ numeral 10 2147483647 w) where
-  module _ (v : ℕ) (f : n ≡ Of v) where
+module _ (w : List ℕ) (n : Option ℕ) (e : n ≡ numeral 10 2147483647 w) where
+  module _ (v : ℕ) (f : n ≡ Some v) where
     decimal-small : v ≤ 2147483647
     decimal-small = numeral-small 10 2147483647 v w n e f
 
@@ -54,11 +53,11 @@ module _ (w : List ℕ) (n : Numeral) (e : n ≡ numeral 10 2147483647 w) where
     unfolding decimal_of decimal
     decimal-number = rw (narrow v (omega (arith, decimal-small)), ← e, f)
 
-  pub decimal-neither : n ≡ Neither → Unknown ≡ decimal_of w
+  pub decimal-neither : n ≡ None → Unknown ≡ decimal_of w
   unfolding decimal_of decimal
   decimal-neither f = rw (← e, f)
 
-pub ruleset decimal-laws = (decimal-fits, decimal-number, decimal-neither)
+pub ruleset decimal_laws = (decimal-fits, decimal-number, decimal-neither)
 
 -- ---- `hex_of`
 module _ (w : List ℕ) where
@@ -70,8 +69,8 @@ module _ (w : List ℕ) where
   unfolding hex_of
   hex-long l = rw (le-leb 1 (length w) (omega arith), lt-leb (length w) 8 l)
 
-  module _ (n : Numeral) (e : n ≡ numeral 16 4294967295 w) where
-    pub hex-small : (v : ℕ) → n ≡ Of v → v ≤ 4294967295
+  module _ (n : Option ℕ) (e : n ≡ numeral 16 4294967295 w) where
+    pub hex-small : (v : ℕ) → n ≡ Some v → v ≤ 4294967295
     hex-small v f = numeral-small 16 4294967295 v w n e f
 
     module _ (h : (length w ≡ 0) → ⊥) (l : length w ≤ 8) where
@@ -79,15 +78,15 @@ module _ (w : List ℕ) where
       unfolding hex_of
       hex-is = rw (le-leb 1 (length w) (omega arith), le-leb (length w) 8 l, e)
 
-      pub hex-number : (v : ℕ) (z : ℤ) → n ≡ Of v → z ≡ signed v → SFits w64 z → Number (to_z w64 (of_z w64 z)) ≡ hex_of w
+      pub hex-number : (v : ℕ) (z : ℤ) → n ≡ Some v → z ≡ signed v → SFits w64 z → Number (to_z w64 (of_z w64 z)) ≡ hex_of w
       unfolding hexadecimal
       hex-number v z f g s = rw (hex-is, f, to_z-of_z s, g)
 
-      pub hex-neither : n ≡ Neither → Unknown ≡ hex_of w
+      pub hex-neither : n ≡ None → Unknown ≡ hex_of w
       unfolding hexadecimal
       hex-neither f = rw (hex-is, f)
 
-pub ruleset hex-laws = (hex-none, hex-long, hex-small, hex-number, hex-neither)
+pub ruleset hex_laws = (hex-none, hex-long, hex-small, hex-number, hex-neither)
 
 -- ---- `number_of`
 pub number-none : (w : List ℕ) → length w ≡ 0 → Unknown ≡ number_of w
@@ -110,4 +109,4 @@ module _ (w : List ℕ) (n : (length w ≡ 0) → ⊥) (r : Word) where
   pub number-decimal : ((get_or w 0 0 ≡ 35) → ⊥) → r ≡ decimal_of w → r ≡ number_of w
   number-decimal e f = rw (number_is w n, ne_eqb (get_or w 0 0) 35 e) f
 
-pub ruleset number-laws = (number-none, number-hex, number-decimal)
+pub ruleset number_laws = (number-none, number-hex, number-decimal)

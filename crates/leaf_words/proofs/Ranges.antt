@@ -1,4 +1,5 @@
 -- What a word is lies in range: a number in the 32-bit integers, a reserved word and an operator in their lists. Assumes nothing.
+use Rattle.std.specs.Prelude.{Option, Some, None}
 use mathlib.Core.Path.{◌≡◌, refl}
 use mathlib.Core.Bool.{Bool, true, false, cond, ◌&&◌}
 use mathlib.Core.List.{List, [], ◌∷◌}
@@ -8,8 +9,6 @@ use borrow.Author.Tests.{ltb-true, leb-true, leb-false}
 use lib.Dec.{eqb, leb, ltb}
 use lib.ListN.{length}
 use lib.Signed.{mag}
-use Rattle.leaf_words.specs.declared.numbers.Numeral.{Numeral}
-use Rattle.leaf_words.specs.declared.numbers.Numeral.TheVariants.{Of, Neither}
 use Rattle.leaf_words.specs.declared.words.Word.{Word}
 use Rattle.leaf_words.specs.declared.words.Word.TheVariants.{Number, Name, Reserved, Operator, Unknown}
 use Rattle.leaf_bytes.specs.Names.{is_name}
@@ -35,15 +34,15 @@ signed-ranged n l = go (leb n 2147483647) refl
     go true e = rw e (omega (arith, leb-true n 2147483647 e))
     go false e = let h = leb-false n 2147483647 e in rw (e, below n l h) (omega arith)
 
-decimal-ranged : (n : Numeral) (w : List ℕ) → n ≡ numeral 10 2147483647 w → Ranged (decimal n)
+decimal-ranged : (n : Option ℕ) (w : List ℕ) → n ≡ numeral 10 2147483647 w → Ranged (decimal n)
 unfolding decimal
-decimal-ranged (Of v) w e = omega (arith, numeral-small 10 2147483647 v w (Of v) e refl)
-decimal-ranged Neither w e = tt
+decimal-ranged (Some v) w e = omega (arith, numeral-small 10 2147483647 v w (Some v) e refl)
+decimal-ranged None w e = tt
 
-hexadecimal-ranged : (n : Numeral) (w : List ℕ) → n ≡ numeral 16 4294967295 w → Ranged (hexadecimal n)
+hexadecimal-ranged : (n : Option ℕ) (w : List ℕ) → n ≡ numeral 16 4294967295 w → Ranged (hexadecimal n)
 unfolding hexadecimal
-hexadecimal-ranged (Of v) w e = signed-ranged v (numeral-small 16 4294967295 v w (Of v) e refl)
-hexadecimal-ranged Neither w e = tt
+hexadecimal-ranged (Some v) w e = signed-ranged v (numeral-small 16 4294967295 v w (Some v) e refl)
+hexadecimal-ranged None w e = tt
 
 -- either of two words
 either : (t : Bool) (a b : Word) → Ranged a → Ranged b → Ranged (cond t a b)

@@ -20,19 +20,20 @@ module _ (w : List ℕ) (t : Bool) (e : t ≡ is_name w) where
   unfolding named
   free-number r f g = rw (← e, f) g
 
-pub ruleset free-laws = (free-name, free-number)
+pub ruleset free_laws = (free-name, free-number)
 
-module _ (w : List ℕ) (k : ℕ) (e : k ≡ place_of w) where
-  pub word-reserved : k < 46 → Reserved k ≡ word_of w
-  unfolding word_of placed
-  word-reserved l = rw (← e, lt-ltb k 46 l)
+module _ (w : List ℕ) where
+  module _ (k : ℕ) (e : k ≡ place_of w) where
+    pub word-reserved : k < 46 → Reserved k ≡ word_of w
+    unfolding word_of placed
+    word-reserved l = rw (← e, lt-ltb k 46 l)
 
-  pub word-operator : 46 ≤ k → k < 57 → Operator (k - 46) ≡ word_of w
-  unfolding word_of placed
-  word-operator l m = rw (← e, le-ltb k 46 l, lt-ltb k 57 m)
+    pub word-operator : 46 ≤ k → k < 57 → Operator (k - 46) ≡ word_of w
+    unfolding word_of placed
+    word-operator l m = rw (← e, le-ltb k 46 l, lt-ltb k 57 m)
 
-  pub word-free : (r : Word) → 46 ≤ k → 57 ≤ k → r ≡ named (is_name w) w → r ≡ word_of w
+  pub word-free : (r : Word) → place_of w ≡ 57 → r ≡ named (is_name w) w → r ≡ word_of w
   unfolding word_of placed
-  word-free r l m f = rw (← e, le-ltb k 46 l, le-ltb k 57 m) f
+  word-free r e f = rw e f
 
 pub ruleset word_laws = (word-reserved, word-operator, word-free)

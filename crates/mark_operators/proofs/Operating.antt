@@ -29,8 +29,9 @@ use Rattle.table_kinds.specs.Functions.{node_of, told1, ruling1}
 use Rattle.table_kinds.proofs.TwoSided.{two-sided-rule}
 use Rattle.table_kinds.proofs.OneSided.{one-sided-rule}
 use Rattle.table_kinds.specs.declared.Side.{Side}
-use Rattle.table_kinds.specs.declared.Ruling.{Ruling}
-use Rattle.table_kinds.specs.declared.Ruling.TheVariants.{Misfit, Fits}
+use Rattle.table_kinds.specs.Kinds.{Ruling, fits}
+use Rattle.std.specs.Prelude.{Some, None}
+use Rattle.table_kinds.specs.declared.Ruled.{Ruled}
 use Rattle.code_calc.specs.Words.{no_result, greatest, word_of, applied1, InRange}
 use Rattle.code_calc.proofs.Combining.{value-again}
 use Rattle.code_calc.proofs.Ranging.{range-value, low-range, Bounded, plain, compute-ranged, compute1-ranged}
@@ -49,22 +50,22 @@ use Rattle.mark_operators.specs.Operations.{ruled_word, node_word, ruled_word1, 
 -- ---- by what an operator comes to
 
 module _ (r : Ruling) (c : Carried) where
-  pub ruled-misfit : (x y : ℤ) → r ≡ Misfit → c ≡ carried_of 0 no_result 0 → c ≡ ruled_word r x y
+  pub ruled-misfit : (x y : ℤ) → r ≡ None → c ≡ carried_of 0 no_result 0 → c ≡ ruled_word r x y
   unfolding ruled_word
   ruled-misfit x y h e = e ∙ rw h refl
 
-  pub ruled-fits : (x y z : ℤ) (n k : ℕ) → r ≡ Fits n k → SFits w64 x → SFits w64 y → SFits w64 z → z ≡ word_of (compute (operation_at (n - 9)) (wire x) (wire y))
-      → c ≡ carried_of k (wire z) 0 → c ≡ ruled_word r x y
+  pub ruled-fits : (x y z : ℤ) (q : Ruled) → r ≡ Some q → SFits w64 x → SFits w64 y → SFits w64 z → z ≡ word_of (compute (operation_at (q.node - 9)) (wire x) (wire y))
+      → c ≡ carried_of q.kind (wire z) 0 → c ≡ ruled_word r x y
   unfolding ruled_word
-  ruled-fits x y z n k h fx fy fz g e = e ∙ rw (h, to_z-of_z fz, g, to_z-of_z fx, to_z-of_z fy) refl
+  ruled-fits x y z q h fx fy fz g e = e ∙ rw (h, to_z-of_z fz, g, to_z-of_z fx, to_z-of_z fy) refl
 
-  pub ruled1-misfit : (lo hi x : ℤ) → r ≡ Misfit → c ≡ carried_of 0 no_result 0 → c ≡ ruled_word1 r lo hi x
+  pub ruled1-misfit : (lo hi x : ℤ) → r ≡ None → c ≡ carried_of 0 no_result 0 → c ≡ ruled_word1 r lo hi x
   unfolding ruled_word1
   ruled1-misfit lo hi x h e = e ∙ rw h refl
 
-  pub ruled1-fits : (lo hi x z : ℤ) (n k : ℕ) → r ≡ Fits n k → SFits w64 x → SFits w64 z → z ≡ node_word n lo hi (wire x) → c ≡ carried_of k (wire z) 0 → c ≡ ruled_word1 r lo hi x
+  pub ruled1-fits : (lo hi x z : ℤ) (q : Ruled) → r ≡ Some q → SFits w64 x → SFits w64 z → z ≡ node_word q.node lo hi (wire x) → c ≡ carried_of q.kind (wire z) 0 → c ≡ ruled_word1 r lo hi x
   unfolding ruled_word1
-  ruled1-fits lo hi x z n k h fx fz g e = e ∙ rw (h, to_z-of_z fz, g, to_z-of_z fx) refl
+  ruled1-fits lo hi x z q h fx fz g e = e ∙ rw (h, to_z-of_z fz, g, to_z-of_z fx) refl
 
 pub ruleset ruled-laws = (ruled-misfit, ruled-fits, sfits_of)
 

@@ -10,8 +10,8 @@ use Rattle.code.specs.Readback.{operation_at, operation1_at}
 use Rattle.law.specs.Types.{Types, ordinal?}
 use Rattle.table_kinds.specs.Kinds.{op_number}
 use Rattle.table_kinds.specs.Functions.{fun_number}
-use Rattle.table_kinds.specs.declared.Ruling.{Ruling}
-use Rattle.table_kinds.specs.declared.Ruling.TheVariants.{Misfit, Fits}
+use Rattle.table_kinds.specs.Kinds.{Ruling, fits}
+use Rattle.std.specs.Prelude.{Some, None}
 use Rattle.code_calc.specs.Words.{no_result, word_of, applied1}
 use Rattle.mark_values.specs.declared.values.Carried.{Carried}
 use Rattle.mark_values.specs.Values.{carried_of, Carries, Known}
@@ -20,8 +20,8 @@ use Rattle.table_scope.specs.declared.Scope.{Scope}
 -- ---- by what an operator comes to: its node's number and the kind of its result
 
 unfoldable pub ruled_word : Ruling → ℤ → ℤ → Carried
-ruled_word Misfit x y = carried_of 0 no_result 0
-ruled_word (Fits n k) x y = carried_of k (word_of (compute (operation_at (n - 9)) x y)) 0
+ruled_word None x y = carried_of 0 no_result 0
+ruled_word (Some r) x y = carried_of r.kind (word_of (compute (operation_at (r.node - 9)) x y)) 0
 
 -- one-sided, on a value whose kind has the bounds lo and hi
 unfoldable pub node_word : ℕ → ℤ → ℤ → ℤ → ℤ
@@ -29,8 +29,8 @@ node_word n lo hi x =
     cond (eqb n 38) (applied1 (pred_in lo hi) x) (cond (eqb n 39) (applied1 (succ_in lo hi) x) (applied1 (operation1_at (n - 29)) x))
 
 unfoldable pub ruled_word1 : Ruling → ℤ → ℤ → ℤ → Carried
-ruled_word1 Misfit lo hi x = carried_of 0 no_result 0
-ruled_word1 (Fits n k) lo hi x = carried_of k (node_word n lo hi x) 0
+ruled_word1 None lo hi x = carried_of 0 no_result 0
+ruled_word1 (Some r) lo hi x = carried_of r.kind (node_word r.node lo hi x) 0
 
 -- ---- the machine's steps
 

@@ -9,16 +9,16 @@ ghost use Rattle.mark_operators.specs.Operations.{ruled_word, node_word, ruled_w
 use code_calc::operators::{combine, pred, succ, unary};
 use code_calc::words::{GREATEST, signed_of};
 use mark_values::values::{Carried, STUCK, value, wanted};
-use table_kinds::{Ruling, one_sided, two_sided};
+use table_kinds::{Ruled, one_sided, two_sided};
 use table_scope::{describe, side_of};
 
 // A two-sided operator on two values, by what it comes to.
-fn ruled(r: Ruling, x: i64, y: i64) -> Carried
+fn ruled(r: Option<Ruled>, x: i64, y: i64) -> Carried
     ensures { result ≡ ruled_word r x y }
 {
     match r {
-        Ruling::Misfit => value(0, STUCK),
-        Ruling::Fits(n, kind) => value(kind, combine(n, x, y)),
+        None => value(0, STUCK),
+        Some(r) => value(r.kind, combine(r.node, x, y)),
     }
 }
 
@@ -56,12 +56,12 @@ fn at_node(n: u32, low: u32, high: u32, x: i64) -> i64
 }
 
 // A one-sided operator on a value, by what it comes to.
-fn ruled_one(r: Ruling, low: u32, high: u32, x: i64) -> Carried
+fn ruled_one(r: Option<Ruled>, low: u32, high: u32, x: i64) -> Carried
     ensures { result ≡ ruled_word1 r (signed low) (signed high) x }
 {
     match r {
-        Ruling::Misfit => value(0, STUCK),
-        Ruling::Fits(n, kind) => value(kind, at_node(n, low, high, x)),
+        None => value(0, STUCK),
+        Some(r) => value(r.kind, at_node(r.node, low, high, x)),
     }
 }
 

@@ -14,8 +14,8 @@ use mir.Val.{SFits}
 use mir.Facts.{to_z-of_z}
 use Rattle.leaf_integers.specs.Integers.{inside, least, most, exact}
 use Rattle.leaf_integers.specs.declared.Fault.{Fault}
-use Rattle.leaf_integers.specs.declared.Num.{Num}
-use Rattle.leaf_integers.specs.declared.Num.TheVariants.{Value, Failed}
+use Rattle.leaf_integers.specs.Integers.{Num}
+use Rattle.std.specs.Prelude.{Ok, Err}
 use Rattle.leaf_integers.proofs.Machine.{wire}
 use Rattle.leaf_integers.proofs.Order.{le_z-trans}
 use Rattle.leaf_integers.proofs.Ranges.{inside_is, inside_both, exact-value, ranged-fault}
@@ -104,10 +104,10 @@ module _ (l ts : List ℕ) (k : ℕ) (z : ℤ) (r : Carried) (i : Info) (ei : i 
 pub ruleset constant-laws = (constant-shape, constant-in, constant-out, sfits_of)
 
 module _ (l ts : List ℕ) (z : ℤ) (fz : SFits w64 z) (r : Carried) (n : Num) (e : n ≡ exact (neg_ℤ (wire z))) where
-  pub negative-value : (v : ℤ) → n ≡ Value v → SFits w64 v → Constants l ts 0 (wire v) r → Constants l ts 0 (neg_ℤ z) r
+  pub negative-value : (v : ℤ) → n ≡ Ok v → SFits w64 v → Constants l ts 0 (wire v) r → Constants l ts 0 (neg_ℤ z) r
   negative-value v h f C = rw (← to_z-of_z fz, (exact-value (neg_ℤ (wire z)) v (sym e ∙ h)).1, ← to_z-of_z f) C
 
-  pub negative-past : (f : Fault) → n ≡ Failed f → r ≡ carried_of 0 no_result 0 → Constants l ts 0 (neg_ℤ z) r
+  pub negative-past : (f : Fault) → n ≡ Err f → r ≡ carried_of 0 no_result 0 → Constants l ts 0 (neg_ℤ z) r
   unfolding exact
   negative-past f h g =
       let q : inside least most (neg_ℤ z) ≡ false = rw (to_z-of_z fz) at (ranged-fault _ f least most (neg_ℤ (wire z)) (sym e ∙ h)).0 in

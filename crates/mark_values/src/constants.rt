@@ -5,7 +5,7 @@ ghost use Rattle.mark_values.specs.Steps.{end_word, Constants, Ends, Latest};
 use crate::values::{Carried, STUCK, value};
 use code_calc::cells::latest;
 use code_calc::words::{Store, signed_of};
-use leaf_integers::{Num, in_range, neg};
+use leaf_integers::{in_range, neg};
 use table_scope::{Info, describe, host_of};
 
 // A constant z of a kind, which must be one of that kind's ordinals.
@@ -28,8 +28,8 @@ pub fn negative(work: &[u32], types: &[u32], z: i64) -> Carried
 {
     let n = neg(z);
     match n {
-        Num::Value(v) => constant(work, types, 0, v),
-        Num::Failed(_) => value(0, STUCK),
+        Ok(v) => constant(work, types, 0, v),
+        Err(_) => value(0, STUCK),
     }
 }
 

@@ -9,7 +9,7 @@ use lib.Dec.{eqb}
 use lib.IntN.{ℤ, pos}
 use Rattle.leaf_integers.specs.Integers.{inside, least, most, pick, ranged, exact}
 use Rattle.leaf_integers.specs.declared.Fault.TheVariants.{Overflow}
-use Rattle.leaf_integers.specs.declared.Num.TheVariants.{Value, Failed}
+use Rattle.std.specs.Prelude.{Ok, Err}
 use Rattle.leaf_words.specs.declared.words.Word as Word
 use Rattle.leaf_words.specs.declared.words.Word.TheVariants as W
 use Rattle.law.specs.Base.{Name, ◌>>=◌, find}
@@ -88,7 +88,7 @@ pub num-told : (k : ℕ) (z : ℤ) (q : ℕ) → ValueTold (named (some (const_o
 unfolding named ruled plain exact ranged pick
 num-told k z q = go (inside least most z)
   where
-    go : (t : Bool) → ValueTold (ruled t (some (const_of k z))) (num_valued k (pick t (Value z) (Failed Overflow)) q)
+    go : (t : Bool) → ValueTold (ruled t (some (const_of k z))) (num_valued k (pick t (Ok z) (Err Overflow)) q)
     go true = record { fault-is = refl; value-is = λ c h. (ap (λ c. c.kind) (fits-inj h), ap (λ c. c.value) (fits-inj h)) }
     go false = record { fault-is = refl; value-is = λ c h. unfit-fits h }
 

@@ -11,8 +11,8 @@ use mir.Facts.{to_z-of_z}
 use mir.Syntax.{w64}
 use Rattle.leaf_integers.specs.Integers.{exact}
 use Rattle.leaf_integers.specs.declared.Fault as ArithFault
-use Rattle.leaf_integers.specs.declared.Num.{Num}
-use Rattle.leaf_integers.specs.declared.Num.TheVariants.{Value, Failed}
+use Rattle.leaf_integers.specs.Integers.{Num}
+use Rattle.std.specs.Prelude.{Ok, Err}
 use Rattle.leaf_integers.proofs.Machine.{wire}
 use Rattle.leaf_bytes.specs.Bytes.{small}
 use Rattle.leaf_words.specs.Words.{word_of}
@@ -94,10 +94,10 @@ pub ruleset value-meant-laws = (value-unknown, value-type, value-var, value-proc
 -- ---- by a number
 
 module _ (k q : ℕ) (x : Num) (r : Valued) where
-  pub num-value : (z : ℤ) → x ≡ Value z → SFits w64 z → r ≡ valued Clear k (wire z) q → r ≡ num_valued k x q
+  pub num-value : (z : ℤ) → x ≡ Ok z → SFits w64 z → r ≡ valued Clear k (wire z) q → r ≡ num_valued k x q
   num-value z e p f = f ∙ rw (e, to_z-of_z p) refl
 
-  pub num-failed : (f : ArithFault.Fault) → x ≡ Failed f → r ≡ valued Kind 0 (pos 0) q → r ≡ num_valued k x q
+  pub num-failed : (f : ArithFault.Fault) → x ≡ Err f → r ≡ valued Kind 0 (pos 0) q → r ≡ num_valued k x q
   num-failed f e g = rw e g
 
 pub ruleset num_laws = (num-value, num-failed)
@@ -222,8 +222,8 @@ unfolding staged
 no_minus s at q o r e f = rw (e, f) (record { goes = λ k. absurd (false≢true (sym k)); says = λ σ. wrong-told })
 
 number-next : (k : ℕ) (x : Num) (q : ℕ) → (num_valued k x q).next ≡ q
-number-next k (Value y) q = refl
-number-next k (Failed f) q = refl
+number-next k (Ok y) q = refl
+number-next k (Err f) q = refl
 
 more-closed : {A : Type 0} (us : Trees Run) (a : A) → (us ≡ end → ⊥) → closed us a ≡ none
 unfolding closed

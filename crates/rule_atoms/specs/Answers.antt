@@ -1,8 +1,8 @@
 -- The answers for a type's name and for a constant, by what a word is alone and what it means as a name.
 use Rattle.std.specs.Prelude.{Bool, true, false, ℕ, ℤ, pos}
 use Rattle.leaf_integers.specs.Integers.{exact}
-use Rattle.leaf_integers.specs.declared.Num.{Num}
-use Rattle.leaf_integers.specs.declared.Num.TheVariants.{Value, Failed}
+use Rattle.leaf_integers.specs.Integers.{Num}
+use Rattle.std.specs.Prelude.{Ok, Err}
 use Rattle.law.specs.Calculate.{truth}
 use Rattle.rule_faults.specs.declared.Fault.{Fault}
 use Rattle.rule_faults.specs.declared.Fault.TheVariants.{Clear, Kind, Name, Form}
@@ -42,8 +42,8 @@ valued f k z q = record { fault = f; kind = k; value = z; next = q }
 
 -- a constant past the integers is a fault of row 8
 abbrev pub num_valued : ℕ → Num → ℕ → Valued
-num_valued k (Value z) q = valued Clear k z q
-num_valued k (Failed f) q = valued Kind 0 (pos 0) q
+num_valued k (Ok z) q = valued Clear k z q
+num_valued k (Err f) q = valued Kind 0 (pos 0) q
 
 abbrev pub value_meant : Meaning → ℕ → Valued
 value_meant meaning.Unknown q = valued Name 0 (pos 0) q

@@ -11,7 +11,7 @@ ghost use Rattle.text_heads.specs.Heads.{atom_of, expr_head_of};
 ghost use Rattle.rule_atoms.specs.Answers.{typed as typed_by, type_meant, type_by, valued as valued_by, num_valued, value_meant, value_by, is_minus};
 ghost use Rattle.rule_atoms.specs.Answering.{GivesType, GivesConstant, GivesMinus, minus_form, minus_number, minus_end, minus_by};
 
-use leaf_integers::{Num, fit, neg};
+use leaf_integers::{fit, neg};
 use leaf_words::words::Word;
 use rule_faults::Fault;
 use table_scope::{Meaning, Scope, meaning_of};
@@ -106,12 +106,12 @@ fn no_value(fault: Fault, next: usize) -> Valued
 }
 
 // A constant of a type by its exact value.
-fn num_valued(kind: u32, n: Num, next: usize) -> Valued
+fn num_valued(kind: u32, n: Result<i64, leaf_integers::Fault>, next: usize) -> Valued
     ensures { result ≡ num_valued kind n next }
 {
     match n {
-        Num::Value(z) => value_answer(Fault::Clear, kind, z, next),
-        Num::Failed(_) => no_value(Fault::Kind, next),
+        Ok(z) => value_answer(Fault::Clear, kind, z, next),
+        Err(_) => no_value(Fault::Kind, next),
     }
 }
 

@@ -3,8 +3,8 @@ use Rattle.std.specs.Prelude.{cond, List, [], ◌∷◌, ℕ, ltb}
 use Rattle.code.specs.Layout.{lay}
 use Rattle.table_kinds.specs.Kinds.{ruling2}
 use Rattle.table_kinds.specs.Functions.{ruling1}
-use Rattle.table_kinds.specs.declared.Ruling.{Ruling}
-use Rattle.table_kinds.specs.declared.Ruling.TheVariants.{Misfit, Fits}
+use Rattle.table_kinds.specs.Kinds.{Ruling, fits}
+use Rattle.std.specs.Prelude.{Some, None}
 use Rattle.rule_faults.specs.declared.Fault.TheVariants.{Kind}
 use Rattle.table_scope.specs.declared.Info.{Info}
 use Rattle.table_scope.specs.Descriptions.{info_of}
@@ -14,8 +14,8 @@ use Rattle.rule_faults.specs.Got.{lowest}
 use Rattle.rule_expr_nodes.specs.Nodes.{Made, failed_made, node_made, if_clear}
 
 unfoldable pub ruled_node : Ruling → ℕ → ℕ → ℕ → ℕ → List ℕ → Made
-ruled_node Misfit x y q t l = failed_made Kind 0 q t l
-ruled_node (Fits n k) x y q t l = node_made k q (lay (n ∷ x ∷ y ∷ []) t l)
+ruled_node None x y q t l = failed_made Kind 0 q t l
+ruled_node (Some r) x y q t l = node_made r.kind q (lay (r.node ∷ x ∷ y ∷ []) t l)
 
 unfoldable pub operated : List ℕ → List ℕ → ℕ → Got → Got → Made
 operated l ts op a b = ruled_node (ruling2 op (side_in l ts a.kind) (side_in l ts b.kind)) a.place b.place b.next b.top l
@@ -25,8 +25,8 @@ paired l ts op a b = if_clear (lowest a.fault b.fault) 0 b.next b.top l (operate
 
 -- one side; `pred` and `succ`, nodes 38 and 39, have their bounds
 unfoldable pub ruled_node1 : Ruling → Info → ℕ → ℕ → ℕ → List ℕ → Made
-ruled_node1 Misfit i x q t l = failed_made Kind 0 q t l
-ruled_node1 (Fits n k) i x q t l = node_made k q (lay (cond (ltb n 38) (n ∷ x ∷ []) (n ∷ x ∷ i.low ∷ i.high ∷ [])) t l)
+ruled_node1 None i x q t l = failed_made Kind 0 q t l
+ruled_node1 (Some r) i x q t l = node_made r.kind q (lay (cond (ltb r.node 38) (r.node ∷ x ∷ []) (r.node ∷ x ∷ i.low ∷ i.high ∷ [])) t l)
 
 unfoldable pub applied_clear : List ℕ → List ℕ → ℕ → Got → Made
 applied_clear l ts f a = ruled_node1 (ruling1 f (side_in l ts a.kind)) (info_of l ts a.kind) a.place a.next a.top l

@@ -1,11 +1,11 @@
 // The nodes of operators and functions, from the answers for their sides.
-ghost use Rattle.table_kinds.specs.declared.Ruling.TheVariants.{Fits};
+ghost use Rattle.table_kinds.specs.Kinds.{fits};
 ghost use Rattle.rule_expr_nodes.specs.Nodes.{Makes};
 ghost use Rattle.rule_expr_compounds.specs.Operators.{operated, paired, ruled_node1, applied_clear, applied};
 
 use rule_expr_nodes::nodes::node;
 use rule_faults::{Fault, Got, failed, is_clear, lowest};
-use table_kinds::{Ruling, one_sided, two_sided};
+use table_kinds::{one_sided, two_sided};
 use table_scope::{Info, describe, side_of};
 
 // A two-sided operator whose sides have no fault.
@@ -18,10 +18,10 @@ fn operate(work: &mut [u32], types: &[u32], op: usize, a: Got, b: Got) -> Got
         side_of(work, types, b.kind),
     );
     match x {
-        Ruling::Misfit => failed(Fault::Kind, 0, b.next, b.top),
-        Ruling::Fits(n, k) => {
-            let ns = [n, a.place, b.place];
-            node(work, k, b.next, b.top, &ns)
+        None => failed(Fault::Kind, 0, b.next, b.top),
+        Some(r) => {
+            let ns = [r.node, a.place, b.place];
+            node(work, r.kind, b.next, b.top, &ns)
         }
     }
 }
@@ -41,7 +41,7 @@ pub fn pair(work: &mut [u32], types: &[u32], op: usize, a: Got, b: Got) -> Got
 
 // A node of one part: `pred` and `succ` have their bounds.
 fn node_one(work: &mut [u32], i: Info, n: u32, kind: u32, a: Got) -> Got
-    ensures { Makes (ruled_node1 (Fits n kind) i a.place a.next a.top work.old) result work.new }
+    ensures { Makes (ruled_node1 (fits n kind) i a.place a.next a.top work.old) result work.new }
 {
     if n < code_ops::expr::PRED {
         let ns = [n, a.place];
@@ -57,8 +57,8 @@ fn operate_one(work: &mut [u32], types: &[u32], f: usize, a: Got) -> Got
 {
     let x = one_sided(f, side_of(work, types, a.kind));
     match x {
-        Ruling::Misfit => failed(Fault::Kind, 0, a.next, a.top),
-        Ruling::Fits(n, k) => node_one(work, describe(work, types, a.kind), n, k, a),
+        None => failed(Fault::Kind, 0, a.next, a.top),
+        Some(r) => node_one(work, describe(work, types, a.kind), r.node, r.kind, a),
     }
 }
 

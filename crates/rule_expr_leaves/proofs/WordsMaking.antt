@@ -13,8 +13,8 @@ use mir.Facts.{to_z-of_z}
 use Rattle.leaf_integers.specs.Integers.{inside, least, most, pick, ranged, exact}
 use Rattle.leaf_integers.specs.declared.Fault as ArithFault
 use Rattle.leaf_integers.specs.declared.Fault.TheVariants.{Overflow}
-use Rattle.leaf_integers.specs.declared.Num.{Num}
-use Rattle.leaf_integers.specs.declared.Num.TheVariants.{Value, Failed}
+use Rattle.leaf_integers.specs.Integers.{Num}
+use Rattle.std.specs.Prelude.{Ok, Err}
 use Rattle.leaf_integers.proofs.Machine.{wire}
 use Rattle.leaf_words.specs.declared.words.Word.{Word}
 use Rattle.leaf_words.specs.Words.{word_of}
@@ -204,23 +204,23 @@ pub ruleset alone-laws = (alone-leaf, alone-form, alone-shut)
 -- ---- the constant `(- z)`
 
 module _ (z : ℤ) (fit : SFits w64 z) (q t : ℕ) (l : List ℕ) (n : Num) (e : n ≡ exact (neg_ℤ (wire z))) (r : Got) where
-  exact-is : n ≡ pick (inside least most (neg_ℤ z)) (Value (neg_ℤ z)) (Failed Overflow)
+  exact-is : n ≡ pick (inside least most (neg_ℤ z)) (Ok (neg_ℤ z)) (Err Overflow)
   unfolding exact ranged
   exact-is = rw (to_z-of_z fit) at e
 
-  pub negative-in : (v : ℤ) (l' : List ℕ) → n ≡ Value v → SFits w64 v → Makes (literal_made 0 (wire v) q t l) r l' → Makes (literal_made 0 (neg_ℤ z) q t l) r l'
+  pub negative-in : (v : ℤ) (l' : List ℕ) → n ≡ Ok v → SFits w64 v → Makes (literal_made 0 (wire v) q t l) r l' → Makes (literal_made 0 (neg_ℤ z) q t l) r l'
   unfolding pick
   negative-in v l' f p m = let k : v ≡ neg_ℤ z = go (inside least most (neg_ℤ z)) (sym f ∙ exact-is) in rw (← k) (rw (to_z-of_z p) at m)
     where
-      go : (b : Bool) → Value v ≡ pick b (Value (neg_ℤ z)) (Failed Overflow) → v ≡ neg_ℤ z
+      go : (b : Bool) → Ok v ≡ pick b (Ok (neg_ℤ z)) (Err Overflow) → v ≡ neg_ℤ z
       go true h = cc
       go false h = absurd (let u : ◌≡◌ {A = ℕ} 0 1 = cc in omega arith)
 
-  pub negative-out : (f : ArithFault.Fault) → n ≡ Failed f → r ≡ failed_got Kind 0 q t → Makes (literal_made 0 (neg_ℤ z) q t l) r l
+  pub negative-out : (f : ArithFault.Fault) → n ≡ Err f → r ≡ failed_got Kind 0 q t → Makes (literal_made 0 (neg_ℤ z) q t l) r l
   unfolding pick literal_made
   negative-out f g m = let k : inside least most (neg_ℤ z) ≡ false = go (inside least most (neg_ℤ z)) (sym g ∙ exact-is) in rw k (record { given = m; left = refl })
     where
-      go : (b : Bool) → Failed f ≡ pick b (Value (neg_ℤ z)) (Failed Overflow) → b ≡ false
+      go : (b : Bool) → Err f ≡ pick b (Ok (neg_ℤ z)) (Err Overflow) → b ≡ false
       go true h = absurd (let u : ◌≡◌ {A = ℕ} 0 1 = cc in omega arith)
       go false h = refl
 

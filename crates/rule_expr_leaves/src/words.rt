@@ -4,7 +4,7 @@ ghost use Rattle.code.specs.Layout.{flag as flag_of};
 ghost use Rattle.rule_expr_nodes.specs.Nodes.{Makes, literal_made};
 ghost use Rattle.rule_expr_leaves.specs.Words.{whole_made, named_made, place_made, end_made, bound_made, Ends, After, StandsAlone};
 
-use leaf_integers::{Num, neg};
+use leaf_integers::neg;
 use leaf_words::words::Word;
 use rule_expr_nodes::cells::{cells, end_bits};
 use rule_expr_nodes::nodes::{literal, node};
@@ -148,7 +148,7 @@ pub fn negative(work: &mut [u32], z: i64, next: usize, top: u32) -> Got
 {
     let n = neg(z);
     match n {
-        Num::Value(v) => literal(work, 0, v, next, top),
-        Num::Failed(_) => failed(Fault::Kind, 0, next, top),
+        Ok(v) => literal(work, 0, v, next, top),
+        Err(_) => failed(Fault::Kind, 0, next, top),
     }
 }

@@ -32,8 +32,8 @@ use Rattle.table_kinds.specs.Functions.{fun_number, told1, node_of}
 use Rattle.code_ops.specs.Functions.{functions}
 use Rattle.table_kinds.proofs.TwoSided.{two-sided-rule}
 use Rattle.table_kinds.proofs.OneSided.{one-sided-rule}
-use Rattle.table_kinds.specs.declared.Ruling.{Ruling}
-use Rattle.table_kinds.specs.declared.Ruling.TheVariants.{Misfit, Fits}
+use Rattle.table_kinds.specs.Kinds.{Ruling, fits}
+use Rattle.std.specs.Prelude.{Some, None}
 use Rattle.text_heads.specs.declared.ExprHead.TheVariants.{Short, Two, One}
 use Rattle.text_heads.specs.Heads.{expr_head_meant}
 use Rattle.text_heads.specs.Parts.{rest, closed, expr_in}
@@ -193,7 +193,7 @@ module _ {s ts : List ℕ} {scope : Scope} {σ : Environment} {bs : List ℕ} {l
         by-rule (some r) = told-or (some (elaborated r.kind (calculate r.operation x.code y.code))) (λ e. absurd (none-some (sym e))) (λ c e. rw (← some_inj e) (refl, refl, rw (← la, ← lb) refl))
 
         by-test : (q t : Bool) → Told (or_unfit (given t (elaborated 1 (short_cut q x.code y.code)))) (λ e. e.kind) (λ e. lay_code e.code) t₀ l₀
-            (ruled_node (pick t (Fits (both q) 1) Misfit) a.place b.place b.next b.top l₂).got (ruled_node (pick t (Fits (both q) 1) Misfit) a.place b.place b.next b.top l₂).list
+            (ruled_node (pick t (fits (both q) 1) None) a.place b.place b.next b.top l₂).got (ruled_node (pick t (fits (both q) 1) None) a.place b.place b.next b.top l₂).list
         by-test q true = told-or (some (elaborated 1 (short_cut q x.code y.code))) (λ e. absurd (none-some (sym e))) (λ c e. rw (← some_inj e) (refl, refl, rw (← la, ← lb) refl))
         by-test q false = told-or none (λ _. refl) (λ c e. absurd (none-some e))
 
@@ -220,8 +220,8 @@ module _ {s ts : List ℕ} {scope : Scope} {σ : Environment} {bs : List ℕ} {l
 
 stays-ruled : (x : Ruling) (u v q t : ℕ) (l : List ℕ) → Stays (ruled_node x u v q t l) q t l
 unfolding ruled_node
-stays-ruled Misfit u v q t l = stays-failed Kind 0 q t l
-stays-ruled (Fits n k) u v q t l = stays-node k q t (n ∷ u ∷ v ∷ []) l
+stays-ruled None u v q t l = stays-failed Kind 0 q t l
+stays-ruled (Some r) u v q t l = stays-node r.kind q t (r.node ∷ u ∷ v ∷ []) l
 
 pub stays-paired : (l ts : List ℕ) (op : ℕ) (a b : Got) → Stays (paired l ts op a b) b.next b.top l
 unfolding paired operated
@@ -229,8 +229,8 @@ stays-paired l ts op a b = stays-clear (lowest a.fault b.fault) 0 b.next b.top l
 
 stays-ruled1 : (x : Ruling) (i : Info) (u q t : ℕ) (l : List ℕ) → Stays (ruled_node1 x i u q t l) q t l
 unfolding ruled_node1
-stays-ruled1 Misfit i u q t l = stays-failed Kind 0 q t l
-stays-ruled1 (Fits n k) i u q t l = stays-node k q t (cond (ltb n 38) (n ∷ u ∷ []) (n ∷ u ∷ i.low ∷ i.high ∷ [])) l
+stays-ruled1 None i u q t l = stays-failed Kind 0 q t l
+stays-ruled1 (Some r) i u q t l = stays-node r.kind q t (cond (ltb r.node 38) (r.node ∷ u ∷ []) (r.node ∷ u ∷ i.low ∷ i.high ∷ [])) l
 
 pub stays-applied : (l ts : List ℕ) (f : ℕ) (a : Got) → Stays (applied l ts f a) a.next a.top l
 unfolding applied applied_clear

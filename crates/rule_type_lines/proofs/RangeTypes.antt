@@ -16,8 +16,8 @@ use lib.IntN.{ℤ, pos, negsuc, ◌-ℤ◌}
 use lib.Signed.{le_z, lt_z}
 use Rattle.leaf_integers.specs.Integers.{inside, least, most, exact, ranged, pick}
 use Rattle.leaf_integers.specs.declared.Fault as ArithFault
-use Rattle.leaf_integers.specs.declared.Num.{Num}
-use Rattle.leaf_integers.specs.declared.Num.TheVariants.{Value, Failed}
+use Rattle.leaf_integers.specs.Integers.{Num}
+use Rattle.std.specs.Prelude.{Ok, Err}
 use Rattle.leaf_integers.proofs.Machine.{wire}
 use Rattle.leaf_sets.specs.Sets.{pattern_of}
 use Rattle.law.specs.Base.{Name, ◌>>=◌, given}
@@ -112,10 +112,10 @@ pub ruleset last-laws = (last-form, last_more, last-past)
 
 -- ---- bits
 
-pub flip-value : (m : Num) (v : ℤ) (p : ℕ) → m ≡ Value v → SFits w64 v → p ≡ pattern_of (wire v) → 4294967295 - p ≡ flipped_of m
+pub flip-value : (m : Num) (v : ℤ) (p : ℕ) → m ≡ Ok v → SFits w64 v → p ≡ pattern_of (wire v) → 4294967295 - p ≡ flipped_of m
 flip-value m v p e f g = rw (e, g, to_z-of_z f) refl
 
-pub flip-failed : (m : Num) (f : ArithFault.Fault) → m ≡ Failed f → 0 ≡ flipped_of m
+pub flip-failed : (m : Num) (f : ArithFault.Fault) → m ≡ Err f → 0 ≡ flipped_of m
 flip-failed m f e = rw e refl
 
 pub ruleset flip-laws = (flip-value, flip-failed)

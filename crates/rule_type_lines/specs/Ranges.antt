@@ -2,8 +2,8 @@
 use Rattle.std.specs.Prelude.{true, cond, ◌&&◌, ◌≡◌, ℕ, ◌-◌, eqb, ℤ}
 use Rattle.std.specs.Int.Signed.{le_z}
 use Rattle.leaf_integers.specs.Integers.{inside, least, most}
-use Rattle.leaf_integers.specs.declared.Num.{Num}
-use Rattle.leaf_integers.specs.declared.Num.TheVariants.{Value, Failed}
+use Rattle.leaf_integers.specs.Integers.{Num}
+use Rattle.std.specs.Prelude.{Ok, Err}
 use Rattle.leaf_sets.specs.Sets.{pattern_of}
 use Rattle.code.specs.Layout.{bits}
 use Rattle.rule_faults.specs.declared.Fault.{Fault}
@@ -18,8 +18,8 @@ pub record IsBits (z : ℤ) (n : ℕ) : Type 0 where
 
 -- n for -(n + 1)
 abbrev pub flipped_of : Num → ℕ
-flipped_of (Value v) = 4294967295 - pattern_of v
-flipped_of (Failed f) = 0
+flipped_of (Ok v) = 4294967295 - pattern_of v
+flipped_of (Err f) = 0
 
 -- row 8: one kind, not reversed
 unfoldable pub range_fault : ℕ → ℤ → ℕ → ℤ → Fault

@@ -10,7 +10,7 @@ ghost use Rattle.rule_type_lines.specs.Ranges.{IsBits, flipped_of, range_fault, 
 
 use crate::Shaped;
 use crate::simple::no_shape;
-use leaf_integers::{Num, sub};
+use leaf_integers::sub;
 use leaf_sets::pattern;
 use rule_atoms::{Valued, constant};
 use rule_declarations::State;
@@ -47,12 +47,12 @@ pub fn last_constant(text: &[u8], work: &[u32], scope: Scope, at: usize) -> Valu
 }
 
 // The bits of a negative number, from the number n for -(n + 1).
-fn flipped(m: Num) -> u32
+fn flipped(m: Result<i64, leaf_integers::Fault>) -> u32
     ensures { result ≡ flipped_of m }
 {
     match m {
-        Num::Value(v) => 4294967295 - pattern(v),
-        Num::Failed(_) => 0,
+        Ok(v) => 4294967295 - pattern(v),
+        Err(_) => 0,
     }
 }
 

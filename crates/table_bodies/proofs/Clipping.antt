@@ -58,3 +58,7 @@ module _ (ts : List ℕ) (n : ℕ) (ts₀ : List ℕ) where
           go : (length us ≤ k) ⊎ (k < length us) → get_or us k 0 ≡ get_or (clip n ts) k 0
           go (inl q) = get_or-eq_default us 0 q ∙ clip-high n ts k (omega (arith, q, g, C.long))
           go (inr q) = C.places k (omega (arith, q, h, C.long)) q
+
+pub ruleset read_laws = (clip-read, clip-high)
+
+pub ruleset clip_laws = (clip-start, clip-step, clip-end)

@@ -17,23 +17,19 @@ const MOST_BODIES: usize = 33;
 pub const TABLE_LENGTH: usize = LINE_LENGTH * MOST_BODIES;
 
 // The place of type i as a body sees it that knows n types: 0 of a later one.
+#[tactic(auto, using(crate::proofs::Clipping::read_laws))]
 fn clipped(types: &[u32], n: u32, i: usize) -> u32
     ensures { result ≡ get_or (clip n types.now) i 0 }
 {
-    if i < n as usize {
-        return at(types, i);
-    }
-    0
+    if i < n as usize { at(types, i) } else { 0 }
 }
 
 // The places of the first n types; those of later ones are 0.
+#[tactic(auto, using(crate::proofs::Clipping::clip_laws))]
 pub fn clip_types(types: &[u32], n: u32, to: &mut [u32])
     ensures { Clips types.now n to.old to.new }
 {
-    let m = to.len();
-    let mut i = 0;
-    while i < m {
-        to[i] = clipped(types, n, i);
-        i += 1;
+    for (i, place) in to.iter_mut().enumerate() {
+        *place = clipped(types, n, i);
     }
 }

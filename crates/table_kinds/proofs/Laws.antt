@@ -15,7 +15,8 @@ use Rattle.code_ops.specs.Functions.{functions}
 use Rattle.table_kinds.specs.declared.Class.{Class}
 use Rattle.table_kinds.specs.declared.Class.TheVariants.{Integer, Boolean, Enum, Set, Whole}
 use Rattle.table_kinds.specs.declared.Side.{Side}
-use Rattle.table_kinds.specs.declared.Ruling.TheVariants.{Misfit, Fits}
+use Rattle.table_kinds.specs.Kinds.{fits}
+use Rattle.std.specs.Prelude.{None}
 
 -- ---- `row_of`
 pub row-integer : (c : Class) → c ≡ Integer → ◌≡◌ {A = ℕ} 0 (row_of c)
@@ -82,7 +83,7 @@ module _ (f c : ℕ) where
       let s : length (get_or table1 f []) ≤ 5 = row_at (λ (m : List ℕ). length m ≤ 5) (λ (g : Fun). map (λ (x : Class). cond (takes g x) (fun_node g) 0) classes) [] (λ g. lit≤ tt) (lit≤ tt) functions f in
       sym (get_or-eq_default (get_or table1 f []) 0 {n = c} (omega arith))
 
-pub ruleset node1-laws = (node1-fun, node1-class)
+pub ruleset node1_laws = (node1-fun, node1-class)
 
 -- ---- `partner`, `result_of`, `result_of_one`
 module _ (o k b : ℕ) where
@@ -94,7 +95,7 @@ module _ (o k b : ℕ) where
   unfolding partner_of
   partner-kind n = rw (ne_eqb o 12 n) refl
 
-pub ruleset partner-laws = (partner-base, partner-kind)
+pub ruleset partner_laws = (partner-base, partner-kind)
 
 module _ (n k : ℕ) where
   pub result-short : n < 9 → ◌≡◌ {A = ℕ} 1 (result_of n k)
@@ -113,7 +114,7 @@ module _ (n k : ℕ) where
   unfolding result_of
   result-boolean h = rw (le-ltb n 9 (omega arith), le-ltb n 15 (omega arith), le-ltb n 18 h) refl
 
-pub ruleset result-laws = (result-short, result-integer, result_own, result-boolean)
+pub ruleset result_laws = (result-short, result-integer, result_own, result-boolean)
 
 module _ (n k b : ℕ) where
   pub result-30 : n ≡ 30 → ◌≡◌ {A = ℕ} 1 (result_of1 n k b)
@@ -144,11 +145,11 @@ module _ (n k b : ℕ) where
   unfolding result_of1
   result-else g h i j p q = rw (ne_eqb n 30 g, ne_eqb n 33 h, ne_eqb n 36 i, ne_eqb n 37 j, ne_eqb n 38 p, ne_eqb n 39 q) refl
 
-pub ruleset result1-laws = (result-30, result-33, result-36, result-37, result-38, result-39, result-else)
+pub ruleset result1_laws = (result-30, result-33, result-36, result-37, result-38, result-39, result-else)
 
 -- ---- `two_sided`
 module _ (o : ℕ) (l r : Side) (p : ℕ) (i : p ≡ partner_of o r.kind r.base) where
-  pub two-away : ((l.kind ≡ p) → ⊥) → Misfit ≡ ruling2 o l r
+  pub two-away : ((l.kind ≡ p) → ⊥) → None ≡ ruling2 o l r
   unfolding ruling2 pick
   two-away n = rw (ne_eqb l.kind (partner_of o r.kind r.base) (λ e. n (e ∙ sym i))) refl
 
@@ -157,23 +158,23 @@ module _ (o : ℕ) (l r : Side) (p : ℕ) (i : p ≡ partner_of o r.kind r.base)
     unfolding ruling2 pick
     two_here = rw (eq-eqb l.kind (partner_of o r.kind r.base) (e ∙ i), ← f, ← g, ← h) refl
 
-    pub two-misfit : n ≡ 0 → Misfit ≡ ruling2 o l r
+    pub two-misfit : n ≡ 0 → None ≡ ruling2 o l r
     unfolding numbered pick
     two-misfit z = rw (eq-eqb n 0 z) at two_here
 
-    pub two_fits : (k : ℕ) → ((n ≡ 0) → ⊥) → k ≡ result_of n l.kind → Fits n k ≡ ruling2 o l r
+    pub two_fits : (k : ℕ) → ((n ≡ 0) → ⊥) → k ≡ result_of n l.kind → fits n k ≡ ruling2 o l r
     unfolding numbered pick
     two_fits k z w = rw w (rw (ne_eqb n 0 z) at two_here)
 
-pub ruleset two-laws = (two-away, two-misfit, two_fits)
+pub ruleset two_laws = (two-away, two-misfit, two_fits)
 
 -- ---- `one_sided`
 module _ (f : ℕ) (s : Side) (c n : ℕ) (e : c ≡ row_of s.class) (h : n ≡ node_at1 f c) where
-  pub one-misfit : n ≡ 0 → Misfit ≡ ruling1 f s
+  pub one-misfit : n ≡ 0 → None ≡ ruling1 f s
   unfolding ruling1 pick
   one-misfit z = rw (← e, ← h, eq-eqb n 0 z) refl
 
-  pub one-fits : (k : ℕ) → ((n ≡ 0) → ⊥) → k ≡ result_of1 n s.kind s.base → Fits n k ≡ ruling1 f s
+  pub one-fits : (k : ℕ) → ((n ≡ 0) → ⊥) → k ≡ result_of1 n s.kind s.base → fits n k ≡ ruling1 f s
   unfolding ruling1 pick
   one-fits k z w = rw (← e, ← h, ne_eqb n 0 z, w) refl
 

@@ -16,8 +16,9 @@ use Rattle.table_kinds.specs.Kinds.{class_at, side_of, Kinded, row_of, classes, 
 use Rattle.table_kinds.specs.Functions.{node_of, takes, fun_node, fun_number, table1, node_at1, result_of1, ruling1, told1}
 use Rattle.code_ops.specs.Functions.{functions}
 use Rattle.table_kinds.specs.declared.Class.{Class}
-use Rattle.table_kinds.specs.declared.Ruling.{Ruling}
-use Rattle.table_kinds.specs.declared.Ruling.TheVariants.{Misfit, Fits}
+use Rattle.table_kinds.specs.Kinds.{Ruling, fits}
+use Rattle.std.specs.Prelude.{None}
+use Rattle.table_kinds.specs.declared.Ruled.{Ruled}
 use Rattle.table_kinds.proofs.TwoSided.{class-at, is-integer, is-boolean, is-ordinal, is-set}
 
 fun-at : {B : Type 0} (g : Fun → B) (d : B) (f : Fun) → get_or (map g functions) (fun_number f) d ≡ g f
@@ -52,7 +53,7 @@ one-turned (suc (suc k)) = ne_eqb 1 (suc (suc k)) (λ h. omega arith) ∙ sym (n
 
 -- what an entry says, of a function that takes its side or does not
 abbrev ruled : ℕ → ℕ → ℕ → Ruling
-ruled n k b = pick (eqb n 0) Misfit (Fits n (result_of1 n k b))
+ruled n k b = pick (eqb n 0) None (fits n (result_of1 n k b))
 
 way : (p P : Bool) (n : ℕ) (x : Operation1) (j k b : ℕ) → p ≡ P → eqb n 0 ≡ false → n ≡ node_of x → result_of1 n k b ≡ j
     → ruled (cond p n 0) k b ≡ told1 (given P (rule1 x j))
@@ -102,12 +103,16 @@ module _ (Γ : Types) (K : Kinded Γ) (k : ℕ) where
 
 -- ---- what the answer says of the rule
 
-pub no-rule : (m : Option Rule1) → told1 m ≡ Misfit → m ≡ none
+pub no-rule : (m : Option Rule1) → told1 m ≡ None → m ≡ none
 unfolding told1
 no-rule none e = refl
 no-rule (some x) e = let z : ◌≡◌ {A = ℕ} 0 1 = cc in absurd (omega arith)
 
-pub a-rule : (m : Option Rule1) (n k : ℕ) → told1 m ≡ Fits n k → (x : Rule1) × (m ≡ some x) × (n ≡ node_of x.operation) × (k ≡ x.kind)
+fits-inj : (a b c d : ℕ) → fits a b ≡ fits c d → (a ≡ c) × (b ≡ d)
+fits-inj a b c d e =
+    let q : ◌≡◌ {A = Ruled} (record { node = a; kind = b }) (record { node = c; kind = d }) = cc in (ap (λ (r : Ruled). r.node) q, ap (λ (r : Ruled). r.kind) q)
+
+pub a-rule : (m : Option Rule1) (n k : ℕ) → told1 m ≡ fits n k → (x : Rule1) × (m ≡ some x) × (n ≡ node_of x.operation) × (k ≡ x.kind)
 unfolding told1
 a-rule none n k e = let z : ◌≡◌ {A = ℕ} 0 1 = cc in absurd (omega arith)
-a-rule (some x) n k e = (x, refl, cc, cc)
+a-rule (some x) n k e = let q = fits-inj _ _ _ _ e in (x, refl, sym q.0, sym q.1)

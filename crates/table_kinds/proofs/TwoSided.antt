@@ -16,8 +16,9 @@ use Rattle.law_theorems.proofs.ValuesInRange.{wrong}
 use Rattle.table_kinds.specs.Kinds.{TwoSided, strict, lazy, rows, row_number, entry_of, told_of, class_by, class_at, side_of, Kinded, row_of, classes, integer_class, boolean_class, ordinal_class, set_class, integers, booleans, ordinals, sets, operation_of, coded, op_number, table, node_at, partner_of, result_of, numbered, ruling2, told}
 use Rattle.table_kinds.specs.declared.Class.{Class}
 use Rattle.table_kinds.specs.declared.Class.TheVariants.{Integer, Boolean, Enum, Set, Whole}
-use Rattle.table_kinds.specs.declared.Ruling.{Ruling}
-use Rattle.table_kinds.specs.declared.Ruling.TheVariants.{Misfit, Fits}
+use Rattle.table_kinds.specs.Kinds.{Ruling, fits}
+use Rattle.std.specs.Prelude.{None}
+use Rattle.table_kinds.specs.declared.Ruled.{Ruled}
 
 -- ---- the entry at an operator and two classes
 
@@ -61,8 +62,8 @@ abbrev kind_of : Operation → ℕ → ℕ
 kind_of x k = result_of (9 + operation_number x) k
 
 unfoldable ruled : Option Operation → ℕ → Ruling
-ruled none k = Misfit
-ruled (some x) k = Fits (9 + operation_number x) (kind_of x k)
+ruled none k = None
+ruled (some x) k = fits (9 + operation_number x) (kind_of x k)
 
 numbered_is : (m : Option Operation) (k : ℕ) → numbered (coded m) k ≡ ruled m k
 unfolding numbered coded ruled pick
@@ -146,21 +147,21 @@ both-same n l r = go (eqb n l) (eqb n r) refl refl
     go false t e f = and_none (eqb l r)
 
 -- one test that passes where the kinds agree; two
-one_way : (e p P : Bool) (x : Operation) (k : ℕ) → (e && p) ≡ P → pick e (ruled (given p x) k) Misfit ≡ told (given P (rule x (kind_of x k)))
+one_way : (e p P : Bool) (x : Operation) (k : ℕ) → (e && p) ≡ P → pick e (ruled (given p x) k) None ≡ told (given P (rule x (kind_of x k)))
 unfolding pick ruled given told
 one_way true true P x k h = rw (← h) refl
 one_way true false P x k h = rw (← h) refl
 one_way false p P x k h = rw (← h) refl
 
 two_ways : (e p q P Q : Bool) (x y : Operation) (k : ℕ) → (e && p) ≡ P → (e && q) ≡ Q
-    → pick e (ruled (either (given p x) (given q y)) k) Misfit ≡ told (either (given P (rule x (kind_of x k))) (given Q (rule y (kind_of y k))))
+    → pick e (ruled (either (given p x) (given q y)) k) None ≡ told (either (given P (rule x (kind_of x k))) (given Q (rule y (kind_of y k))))
 unfolding pick ruled given either told
 two_ways true true q P Q x y k g h = rw (← g) refl
 two_ways true false true P Q x y k g h = rw (← g, ← h) refl
 two_ways true false false P Q x y k g h = rw (← g, ← h) refl
 two_ways false p q P Q x y k g h = rw (← g, ← h) refl
 
-short-way : (q e t : Bool) (k : ℕ) → pick e (numbered (cond t (both q) 0) k) Misfit ≡ pick (e && t) (Fits (both q) 1) Misfit
+short-way : (q e t : Bool) (k : ℕ) → pick e (numbered (cond t (both q) 0) k) None ≡ pick (e && t) (fits (both q) 1) None
 unfolding numbered pick result_of both
 short-way true true true k = refl
 short-way false true true k = refl
@@ -212,7 +213,7 @@ module _ (Γ : Types) (K : Kinded Γ) where
         go false false e f = refl
 
     -- the code's answer, with the entry in place of its number
-    start : (o : Op) → ruling2 (op_number o) (side_of Γ l) (side_of Γ r) ≡ pick (eqb l (partner_of (op_number o) r (base_of Γ r))) (ruled (operation_of o (class l) (class r)) l) Misfit
+    start : (o : Op) → ruling2 (op_number o) (side_of Γ l) (side_of Γ r) ≡ pick (eqb l (partner_of (op_number o) r (base_of Γ r))) (ruled (operation_of o (class l) (class r)) l) None
     unfolding ruling2 entry_of
     start o = rw (entry (strict o) (class l) (class r), numbered_is (operation_of o (class l) (class r)) l) refl
 
@@ -223,21 +224,21 @@ module _ (Γ : Types) (K : Kinded Γ) where
     short-rule false = rw (entry (lazy false) (class l) (class r), ← two-booleans) (short-way false (eqb l r) (booleans (class l) (class r)) l)
 
     -- the five ways of the table
-    arithmetic : (x y : Operation) → pick (eqb l r) (ruled (either (given (integers (class l) (class r)) x) (given (sets (class l) (class r)) y)) l) Misfit
+    arithmetic : (x y : Operation) → pick (eqb l r) (ruled (either (given (integers (class l) (class r)) x) (given (sets (class l) (class r)) y)) l) None
         ≡ told (either (given (both_integers l r) (rule x (kind_of x l))) (given (same_sets Γ l r) (rule y (kind_of y l))))
     arithmetic x y = two_ways (eqb l r) (integers (class l) (class r)) (sets (class l) (class r)) (both_integers l r) (same_sets Γ l r) x y l two-integers two-sets
 
-    comparison : (x y : Operation) → pick (eqb l r) (ruled (either (given (ordinals (class l) (class r)) x) (given (sets (class l) (class r)) y)) l) Misfit
+    comparison : (x y : Operation) → pick (eqb l r) (ruled (either (given (ordinals (class l) (class r)) x) (given (sets (class l) (class r)) y)) l) None
         ≡ told (either (given (same_ordinals Γ l r) (rule x (kind_of x l))) (given (same_sets Γ l r) (rule y (kind_of y l))))
     comparison x y = two_ways (eqb l r) (ordinals (class l) (class r)) (sets (class l) (class r)) (same_ordinals Γ l r) (same_sets Γ l r) x y l two-ordinals two-sets
 
-    integer-only : (x : Operation) → pick (eqb l r) (ruled (given (integers (class l) (class r)) x) l) Misfit ≡ told (given (both_integers l r) (rule x (kind_of x l)))
+    integer-only : (x : Operation) → pick (eqb l r) (ruled (given (integers (class l) (class r)) x) l) None ≡ told (given (both_integers l r) (rule x (kind_of x l)))
     integer-only x = one_way (eqb l r) (integers (class l) (class r)) (both_integers l r) x l two-integers
 
-    boolean-only : (x : Operation) → pick (eqb l r) (ruled (given (booleans (class l) (class r)) x) l) Misfit ≡ told (given (both_booleans l r) (rule x (kind_of x l)))
+    boolean-only : (x : Operation) → pick (eqb l r) (ruled (given (booleans (class l) (class r)) x) l) None ≡ told (given (both_booleans l r) (rule x (kind_of x l)))
     boolean-only x = one_way (eqb l r) (booleans (class l) (class r)) (both_booleans l r) x l two-booleans
 
-    ordinal-only : (x : Operation) → pick (eqb l r) (ruled (given (ordinals (class l) (class r)) x) l) Misfit ≡ told (given (same_ordinals Γ l r) (rule x (kind_of x l)))
+    ordinal-only : (x : Operation) → pick (eqb l r) (ruled (given (ordinals (class l) (class r)) x) l) None ≡ told (given (same_ordinals Γ l r) (rule x (kind_of x l)))
     ordinal-only x = one_way (eqb l r) (ordinals (class l) (class r)) (same_ordinals Γ l r) x l two-ordinals
 
     -- the theorem: the code's answer is the definition's, for every row and any two kinds
@@ -263,12 +264,16 @@ module _ (Γ : Types) (K : Kinded Γ) where
 
 -- ---- what the answer says of the rule
 
-pub no-rule : (m : Option Rule) → told m ≡ Misfit → m ≡ none
+pub no-rule : (m : Option Rule) → told m ≡ None → m ≡ none
 unfolding told
 no-rule none e = refl
 no-rule (some x) e = let z : ◌≡◌ {A = ℕ} 0 1 = cc in absurd (omega arith)
 
-pub a-rule : (m : Option Rule) (n k : ℕ) → told m ≡ Fits n k → (x : Rule) × (m ≡ some x) × (n ≡ 9 + operation_number x.operation) × (k ≡ x.kind)
+fits-inj : (a b c d : ℕ) → fits a b ≡ fits c d → (a ≡ c) × (b ≡ d)
+fits-inj a b c d e =
+    let q : ◌≡◌ {A = Ruled} (record { node = a; kind = b }) (record { node = c; kind = d }) = cc in (ap (λ (r : Ruled). r.node) q, ap (λ (r : Ruled). r.kind) q)
+
+pub a-rule : (m : Option Rule) (n k : ℕ) → told m ≡ fits n k → (x : Rule) × (m ≡ some x) × (n ≡ 9 + operation_number x.operation) × (k ≡ x.kind)
 unfolding told
 a-rule none n k e = let z : ◌≡◌ {A = ℕ} 0 1 = cc in absurd (omega arith)
-a-rule (some x) n k e = (x, refl, cc, cc)
+a-rule (some x) n k e = let q = fits-inj _ _ _ _ e in (x, refl, sym q.0, sym q.1)

@@ -1,5 +1,5 @@
 -- The table of function by class, and what a one-sided operator or function comes to at its side.
-use Rattle.std.specs.Prelude.{Bool, cond, List, [], map, ℕ, eqb, get_or}
+use Rattle.std.specs.Prelude.{Bool, cond, List, [], map, ℕ, eqb, get_or, None}
 use Rattle.std.proofs.Math.Option.{Option, none, some}
 use Rattle.law.specs.Base.{pick}
 use Rattle.code.specs.Layout.{node1}
@@ -7,8 +7,7 @@ use Rattle.law.specs.Operators.{Fun, negate, not_of, abs, sqr, odd, ord, pred, s
 use Rattle.table_kinds.specs.Kinds.{row_of, classes, integer_class, boolean_class, ordinal_class, set_class}
 use Rattle.table_kinds.specs.declared.Class.{Class}
 use Rattle.table_kinds.specs.declared.Side.{Side}
-use Rattle.table_kinds.specs.declared.Ruling.{Ruling}
-use Rattle.table_kinds.specs.declared.Ruling.TheVariants.{Misfit, Fits}
+use Rattle.table_kinds.specs.Kinds.{Ruling, fits}
 use Rattle.code_ops.specs.Functions.{functions}
 
 -- the number of a node of one part, as it is laid
@@ -72,9 +71,9 @@ result_of1 n k base =
 
 -- what the function of number f comes to
 unfoldable pub ruling1 : ℕ → Side → Ruling
-ruling1 f s = let n = node_at1 f (row_of s.class) in pick (eqb n 0) Misfit (Fits n (result_of1 n s.kind s.base))
+ruling1 f s = let n = node_at1 f (row_of s.class) in pick (eqb n 0) None (fits n (result_of1 n s.kind s.base))
 
 -- a rule of the definition, as the code tells it
 unfoldable pub told1 : Option Rule1 → Ruling
-told1 none = Misfit
-told1 (some x) = Fits (node_of x.operation) x.kind
+told1 none = None
+told1 (some x) = fits (node_of x.operation) x.kind

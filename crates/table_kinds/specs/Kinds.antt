@@ -1,5 +1,5 @@
 -- The table of operator by left class by right class, and what an operator comes to at its sides (law, Operators and Layout).
-use Rattle.std.specs.Prelude.{◌≡◌, Bool, true, false, cond, ◌&&◌, List, [], ◌∷◌, ◌++◌, map, ℕ, zero, suc, ◌+◌, eqb, ltb, get_or}
+use Rattle.std.specs.Prelude.{◌≡◌, Bool, true, false, cond, ◌&&◌, List, [], ◌∷◌, ◌++◌, map, ℕ, zero, suc, ◌+◌, eqb, ltb, get_or, Some, None}
 use Rattle.std.proofs.Math.Option.{Option, none, some}
 use Rattle.law.specs.Base.{given, either, pick}
 use Rattle.code.specs.Layout.{both, operation_number}
@@ -8,8 +8,8 @@ use Rattle.law.specs.Types.{Types, Shape, ordinal_shape, set_shape, array_shape,
 use Rattle.table_kinds.specs.declared.Class.{Class}
 use Rattle.table_kinds.specs.declared.Class.TheVariants.{Integer, Boolean, Enum, Set, Whole}
 use Rattle.table_kinds.specs.declared.Side.{Side}
-use Rattle.table_kinds.specs.declared.Ruling.{Ruling}
-use Rattle.table_kinds.specs.declared.Ruling.TheVariants.{Misfit, Fits}
+use Rattle.std.specs.Prelude as P
+use Rattle.table_kinds.specs.declared.Ruled.{Ruled}
 use Rattle.code_ops.specs.Operators.{operators}
 
 -- ---- a kind's class
@@ -164,20 +164,27 @@ partner_of o k base = cond (eqb o 12) base k
 unfoldable pub result_of : ℕ → ℕ → ℕ
 result_of n k = cond (ltb n 9) 1 (cond (ltb n 15) 0 (cond (ltb n 18) k 1))
 
+-- what an operator comes to, if it fits: its node's number and the kind of its result
+abbrev pub Ruling : Type 0
+Ruling = P.Option Ruled
+
+abbrev pub fits : ℕ → ℕ → Ruling
+fits n k = Some (record { node = n; kind = k })
+
 -- what an entry of the table says where the left side's kind is k
 unfoldable pub numbered : ℕ → ℕ → Ruling
-numbered n k = pick (eqb n 0) Misfit (Fits n (result_of n k))
+numbered n k = pick (eqb n 0) None (fits n (result_of n k))
 
 -- what the operator of number o comes to
 unfoldable pub ruling2 : ℕ → Side → Side → Ruling
-ruling2 o l r = pick (eqb l.kind (partner_of o r.kind r.base)) (numbered (node_at o (row_of l.class) (row_of r.class)) l.kind) Misfit
+ruling2 o l r = pick (eqb l.kind (partner_of o r.kind r.base)) (numbered (node_at o (row_of l.class) (row_of r.class)) l.kind) None
 
 -- a rule of the definition, as the code tells it
 unfoldable pub told : Option Rule → Ruling
-told none = Misfit
-told (some x) = Fits (9 + operation_number x.operation) x.kind
+told none = None
+told (some x) = fits (9 + operation_number x.operation) x.kind
 
 -- what the definitions say of two kinds, for each row: `operator_rule`, and the test of `elab_expr` at `short_circuit`
 abbrev pub told_of : Types → TwoSided → ℕ → ℕ → Ruling
 told_of Γ (strict o) l r = told (operator_rule Γ o l r)
-told_of Γ (lazy q) l r = pick (both_booleans l r) (Fits (both q) 1) Misfit
+told_of Γ (lazy q) l r = pick (both_booleans l r) (fits (both q) 1) None

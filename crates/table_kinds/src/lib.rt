@@ -7,7 +7,7 @@ ghost use Rattle.table_kinds.specs.Kinds.{lazy, row_number, row_of, node_at, par
 ghost use Rattle.table_kinds.specs.Functions.{node_at1, result_of1, ruling1};
 
 // What a kind is to an operator: one of the two built-in kinds, another ordinal, a set, or an array or record.
-#[derive(Clone, Copy)]
+#[derive(Clone, Copy, PartialEq, Eq)]
 pub enum Class {
     Integer,
     Boolean,
@@ -17,18 +17,18 @@ pub enum Class {
 }
 
 // One side of an operator: its kind, that kind's class, and of a set the kind of its members.
-#[derive(Clone, Copy)]
+#[derive(Clone, Copy, PartialEq, Eq)]
 pub struct Side {
     pub class: Class,
     pub kind: u32,
     pub base: u32,
 }
 
-// What an operator comes to: nothing, or the number of its node in the code and the kind of its result.
-#[derive(Clone, Copy)]
-pub enum Ruling {
-    Misfit,
-    Fits(u32, u32),
+// What an operator that fits comes to: the number of its node in the code, and the kind of its result.
+#[derive(Clone, Copy, PartialEq, Eq)]
+pub struct Ruled {
+    pub node: u32,
+    pub kind: u32,
 }
 
 // The number of `in`, whose left side is compared with the members of its right side.
@@ -208,6 +208,7 @@ const ONE_SIDED: [[u32; 5]; 11] = [
 ];
 
 // The place of a class in the tables.
+#[tactic(auto, using(crate::proofs::Laws::row_laws))]
 fn row_of(c: Class) -> usize
     ensures { result ≡ row_of c }
 {
@@ -221,112 +222,97 @@ fn row_of(c: Class) -> usize
 }
 
 // The entry of the first table, or 0 where it has none.
+#[tactic(auto, using(crate::proofs::Laws::node_laws))]
 fn node_at(op: usize, left: usize, right: usize) -> u32
     ensures { result ≡ node_at op left right }
 {
-    if op >= 17 {
-        return 0;
-    }
-    if left >= 5 {
-        return 0;
-    }
-    if right >= 5 {
+    if op >= 17 || left >= 5 || right >= 5 {
         return 0;
     }
     TWO_SIDED[op][left][right]
 }
 
 // The kind that the left side must have.
+#[tactic(auto, using(crate::proofs::Laws::partner_laws))]
 fn partner(op: usize, right: u32, base: u32) -> u32
     ensures { result ≡ partner_of op right base }
 {
-    if op == MEMBER {
-        return base;
-    }
-    right
+    if op == MEMBER { base } else { right }
 }
 
 // The kind of the result of node n: integer of arithmetic, the sides' own of sets, else boolean, as of the short cuts before them.
+#[tactic(auto, using(crate::proofs::Laws::result_laws))]
 fn result_of(n: u32, kind: u32) -> u32
     ensures { result ≡ result_of n kind }
 {
     if n < code_ops::expr::TWO_SIDED {
-        return 1;
+        1
+    } else if n < code_ops::expr::UNION {
+        0
+    } else if n < code_ops::expr::EQUAL {
+        kind
+    } else {
+        1
     }
-    if n < code_ops::expr::UNION {
-        return 0;
-    }
-    if n < code_ops::expr::EQUAL {
-        return kind;
-    }
-    1
 }
 
 // The row of `and_then` (every) or `or_else` in the first table.
 pub fn short_row(every: bool) -> usize
     ensures { result ≡ row_number (lazy every) }
 {
-    if every {
-        return 15;
-    }
-    16
+    if every { 15 } else { 16 }
 }
 
 // What a two-sided operator comes to at its sides: their kinds must agree, and the table must have an entry for their classes.
-pub fn two_sided(op: usize, left: Side, right: Side) -> Ruling
+#[tactic(auto, using(crate::proofs::Laws::two_laws))]
+pub fn two_sided(op: usize, left: Side, right: Side) -> Option<Ruled>
     ensures { result ≡ ruling2 op left right }
 {
     let other = partner(op, right.kind, right.base);
     if left.kind != other {
-        return Ruling::Misfit;
+        return None;
     }
-    let c = left.class;
-    let d = right.class;
-    let n = node_at(op, row_of(c), row_of(d));
-    if n == 0 {
-        return Ruling::Misfit;
+    let node = node_at(op, row_of(left.class), row_of(right.class));
+    if node == 0 {
+        return None;
     }
-    let kind = result_of(n, left.kind);
-    Ruling::Fits(n, kind)
+    let kind = result_of(node, left.kind);
+    Some(Ruled { node, kind })
 }
 
 // The entry of the second table, or 0 where it has none.
+#[tactic(auto, using(crate::proofs::Laws::node1_laws))]
 fn node_at_one(f: usize, c: usize) -> u32
     ensures { result ≡ node_at1 f c }
 {
-    if f >= 11 {
-        return 0;
-    }
-    if c >= 5 {
+    if f >= 11 || c >= 5 {
         return 0;
     }
     ONE_SIDED[f][c]
 }
 
 // The kind of the result of node n: boolean of two, the members' of two, the side's own of two, else integer.
+#[tactic(auto, using(crate::proofs::Laws::result1_laws))]
 fn result_of_one(n: u32, kind: u32, base: u32) -> u32
     ensures { result ≡ result_of1 n kind base }
 {
     match n {
-        code_ops::expr::NOT => 1,
-        code_ops::expr::ODD => 1,
-        code_ops::expr::SETMIN => base,
-        code_ops::expr::SETMAX => base,
-        code_ops::expr::PRED => kind,
-        code_ops::expr::SUCC => kind,
+        code_ops::expr::NOT | code_ops::expr::ODD => 1,
+        code_ops::expr::SETMIN | code_ops::expr::SETMAX => base,
+        code_ops::expr::PRED | code_ops::expr::SUCC => kind,
         _ => 0,
     }
 }
 
 // What a one-sided operator or function comes to at its side.
-pub fn one_sided(f: usize, side: Side) -> Ruling
+#[tactic(auto, using(crate::proofs::Laws::one_laws))]
+pub fn one_sided(f: usize, side: Side) -> Option<Ruled>
     ensures { result ≡ ruling1 f side }
 {
-    let c = side.class;
-    let n = node_at_one(f, row_of(c));
-    if n == 0 {
-        return Ruling::Misfit;
+    let node = node_at_one(f, row_of(side.class));
+    if node == 0 {
+        return None;
     }
-    let kind = result_of_one(n, side.kind, side.base);
-    Ruling::Fits(n, kind)
+    let kind = result_of_one(node, side.kind, side.base);
+    Some(Ruled { node, kind })
 }

@@ -1,27 +1,26 @@
 -- Numbers written one after another, and a list that is zeroed.
 use mathlib.Core.Path.{◌≡◌, refl, sym, ap, ◌∙◌}
 use mathlib.Core.Bool.{Bool, true, false, cond}
-use mathlib.Core.List.{List, [], ◌∷◌}
+use mathlib.Core.List.{List, [], ◌∷◌, ◌++◌}
 use Prim.Native.Nat.{ℕ, zero, suc, ◌+◌, ◌<◌, ◌≤◌, min}
 use native.Mathlib.Omega.{arith}
 use native.Mathlib.Nat.{min-eq_left, min-eq_right}
-use borrow.Author.Fill.{fill_none, fill_more}
-use borrow.Author.Tests.{le-leb, leb-true}
+use borrow.Author.Tests.{le-leb, leb-true, leb-false}
 use lib.Dec.{leb}
-use lib.ListN.{length, get_or, set, take, length-set, drop_of_length-le, get_or-eq_default}
+use lib.ListN.{length, get_or, set, take, length-set, drop, replicate, drop_of_length-le, get_or-eq_default}
 use lib.Seq as Seq
 use Rattle.code.specs.Layout.{room, out, lay}
 use Rattle.law.specs.Whole.{work_after}
 use Rattle.table_list.specs.Laid.{Laid, zeroed}
 
 -- past the end there is 0, and nothing is set
-pub at-past : (l : List ℕ) (p : ℕ) → length l ≤ p → 0 ≡ get_or l p 0
-at-past l p h = sym (get_or-eq_default l 0 h)
+pub at_past : (l : List ℕ) (p : ℕ) → length l ≤ p → 0 ≡ get_or l p 0
+at_past l p h = sym (get_or-eq_default l 0 h)
 
-pub put-past : (l : List ℕ) (p n : ℕ) → length l ≤ p → l ≡ set l p n
-put-past [] p n h = refl
-put-past (x ∷ l) zero n h = absurd (omega arith)
-put-past (x ∷ l) (suc p) n h = ap (λ l. x ∷ l) (put-past l p n (omega arith))
+pub put_past : (l : List ℕ) (p n : ℕ) → length l ≤ p → l ≡ set l p n
+put_past [] p n h = refl
+put_past (x ∷ l) zero n h = absurd (omega arith)
+put_past (x ∷ l) (suc p) n h = ap (λ l. x ∷ l) (put_past l p n (omega arith))
 
 -- ---- numbers at the free place
 
@@ -68,39 +67,23 @@ lay-full ns t l h = go (leb (t + length ns) room) refl
 
 -- ---- zeroing
 
-pub record Zeroing (l₀ : List ℕ) (n : ℕ) (l : List ℕ) (i : ℕ) : Type 0 where
-  pub list : l ≡ zeroed i l₀
-  pub few : i ≤ n
-  pub long : length l ≡ length l₀
-
-pub zero-start : (l : List ℕ) (n : ℕ) → Zeroing l n l 0
-unfolding zeroed
-zero-start l n = record { list = fill_none l 0; few = omega arith; long = refl }
-
-pub zero_more : (l₀ : List ℕ) (n : ℕ) (l : List ℕ) (i : ℕ) → Zeroing l₀ n l i → i < n → n ≤ length l₀ → Zeroing l₀ n (set l i 0) (i + 1)
-unfolding zeroed
-zero_more l₀ n l i Z h g = record {
-  list = ap (λ l. set l i 0) Z.list ∙ fill_more i 0 l₀ (omega arith);
-  few = omega arith;
-  long = length-set l i 0 ∙ Z.long;
-}
-
-pub zero-done : (l₀ : List ℕ) (n : ℕ) (l : List ℕ) (i : ℕ) → Zeroing l₀ n l i → n ≤ i → l ≡ zeroed n l₀
-zero-done l₀ n l i Z h = let k : i ≡ n = omega (arith, Z.few) in Z.list ∙ ap (λ k. zeroed k l₀) k
-
 -- what every call leaves
-pub clear-short : (l l' : List ℕ) → length l < 16384 → l' ≡ zeroed (length l) l → l' ≡ work_after l
+clear-short : (l l' : List ℕ) → length l < 16384 → l' ≡ zeroed (length l) l → l' ≡ work_after l
 unfolding zeroed work_after
 clear-short l l' h e =
     let m : min 16384 (length l) ≡ length l = min-eq_right (omega arith) in
     rw (e, m, drop_of_length-le l {i = length l} (omega arith), drop_of_length-le l {i = 16384} (omega arith))
 
-pub clear-long : (l l' : List ℕ) → 16384 ≤ length l → l' ≡ zeroed 16384 l → l' ≡ work_after l
+clear-long : (l l' : List ℕ) → 16384 ≤ length l → l' ≡ zeroed 16384 l → l' ≡ work_after l
 unfolding zeroed work_after
 clear-long l l' h e = let m : min 16384 (length l) ≡ 16384 = min-eq_left h in rw (e, m)
 
-pub ruleset lay-laws = (lay-more, lay_done, lay-full)
+pub cleared : (l f : List ℕ) (n m : ℕ) → n ≡ min (length l) 16384 → f ≡ replicate m 0 → m ≡ n → f ++ drop n l ≡ work_after l
+unfolding zeroed
+cleared l f n m e g h = go (leb 16384 (length l)) refl
+  where
+    go : (b : Bool) → leb 16384 (length l) ≡ b → f ++ drop n l ≡ work_after l
+    go true t = let k = leb-true 16384 (length l) t in let q : n ≡ 16384 = omega arith in clear-long l (f ++ drop n l) k (rw (g, h, q) refl)
+    go false t = let k = leb-false 16384 (length l) t in let q : n ≡ length l = omega arith in clear-short l (f ++ drop n l) k (rw (g, h, q) refl)
 
-pub ruleset zero-laws = (zero_more, zero-done)
-
-pub ruleset clear-laws = (clear-short, clear-long)
+pub ruleset lay_laws = (lay-start, lay-more, lay_done, lay-full)

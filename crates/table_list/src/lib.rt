@@ -5,7 +5,7 @@
 ghost use Rattle.std.specs.Prelude.{◌≡◌, [], ◌∷◌, ◌≤◌, length, get_or, set};
 ghost use Rattle.code.specs.Layout.{lay as laid};
 ghost use Rattle.law.specs.Whole.{work_after};
-ghost use Rattle.table_list.specs.Laid.{Laid, zeroed};
+ghost use Rattle.table_list.specs.Laid.{Laid};
 
 // How many numbers of a working list are used; refusal 1 is for one that is "shorter than 16,384".
 pub const WORK_LENGTH: usize = 16384;
@@ -17,16 +17,15 @@ const WORK_END: u32 = WORK_LENGTH as u32;
 pub const TEXT_LENGTH: usize = 32768;
 
 // The number at a place, 0 past the end.
+#[tactic(auto, using(crate::proofs::Laying::at_past))]
 pub fn at(work: &[u32], p: usize) -> u32
     ensures { result ≡ get_or work.now p 0 }
 {
-    if p < work.len() {
-        return work[p];
-    }
-    0
+    if p < work.len() { work[p] } else { 0 }
 }
 
 // Sets the number at a place; past the end nothing is set.
+#[tactic(auto, using(crate::proofs::Laying::put_past))]
 pub fn put(work: &mut [u32], p: usize, n: u32)
     ensures { work.new ≡ set work.old p n }
 {
@@ -36,23 +35,20 @@ pub fn put(work: &mut [u32], p: usize, n: u32)
 }
 
 // Numbers at the free place, if there is room; the free place then.
+#[tactic(auto, using(crate::proofs::Laying::lay_laws))]
 pub fn lay(work: &mut [u32], top: u32, ns: &[u32]) -> u32
     ensures { Laid (laid ns.now top work.old) result work.new }
 {
-    let n = ns.len();
-    if n > WORK_LENGTH {
+    if ns.len() > WORK_LENGTH {
         return top;
     }
-    let width = n as u32;
+    let width = ns.len() as u32;
     if top > WORK_END - width {
         return top;
     }
     let p = top as usize;
-    let mut i = 0;
-    while i < n {
-        let x = at(ns, i);
-        put(work, p + i, x);
-        i += 1;
+    for (i, x) in ns.iter().enumerate() {
+        put(work, p + i, *x);
     }
     top + width
 }
@@ -61,30 +57,13 @@ pub fn lay(work: &mut [u32], top: u32, ns: &[u32]) -> u32
 pub fn slot(work: &mut [u32], top: u32) -> u32
     ensures { Laid (laid (0 ∷ []) top work.old) result work.new }
 {
-    let ns = [0];
-    lay(work, top, &ns)
-}
-
-// Sets the first n numbers to 0.
-fn zero(work: &mut [u32], n: usize)
-    requires { n ≤ length work.old }
-    ensures { work.new ≡ zeroed n work.old }
-{
-    let mut i = 0;
-    while i < n {
-        work[i] = 0;
-        i += 1;
-    }
+    lay(work, top, &[0])
 }
 
 // Leaves the list as every call must: the first 16,384 numbers are 0, or all if there are fewer.
 pub fn clear(work: &mut [u32])
     ensures { work.new ≡ work_after work.old }
 {
-    let n = work.len();
-    if n < WORK_LENGTH {
-        zero(work, n);
-    } else {
-        zero(work, WORK_LENGTH);
-    }
+    let n = work.len().min(WORK_LENGTH);
+    work[..n].fill(0);
 }

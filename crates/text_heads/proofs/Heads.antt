@@ -16,8 +16,8 @@ use Rattle.leaf_bytes.specs.Names.{is_name}
 use Rattle.leaf_words.specs.Numbers.{number_of, hex_of, hexadecimal, decimal_of, decimal, numeral}
 use Rattle.leaf_reserved.specs.Table.{reserved, operators, fixed, position, place_of}
 use Rattle.leaf_words.specs.Words.{word_of, named, placed}
-use Rattle.leaf_words.specs.declared.numbers.Numeral.{Numeral}
-use Rattle.leaf_words.specs.declared.numbers.Numeral.TheVariants.{Of, Neither}
+use Rattle.std.specs.Prelude as P
+use Rattle.std.specs.Prelude.{Some, None}
 use Rattle.leaf_words.specs.declared.words.Word as Kind
 use Rattle.leaf_words.specs.declared.words.Word.TheVariants as W
 use Rattle.law.specs.Base.{Name, ◌>>=◌, either, given, pick}
@@ -37,15 +37,15 @@ pub data Spelt (w : Run) : Kind.Word → Type 0 where
   spelt-operator : (k : ℕ) → k < 11 → get_or fixed (46 + k) [] ≡ map small w → Spelt w (W.Operator k)
   spelt-unknown : Spelt w W.Unknown
 
-decimal-spelt : (w : Run) (n : Numeral) → Spelt w (decimal n)
+decimal-spelt : (w : Run) (n : P.Option ℕ) → Spelt w (decimal n)
 unfolding decimal
-decimal-spelt w (Of n) = spelt-number _
-decimal-spelt w Neither = spelt-unknown
+decimal-spelt w (Some n) = spelt-number _
+decimal-spelt w None = spelt-unknown
 
-hexadecimal-spelt : (w : Run) (n : Numeral) → Spelt w (hexadecimal n)
+hexadecimal-spelt : (w : Run) (n : P.Option ℕ) → Spelt w (hexadecimal n)
 unfolding hexadecimal
-hexadecimal-spelt w (Of n) = spelt-number _
-hexadecimal-spelt w Neither = spelt-unknown
+hexadecimal-spelt w (Some n) = spelt-number _
+hexadecimal-spelt w None = spelt-unknown
 
 either-spelt : (w : Run) (t : Bool) (a b : Kind.Word) → Spelt w a → Spelt w b → Spelt w (cond t a b)
 either-spelt w true a b p q = p

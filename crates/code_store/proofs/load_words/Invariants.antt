@@ -1,9 +1,5 @@
 use Rattle.code_store.specs.Lending.{Loads}
-use Prim.Native.Nat.{◌-◌}
 use Rattle.code_store.proofs.load_words.Given as goal
 
 abbrev pub invariant-loop-i : goal.invariant-loop-i
 invariant-loop-i l = Loads l.values l.marks l.initial.store l.i l.store
-
-abbrev pub decreases-loop-i : goal.decreases-loop-i
-decreases-loop-i l = 2176 - l.i

@@ -1,9 +1,5 @@
 use Rattle.code_store.specs.Lending.{SavesMarks}
-use Prim.Native.Nat.{◌-◌}
 use Rattle.code_store.proofs.save_marks.Given as goal
 
 abbrev pub invariant-loop-i : goal.invariant-loop-i
 invariant-loop-i l = SavesMarks l.store l.initial.marks l.i l.marks
-
-abbrev pub decreases-loop-i : goal.decreases-loop-i
-decreases-loop-i l = l.n - l.i

@@ -1,9 +1,5 @@
 use Rattle.code_store.specs.Lending.{SavesValues}
-use Prim.Native.Nat.{◌-◌}
 use Rattle.code_store.proofs.save_values.Given as goal
 
 abbrev pub invariant-loop-i : goal.invariant-loop-i
 invariant-loop-i l = SavesValues l.store l.initial.values l.i l.values
-
-abbrev pub decreases-loop-i : goal.decreases-loop-i
-decreases-loop-i l = l.n - l.i

@@ -2,17 +2,7 @@ use Rattle.table_kinds.specs.Kinds.{row_of, operation_of, coded, entry_of, table
 use Rattle.code.specs.Layout.{both, operation_number}
 use Rattle.law.specs.Base.{given, either}
 use mathlib.Core.Path.{refl}
-use Rattle.table_kinds.proofs.Laws.{node_laws}
 use Rattle.table_kinds.proofs.node_at.Goals as goal
-
-pub returns-then-op-ge17 : goal.returns-then-op-ge17
-returns-then-op-ge17 c = search node_laws
-
-pub returns-then-left-ge5 : goal.returns-then-left-ge5
-returns-then-left-ge5 c = search node_laws
-
-pub returns-then-right-ge5 : goal.returns-then-right-ge5
-returns-then-right-ge5 c = search node_laws
 
 pub returns : goal.returns
 unfolding node_at table entry_of coded operation_of operation_number both row_of given either

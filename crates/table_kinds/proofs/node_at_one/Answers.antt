@@ -1,14 +1,7 @@
 use Rattle.table_kinds.specs.Functions.{takes, fun_node, table1, node_at1}
 use Rattle.table_kinds.specs.Kinds.{row_of}
 use mathlib.Core.Path.{refl}
-use Rattle.table_kinds.proofs.Laws.{node1-laws}
 use Rattle.table_kinds.proofs.node_at_one.Goals as goal
-
-pub returns-then-f-ge11 : goal.returns-then-f-ge11
-returns-then-f-ge11 c = search node1-laws
-
-pub returns-then-c-ge5 : goal.returns-then-c-ge5
-returns-then-c-ge5 c = search node1-laws
 
 pub returns : goal.returns
 unfolding node_at1 table1 takes fun_node row_of

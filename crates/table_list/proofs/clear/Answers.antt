@@ -1,8 +1,6 @@
-use Rattle.table_list.proofs.Laying.{clear-laws}
+use Rattle.std.proofs.Common.{ℕ, arith, length-take}
+use Rattle.table_list.proofs.Laying.{cleared}
 use Rattle.table_list.proofs.clear.Goals as goal
 
-pub returns-then-n-lt-WORK_LENGTH : goal.returns-then-n-lt-WORK_LENGTH
-returns-then-n-lt-WORK_LENGTH c = search clear-laws
-
-pub returns-else-n-lt-WORK_LENGTH : goal.returns-else-n-lt-WORK_LENGTH
-returns-else-n-lt-WORK_LENGTH c = search clear-laws
+pub returns : goal.returns
+returns c = cleared _ _ _ _ c.min-n.ensures (c.fill.ensures.after (λ y e. e)) (omega (arith, length-take {A = ℕ}))
