@@ -6,7 +6,6 @@
 ghost use Rattle.table_order.specs.Ordered.{Ranks, Finds, Marking, Ordered};
 
 use std::cmp::Ordering;
-
 use table_list::{at, put};
 use table_names::blocks::{SORTS, VALUES, find_value, first_value, order_at, rank_at};
 use table_names::keys::{OFFSETS, key_of};
@@ -43,14 +42,16 @@ fn insert(text: &[u8], work: &mut [u32], base: u32, i: u32)
 {
     let first = at(work, base as usize + 4 * i as usize);
     let mut j = i;
-    while j > 0 && comes_after(
-        text,
-        work,
-        base,
-        j - 1,
-        first / OFFSETS,
-        (first % OFFSETS) as usize,
-    ) {
+    while j > 0
+        && comes_after(
+            text,
+            work,
+            base,
+            j - 1,
+            first / OFFSETS,
+            (first % OFFSETS) as usize,
+        )
+    {
         copy_rank(work, base, j - 1, j);
         j -= 1;
     }
