@@ -33,8 +33,7 @@ use Rattle.law_theorems.proofs.Inversion.{some_inj, bind-some}
 use Rattle.code_calc.specs.Words.{greatest, InRange, Holds}
 use Rattle.code_calc.proofs.Joining.{bind-id}
 use Rattle.text_heads.specs.Parts.{rest, expr_in, exprs_in}
-use Rattle.text_parts.specs.declared.End.{End}
-use Rattle.text_parts.specs.declared.End.TheVariants as ending
+use Rattle.std.specs.Prelude.{Option, Some, None}
 use Rattle.text_parts.specs.Parts.{Shuts}
 use Rattle.text_skips.specs.Skips.{Skips}
 use Rattle.table_scope.specs.declared.Scope.{Scope}
@@ -138,8 +137,8 @@ module _ (s l ts : List ℕ) (ws : List ℤ) (scope : Scope) (x : Frame) (at : �
           subst (λ (y : ℕ). InWords vs y (arguments_of σ us es m)) (omega (arith, h, g)) (words_are (F.left eight σ S us U xs es i k m H) (no-parameter σ (drop j us) _ m (drop_of_length-le us b)));
     }
 
-    module _ (e : End) (E : Shuts s next e) where
-      pub no_more : (q : ℕ) → e ≡ ending.Past q → Gathers s l ts ws scope x at vs₀ vs (gathered.All j)
+    module _ (e : Option ℕ) (E : Shuts s next e) where
+      pub no_more : (q : ℕ) → e ≡ Some q → Gathers s l ts ws scope x at vs₀ vs (gathered.All j)
       unfolding exprs_of mark_arguments
       no_more q h = record {
         long = F.long;
@@ -150,7 +149,7 @@ module _ (s l ts : List ℕ) (ws : List ℤ) (scope : Scope) (x : Frame) (at : �
             words_are L (ap (λ (ys : Exprs). arguments_of σ (drop j us) ys m) (sym b));
       }
 
-      module _ (h : e ≡ ending.More) (t : ℕ) (T : t ≡ get_or l (x.types + j) 0) (z : ℤ) (A : Argues s l ts ws scope t next z) (fz : SFits w64 z) (g : j < n) where
+      module _ (h : e ≡ None) (t : ℕ) (T : t ≡ get_or l (x.types + j) 0) (z : ℤ) (A : Argues s l ts ws scope t next z) (fz : SFits w64 z) (g : j < n) where
         not_end : first (stack_at s next) ≡ end → ⊥
         not_end = rw h at E.says
 

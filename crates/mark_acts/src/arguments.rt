@@ -11,7 +11,7 @@ use mark_values::arguments::argument;
 use table_scope::Scope;
 use table_scope::frames::{Frame, MOST_PARAMETERS, parameter_type};
 use text_heads::DEPTH;
-use text_parts::{End, end_at};
+use text_parts::end_at;
 use text_skips::skip;
 
 // How many arguments there can be.
@@ -72,10 +72,10 @@ fn arguments(
     while j < n {
         let e = end_at(text, p);
         match e {
-            End::Past(_) => {
+            Some(_) => {
                 return Gathered::All(j);
             }
-            End::More => {
+            None => {
                 let t = parameter_type(work, x, j);
                 let z = argued(text, work, types, scope, store, t, p);
                 if z > GREATEST {

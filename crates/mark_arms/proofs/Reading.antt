@@ -31,8 +31,7 @@ use Rattle.law.specs.Words.{worded}
 use Rattle.law_theorems.proofs.Inversion.{none-some, some_inj, bind-some}
 use Rattle.rule_faults.specs.Got.{is_clear, fault_of}
 use Rattle.text_parts.specs.Parts.{Before, Shuts}
-use Rattle.text_parts.specs.declared.End.{End}
-use Rattle.text_parts.specs.declared.End.TheVariants as ending
+use Rattle.std.specs.Prelude.{Option as Maybe, Some, None}
 use Rattle.text_heads.specs.declared.Atom.{Atom}
 use Rattle.text_heads.specs.declared.Atom.TheVariants as AT
 use Rattle.text_heads.specs.declared.ExprHead.{ExprHead}
@@ -170,11 +169,11 @@ pub ruleset label-laws = (label-clear, label-past, sfits_of)
 
 -- ---- `spot_at`
 
-module _ (s : List ℕ) (at : ℕ) (e : End) (E : Shuts s at e) where
-  pub spot-none : (q : ℕ) → e ≡ ending.Past q → Spots s at spot.Last
+module _ (s : List ℕ) (at : ℕ) (e : Maybe ℕ) (E : Shuts s at e) where
+  pub spot-none : (q : ℕ) → e ≡ Some q → Spots s at spot.Last
   spot-none q h = record { says = ap rest (rw h at E.says).here }
 
-  module _ (h : e ≡ ending.More) (q : ℕ) (K : Skips s at q) (f : End) (F : Shuts s q f) where
+  module _ (h : e ≡ None) (q : ℕ) (K : Skips s at q) (f : Maybe ℕ) (F : Shuts s q f) where
     here : (t : Tree Run) × Before s at t q
     here = go (first (stack_at s at)) refl
       where
@@ -182,10 +181,10 @@ module _ (s : List ℕ) (at : ℕ) (e : End) (E : Shuts s at e) where
         go end g = absurd ((rw h at E.says) g)
         go (t then us) g = (t, K.says t us g)
 
-    pub spot-last : (p : ℕ) → f ≡ ending.Past p → Spots s at spot.Last
+    pub spot-last : (p : ℕ) → f ≡ Some p → Spots s at spot.Last
     spot-last p g = record { says = ap rest here.1.here ∙ (rw g at F.says).here }
 
-    pub spot-marked : f ≡ ending.More → Spots s at (spot.Marked q)
+    pub spot-marked : f ≡ None → Spots s at (spot.Marked q)
     spot-marked g = record { says = record { part = here.0; before = here.1; more = rw g at F.says } }
 
 pub ruleset spot-laws = (spot-none, spot-last, spot-marked)

@@ -10,7 +10,7 @@ use rule_atoms::constant;
 use rule_faults::is_clear;
 use table_scope::Scope;
 use text_heads::{ArmHead, arm_head};
-use text_parts::{End, Part, end_at, part_at};
+use text_parts::{Part, end_at, part_at};
 use text_skips::skip;
 
 // A label: its kind and its value.
@@ -84,13 +84,13 @@ fn spot_at(text: &[u8], at: usize) -> Spot
 {
     let e = end_at(text, at);
     match e {
-        End::Past(_) => Spot::Last,
-        End::More => {
+        Some(_) => Spot::Last,
+        None => {
             let q = skip(text, at);
             let f = end_at(text, q);
             match f {
-                End::Past(_) => Spot::Last,
-                End::More => Spot::Marked(q),
+                Some(_) => Spot::Last,
+                None => Spot::Marked(q),
             }
         }
     }

@@ -32,8 +32,7 @@ use Rattle.text_heads.specs.Parts.{rest, expr_in, name_in}
 use Rattle.table_scope.specs.declared.Scope.{Scope}
 use Rattle.table_scope.specs.Descriptions.{info_of}
 use Rattle.table_scope.proofs.Telling.{kinded, shape-set}
-use Rattle.text_parts.specs.declared.End.{End}
-use Rattle.text_parts.specs.declared.End.TheVariants as ending
+use Rattle.std.specs.Prelude.{Option, Some, None}
 use Rattle.text_parts.specs.Parts.{Shuts}
 use Rattle.rule_atoms.specs.declared.Typed.{Typed}
 use Rattle.rule_atoms.specs.Answering.{GivesType}
@@ -98,8 +97,8 @@ module _ (s l ts : List ℕ) (ws : List ℤ) (scope : Scope) (d at : ℕ) where
 
     -- ---- `-`
 
-    module _ (q : ℕ) (Q : Skips s at q) (e : End) (E : Shuts s q e) where
-      pub minus_one : (n : ℕ) → e ≡ ending.Past n → Applies l ts 0 a r → MarksMinus s l ts ws scope d at r
+    module _ (q : ℕ) (Q : Skips s at q) (e : Option ℕ) (E : Shuts s q e) where
+      pub minus_one : (n : ℕ) → e ≡ Some n → Applies l ts 0 a r → MarksMinus s l ts ws scope d at r
       unfolding fun_number
       minus_one n h F = record { marks = λ N. record { says = λ σ S. record { says = λ x y g k m H. go N σ S x y g k m H (rest us) refl } } }
         where
@@ -108,7 +107,7 @@ module _ (s l ts : List ℕ) (ws : List ℤ) (scope : Scope) (d at : ℕ) where
           go N σ S x y g k m H end i = minus-side d us x (N.says i) i g (λ u hu j. side 0 F σ S negate refl u hu y (rw (← j) at k) m H)
           go N σ S x y g k m H (t then vs) i = minus-sides d us x t vs i g (λ u v hu hv j. absurd (no_both (sym i ∙ past-expr Q d u hu ∙ (rw h at E.says).here)))
 
-      pub minus-two : (b : Carried) → e ≡ ending.More → MarksExpr s l ts ws scope d q b → Operates l ts 1 a b r → MarksMinus s l ts ws scope d at r
+      pub minus-two : (b : Carried) → e ≡ None → MarksExpr s l ts ws scope d q b → Operates l ts 1 a b r → MarksMinus s l ts ws scope d at r
       unfolding op_number
       minus-two b h B F = record { marks = λ N. record { says = λ σ S. record { says = λ x y g k m H. go N σ S x y g k m H (rest us) refl } } }
         where

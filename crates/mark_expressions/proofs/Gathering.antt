@@ -29,8 +29,7 @@ use Rattle.code_calc.specs.Words.{greatest, Holds}
 use Rattle.code_calc.proofs.Joining.{joined-turn, joined-set, bind-id, bind-twice}
 use Rattle.code_calc.proofs.Ranging.{low-range}
 use Rattle.text_heads.specs.Parts.{part_of, rest, expr_in, exprs_in}
-use Rattle.text_parts.specs.declared.End.{End}
-use Rattle.text_parts.specs.declared.End.TheVariants as ending
+use Rattle.std.specs.Prelude.{Option, Some, None}
 use Rattle.text_parts.specs.Parts.{Shuts}
 use Rattle.text_skips.specs.Skips.{Skips}
 use Rattle.rule_expressions.specs.Members.{many}
@@ -101,8 +100,8 @@ module _ (s l ts : List ℕ) (ws : List ℤ) (scope : Scope) (t d at : ℕ) wher
     left = λ σ S xs es h k m H. record { forms = xs; exprs = es; read = h; known = k; whole = bind-id (mark_members σ.types σ.vars t es m) };
   }
 
-  module _ (next set : ℕ) (F : Sofar s l ts ws scope t d at next set) (e : End) (E : Shuts s next e) where
-    pub members-done : (q : ℕ) (z : ℤ) → e ≡ ending.Past q → z ≡ pos (value_of (members set)) → SFits w64 z → MarksMembers s l ts ws scope t d at (wire z)
+  module _ (next set : ℕ) (F : Sofar s l ts ws scope t d at next set) (e : Option ℕ) (E : Shuts s next e) where
+    pub members-done : (q : ℕ) (z : ℤ) → e ≡ Some q → z ≡ pos (value_of (members set)) → SFits w64 z → MarksMembers s l ts ws scope t d at (wire z)
     unfolding exprs_of mark_members
     members-done q z h g f = rw (to_z-of_z f, g, value-is set F.small-set) (record {
       says = λ σ S. record {
@@ -115,7 +114,7 @@ module _ (s l ts : List ℕ) (ws : List ℤ) (scope : Scope) (t d at : ℕ) wher
       };
     })
 
-    module _ (h : e ≡ ending.More) (x : Carried) (X : MarksExpr s l ts ws scope d next x) (z : ℤ) (A : Admits l ts t x z) (fz : SFits w64 z) where
+    module _ (h : e ≡ None) (x : Carried) (X : MarksExpr s l ts ws scope d next x) (z : ℤ) (A : Admits l ts t x z) (fz : SFits w64 z) where
       not_end : first (stack_at s next) ≡ end → ⊥
       not_end = rw h at E.says
 

@@ -15,7 +15,7 @@ use rule_expr_leaves::fields::{Sole, sole_name};
 use rule_expr_leaves::words::{Alone, number_alone};
 use table_scope::Scope;
 use text_heads::{ExprHead, expr_head};
-use text_parts::{End, Part, end_at, part_at};
+use text_parts::{Part, end_at, part_at};
 use text_skips::skip;
 
 // An expression, at most `depth` deep.
@@ -183,8 +183,8 @@ fn minus_parts(
     let q = skip(text, at);
     let e = end_at(text, q);
     match e {
-        End::Past(_) => apply(work, types, 0, a),
-        End::More => operate(
+        Some(_) => apply(work, types, 0, a),
+        None => operate(
             work,
             types,
             1,
@@ -243,10 +243,10 @@ fn member_list(
     loop {
         let e = end_at(text, next);
         match e {
-            End::Past(_) => {
+            Some(_) => {
                 return leaf_sets::value(set);
             }
-            End::More => {}
+            None => {}
         }
         let z = member(
             work,

@@ -34,8 +34,7 @@ use Rattle.text_heads.specs.Heads.{verb_of}
 use Rattle.text_heads.specs.Parts.{part_of, rest, expr_in, stmt_in, else_in, arms_in}
 use Rattle.text_heads.proofs.Expressions.{expr-end}
 use Rattle.text_heads.proofs.Statements.{stmt-end, stmt-zero, stmt-word, stmt-empty, stmt-headless}
-use Rattle.text_parts.specs.declared.End.{End}
-use Rattle.text_parts.specs.declared.End.TheVariants as ending
+use Rattle.std.specs.Prelude.{Option, Some, None}
 use Rattle.text_parts.specs.declared.Part.{Part}
 use Rattle.text_parts.specs.declared.Part.TheVariants as part
 use Rattle.text_parts.specs.Parts as Parts
@@ -276,12 +275,12 @@ module _ (s l us ts tb : List ℕ) (scope : Scope) (calls d n at : ℕ) (ws : Li
 pub ruleset if-laws = (if-halts, if-then, if-else, sfits_of)
 
 -- ---- `else_part`
-module _ (s l us ts tb : List ℕ) (scope : Scope) (calls d n at : ℕ) (ws : List ℤ) (left : ℕ) (e : End) (E : Shuts s at e) where
+module _ (s l us ts tb : List ℕ) (scope : Scope) (calls d n at : ℕ) (ws : List ℤ) (left : ℕ) (e : Option ℕ) (E : Shuts s at e) where
   skips-all : (F : Setting s l us ts tb scope calls) (t : State) → machine F Script.skip t ≡ answer normal t
   unfolding mark_stmt
   skips-all F t = refl
 
-  pub else-none : (q : ℕ) → e ≡ ending.Past q → MarksElse s l us ts tb scope calls d n at ws left ws left
+  pub else-none : (q : ℕ) → e ≡ Some q → MarksElse s l us ts tb scope calls d n at ws left ws left
   unfolding else_in stmt_of
   else-none q h = record {
     runs = λ F X.
@@ -296,7 +295,7 @@ module _ (s l us ts tb : List ℕ) (scope : Scope) (calls d n at : ℕ) (ws : Li
   else-read end p z h = absurd (z refl)
   else-read (t then ts) p z h = last-part _ ts p h
 
-  pub else-some : (ws' : List ℤ) (r : ℕ) → e ≡ ending.More → MarksStmt s l us ts tb scope calls d n at ws left ws' r → MarksElse s l us ts tb scope calls d n at ws left ws' r
+  pub else-some : (ws' : List ℤ) (r : ℕ) → e ≡ None → MarksStmt s l us ts tb scope calls d n at ws left ws' r → MarksElse s l us ts tb scope calls d n at ws left ws' r
   else-some ws' r h R = record {
     runs = λ F X. R.runs F (record { form = X.form; stmt = X.stmt; reads = else-read (first (stack_at s at)) X.form (rw h at E.says) X.reads; names = X.names; few = X.few });
     fewer = R.fewer;

@@ -18,8 +18,7 @@ use Rattle.law.specs.Trees.{Tree, word, form, Trees, end, ◌then◌, Run, first
 use Rattle.law_theorems.specs.Readings.{stack_at}
 use Rattle.law_theorems.proofs.Inversion.{some_inj, bind-some}
 use Rattle.text_heads.specs.Parts.{rest, stmt_in, stmts_in, body_in, handler_in}
-use Rattle.text_parts.specs.declared.End.{End}
-use Rattle.text_parts.specs.declared.End.TheVariants as ending
+use Rattle.std.specs.Prelude.{Option as Maybe, Some, None}
 use Rattle.text_parts.specs.Parts.{Shuts}
 use Rattle.rule_stmt_nodes.specs.declared.last.Next.{Next}
 use Rattle.rule_stmt_nodes.specs.declared.last.Next.TheVariants as following
@@ -215,13 +214,13 @@ module _ (s l us ts tb : List ℕ) (scope : Scope) (calls d n at : ℕ) (ws : Li
   as-stmts : (vs : List ℤ) (r : ℕ) → Walks (stmts_in d) s l us ts tb scope calls n at ws left vs r → MarksStmts s l us ts tb scope calls d n at ws left vs r
   as-stmts vs r W = record { runs = W.runs; fewer = W.fewer }
 
-  module _ (m p : ℕ) (vs : List ℤ) (t : ℕ) (G : Following (stmts_in d) s l us ts tb scope calls n at ws left m p vs t) (e : End) (E : Shuts s p e) where
-    pub stmts-end : (q : ℕ) → e ≡ ending.Past q → MarksStmts s l us ts tb scope calls d n at ws left vs t
+  module _ (m p : ℕ) (vs : List ℤ) (t : ℕ) (G : Following (stmts_in d) s l us ts tb scope calls n at ws left m p vs t) (e : Maybe ℕ) (E : Shuts s p e) where
+    pub stmts-end : (q : ℕ) → e ≡ Some q → MarksStmts s l us ts tb scope calls d n at ws left vs t
     unfolding stmts_in
     stmts-end q h = as-stmts vs t (chain-done (stmts_in d) s l us ts tb scope calls n at ws left m p vs t G
         (λ x k. ap (λ (y : Stmts × ℕ). y.0) (sym (some_inj (rw (rw h at E.says).here at k)))))
 
-    module _ (h : e ≡ ending.More) (os : List ℤ) (o : ℕ) (X : MarksStmt s l us ts tb scope calls d m p vs t os o) (i : Bool) (I : i ≡ ltb 4294967295 o) where
+    module _ (h : e ≡ None) (os : List ℤ) (o : ℕ) (X : MarksStmt s l us ts tb scope calls d m p vs t os o) (i : Bool) (I : i ≡ ltb 4294967295 o) where
       not_end : (first (stack_at s p) ≡ end) → ⊥
       not_end = rw h at E.says
 
@@ -273,7 +272,7 @@ module _ (s l us ts tb : List ℕ) (scope : Scope) (calls n at : ℕ) (ws : List
         pub front-next : i ≡ false → Following front_in s l us ts tb scope calls n at ws left m' q os o
         front-next k = chain_next front_in s l us ts tb scope calls n at ws left m p vs t G 33 m' q (front-split s p q r m m' Q C M plainly) os o X (going i o I k)
 
-pub stmts-falls : (s : List ℕ) (p q : ℕ) (e : End) → Shuts s p e → e ≡ ending.More → Skips s p q → many (first (stack_at s q)) < many (first (stack_at s p))
+pub stmts-falls : (s : List ℕ) (p q : ℕ) (e : Maybe ℕ) → Shuts s p e → e ≡ None → Skips s p q → many (first (stack_at s q)) < many (first (stack_at s p))
 stmts-falls s p q e E h Q = falls s p q Q (rw h at E.says)
 
 pub front-falls : (s : List ℕ) (p q : ℕ) (e : Next) → Comes s p e → e ≡ following.Stmt → Skips s p q → many (first (stack_at s q)) < many (first (stack_at s p))

@@ -18,7 +18,7 @@ use rule_stmt_nodes::last::{Next, next_at};
 use table_bodies::clip_types;
 use table_scope::{MOST_TYPES, Scope};
 use text_heads::{DEPTH, Verb, verb_of};
-use text_parts::{End, Part, end_at, part_at};
+use text_parts::{Part, end_at, part_at};
 use text_skips::skip;
 
 // A statement, at most `depth` deep.
@@ -189,10 +189,10 @@ fn stmts(
     loop {
         let e = end_at(text, p);
         match e {
-            End::Past(_) => {
+            Some(_) => {
                 return t;
             }
-            End::More => {
+            None => {
                 let o = mark_stmt(
                     text, work, all, types, bodies, scope, calls, depth, store, t, m, p,
                 );
@@ -272,8 +272,8 @@ fn else_part(
 {
     let e = end_at(text, at);
     match e {
-        End::Past(_) => left,
-        End::More => mark_stmt(
+        Some(_) => left,
+        None => mark_stmt(
             text, work, all, types, bodies, scope, calls, depth, store, left, n, at,
         ),
     }

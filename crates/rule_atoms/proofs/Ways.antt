@@ -37,8 +37,7 @@ use Rattle.table_scope.proofs.Telling.{meant}
 use Rattle.text_parts.specs.Parts.{Before, LeafAt, FormAt, ShutAt, Stands, Shuts}
 use Rattle.text_parts.specs.declared.Part.{Part}
 use Rattle.text_parts.specs.declared.Part.TheVariants as part
-use Rattle.text_parts.specs.declared.End.{End}
-use Rattle.text_parts.specs.declared.End.TheVariants as ending
+use Rattle.std.specs.Prelude.{Option as Maybe, Some, None}
 use Rattle.text_heads.specs.Heads.{atom_of, expr_head_of, atom_number, minus_pick}
 use Rattle.text_heads.specs.Parts.{part_of, closed, number_in, type_name_in, constant_in, constant_by}
 use Rattle.text_heads.specs.declared.Atom.{Atom}
@@ -230,8 +229,8 @@ unfolding closed
 more-closed end a k = absurd (k refl)
 more-closed (t then us) a k = refl
 
-module _ (s : List ℕ) (at : ℕ) (z : ℤ) (e : End) (h : Shuts s at e) (r : Valued) where
-  pub minus-past : (q : ℕ) (x : Num) → e ≡ ending.Past q → SFits w64 z → x ≡ exact (neg_ℤ (wire z)) → r ≡ num_valued 0 x q
+module _ (s : List ℕ) (at : ℕ) (z : ℤ) (e : Maybe ℕ) (h : Shuts s at e) (r : Valued) where
+  pub minus-past : (q : ℕ) (x : Num) → e ≡ Some q → SFits w64 z → x ≡ exact (neg_ℤ (wire z)) → r ≡ num_valued 0 x q
       → GivesMinus s at (minus_end z (first (stack_at s at))) r
   unfolding minus_end closed staged constant_of
   minus-past q x f p g k =
@@ -242,7 +241,7 @@ module _ (s : List ℕ) (at : ℕ) (z : ℤ) (e : End) (h : Shuts s at e) (r : V
         says = λ σ. rw (d.here, y) (num-told 0 (neg_ℤ z) q);
       })
 
-  pub minus-more : e ≡ ending.More → r ≡ valued Form 0 (pos 0) at → GivesMinus s at (minus_end z (first (stack_at s at))) r
+  pub minus-more : e ≡ None → r ≡ valued Form 0 (pos 0) at → GivesMinus s at (minus_end z (first (stack_at s at))) r
   unfolding minus_end
   minus-more f k =
       let d : first (stack_at s at) ≡ end → ⊥ = rw f at h.says in

@@ -16,7 +16,7 @@ use leaf_words::words::Word;
 use rule_faults::Fault;
 use table_scope::{Meaning, Scope, meaning_of};
 use text_heads::{Atom, ExprHead, atom_of, expr_head};
-use text_parts::{End, Part, end_at, part_at};
+use text_parts::{Part, end_at, part_at};
 
 // The answer for a type's name: its fault; with no fault the type; where the next part stands.
 #[derive(Clone, Copy)]
@@ -166,8 +166,8 @@ fn minus_end(text: &[u8], z: i64, at: usize) -> Valued
 {
     let e = end_at(text, at);
     match e {
-        End::Past(q) => num_valued(0, neg(z), q),
-        End::More => no_value(Fault::Form, at),
+        Some(q) => num_valued(0, neg(z), q),
+        None => no_value(Fault::Form, at),
     }
 }
 

@@ -34,8 +34,7 @@ use Rattle.rule_faults.specs.Got.{is_form, lowest, fault_of}
 use Rattle.text_parts.specs.Parts.{Before, LeafAt, FormAt, ShutAt, Stands, Shuts}
 use Rattle.text_parts.specs.declared.Part.{Part}
 use Rattle.text_parts.specs.declared.Part.TheVariants as part
-use Rattle.text_parts.specs.declared.End.{End}
-use Rattle.text_parts.specs.declared.End.TheVariants as ending
+use Rattle.std.specs.Prelude.{Option as Maybe, Some, None}
 use Rattle.text_heads.specs.Heads.{atom_of, atom_name}
 use Rattle.text_heads.specs.Parts.{part_of, rest, closed, name_in, type_name_in}
 use Rattle.text_heads.specs.declared.Atom.{Atom}
@@ -191,21 +190,21 @@ module _ (s l : List ℕ) (scope : Scope) (at : ℕ) (t : Typed) (G : GivesType 
       bound-none (type_name_in (first (stack_at s at))) _
       (none-wrong (type_name_in (first (stack_at s at))) (type_of σ) (λ _. true) some (sym (sym d ∙ form-is f (sym e ∙ i)) ∙ (G.says ts top σ bs S).fault-is))))
 
-  module _ (b : Bool) (e : b ≡ is_form f) (i : b ≡ false) (x : End) (E : Shuts s t.next x) where
+  module _ (b : Bool) (e : b ≡ is_form f) (i : b ≡ false) (x : Maybe ℕ) (E : Shuts s t.next x) where
     passed : (u : Tree Run) × Before s at u t.next
     passed = G.goes (ap is_form (sym d) ∙ sym e ∙ i)
 
     rest-is : rest (first (stack_at s at)) ≡ first (stack_at s t.next)
     rest-is = ap rest passed.1.here
 
-    pub last_more : x ≡ ending.More → r ≡ typed Form 0 at → GivesLastType s l scope at r
+    pub last_more : x ≡ None → r ≡ typed Form 0 at → GivesLastType s l scope at r
     unfolding last_type
     last_more j g =
         let m : first (stack_at s t.next) ≡ end → ⊥ = rw j at E.says in
         rw g (no_last s l scope at at (λ ts top σ bs S.
         bound-nones (type_name_in (first (stack_at s at))) _ (λ a. more-closed (rest (first (stack_at s at))) a (λ z. m (sym rest-is ∙ z)))))
 
-    pub last-past : (q : ℕ) → x ≡ ending.Past q → r ≡ typed f t.kind q → GivesLastType s l scope at r
+    pub last-past : (q : ℕ) → x ≡ Some q → r ≡ typed f t.kind q → GivesLastType s l scope at r
     unfolding last_type closed
     last-past q j g =
         let m : ShutAt s t.next q = rw j at E.says in

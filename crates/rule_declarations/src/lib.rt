@@ -24,7 +24,7 @@ use table_names::declare;
 use table_names::keys::name_number;
 use table_scope::{Meaning, Scope, TYPE_NUMBERS, describe, meaning_of};
 use text_heads::{Atom, atom_of};
-use text_parts::{End, Part, end_at, part_at};
+use text_parts::{Part, end_at, part_at};
 
 // How many notes the checker keeps beside the working list: by type number the places of the types' descriptions (the walks' `types`), below
 // 128; the others are free.
@@ -162,8 +162,8 @@ pub fn last_type(text: &[u8], work: &[u32], scope: Scope, at: usize) -> Typed
     }
     let e = end_at(text, t.next);
     match e {
-        End::Past(q) => type_answer(f, t.kind, q),
-        End::More => type_answer(Fault::Form, 0, at),
+        Some(q) => type_answer(f, t.kind, q),
+        None => type_answer(Fault::Form, 0, at),
     }
 }
 

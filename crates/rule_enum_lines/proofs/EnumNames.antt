@@ -22,8 +22,7 @@ use lib.Dec.{ltb}
 use lib.ListN.{length}
 use native.Mathlib.Decide.{dec_lt}
 use Rattle.text_parts.specs.Parts.{ShutAt, Shuts}
-use Rattle.text_parts.specs.declared.End.{End}
-use Rattle.text_parts.specs.declared.End.TheVariants as ending
+use Rattle.std.specs.Prelude.{Option as Maybe, Some, None}
 use Rattle.table_scope.specs.declared.Scope.{Scope}
 use Rattle.rule_faults.specs.declared.Fault.{Fault}
 use Rattle.rule_faults.specs.declared.Fault.TheVariants as fault
@@ -181,11 +180,11 @@ both-none a b e = rw e refl
 
 pub ruleset both-laws = (both_first, both-none)
 
-module _ (s : List ℕ) (p n : ℕ) (ok : Bool) (e : End) (E : Shuts s p e) (r : Counted) where
-  pub end-past : (q : ℕ) → e ≡ ending.Past q → (o : Bool) → o ≡ ok → (f : Fault) → f ≡ cond o fault.Clear fault.Name → r ≡ counted_by f n q → EndsNames s p n ok r
+module _ (s : List ℕ) (p n : ℕ) (ok : Bool) (e : Maybe ℕ) (E : Shuts s p e) (r : Counted) where
+  pub end-past : (q : ℕ) → e ≡ Some q → (o : Bool) → o ≡ ok → (f : Fault) → f ≡ cond o fault.Clear fault.Name → r ≡ counted_by f n q → EndsNames s p n ok r
   end-past q g o k f h i = let m : ShutAt s p q = rw g at E.says in rw (i, h, k) (ends_read q m.here m.around)
 
-  pub end_more : e ≡ ending.More → r ≡ counted_by fault.Form 0 p → EndsNames s p n ok r
+  pub end_more : e ≡ None → r ≡ counted_by fault.Form 0 p → EndsNames s p n ok r
   end_more g i = rw i (ends-wrong (rw g at E.says))
 
 pub ruleset end-laws = (end-past, end_more)

@@ -10,7 +10,7 @@ use rule_faults::Fault;
 use rule_repeats::blocks::differ_too;
 use table_names::same_word;
 use table_scope::{Meaning, Scope, meaning_of};
-use text_parts::{End, end_at};
+use text_parts::end_at;
 
 // Whether the word at x is among the free names from an offset on; the text is read again, since a line may have any number of names.
 pub fn listed(text: &[u8], x: usize, at: usize) -> bool
@@ -119,8 +119,8 @@ fn names_end(text: &[u8], at: usize, p: usize, n: u32, ok: bool) -> Counted
 {
     let e = end_at(text, p);
     match e {
-        End::Past(q) => names_answer(fresh_fault(differ_too(text, at, ok)), n, q),
-        End::More => names_answer(Fault::Form, 0, p),
+        Some(q) => names_answer(fresh_fault(differ_too(text, at, ok)), n, q),
+        None => names_answer(Fault::Form, 0, p),
     }
 }
 

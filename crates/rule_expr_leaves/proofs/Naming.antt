@@ -19,18 +19,17 @@ use Rattle.text_heads.proofs.Heads.{name-word}
 use Rattle.text_heads.proofs.Expressions.{name-form}
 use Rattle.text_parts.specs.declared.Part.{Part}
 use Rattle.text_parts.specs.declared.Part.TheVariants as part
-use Rattle.text_parts.specs.declared.End.{End}
-use Rattle.text_parts.specs.declared.End.TheVariants as ending
+use Rattle.std.specs.Prelude.{Option as Maybe, Some, None}
 use Rattle.text_parts.specs.Parts.{Stands, Shuts}
 use Rattle.rule_expr_leaves.specs.declared.fields.Sole.{Sole}
 use Rattle.rule_expr_leaves.specs.declared.fields.Sole.TheVariants as sole
 use Rattle.rule_expr_leaves.specs.Fields.{is_named, SoleWord, SoleName}
 
 module _ (s : List ℕ) (w : Word) (p q : ℕ) (a : Atom) (t : Bool) (i : a ≡ atom_of w) (h : t ≡ is_named a) where
-  pub sole-past : (n : ℕ) (e : End) → t ≡ true → Shuts s q e → e ≡ ending.Past n → SoleWord s w p q (sole.Name p n)
+  pub sole-past : (n : ℕ) (e : Maybe ℕ) → t ≡ true → Shuts s q e → e ≡ Some n → SoleWord s w p q (sole.Name p n)
   sole-past n e z c f = record { says = (refl, ap is_named (sym i) ∙ sym h ∙ z, rw f at c.says) }
 
-  pub sole-more : (e : End) → t ≡ true → Shuts s q e → e ≡ ending.More → SoleWord s w p q sole.Nothing
+  pub sole-more : (e : Maybe ℕ) → t ≡ true → Shuts s q e → e ≡ None → SoleWord s w p q sole.Nothing
   sole-more e z c f = record { says = λ g k. (rw f at c.says) k }
 
   pub sole-other : t ≡ false → SoleWord s w p q sole.Nothing

@@ -36,8 +36,7 @@ use Rattle.table_scope.specs.declared.Meaning.TheVariants as meaning
 use Rattle.table_scope.specs.Descriptions.{info_of}
 use Rattle.table_scope.specs.Sides.{host_in}
 use Rattle.rule_faults.specs.declared.Got.{Got}
-use Rattle.text_parts.specs.declared.End.{End}
-use Rattle.text_parts.specs.declared.End.TheVariants as ending
+use Rattle.std.specs.Prelude.{Option, Some, None}
 use Rattle.text_parts.specs.declared.Part.{Part}
 use Rattle.text_parts.specs.declared.Part.TheVariants as part
 use Rattle.rule_faults.specs.Got.{failed_got}
@@ -137,11 +136,11 @@ pub ruleset bound-of-laws = (bound-clear, bound-kind, bound-name, bound-form)
 
 -- ---- a number alone
 
-module _ (s : List ℕ) (z : ℤ) (at : ℕ) (e : End) (h : Shuts s at e) where
-  pub last-past : (q : ℕ) → SFits w64 z → e ≡ ending.Past q → Ends s z at (alone.Number (wire z) q)
+module _ (s : List ℕ) (z : ℤ) (at : ℕ) (e : Option ℕ) (h : Shuts s at e) where
+  pub last-past : (q : ℕ) → SFits w64 z → e ≡ Some q → Ends s z at (alone.Number (wire z) q)
   last-past q p f = record { says = (to_z-of_z p, rw f at h.says) }
 
-  pub last_more : e ≡ ending.More → Ends s z at alone.No
+  pub last_more : e ≡ None → Ends s z at alone.No
   last_more f = record { says = rw f at h.says }
 
 pub ruleset last-laws = (last-past, last_more)

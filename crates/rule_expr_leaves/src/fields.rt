@@ -4,7 +4,7 @@ ghost use Rattle.rule_expr_leaves.specs.Fields.{is_named, SoleWord, SoleName};
 
 use leaf_words::words::Word;
 use text_heads::{Atom, atom_of};
-use text_parts::{End, Part, end_at, part_at};
+use text_parts::{Part, end_at, part_at};
 
 // A name (its offset) and then the closing bracket (the offset past it), or anything else.
 #[derive(Clone, Copy)]
@@ -34,8 +34,8 @@ fn sole_word(text: &[u8], w: Word, p: usize, q: usize) -> Sole
     if is_named(atom_of(w)) {
         let e = end_at(text, q);
         match e {
-            End::Past(n) => Sole::Name(p, n),
-            End::More => Sole::Nothing,
+            Some(n) => Sole::Name(p, n),
+            None => Sole::Nothing,
         }
     } else {
         Sole::Nothing

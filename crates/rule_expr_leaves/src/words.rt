@@ -11,7 +11,7 @@ use rule_expr_nodes::nodes::{literal, node};
 use rule_faults::{Fault, Got, failed};
 use table_scope::{Meaning, describe, host_of};
 use text_heads::{Atom, atom_of};
-use text_parts::{End, Part, end_at, part_at};
+use text_parts::{Part, end_at, part_at};
 
 // Whether a form has, from an offset on, a number alone: the number, and the offset past the closing bracket.
 #[derive(Clone, Copy)]
@@ -110,8 +110,8 @@ fn number_last(text: &[u8], z: i64, at: usize) -> Alone
 {
     let e = end_at(text, at);
     match e {
-        End::Past(q) => Alone::Number(z, q),
-        End::More => Alone::No,
+        Some(q) => Alone::Number(z, q),
+        None => Alone::No,
     }
 }
 

@@ -4,7 +4,7 @@ ghost use Rattle.rule_faults.specs.Got.{past_bracket};
 ghost use Rattle.rule_expr_nodes.specs.Bracket.{Closes};
 
 use rule_faults::{Fault, Got, failed};
-use text_parts::{End, end_at};
+use text_parts::end_at;
 
 // The same answer, past the closing bracket.
 fn past_bracket(g: Got, next: usize) -> Got
@@ -26,7 +26,7 @@ pub fn closing(text: &[u8], g: Got) -> Got
 {
     let e = end_at(text, g.next);
     match e {
-        End::Past(q) => past_bracket(g, q),
-        End::More => failed(Fault::Form, 0, g.next, g.top),
+        Some(q) => past_bracket(g, q),
+        None => failed(Fault::Form, 0, g.next, g.top),
     }
 }

@@ -40,8 +40,7 @@ use Rattle.rule_atoms.specs.Answering.{TypeTold, GivesType}
 use Rattle.text_heads.specs.declared.ExprHead.TheVariants as EH
 use Rattle.text_heads.proofs.Expressions.{members-parts}
 use Rattle.rule_faults.specs.declared.Got.{Got}
-use Rattle.text_parts.specs.declared.End.{End}
-use Rattle.text_parts.specs.declared.End.TheVariants as ending
+use Rattle.std.specs.Prelude.{Option as Maybe, Some, None}
 use Rattle.rule_faults.specs.Got.{lowest, is_form, fault_of, failed_got, Told}
 use Rattle.rule_faults.proofs.Order.{lowest-assoc, lowest-clear}
 use Rattle.text_parts.specs.Parts.{Shuts}
@@ -173,8 +172,8 @@ sofar-start s l ts scope k d at chain top = record {
 }
 
 module _ (s l₀ ts : List ℕ) (scope : Scope) (k d at chain top : ℕ) (f : Fault) (next slot t : ℕ) (l : List ℕ) (I : Sofar s l₀ ts scope k d at chain top f next slot t l) where
-  module _ (e : End) (E : Shuts s next e) where
-    pub members-done : (q : ℕ) (r : Got) → e ≡ ending.Past q → r ≡ failed_got f 0 q t → GivesMembers s l₀ ts scope k d at chain top r l
+  module _ (e : Maybe ℕ) (E : Shuts s next e) where
+    pub members-done : (q : ℕ) (r : Got) → e ≡ Some q → r ≡ failed_got f 0 q t → GivesMembers s l₀ ts scope k d at chain top r l
     members-done q r h m =
         let z = rw h at E.says in
         rw m (record {
@@ -193,7 +192,7 @@ module _ (s l₀ ts : List ℕ) (scope : Scope) (k d at chain top : ℕ) (f : Fa
             → (t ≡ (lay_codes cs chain top l₀).top) × (l ≡ (lay_codes cs chain top l₀).list)
         ended {σ} cs c i Q n = let x = Q.codes c no_codes n in rw (← fits-inj (sym x.1 ∙ i), x.2) (tops slot t l)
 
-    module _ (h : e ≡ ending.More) (x : Got) (l₁ : List ℕ) (X : GivesExpr s l ts scope d next t x l₁) (b : Bool) (i : b ≡ is_form x.fault) where
+    module _ (h : e ≡ None) (x : Got) (l₁ : List ℕ) (X : GivesExpr s l ts scope d next t x l₁) (b : Bool) (i : b ≡ is_form x.fault) where
       pub members-wrong : b ≡ true → GivesMembers s l₀ ts scope k d at chain top x l₁
       members-wrong z = record {
         goes = λ y. absurd (true≢false (sym (sym i ∙ z) ∙ y));

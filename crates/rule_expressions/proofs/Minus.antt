@@ -22,8 +22,7 @@ use Rattle.text_heads.specs.Parts.{rest, closed, expr_in, number_in}
 use Rattle.text_heads.proofs.Expressions.{minus_one, minus-two, one-part, two-parts}
 use Rattle.table_scope.specs.declared.Scope.{Scope}
 use Rattle.rule_faults.specs.declared.Got.{Got}
-use Rattle.text_parts.specs.declared.End.{End}
-use Rattle.text_parts.specs.declared.End.TheVariants as ending
+use Rattle.std.specs.Prelude.{Option as Maybe, Some, None}
 use Rattle.rule_faults.specs.Got.{is_form}
 use Rattle.text_parts.specs.Parts.{Shuts}
 use Rattle.rule_expr_nodes.specs.Bracket.{Closes}
@@ -95,15 +94,15 @@ module _ (s l ts : List ℕ) (scope : Scope) (d at top : ℕ) where
             go end h = as_one d us (N.says h) h ∙ one-shape d us ∙ none_first n _
             go (u then vs) h = as-two d us (λ q. no_both (sym h ∙ q)) ∙ two-shape d us ∙ none_first n _
 
-    module _ (z : t ≡ false) (x : End) (E : Shuts s a.next x) where
-      pub minus-side : (q : ℕ) (y : Got) (r : Got) (l' : List ℕ) → x ≡ ending.Past q → Closes s a y → Makes (applied l₁ ts 0 y) r l' → GivesMinus s l ts scope d at top r l'
+    module _ (z : t ≡ false) (x : Maybe ℕ) (E : Shuts s a.next x) where
+      pub minus-side : (q : ℕ) (y : Got) (r : Got) (l' : List ℕ) → x ≡ Some q → Closes s a y → Makes (applied l₁ ts 0 y) r l' → GivesMinus s l ts scope d at top r l'
       minus-side q y r l' h C m = record {
         gives = λ N.
             let k : rest us ≡ end = rest-is (A.moves.goes (sym e ∙ z)).1 ∙ (rw h at E.says).here in
             as-minus (EH.One 0) r l' (as_one d us (N.says k) k) (one_side s l ts scope d at top a l₁ A y C 0 (lit< tt) r l' m);
       }
 
-      pub minus-sides : (r : Got) (l' : List ℕ) → x ≡ ending.More → GivesSecond s l₁ ts scope 1 d a r l' → GivesMinus s l ts scope d at top r l'
+      pub minus-sides : (r : Got) (l' : List ℕ) → x ≡ None → GivesSecond s l₁ ts scope 1 d a r l' → GivesMinus s l ts scope d at top r l'
       minus-sides r l' h G = record {
         gives = λ N.
             as-minus (EH.Two 1) r l' (as-two d us (λ k. (rw h at E.says) (sym (rest-is (A.moves.goes (sym e ∙ z)).1) ∙ k))) (two-gives s l ts scope 1 d at top r l' (two-second s l ts scope d at top a l₁ A t e 1 z r l' G) (lit< tt));

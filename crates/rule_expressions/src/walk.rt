@@ -19,7 +19,7 @@ use table_kinds::short_row;
 use table_list::slot;
 use table_scope::Scope;
 use text_heads::{ExprHead, expr_head};
-use text_parts::{End, Part, end_at, part_at};
+use text_parts::{Part, end_at, part_at};
 
 // An expression.
 #[cycle(walk)]
@@ -198,8 +198,8 @@ fn minus_parts(
     }
     let e = end_at(text, a.next);
     match e {
-        End::Past(_) => apply(work, types, 0, closing(text, a)),
-        End::More => second(text, work, types, scope, 1, depth, a),
+        Some(_) => apply(work, types, 0, closing(text, a)),
+        None => second(text, work, types, scope, 1, depth, a),
     }
 }
 
@@ -250,10 +250,10 @@ fn member_list(
     loop {
         let e = end_at(text, next);
         match e {
-            End::Past(q) => {
+            Some(q) => {
                 return failed(fault, 0, q, free);
             }
-            End::More => {}
+            None => {}
         }
         let x = expr(text, work, types, scope, depth, next, free);
         let f = x.fault;

@@ -3,11 +3,10 @@
 #![tactic(auto)]
 
 ghost use Rattle.std.specs.Prelude.{◌≡◌};
-ghost use Rattle.rule_faults.specs.declared.Fault.TheVariants.{Kind, Name};
 ghost use Rattle.rule_faults.specs.Got.{lowest as lowest_of, is_form, is_clear, failed_got};
 
-// A fault that a part of a line has: of row 8, 7 or 6, or none.
-#[derive(Clone, Copy)]
+// A fault that a part of a line has: of row 8, 7 or 6, or none; the lower row is the greater.
+#[derive(Clone, Copy, PartialEq, Eq, PartialOrd, Ord)]
 pub enum Fault {
     Clear,
     Kind,
@@ -30,60 +29,21 @@ pub struct Got {
 pub fn is_form(f: Fault) -> bool
     ensures { result ≡ is_form f }
 {
-    match f {
-        Fault::Clear => false,
-        Fault::Kind => false,
-        Fault::Name => false,
-        Fault::Form => true,
-    }
+    f == Fault::Form
 }
 
 // Whether there is no fault.
 pub fn is_clear(f: Fault) -> bool
     ensures { result ≡ is_clear f }
 {
-    match f {
-        Fault::Clear => true,
-        Fault::Kind => false,
-        Fault::Name => false,
-        Fault::Form => false,
-    }
-}
-
-// The fault of the lower row, where the first is of row 8.
-fn below_kind(f: Fault) -> Fault
-    ensures { result ≡ lowest_of Kind f }
-{
-    match f {
-        Fault::Clear => Fault::Kind,
-        Fault::Kind => Fault::Kind,
-        Fault::Name => Fault::Name,
-        Fault::Form => Fault::Form,
-    }
-}
-
-// And where it is of row 7.
-fn below_name(f: Fault) -> Fault
-    ensures { result ≡ lowest_of Name f }
-{
-    match f {
-        Fault::Clear => Fault::Name,
-        Fault::Kind => Fault::Name,
-        Fault::Name => Fault::Name,
-        Fault::Form => Fault::Form,
-    }
+    f == Fault::Clear
 }
 
 // The fault of the lower row.
 pub fn lowest(f: Fault, g: Fault) -> Fault
     ensures { result ≡ lowest_of f g }
 {
-    match f {
-        Fault::Clear => g,
-        Fault::Kind => below_kind(g),
-        Fault::Name => below_name(g),
-        Fault::Form => Fault::Form,
-    }
+    f.max(g)
 }
 
 // An answer that is a fault; the kind matters of targets alone.
@@ -91,10 +51,10 @@ pub fn failed(fault: Fault, kind: u32, next: usize, top: u32) -> Got
     ensures { result ≡ failed_got fault kind next top }
 {
     Got {
-        fault: fault,
-        kind: kind,
+        fault,
+        kind,
         place: 0,
-        next: next,
-        top: top,
+        next,
+        top,
     }
 }

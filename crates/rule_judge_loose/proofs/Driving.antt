@@ -7,12 +7,13 @@ use native.Mathlib.Numerals.{add-one}
 use native.Mathlib.Omega.{arith}
 use borrow.Author.Tests.{le-leb, lt-leb}
 use lib.ListN.{length, get_or, drop, drop_of_length-le}
+use Rattle.std.specs.Prelude.{Option as Maybe, Some, None}
 use Rattle.law.specs.Code.{BodyCode}
 use Rattle.law.specs.Environment.{Declared, nothing_declared}
 use Rattle.law.specs.Lines.{Line, lines_of, refused_at}
 use Rattle.law.specs.Verdict.{Verdict, Judged, good, bad, Read, has, accepted, must, onward, opening, loosely, judge, judge_line, judge_lines}
 use Rattle.law_theorems.proofs.TypeSizes.{small-start}
-use Rattle.text_lines.specs.Passes.{line_at, after_line, line_or}
+use Rattle.text_lines.specs.Passes.{line_at, after_line, line_of}
 use Rattle.text_lines.proofs.Ties.{lines_at}
 use Rattle.rule_declarations.specs.State.{notes, start_state}
 use Rattle.rule_declarations.proofs.Starting.{holds-start}
@@ -157,15 +158,15 @@ module _ (s l ts tb : List ℕ) (c : Checked) where
     unfolding judge opening
     check-length h e = record { says = λ _ _ _. rw (e, le-leb 16384 (length l) g, lt-leb (length s) 32768 h) (refl, refl, omega arith) }
 
-    module _ (h : length s ≤ 32768) (n : ℕ) (f : n ≡ line_or (refused_at 1 s)) where
-      pub check-byte : ((n ≡ 0) → ⊥) → c ≡ refused_by 3 n start_known → Admits s l ts tb c l ts tb
+    module _ (h : length s ≤ 32768) (o : Maybe ℕ) (f : o ≡ line_of (refused_at 1 s)) where
+      pub check-byte : (n : ℕ) → o ≡ Some n → c ≡ refused_by 3 n start_known → Admits s l ts tb c l ts tb
       unfolding judge opening
-      check-byte i e = record {
+      check-byte n i e = record {
         says = λ _ _ _.
-            rw (e, le-leb 16384 (length l) g, le-leb (length s) 32768 h, some-refused s (λ z. i (f ∙ z))) (refl, f, omega arith);
+            rw (e, le-leb 16384 (length l) g, le-leb (length s) 32768 h, some-refused s n (sym f ∙ i)) (refl, refl, omega arith);
       }
 
-      pub check-rest : (kn : Known) (l' ts' tb' : List ℕ) → n ≡ 0 → kn ≡ start_known → AdmitsLines s l ts tb kn c l' ts' tb' → Admits s l ts tb c l' ts' tb'
+      pub check-rest : (kn : Known) (l' ts' tb' : List ℕ) → o ≡ None → kn ≡ start_known → AdmitsLines s l ts tb kn c l' ts' tb' → Admits s l ts tb c l' ts' tb'
       unfolding judge opening
       check-rest kn l' ts' tb' i k C = record {
         says = λ a z d.

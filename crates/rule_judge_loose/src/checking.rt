@@ -54,9 +54,8 @@ pub fn check_loosely(
     if text.len() > TEXT_LENGTH {
         return refusal(2, 0);
     }
-    let n = refused_line(text);
-    if n != 0 {
-        return refusal(3, n);
+    match refused_line(text) {
+        Some(n) => refusal(3, n),
+        None => check_lines(text, work, types, bodies, nothing_known()),
     }
-    check_lines(text, work, types, bodies, nothing_known())
 }

@@ -21,8 +21,7 @@ use Rattle.text_heads.proofs.Heads.{constant-word}
 use Rattle.text_parts.specs.Parts.{Before, LeafAt, FormAt, ShutAt, Stands, Shuts}
 use Rattle.text_parts.specs.declared.Part.{Part}
 use Rattle.text_parts.specs.declared.Part.TheVariants as part
-use Rattle.text_parts.specs.declared.End.{End}
-use Rattle.text_parts.specs.declared.End.TheVariants as ending
+use Rattle.std.specs.Prelude.{Option as Maybe, Some, None}
 use Rattle.rule_atoms.specs.Answering.{minus_form}
 use Rattle.text_skips.specs.Skips.{Past}
 use Rattle.rule_labels.specs.Marks.{with_mark, marks_in, marks_of}
@@ -35,11 +34,11 @@ use Rattle.rule_labels.proofs.Skipping.{before-fewer, form-fewer, shut-nodes, pa
 
 -- ---- whether the part is the last
 
-module _ (s : List ℕ) (o : Option Constant) (q : ℕ) (e : End) (S : Shuts s q e) where
-  pub pass-last : (p : ℕ) → e ≡ ending.Past p → Passes s o q (hop.Over q)
+module _ (s : List ℕ) (o : Option Constant) (q : ℕ) (e : Maybe ℕ) (S : Shuts s q e) where
+  pub pass-last : (p : ℕ) → e ≡ Some p → Passes s o q (hop.Over q)
   pass-last p f = let g : ShutAt s q p = rw f at S.says in record { says = (refl, inl g.here) }
 
-  pub pass-marked : (h : Hop) → e ≡ ending.More → Marked s o q h → Passes s o q h
+  pub pass-marked : (h : Hop) → e ≡ None → Marked s o q h → Passes s o q h
   pass-marked (hop.Label m p) f M = record { says = (M.says.0, (rw f at S.says, M.says.1)) }
   pass-marked (hop.Over p) f M = record { says = (M.says.0, inr M.says.1) }
   pass-marked hop.End f M = absurd M.says

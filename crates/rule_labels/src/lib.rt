@@ -21,7 +21,7 @@ use rule_atoms::minus_form;
 use rule_faults::{Fault, is_clear, is_form};
 use table_scope::{Meaning, Scope, meaning_of};
 use text_heads::{Atom, atom_of};
-use text_parts::{End, Part, end_at, part_at};
+use text_parts::{Part, end_at, part_at};
 use text_skips::past_form;
 
 // How many labels' values are kept at a time.
@@ -97,8 +97,8 @@ fn leaf_hop(text: &[u8], w: Word, p: usize, q: usize) -> Hop
 {
     let e = end_at(text, q);
     match e {
-        End::Past(_) => Hop::Over(q),
-        End::More => word_mark(text, w, p, q),
+        Some(_) => Hop::Over(q),
+        None => word_mark(text, w, p, q),
     }
 }
 
@@ -108,8 +108,8 @@ fn form_hop(text: &[u8], p: usize, q: usize) -> Hop
 {
     let e = end_at(text, q);
     match e {
-        End::Past(_) => Hop::Over(q),
-        End::More => form_mark(text, p, q),
+        Some(_) => Hop::Over(q),
+        None => form_mark(text, p, q),
     }
 }
 

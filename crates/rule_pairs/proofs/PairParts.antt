@@ -36,8 +36,7 @@ use Rattle.rule_faults.specs.Got.{is_form, is_clear}
 use Rattle.text_parts.specs.Parts.{LeafAt, FormAt, ShutAt, Stands, Shuts}
 use Rattle.text_parts.specs.declared.Part.{Part}
 use Rattle.text_parts.specs.declared.Part.TheVariants as part
-use Rattle.text_parts.specs.declared.End.{End}
-use Rattle.text_parts.specs.declared.End.TheVariants as ending
+use Rattle.std.specs.Prelude.{Option as Maybe, Some, None}
 use Rattle.leaf_words.specs.declared.words.Word as Kind
 use Rattle.leaf_words.specs.Words.{word_of}
 use Rattle.text_heads.specs.Parts.{part_of, rest, closed, name_in, type_name_in}
@@ -262,12 +261,12 @@ some_pair n f e = rw (ne_eqb n 0 e) refl
 
 pub ruleset some-laws = (none-pair, some_pair)
 
-module _ (s : List ℕ) (p n size : ℕ) (ok : Bool) (e : End) (E : Shuts s p e) (r : Pairs) where
-  pub pairs-past : (q : ℕ) → e ≡ ending.Past q → (o : Bool) → o ≡ ok → (f : Fault) → f ≡ cond o fault.Clear fault.Name → (g : Fault) → g ≡ cond (eqb n 0) fault.Form f
+module _ (s : List ℕ) (p n size : ℕ) (ok : Bool) (e : Maybe ℕ) (E : Shuts s p e) (r : Pairs) where
+  pub pairs-past : (q : ℕ) → e ≡ Some q → (o : Bool) → o ≡ ok → (f : Fault) → f ≡ cond o fault.Clear fault.Name → (g : Fault) → g ≡ cond (eqb n 0) fault.Form f
       → r ≡ pairs_given g n size q → EndsPairs s p n size ok r
   pairs-past q d o l f h g k i = let m : ShutAt s p q = rw d at E.says in rw (i, k, h, l) (ends_read q m.here m.around)
 
-  pub pairs-left : e ≡ ending.More → r ≡ pairs_given fault.Form 0 0 p → EndsPairs s p n size ok r
+  pub pairs-left : e ≡ None → r ≡ pairs_given fault.Form 0 0 p → EndsPairs s p n size ok r
   pairs-left d i = rw i (ends-wrong (rw d at E.says))
 
 pub ruleset pairs-end-laws = (pairs-past, pairs-left)

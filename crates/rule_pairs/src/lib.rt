@@ -15,7 +15,7 @@ use rule_enum_lines::enums::{both, fresh_fault, one_more};
 use rule_faults::{Fault, is_clear, is_form};
 use rule_repeats::blocks::differ_too;
 use table_scope::{Scope, describe};
-use text_parts::{End, Part, end_at, part_at};
+use text_parts::{Part, end_at, part_at};
 
 // The answer for a pair: its fault of rows 6 and 7; with none of row 6 its name's offset, its type if that is known, and where the next
 // part stands.
@@ -132,13 +132,13 @@ fn pairs_end(text: &[u8], at: usize, p: usize, n: u32, size: u32, ok: bool) -> P
 {
     let e = end_at(text, p);
     match e {
-        End::Past(q) => pairs_answer(
+        Some(q) => pairs_answer(
             some_fault(n, fresh_fault(differ_too(text, at, ok))),
             n,
             size,
             q,
         ),
-        End::More => pairs_answer(Fault::Form, 0, 0, p),
+        None => pairs_answer(Fault::Form, 0, 0, p),
     }
 }
 

@@ -29,8 +29,7 @@ use Rattle.text_heads.proofs.Expressions.{name-form}
 use Rattle.text_heads.proofs.Heads.{name-word}
 use Rattle.text_parts.specs.declared.Part.{Part}
 use Rattle.text_parts.specs.declared.Part.TheVariants as part
-use Rattle.text_parts.specs.declared.End.{End}
-use Rattle.text_parts.specs.declared.End.TheVariants as ending
+use Rattle.std.specs.Prelude.{Option as Maybe, Some, None}
 use Rattle.text_parts.specs.Parts.{LeafAt, FormAt, ShutAt, Stands, Shuts}
 use Rattle.text_skips.specs.Skips.{Skips}
 use Rattle.rule_constants.specs.Plain.{plain_first}
@@ -48,12 +47,12 @@ use Rattle.rule_restrictions.proofs.Passing.{expr-first, split, skip-then}
 
 -- ---- `plain_parts`: n parts from `at` on, of which `left` from p on
 
-module _ (s : List ℕ) (at n p left : ℕ) (I : plain_count n (first (stack_at s at)) ≡ plain_count left (first (stack_at s p))) (e : End) (E : Shuts s p e) where
-  pub count-end : (q : ℕ) → e ≡ ending.Past q → eqb left 0 ≡ plain_count n (first (stack_at s at))
+module _ (s : List ℕ) (at n p left : ℕ) (I : plain_count n (first (stack_at s at)) ≡ plain_count left (first (stack_at s p))) (e : Maybe ℕ) (E : Shuts s p e) where
+  pub count-end : (q : ℕ) → e ≡ Some q → eqb left 0 ≡ plain_count n (first (stack_at s at))
   unfolding plain_count
   count-end q h = let C : ShutAt s p q = rw h at E.says in sym (I ∙ ap (plain_count left) C.here)
 
-  pub count-over : e ≡ ending.More → left ≡ 0 → false ≡ plain_count n (first (stack_at s at))
+  pub count-over : e ≡ None → left ≡ 0 → false ≡ plain_count n (first (stack_at s at))
   unfolding plain_count
   count-over h z = split (first (stack_at s p)) (rw h at E.says) λ t ts g. sym (I ∙ ap (plain_count left) g ∙ ap (λ (i : ℕ). plain_count i (t then ts)) z)
 
@@ -61,7 +60,7 @@ module _ (s : List ℕ) (at n p left : ℕ) (I : plain_count n (first (stack_at 
   unfolding plain_count
   step t ts z = let g : suc (left - 1) ≡ left = omega (arith, z) in ap (λ (i : ℕ). plain_count i (t then ts)) (sym g)
 
-  module _ (h : e ≡ ending.More) (z : left ≡ 0 → ⊥) (b : Bool) (B : b ≡ plain_first (first (stack_at s p))) where
+  module _ (h : e ≡ None) (z : left ≡ 0 → ⊥) (b : Bool) (B : b ≡ plain_first (first (stack_at s p))) where
     pub count-not : b ≡ false → false ≡ plain_count n (first (stack_at s at))
     count-not g = split (first (stack_at s p)) (rw h at E.says) λ t ts f.
         sym (I ∙ ap (plain_count left) f ∙ step t ts z ∙ ap (λ (c : Bool). c && plain_count (left - 1) ts) (ap plain_first (sym f) ∙ sym B ∙ g))

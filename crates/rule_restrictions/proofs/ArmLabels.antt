@@ -15,8 +15,7 @@ use Rattle.law_theorems.specs.Readings.{stack_at}
 use Rattle.law.specs.Words.{worded}
 use Rattle.law_theorems.proofs.Inversion.{none-some, some_inj, bind-some}
 use Rattle.text_heads.specs.Parts.{part_of, constant_in, stmt_in, arm_in}
-use Rattle.text_parts.specs.declared.End.{End}
-use Rattle.text_parts.specs.declared.End.TheVariants as ending
+use Rattle.std.specs.Prelude.{Option as Maybe, Some, None}
 use Rattle.text_parts.specs.Parts.{ShutAt, Shuts}
 use Rattle.text_skips.specs.Skips.{Skips}
 use Rattle.rule_constants.specs.Plain.{plain_tree, plain_first}
@@ -40,11 +39,11 @@ module _ (s : List ℕ) (at q : ℕ) (t : Bool) (h : t ≡ plain_first (first (s
 
 pub ruleset label-laws = (label-plain, label-bad)
 
-module _ (s : List ℕ) (at q : ℕ) (S : Skips s at q) (e : End) (E : Shuts s q e) where
-  pub part-last : (r : ℕ) → e ≡ ending.Past r → SomePart s at part.Last
+module _ (s : List ℕ) (at q : ℕ) (S : Skips s at q) (e : Maybe ℕ) (E : Shuts s q e) where
+  pub part-last : (r : ℕ) → e ≡ Some r → SomePart s at part.Last
   part-last r f = record { says = λ t us g. let C : ShutAt s q r = rw f at E.says in sym (skip-then S t us g) ∙ C.here }
 
-  pub part-label : (r : ArmPart) → e ≡ ending.More → LabelBefore s at q r → SomePart s at r
+  pub part-label : (r : ArmPart) → e ≡ None → LabelBefore s at q r → SomePart s at r
   unfolding plain_first
   part-label part.Missing f L = absurd L.says
   part-label part.Last f L = absurd L.says
@@ -65,11 +64,11 @@ labelled_by s at t us part.Last e P = (t, e ∙ ap (λ (v : Trees Run). t then v
 labelled_by s at t us (part.Label q) e P = (t, (e ∙ ap (λ (v : Trees Run). t then v) (sym P.0), (λ z. P.1.0 (sym P.0 ∙ z), P.1.1)))
 labelled_by s at t us part.Bad e P = (t, (us, (e, (P.0, P.1))))
 
-module _ (s : List ℕ) (at : ℕ) (e : End) (E : Shuts s at e) where
-  pub arm-missing : (q : ℕ) → e ≡ ending.Past q → Labelled s at part.Missing
+module _ (s : List ℕ) (at : ℕ) (e : Maybe ℕ) (E : Shuts s at e) where
+  pub arm-missing : (q : ℕ) → e ≡ Some q → Labelled s at part.Missing
   arm-missing q f = record { says = let C : ShutAt s at q = rw f at E.says in C.here }
 
-  pub arm-some : (r : ArmPart) → e ≡ ending.More → SomePart s at r → Labelled s at r
+  pub arm-some : (r : ArmPart) → e ≡ None → SomePart s at r → Labelled s at r
   arm-some r f P = record { says = let m = rw f at E.says in split (first (stack_at s at)) m λ t us g. labelled_by s at t us r g (P.says t us g) }
 
 pub ruleset arm-laws = (arm-missing, arm-some)

@@ -21,8 +21,7 @@ use Rattle.text_heads.specs.Parts.{part_of, rest, expr_in, stmt_in, stmts_in, el
 use Rattle.text_heads.proofs.Statements.{stmt-end, stmt-zero, stmt-word, stmt-empty, stmt-headless}
 use Rattle.text_parts.specs.declared.Part.{Part}
 use Rattle.text_parts.specs.declared.Part.TheVariants as part
-use Rattle.text_parts.specs.declared.End.{End}
-use Rattle.text_parts.specs.declared.End.TheVariants as ending
+use Rattle.std.specs.Prelude.{Option, Some, None}
 use Rattle.text_parts.specs.Parts.{LeafAt, FormAt, ShutAt, Stands, Shuts}
 use Rattle.text_skips.specs.Skips.{Skips}
 use Rattle.rule_constants.specs.Plain.{plain_first}
@@ -195,8 +194,8 @@ else-stmt : {P : Type 0} (d : ℕ) (t : Tree Run) (ts : Trees Run) (n : ℕ) (p 
 unfolding else_in stmt_in part_of
 else-stmt d t ts n p h k = bind-some h λ a ha c. closed_is c λ z i. k (ha ∙ ap some i)
 
-module _ (s l : List ℕ) (scope : Scope) (loops : Loops) (d at : ℕ) (e : End) (E : Shuts s at e) where
-  pub else-none : (q : ℕ) → e ≡ ending.Past q → KeepsElse s l scope loops d at true
+module _ (s l : List ℕ) (scope : Scope) (loops : Loops) (d at : ℕ) (e : Option ℕ) (E : Shuts s at e) where
+  pub else-none : (q : ℕ) → e ≡ Some q → KeepsElse s l scope loops d at true
   unfolding else_in stmt_of kept_stmt
   else-none q f = record {
     says = λ σ js N n p x h k.
@@ -206,7 +205,7 @@ module _ (s l : List ℕ) (scope : Scope) (loops : Loops) (d at : ℕ) (e : End)
         rw (← j) refl;
   }
 
-  pub else-some : (r : Bool) → e ≡ ending.More → KeepsStmt s l scope loops d at r → KeepsElse s l scope loops d at r
+  pub else-some : (r : Bool) → e ≡ None → KeepsStmt s l scope loops d at r → KeepsElse s l scope loops d at r
   else-some r f K = record { says = λ σ js N n p x h k. let m = rw f at E.says in split (first (stack_at s at)) m λ t ts g. inside t ts g σ js N n p x (ap (else_in d n) (sym g) ∙ h) k }
     where
       inside : (t : Tree Run) (ts : Trees Run) → first (stack_at s at) ≡ (t then ts) → (σ : Environment) (js : List ℕ) → Near s l scope loops d σ js → (n : ℕ) (p : Syntax.Stmt × ℕ) (x : Script.Stmt)
@@ -248,8 +247,8 @@ unfolding stmts_in stmt_in part_of stmt_of kept_stmt
 first-stmt σ js d m t ts u ys h k f = bind-some h λ a ha h'. bind-some h' λ b hb q. bind-some (rw (← some_inj q) at k) λ x hx k'. bind-some k' λ zs hzs j.
     f a x b zs ha hx hb hzs (ap (λ (v : Script.Stmts). kept_stmts v js) (sym (some_inj j)))
 
-module _ (s l : List ℕ) (scope : Scope) (loops : Loops) (d at p : ℕ) (I : Doing s l scope loops d at p) (e : End) (E : Shuts s p e) where
-  pub do-end : (q : ℕ) → e ≡ ending.Past q → KeepsStmts s l scope loops d at true
+module _ (s l : List ℕ) (scope : Scope) (loops : Loops) (d at p : ℕ) (I : Doing s l scope loops d at p) (e : Option ℕ) (E : Shuts s p e) where
+  pub do-end : (q : ℕ) → e ≡ Some q → KeepsStmts s l scope loops d at true
   unfolding stmts_in stmt_of kept_stmt
   do-end q f = record {
     says = λ σ js N n v xs h k.
@@ -260,7 +259,7 @@ module _ (s l : List ℕ) (scope : Scope) (loops : Loops) (d at p : ℕ) (I : Do
         sym (i.1.1.1.1.1 ∙ ap (λ (w : Script.Stmts). kept_stmts w js) (sym b));
   }
 
-  module _ (f : e ≡ ending.More) (t : Bool) (K : KeepsStmt s l scope loops d p t) where
+  module _ (f : e ≡ None) (t : Bool) (K : KeepsStmt s l scope loops d p t) where
     more : first (stack_at s p) ≡ end → ⊥
     more = rw f at E.says
 
@@ -284,5 +283,5 @@ module _ (s l : List ℕ) (scope : Scope) (loops : Loops) (d at p : ℕ) (I : Do
 
 pub ruleset do-laws = (do-end, do-bad, do-on)
 
-pub do-falls : (s : List ℕ) (p q : ℕ) (e : End) → Shuts s p e → e ≡ ending.More → Skips s p q → many (first (stack_at s q)) < many (first (stack_at s p))
+pub do-falls : (s : List ℕ) (p q : ℕ) (e : Option ℕ) → Shuts s p e → e ≡ None → Skips s p q → many (first (stack_at s q)) < many (first (stack_at s p))
 do-falls s p q e E f S = skip-falls S (rw f at E.says)

@@ -2,7 +2,7 @@
 ghost use Rattle.rule_restrictions.specs.ArmParts.{LabelBefore, SomePart, Labelled, AfterLabels};
 
 use rule_constants::plain_part;
-use text_parts::{End, end_at};
+use text_parts::end_at;
 use text_skips::skip;
 
 // A part of an arm: none is left; the last one, its statement; a label (the offset after it); or a label past the integers.
@@ -39,8 +39,8 @@ fn some_part(text: &[u8], at: usize) -> ArmPart
     let q = skip(text, at);
     let e = end_at(text, q);
     match e {
-        End::Past(_) => ArmPart::Last,
-        End::More => label_at(text, at, q),
+        Some(_) => ArmPart::Last,
+        None => label_at(text, at, q),
     }
 }
 
@@ -50,8 +50,8 @@ fn arm_part(text: &[u8], at: usize) -> ArmPart
 {
     let e = end_at(text, at);
     match e {
-        End::Past(_) => ArmPart::Missing,
-        End::More => some_part(text, at),
+        Some(_) => ArmPart::Missing,
+        None => some_part(text, at),
     }
 }
 

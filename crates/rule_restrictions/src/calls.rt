@@ -7,7 +7,7 @@ ghost use Rattle.rule_restrictions.specs.Calls.{count_by, plain_count, KeepsCall
 use rule_constants::plain_part;
 use table_scope::frames::frame_of;
 use table_scope::{Meaning, Scope, meaning_of};
-use text_parts::{End, Part, end_at, part_at};
+use text_parts::{Part, end_at, part_at};
 use text_skips::skip;
 
 // How many parameters a procedure has by its name's meaning, 0 of any other.
@@ -32,10 +32,10 @@ fn plain_parts(text: &[u8], n: u32, at: usize) -> bool
     loop {
         let e = end_at(text, p);
         match e {
-            End::Past(_) => {
+            Some(_) => {
                 return left == 0;
             }
-            End::More => {
+            None => {
                 if left == 0 {
                     return false;
                 }

@@ -10,7 +10,7 @@ use rule_labels::loose::labels_differ;
 use rule_statements::arms::{NextArm, arm_at};
 use table_scope::{Loops, Scope, with_loop};
 use text_heads::{Verb, verb_of};
-use text_parts::{End, Part, end_at, part_at};
+use text_parts::{Part, end_at, part_at};
 use text_skips::skip;
 
 // A statement at most `depth` deep.
@@ -121,8 +121,8 @@ fn else_part(text: &[u8], work: &[u32], scope: Scope, loops: Loops, depth: usize
 {
     let e = end_at(text, at);
     match e {
-        End::Past(_) => true,
-        End::More => stmt(text, work, scope, loops, depth, at),
+        Some(_) => true,
+        None => stmt(text, work, scope, loops, depth, at),
     }
 }
 
@@ -147,10 +147,10 @@ pub fn stmts(text: &[u8], work: &[u32], scope: Scope, loops: Loops, depth: usize
     loop {
         let e = end_at(text, p);
         match e {
-            End::Past(_) => {
+            Some(_) => {
                 return true;
             }
-            End::More => {
+            None => {
                 if stmt(text, work, scope, loops, depth, p) {
                     p = skip(text, p);
                 } else {

@@ -30,8 +30,7 @@ use Rattle.table_scope.specs.Sides.{host_in}
 use Rattle.table_scope.proofs.Kept.{scene-kept}
 use Rattle.table_scope.proofs.Telling.{host-in}
 use Rattle.text_heads.specs.Parts.{part_of, expr_in, exprs_in}
-use Rattle.text_parts.specs.declared.End.{End}
-use Rattle.text_parts.specs.declared.End.TheVariants as ending
+use Rattle.std.specs.Prelude.{Option as Maybe, Some, None}
 use Rattle.text_parts.specs.Parts.{Shuts, ShutAt}
 use Rattle.rule_faults.specs.declared.Fault.{Fault}
 use Rattle.rule_faults.specs.declared.Fault.TheVariants.{Clear, Kind, Form}
@@ -196,8 +195,8 @@ module _ (s l ts : List ℕ) (scope : Scope) (x : Frame) (slot at top : ℕ) whe
     says = λ σ bs us S T u. record { fault-is = refl; laid = λ cs k. (cs, (k, refl)) };
   })
 
-  module _ (g : Got) (slot' : ℕ) (l₁ : List ℕ) (D : Passing s l ts scope x slot at top g slot' l₁) (e : End) (H : Shuts s g.next e) where
-    pub arguments-past : (q : ℕ) (r : Got) → e ≡ ending.Past q → r ≡ finished_got g q → GivesArguments s l ts scope x slot at top r l₁
+  module _ (g : Got) (slot' : ℕ) (l₁ : List ℕ) (D : Passing s l ts scope x slot at top g slot' l₁) (e : Maybe ℕ) (H : Shuts s g.next e) where
+    pub arguments-past : (q : ℕ) (r : Got) → e ≡ Some q → r ≡ finished_got g q → GivesArguments s l ts scope x slot at top r l₁
     arguments-past q r h m =
         let X : ShutAt s g.next q = rw h at H.says in
         rw m (record {
@@ -215,7 +214,7 @@ module _ (s l ts : List ℕ) (scope : Scope) (x : Frame) (slot at top : ℕ) whe
               };
         })
 
-    module _ (h : e ≡ ending.More) (a : Got) (l₂ : List ℕ) (A : GivesExpr s l₁ ts scope 33 g.next g.top a l₂) (t : Bool) (et : t ≡ is_form a.fault) where
+    module _ (h : e ≡ None) (a : Got) (l₂ : List ℕ) (A : GivesExpr s l₁ ts scope 33 g.next g.top a l₂) (t : Bool) (et : t ≡ is_form a.fault) where
       scene-now : (σ : Environment) (bs : List ℕ) → Scene s l ts scope slot σ bs → slot ≤ top → Scene s l₁ ts scope g.top σ bs
       scene-now σ bs S u = scene-kept S (D.keeps u) (let y = D.grows in omega arith)
 

@@ -29,8 +29,7 @@ use Rattle.table_scope.specs.declared.Loops.{Loops}
 use Rattle.table_scope.proofs.Kept.{scene-kept}
 use Rattle.table_list.specs.Laid.{Laid}
 use Rattle.rule_faults.specs.declared.Got.{Got}
-use Rattle.text_parts.specs.declared.End.{End}
-use Rattle.text_parts.specs.declared.End.TheVariants as ending
+use Rattle.std.specs.Prelude.{Option as Maybe, Some, None}
 use Rattle.rule_faults.specs.Got.{lowest, is_form, fault_of}
 use Rattle.rule_faults.proofs.Order.{lowest-assoc, lowest-clear}
 use Rattle.text_parts.specs.Parts.{Shuts, ShutAt}
@@ -139,7 +138,7 @@ module _ (s l ts : List ℕ) (scope : Scope) (loops : Loops) (d n slot at top : 
       few = D.few-left σ bs js A h;
     }
 
-    pub acts-end : (e : End) (q : ℕ) (r : Got) → Shuts s x.next e → e ≡ ending.Past q → r ≡ record { fault = x.fault; kind = x.kind; place = 0; next = q; top = x.top }
+    pub acts-end : (e : Maybe ℕ) (q : ℕ) (r : Got) → Shuts s x.next e → e ≡ Some q → r ≡ record { fault = x.fault; kind = x.kind; place = 0; next = q; top = x.top }
         → GivesActs s l ts scope loops d n slot at top r l₁
     unfolding stmts_in
     acts-end e q r h z k =
@@ -151,7 +150,7 @@ module _ (s l ts : List ℕ) (scope : Scope) (loops : Loops) (d n slot at top : 
           says = λ σ bs js A i. left_end x.kind q (rw S.here at (D.says σ bs js A i));
         })
 
-    module _ (e : End) (h : Shuts s x.next e) (z : e ≡ ending.More) (g : Got) (l₂ : List ℕ) (G : GivesStmt s l₁ ts scope loops d x.kind x.next x.top g l₂) (t : Bool) (k : t ≡ is_form g.fault) where
+    module _ (e : Maybe ℕ) (h : Shuts s x.next e) (z : e ≡ None) (g : Got) (l₂ : List ℕ) (G : GivesStmt s l₁ ts scope loops d x.kind x.next x.top g l₂) (t : Bool) (k : t ≡ is_form g.fault) where
       kept₂ : slot ≤ top → Same 0 slot l₂ l
       kept₂ i = record { at = λ j a b. G.moves.keeps.at j a (let y = D.grows in omega arith) ∙ (D.keeps i).at j a b }
 

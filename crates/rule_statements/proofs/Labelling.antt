@@ -37,8 +37,7 @@ use Rattle.table_scope.specs.Scene.{Scene}
 use Rattle.table_scope.proofs.Kept.{scene-kept}
 use Rattle.table_list.specs.Laid.{Laid}
 use Rattle.rule_faults.specs.declared.Got.{Got}
-use Rattle.text_parts.specs.declared.End.{End}
-use Rattle.text_parts.specs.declared.End.TheVariants as ending
+use Rattle.std.specs.Prelude.{Option as Maybe, Some, None}
 use Rattle.rule_faults.specs.Got.{lowest, is_form, fault_of, failed_got}
 use Rattle.rule_faults.proofs.Order.{lowest-assoc, lowest-clear}
 use Rattle.text_parts.specs.Parts.{Before, Shuts, ShutAt}
@@ -293,16 +292,16 @@ module _ (s l : List ℕ) (scope : Scope) (k slot at top : ℕ) where
     labels-stmt r i e = labels-over r e (λ ts σ bs S h d n.
         last-first d n (first (stack_at s x.next)) (form-none (constant_in (first (stack_at s x.next))) (constant_of σ) plain some (sym (inside-labels ts σ bs S h).fault-is ∙ form-is v.fault (sym et ∙ i))))
 
-    module _ (i : t ≡ false) (e : End) (E : Shuts s v.next e) where
+    module _ (i : t ≡ false) (e : Maybe ℕ) (E : Shuts s v.next e) where
       label-here : (u : Tree Run) × Before s x.next u v.next
       label-here = VC.goes (sym et ∙ i)
 
-      pub labels-last : (q : ℕ) (r : Got) → e ≡ ending.Past q → r ≡ counted_got x → GivesLabels s l scope k slot at top r l₁
+      pub labels-last : (q : ℕ) (r : Got) → e ≡ Some q → r ≡ counted_got x → GivesLabels s l scope k slot at top r l₁
       labels-last q r h m =
           let Z : ShutAt s v.next q = rw h at E.says in
           labels-over r m (λ ts σ bs S j d n. last-only d n (first (stack_at s x.next)) (ap rest label-here.1.here ∙ Z.here))
 
-      module _ (h : e ≡ ending.More) where
+      module _ (h : e ≡ None) where
         pub labels-falls : (u : ℕ) (y : Got) → y ≡ labelled_got x v k u → many (first (stack_at s y.next)) < many (first (stack_at s x.next))
         unfolding many
         labels-falls u y ey = rw (ey, label-here.1.here) (omega arith)

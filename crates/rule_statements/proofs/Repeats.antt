@@ -41,8 +41,7 @@ use Rattle.table_list.specs.Laid.{Laid}
 use Rattle.rule_faults.specs.declared.Got.{Got}
 use Rattle.text_parts.specs.declared.Part.{Part}
 use Rattle.text_parts.specs.declared.Part.TheVariants as part
-use Rattle.text_parts.specs.declared.End.{End}
-use Rattle.text_parts.specs.declared.End.TheVariants as ending
+use Rattle.std.specs.Prelude.{Option as Maybe, Some, None}
 use Rattle.rule_faults.specs.Got.{lowest, is_form, fault_of, failed_got}
 use Rattle.text_parts.specs.Parts.{FormAt, ShutAt, Stands, Shuts}
 use Rattle.rule_expr_nodes.specs.Bracket.{Closes}
@@ -231,11 +230,11 @@ module _ (s l ts : List ℕ) (scope : Scope) (loops : Loops) (d n slot at top : 
   pub chain-start : (g : Got) → g ≡ skip_got n at top → Doing s l ts scope loops d n slot at top g slot l
   chain-start g e = acts-start s l ts scope loops d n slot at top g e
 
-  module _ (x : Got) (slot' : ℕ) (l₁ : List ℕ) (D : Doing s l ts scope loops d n slot at top x slot' l₁) (e : End) (h : Shuts s x.next e) where
-    pub chain-end : (q : ℕ) (r : Got) → e ≡ ending.Past q → r ≡ finished_got x q → GivesActs s l ts scope loops d n slot at top r l₁
+  module _ (x : Got) (slot' : ℕ) (l₁ : List ℕ) (D : Doing s l ts scope loops d n slot at top x slot' l₁) (e : Maybe ℕ) (h : Shuts s x.next e) where
+    pub chain-end : (q : ℕ) (r : Got) → e ≡ Some q → r ≡ finished_got x q → GivesActs s l ts scope loops d n slot at top r l₁
     chain-end q r z k = acts-end s l ts scope loops d n slot at top x slot' l₁ D e q r h z k
 
-    module _ (z : e ≡ ending.More) (g : Got) (l₂ : List ℕ) (G : GivesStmt s l₁ ts scope loops d x.kind x.next x.top g l₂) (t : Bool) (k : t ≡ is_form g.fault) where
+    module _ (z : e ≡ None) (g : Got) (l₂ : List ℕ) (G : GivesStmt s l₁ ts scope loops d x.kind x.next x.top g l₂) (t : Bool) (k : t ≡ is_form g.fault) where
       pub chain-wrong : t ≡ true → GivesActs s l ts scope loops d n slot at top g l₂
       chain-wrong i = acts-wrong s l ts scope loops d n slot at top x slot' l₁ D e h z g l₂ G t k i
 

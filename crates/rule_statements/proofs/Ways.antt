@@ -32,8 +32,7 @@ use Rattle.table_scope.proofs.Kept.{scene-kept}
 use Rattle.rule_faults.specs.declared.Got.{Got}
 use Rattle.text_parts.specs.declared.Part.{Part}
 use Rattle.text_parts.specs.declared.Part.TheVariants as part
-use Rattle.text_parts.specs.declared.End.{End}
-use Rattle.text_parts.specs.declared.End.TheVariants as ending
+use Rattle.std.specs.Prelude.{Option as Maybe, Some, None}
 use Rattle.rule_faults.specs.Got.{lowest, is_form, failed_got}
 use Rattle.text_parts.specs.Parts.{LeafAt, FormAt, ShutAt, Stands, Shuts}
 use Rattle.rule_expr_nodes.specs.Bracket.{Closes}
@@ -269,8 +268,8 @@ module _ (s l ts : List ℕ) (scope : Scope) (loops : Loops) (d n at top : ℕ) 
       }
 
   -- the third part of an `if`
-  module _ (e : End) (S : Shuts s at e) where
-    pub else-missing : (q : ℕ) (r : Got) → e ≡ ending.Past q → r ≡ skip_got n q top → GivesElse s l ts scope loops d n at top r l
+  module _ (e : Maybe ℕ) (S : Shuts s at e) where
+    pub else-missing : (q : ℕ) (r : Got) → e ≡ Some q → r ≡ skip_got n q top → GivesElse s l ts scope loops d n at top r l
     unfolding else_in
     else-missing q r h k =
         let X : ShutAt s at q = rw h at S.says in
@@ -279,7 +278,7 @@ module _ (s l ts : List ℕ) (scope : Scope) (loops : Loops) (d n at top : ℕ) 
           says = λ σ bs js A. rw X.here skip-act;
         })
 
-    pub else-part-is : (g r : Got) (l' : List ℕ) → e ≡ ending.More → GivesStmt s l ts scope loops d n at top g l' → Closes s g r → GivesElse s l ts scope loops d n at top r l'
+    pub else-part-is : (g r : Got) (l' : List ℕ) → e ≡ None → GivesStmt s l ts scope loops d n at top g l' → Closes s g r → GivesElse s l ts scope loops d n at top r l'
     else-part-is g r l' h G C = record {
       leaves = closes-leaves G.moves C;
       says = λ σ bs js A. rw (else_is (first (stack_at s at)) (rw h at S.says)) (act-closed (stmt_in d n (first (stack_at s at))) G.moves C (G.says σ bs js A));

@@ -8,7 +8,7 @@ use rule_expr_nodes::nodes::bits_of;
 use rule_faults::{Fault, Got, failed, is_form, lowest};
 use rule_stmt_nodes::nodes::{after, chain, no_act};
 use table_scope::Scope;
-use text_parts::{End, end_at};
+use text_parts::end_at;
 
 // The answer with one label more, laid up to t; labels are of kind k.
 fn labelled(g: Got, v: Valued, k: u32, t: u32) -> Got
@@ -66,10 +66,10 @@ pub fn labels(
         }
         let e = end_at(text, v.next);
         match e {
-            End::Past(_) => {
+            Some(_) => {
                 return counted(g);
             }
-            End::More => {
+            None => {
                 let t = link_label(work, p, v, g.top);
                 p = after(g.top);
                 g = labelled(g, v, k, t);

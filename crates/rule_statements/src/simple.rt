@@ -14,7 +14,7 @@ use table_list::slot;
 use table_scope::frames::Frame;
 use table_scope::{Loops, Scope, meaning_of};
 use text_heads::DEPTH;
-use text_parts::{End, Part, end_at, part_at};
+use text_parts::{Part, end_at, part_at};
 
 // A target that is assigned.
 fn store_at(
@@ -115,10 +115,10 @@ fn arguments(
     loop {
         let e = end_at(text, g.next);
         match e {
-            End::Past(q) => {
+            Some(q) => {
                 return finished(g, q);
             }
-            End::More => {
+            None => {
                 let x = expr(text, work, types, scope, DEPTH, g.next, g.top);
                 let f = x.fault;
                 if is_form(f) {

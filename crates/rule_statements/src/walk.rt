@@ -17,7 +17,7 @@ use rule_stmt_nodes::nodes::{
 use table_list::slot;
 use table_scope::{Loops, Scope, host_of, meaning_of, with_loop};
 use text_heads::{DEPTH, Verb, verb_of};
-use text_parts::{End, Part, end_at, part_at};
+use text_parts::{Part, end_at, part_at};
 
 // A statement.
 #[cycle(walk)]
@@ -195,8 +195,8 @@ fn else_part(
 {
     let e = end_at(text, at);
     match e {
-        End::Past(q) => no_act(number, q, top),
-        End::More => {
+        Some(q) => no_act(number, q, top),
+        None => {
             let g = stmt(text, work, types, scope, loops, depth, number, at, top);
             closing(text, g)
         }
@@ -346,10 +346,10 @@ pub fn acts(
     loop {
         let e = end_at(text, g.next);
         match e {
-            End::Past(q) => {
+            Some(q) => {
                 return finished(g, q);
             }
-            End::More => {
+            None => {
                 let a = stmt(
                     text, work, types, scope, loops, depth, g.kind, g.next, g.top,
                 );

@@ -10,9 +10,7 @@ use borrow.Author.Tests.{le-leb, lt-leb, leb-true, leb-false, eq-eqb, ne_eqb}
 use lib.Dec.{leb}
 use lib.ListN.{length, get_or, take, drop, replicate, drop_of_length-le}
 use lib.Seq.{drop_at, take_at, length_front, length-take-le}
-use Rattle.leaf_bytes.specs.declared.bytes.Class.{Class}
-use Rattle.leaf_bytes.specs.declared.bytes.Class.TheVariants.{Feed, Space, Open, Close, Visible, Refused}
-use Rattle.leaf_bytes.specs.Bytes.{class_of}
+use Rattle.std.specs.Prelude.{Option as Maybe, Some, None}
 use Rattle.law.specs.Environment.{nothing_declared}
 use Rattle.code.specs.LayoutSize.{size_bodies, size_symbols, size_types}
 use Rattle.law.specs.Lines.{refused_at}
@@ -24,7 +22,7 @@ use Rattle.code.proofs.LinesMeasured.{measured-start}
 use Rattle.code.proofs.TextRoom.{room-start}
 use Rattle.law_answers.specs.declared.Verdict.{Verdict}
 use Rattle.law_answers.specs.Verdicts.{told_verdict}
-use Rattle.text_lines.specs.Passes.{line_or}
+use Rattle.text_lines.specs.Passes.{line_of}
 use Rattle.rule_declarations.specs.State.{notes, start_state}
 use Rattle.rule_declarations.proofs.Starting.{holds-start}
 use Rattle.rule_known.specs.declared.Known.{Known}
@@ -48,42 +46,21 @@ standing-start s l ts a b c h = record {
   main-is = λ e. absurd (let z : ◌≡◌ {A = ℕ} 0 1 = cc in omega arith);
 }
 
--- ---- row 3: a line's number is never 0
+-- ---- row 3: a line, or none
 
-line-number : (n : ℕ) (s : List ℕ) (m : ℕ) → 1 ≤ n → refused_at n s ≡ some m → 1 ≤ m
-unfolding refused_at
-line-number n [] m h e = absurd (let z : ◌≡◌ {A = ℕ} 0 1 = cc in omega arith)
-line-number n (b ∷ s) m h e = go (class_of b) (λ k i f. line-number k s m i f) e
+pub none-refused : (s : List ℕ) → line_of (refused_at 1 s) ≡ None → refused_at 1 s ≡ none
+none-refused s h = go (refused_at 1 s) h
   where
-    go : (k : Class) → ((k : ℕ) → 1 ≤ k → refused_at k s ≡ some m → 1 ≤ m)
-        → elim k [
-          | Feed ↦ refused_at (suc n) s
-          | Space ↦ refused_at n s
-          | Open ↦ refused_at n s
-          | Close ↦ refused_at n s
-          | Visible ↦ refused_at n s
-          | Refused ↦ some n
-        ] ≡ some m → 1 ≤ m
-    go Feed f e = f (suc n) (omega arith) e
-    go Space f e = f n h e
-    go Open f e = f n h e
-    go Close f e = f n h e
-    go Visible f e = f n h e
-    go Refused f e = let d : n ≡ m = cc in omega arith
+    go : (o : Option ℕ) → line_of o ≡ None → o ≡ none
+    go none h = refl
+    go (some m) h = absurd (let z : ◌≡◌ {A = ℕ} 0 1 = cc in omega arith)
 
-pub none-refused : (s : List ℕ) → line_or (refused_at 1 s) ≡ 0 → refused_at 1 s ≡ none
-none-refused s h = go (refused_at 1 s) refl h
+pub some-refused : (s : List ℕ) (n : ℕ) → line_of (refused_at 1 s) ≡ Some n → refused_at 1 s ≡ some n
+some-refused s n h = go (refused_at 1 s) h
   where
-    go : (o : Option ℕ) → refused_at 1 s ≡ o → line_or o ≡ 0 → o ≡ none
-    go none e h = refl
-    go (some m) e h = absurd (let d = line-number 1 s m (omega arith) e in omega arith)
-
-pub some-refused : (s : List ℕ) → ((line_or (refused_at 1 s) ≡ 0) → ⊥) → refused_at 1 s ≡ some (line_or (refused_at 1 s))
-some-refused s h = go (refused_at 1 s) h
-  where
-    go : (o : Option ℕ) → ((line_or o ≡ 0) → ⊥) → o ≡ some (line_or o)
-    go none h = absurd (h refl)
-    go (some m) h = refl
+    go : (o : Option ℕ) → line_of o ≡ Some n → o ≡ some n
+    go none h = absurd (let z : ◌≡◌ {A = ℕ} 0 1 = cc in omega arith)
+    go (some m) h = let z : m ≡ n = cc in ap some z
 
 -- ---- the rows in their order
 
@@ -97,15 +74,15 @@ module _ (s l ts : List ℕ) (c : Checked) where
     unfolding verdict_of judge opening
     check-length h e = record { says = λ _ _. rw (e, le-leb 16384 (length l) g, lt-leb (length s) 32768 h) (refl, refl, omega arith) }
 
-    module _ (h : length s ≤ 32768) (n : ℕ) (f : n ≡ line_or (refused_at 1 s)) where
-      pub check-byte : ((n ≡ 0) → ⊥) → c ≡ refused_by 3 n start_known → Checks s l ts c l ts
+    module _ (h : length s ≤ 32768) (o : Maybe ℕ) (f : o ≡ line_of (refused_at 1 s)) where
+      pub check-byte : (n : ℕ) → o ≡ Some n → c ≡ refused_by 3 n start_known → Checks s l ts c l ts
       unfolding verdict_of judge opening
-      check-byte i e = record {
+      check-byte n i e = record {
         says = λ _ _.
-            rw (e, le-leb 16384 (length l) g, le-leb (length s) 32768 h, some-refused s (λ z. i (f ∙ z))) (refl, f, omega arith);
+            rw (e, le-leb 16384 (length l) g, le-leb (length s) 32768 h, some-refused s n (sym f ∙ i)) (refl, refl, omega arith);
       }
 
-      pub check-rest : (kn : Known) (l' ts' : List ℕ) → n ≡ 0 → kn ≡ start_known → ChecksLines s l ts kn c l' ts' → Checks s l ts c l' ts'
+      pub check-rest : (kn : Known) (l' ts' : List ℕ) → o ≡ None → kn ≡ start_known → ChecksLines s l ts kn c l' ts' → Checks s l ts c l' ts'
       unfolding verdict_of judge opening
       check-rest kn l' ts' i k C = record {
         says = λ a z.

@@ -101,11 +101,10 @@ pub fn check(text: &[u8], work: &mut [u32], types: &mut [u32]) -> Checked
     if text.len() > TEXT_LENGTH {
         return refusal(2, 0);
     }
-    let n = refused_line(text);
-    if n != 0 {
-        return refusal(3, n);
+    match refused_line(text) {
+        Some(n) => refusal(3, n),
+        None => check_lines(text, work, types, nothing_known()),
     }
-    check_lines(text, work, types, nothing_known())
 }
 
 // The verdict that an answer holds.

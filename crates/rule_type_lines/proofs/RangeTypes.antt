@@ -42,8 +42,7 @@ use Rattle.table_scope.specs.Scene.{Scene}
 use Rattle.table_scope.specs.declared.Info.{Info}
 use Rattle.rule_faults.specs.Got.{is_form, lowest, fault_of}
 use Rattle.text_parts.specs.Parts.{Before, ShutAt, Shuts}
-use Rattle.text_parts.specs.declared.End.{End}
-use Rattle.text_parts.specs.declared.End.TheVariants as ending
+use Rattle.std.specs.Prelude.{Option as Maybe, Some, None}
 use Rattle.text_heads.specs.Parts.{rest, closed, constant_in}
 use Rattle.text_heads.proofs.Walks.{bind-cong, bind_assoc}
 use Rattle.rule_atoms.specs.declared.Valued.{Valued}
@@ -80,21 +79,21 @@ module _ (s l : List ℕ) (scope : Scope) (at : ℕ) (t : Valued) (G : GivesCons
       bound-none (constant_in (first (stack_at s at))) _
       (none-wrong (constant_in (first (stack_at s at))) (constant_of σ) plain some (sym (sym d ∙ form-is f (sym e ∙ i)) ∙ (G.says ts top σ bs S).fault-is))))
 
-  module _ (b : Bool) (e : b ≡ is_form f) (i : b ≡ false) (x : End) (E : Shuts s t.next x) where
+  module _ (b : Bool) (e : b ≡ is_form f) (i : b ≡ false) (x : Maybe ℕ) (E : Shuts s t.next x) where
     passed : (u : Tree Run) × Before s at u t.next
     passed = G.goes (ap is_form (sym d) ∙ sym e ∙ i)
 
     rest-is : rest (first (stack_at s at)) ≡ first (stack_at s t.next)
     rest-is = ap rest passed.1.here
 
-    pub last_more : x ≡ ending.More → r ≡ valued Form 0 (pos 0) at → GivesLastConstant s l scope at r
+    pub last_more : x ≡ None → r ≡ valued Form 0 (pos 0) at → GivesLastConstant s l scope at r
     unfolding last_constant
     last_more j g =
         let m : first (stack_at s t.next) ≡ end → ⊥ = rw j at E.says in
         rw g (no_last s l scope at at (λ ts top σ bs S.
         bound-nones (constant_in (first (stack_at s at))) _ (λ a. more-closed (rest (first (stack_at s at))) a (λ z. m (sym rest-is ∙ z)))))
 
-    pub last-past : (q : ℕ) → x ≡ ending.Past q → SFits w64 t.value → r ≡ valued f t.kind (wire t.value) q → GivesLastConstant s l scope at r
+    pub last-past : (q : ℕ) → x ≡ Some q → SFits w64 t.value → r ≡ valued f t.kind (wire t.value) q → GivesLastConstant s l scope at r
     unfolding last_constant closed
     last-past q j p g =
         let m : ShutAt s t.next q = rw j at E.says in

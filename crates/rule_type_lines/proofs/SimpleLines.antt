@@ -44,8 +44,7 @@ use Rattle.table_scope.specs.Scene.{Scene, Told, Meant, meaning_here}
 use Rattle.table_scope.proofs.Telling.{meant}
 use Rattle.rule_faults.specs.Got.{is_form, is_clear, lowest, fault_of}
 use Rattle.text_parts.specs.Parts.{ShutAt, Shuts}
-use Rattle.text_parts.specs.declared.End.{End}
-use Rattle.text_parts.specs.declared.End.TheVariants as ending
+use Rattle.std.specs.Prelude.{Option as Maybe, Some, None}
 use Rattle.text_heads.specs.Parts.{closed}
 use Rattle.rule_atoms.proofs.Telling.{fits-inj}
 use Rattle.rule_declarations.specs.State.{scoped, Holds}
@@ -262,11 +261,11 @@ module _ (s : List ℕ) (f : Fault) (at : ℕ) (b : Bool) (i : b ≡ is_form f) 
   pub end-form : b ≡ true → EndFault s f at Form
   end-form j = was-form (form-is f (sym i ∙ j))
 
-  module _ (j : b ≡ false) (e : End) (E : Shuts s at e) where
-    pub end-past : (q : ℕ) → e ≡ ending.Past q → EndFault s f at f
+  module _ (j : b ≡ false) (e : Maybe ℕ) (E : Shuts s at e) where
+    pub end-past : (q : ℕ) → e ≡ Some q → EndFault s f at f
     end-past q g = let m : ShutAt s at q = rw g at E.says in at-end (sym i ∙ j) m.here
 
-    pub end_more : e ≡ ending.More → EndFault s f at Form
+    pub end_more : e ≡ None → EndFault s f at Form
     end_more g = before-end (sym i ∙ j) (rw g at E.says)
 
 pub ruleset end-laws = (end-form, end-past, end_more)

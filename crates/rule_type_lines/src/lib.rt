@@ -19,7 +19,7 @@ use table_list::{lay, put};
 use table_names::declare;
 use table_names::keys::name_number;
 use table_scope::{Info, TYPE_NUMBERS};
-use text_parts::{End, end_at};
+use text_parts::end_at;
 
 // The answer for the form of a type: its fault; with no fault its description, and whether it is within the ceilings of row 9; where the
 // next part of the line stands.
@@ -131,8 +131,8 @@ pub fn end_fault(text: &[u8], f: Fault, at: usize) -> Fault
     }
     let e = end_at(text, at);
     match e {
-        End::Past(_) => f,
-        End::More => Fault::Form,
+        Some(_) => f,
+        None => Fault::Form,
     }
 }
 

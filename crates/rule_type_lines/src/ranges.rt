@@ -16,7 +16,7 @@ use rule_atoms::{Valued, constant};
 use rule_declarations::State;
 use rule_faults::{Fault, is_form, lowest};
 use table_scope::{Scope, ordinal_info};
-use text_parts::{End, end_at};
+use text_parts::end_at;
 
 // An answer for a constant from its parts.
 fn value_answer(fault: Fault, kind: u32, value: i64, next: usize) -> Valued
@@ -41,8 +41,8 @@ pub fn last_constant(text: &[u8], work: &[u32], scope: Scope, at: usize) -> Valu
     }
     let e = end_at(text, t.next);
     match e {
-        End::Past(q) => value_answer(f, t.kind, t.value, q),
-        End::More => value_answer(Fault::Form, 0, 0, at),
+        Some(q) => value_answer(f, t.kind, t.value, q),
+        None => value_answer(Fault::Form, 0, 0, at),
     }
 }
 

@@ -101,7 +101,7 @@ pub values_other : (sort more : ℕ) → ((sort % 4 ≡ 0) → ⊥) → 0 ≡ va
 unfolding values_by
 values_other sort more h = rw (ne_eqb (sort % 4) 0 h) refl
 
-pub ruleset values-by-laws = (values-type, values_other)
+pub ruleset values_by_laws = (values-type, values_other)
 
 pub link-there : (l : List ℕ) (p a b c d v : ℕ) → a ≡ get_or l p 0 → b ≡ get_or l (p + 1) 0 → c ≡ get_or l (p + 2) 0 → v ≡ values_by b c → d ≡ get_or l (p + 3) 0
     → record { first = a; values = v; next = d } ≡ link_at l p
@@ -119,7 +119,7 @@ module _ (s : List ℕ) (first key : ℕ) (w : Name) where
   pub called-not : ((first / 32768 ≡ key) → ⊥) → false ≡ (eqb (first / 32768) key && same (map small (word_at s (first % 32768))) w)
   called-not h = rw (ne_eqb (first / 32768) key h) refl
 
-pub ruleset called-laws = (called-by-word, called-not)
+pub ruleset called_laws = (called-by-word, called-not)
 
 pub less-more : (n m : ℕ) → n ≤ m → 0 ≡ n - m
 less-more n m h = omega arith

@@ -19,8 +19,10 @@ use Rattle.table_names.specs.Order.{lettered, ordered}
 use Rattle.table_names.specs.Chain.{name_at, key_at, first_value, order_at, ranked, middle, by_order, halved, value_in}
 use Rattle.table_names.specs.declared.letters.Meeting.{Meeting}
 use Rattle.table_names.specs.declared.letters.Meeting.TheVariants as meeting
-use Rattle.table_names.specs.declared.order.Order.{Order}
-use Rattle.table_names.specs.declared.order.Order.TheVariants as order
+use Rattle.std.specs.Ordering.{MatchOrdering, nat_cmp}
+use Rattle.std.specs.Cmp.{ranks}
+use Rattle.std.specs.declared.cmp.Ordering.{Ordering}
+use Rattle.std.specs.declared.cmp.Ordering.TheVariants as order
 use Rattle.table_names.proofs.Spelled.{Letters, ended, going, letters}
 use Rattle.table_names.proofs.Names.{Met, same_met, end-met, differ-met, met}
 
@@ -33,32 +35,32 @@ module _ (s : List ℕ) (p q a b x y : ℕ) (d : a ≡ byte_at s p) (e : x ≡ l
   second-letter : y ≡ letter_of (byte_at s q)
   second-letter = g ∙ ap letter_of f
 
-  pub letters-before : x < y → order.Before ≡ lettered (letter_of (byte_at s p)) (letter_of (byte_at s q))
+  pub letters-before : x < y → order.Less ≡ lettered (letter_of (byte_at s p)) (letter_of (byte_at s q))
   unfolding lettered
   letters-before h = rw (lt-ltb (letter_of (byte_at s p)) (letter_of (byte_at s q)) (rw (← first-letter, ← second-letter) h)) refl
 
-  pub letters-after : y ≤ x → order.After ≡ lettered (letter_of (byte_at s p)) (letter_of (byte_at s q))
+  pub letters-after : y ≤ x → order.Greater ≡ lettered (letter_of (byte_at s p)) (letter_of (byte_at s q))
   unfolding lettered
   letters-after h = rw (le-ltb (letter_of (byte_at s p)) (letter_of (byte_at s q)) (rw (← first-letter, ← second-letter) h)) refl
 
-pub ruleset letters-laws = (letters-before, letters-after)
+pub ruleset letters_laws = (letters-before, letters-after)
 
 -- ---- `order_of`: what is left of the words, from p and q on, tells the order of those at a and b
 
-pub record Ordering (s : List ℕ) (a b p q : ℕ) : Type 0 where
+pub record Ordered (s : List ℕ) (a b p q : ℕ) : Type 0 where
   pub same_left : ordered (map small (word_at s a)) (map small (word_at s b)) ≡ ordered (map small (word_at s p)) (map small (word_at s q))
 
-pub order-start : (s : List ℕ) (a b : ℕ) → Ordering s a b a b
+pub order-start : (s : List ℕ) (a b : ℕ) → Ordered s a b a b
 order-start s a b = record { same_left = refl }
 
-module _ (s : List ℕ) (a b p q : ℕ) (C : Ordering s a b p q) (m : Meeting) (e : m ≡ meets (letter_of (byte_at s p)) (letter_of (byte_at s q))) where
+module _ (s : List ℕ) (a b p q : ℕ) (C : Ordered s a b p q) (m : Meeting) (e : m ≡ meets (letter_of (byte_at s p)) (letter_of (byte_at s q))) where
   here : (k : Meeting) → m ≡ k → Met (letter_of (byte_at s p)) (letter_of (byte_at s q)) k
   here k f = rw (← f, e) (met (letter_of (byte_at s p)) (letter_of (byte_at s q)))
 
-  pub order-differ : m ≡ meeting.Differ → (r : Order) → r ≡ lettered (letter_of (byte_at s p)) (letter_of (byte_at s q))
+  pub order_differ : m ≡ meeting.Differ → (r : Ordering) → r ≡ lettered (letter_of (byte_at s p)) (letter_of (byte_at s q))
       → r ≡ ordered (map small (word_at s a)) (map small (word_at s b))
   unfolding ordered lettered
-  order-differ f r i = i ∙ sym (C.same_left ∙ go (here meeting.Differ f) (letters s p) (letters s q))
+  order_differ f r i = i ∙ sym (C.same_left ∙ go (here meeting.Differ f) (letters s p) (letters s q))
     where
       go : Met (letter_of (byte_at s p)) (letter_of (byte_at s q)) meeting.Differ → Letters s p → Letters s q
           → ordered (map small (word_at s p)) (map small (word_at s q)) ≡ lettered (letter_of (byte_at s p)) (letter_of (byte_at s q))
@@ -67,12 +69,12 @@ module _ (s : List ℕ) (a b p q : ℕ) (C : Ordering s a b p q) (m : Meeting) (
       go (differ-met n) (going _ g i) (ended z j) = rw (i, j, le-ltb (letter_of (byte_at s p)) (letter_of (byte_at s q)) (omega (arith, z, g))) refl
       go (differ-met n) (going _ _ i) (going _ _ j) = rw (i, j, n) refl
 
-  pub order-ended : m ≡ meeting.End → order.Same ≡ ordered (map small (word_at s a)) (map small (word_at s b))
+  pub order_ended : m ≡ meeting.End → order.Equal ≡ ordered (map small (word_at s a)) (map small (word_at s b))
   unfolding ordered
-  order-ended f = sym (C.same_left ∙ go (here meeting.End f) (letters s p) (letters s q))
+  order_ended f = sym (C.same_left ∙ go (here meeting.End f) (letters s p) (letters s q))
     where
       go : Met (letter_of (byte_at s p)) (letter_of (byte_at s q)) meeting.End → Letters s p → Letters s q
-          → ordered (map small (word_at s p)) (map small (word_at s q)) ≡ order.Same
+          → ordered (map small (word_at s p)) (map small (word_at s q)) ≡ order.Equal
       go (end-met x y) (ended _ i) (ended _ j) = rw (i, j) refl
       go (end-met x y) (going _ n _) _ = absurd (n x)
       go (end-met x y) (ended _ _) (going _ n _) = absurd (n y)
@@ -99,28 +101,38 @@ module _ (s : List ℕ) (a b p q : ℕ) (C : Ordering s a b p q) (m : Meeting) (
     pub order-falls : length s - (p + 1) < length s - p
     order-falls = omega (arith, both.0)
 
-    pub order-on : Ordering s a b (p + 1) (q + 1)
-    order-on = record { same_left = C.same_left ∙ both.2 }
+    pub order_on : Ordered s a b (p + 1) (q + 1)
+    order_on = record { same_left = C.same_left ∙ both.2 }
 
-pub ruleset order-laws = (order-differ, order-ended, order-on)
+pub ruleset order_laws = (order_differ, order_ended, order_on)
 
 -- ---- `order_at`
 
 module _ (s l : List ℕ) (p key : ℕ) (w : Name) (first : ℕ) (e : first ≡ get_or l p 0) where
-  pub at_before : first / 32768 < key → key ≡ key_of w → order.Before ≡ order_at s l p w
+  at_before : first / 32768 < key → key ≡ key_of w → order.Less ≡ order_at s l p w
   unfolding order_at key_at
   at_before h k = rw (lt-ltb (get_or l p 0 / 32768) (key_of w) (rw (← e, ← k) h)) refl
 
-  module _ (h : key ≤ first / 32768) where
-    pub at_after : key < first / 32768 → key ≡ key_of w → order.After ≡ order_at s l p w
-    unfolding order_at key_at
-    at_after g k = rw (le-ltb (get_or l p 0 / 32768) (key_of w) (rw (← e, ← k) h), lt-ltb (key_of w) (get_or l p 0 / 32768) (rw (← e, ← k) g)) refl
+  at_after : key < first / 32768 → key ≡ key_of w → order.Greater ≡ order_at s l p w
+  unfolding order_at key_at
+  at_after g k = rw (le-ltb (get_or l p 0 / 32768) (key_of w) (rw (← e, ← k) (omega arith)), lt-ltb (key_of w) (get_or l p 0 / 32768) (rw (← e, ← k) g)) refl
 
-    pub at_same : first / 32768 ≤ key → (r : Order) → r ≡ ordered (map small (word_at s (first % 32768))) w → key ≡ key_of w → r ≡ order_at s l p w
-    unfolding order_at key_at name_at
-    at_same g r f k = f ∙ rw (le-ltb (get_or l p 0 / 32768) (key_of w) (rw (← e, ← k) h), le-ltb (key_of w) (get_or l p 0 / 32768) (rw (← e, ← k) g), e) refl
+  pub at_keys : (o : Ordering) → o ≡ nat_cmp (first / 32768) key → ((o ≡ order.Equal) → ⊥) → key ≡ key_of w → o ≡ order_at s l p w
+  at_keys o i n k = go o (rw i (ranks (first / 32768) key)) n
+    where
+      go : (x : Ordering) → MatchOrdering x (first / 32768 < key) (first / 32768 ≡ key) (key < first / 32768) → ((x ≡ order.Equal) → ⊥) → x ≡ order_at s l p w
+      go order.Less m _ = at_before m k
+      go order.Equal _ y = absurd (y refl)
+      go order.Greater m _ = at_after m k
 
-pub ruleset at-laws = (at_before, at_after, at_same)
+  pub at_same : (o : Ordering) → o ≡ nat_cmp (first / 32768) key → o ≡ order.Equal → (r : Ordering) → r ≡ ordered (map small (word_at s (first % 32768))) w → key ≡ key_of w → r ≡ order_at s l p w
+  unfolding order_at key_at name_at
+  at_same o i j r f k =
+      let r' : MatchOrdering (nat_cmp (first / 32768) key) (first / 32768 < key) (first / 32768 ≡ key) (key < first / 32768) = ranks (first / 32768) key in
+      let h : first / 32768 ≡ key = rw (← i, j) at r' in
+      f ∙ rw (le-ltb (get_or l p 0 / 32768) (key_of w) (rw (← e, ← k) (omega (arith, h))), le-ltb (key_of w) (get_or l p 0 / 32768) (rw (← e, ← k) (omega (arith, h))), e) refl
+
+pub ruleset at_laws = (at_keys, at_same)
 
 -- ---- `first_value`, `rank_at`
 
@@ -134,19 +146,9 @@ rank_is l b j x e = rw e refl
 
 -- ---- `middle_of`
 
-module _ (low high : ℕ) where
-  pub middle-fits : low < high → Fits w32 high → Fits w32 (low + (high - low) / 2)
-  middle-fits h f = record { fits = omega (arith, f.fits) }
-
-  pub middle-is : low < high → low + (high - low) / 2 ≡ middle low high
-  unfolding middle
-  middle-is h = refl
-
-  pub middle-low : high ≤ low → low ≡ middle low high
-  unfolding middle
-  middle-low h = omega arith
-
-pub ruleset middle-laws = (middle-is, middle-low)
+pub middle_is : (low high d : ℕ) → d ≡ high - low → low + d / 2 ≡ middle low high
+unfolding middle
+middle_is low high d e = rw e refl
 
 -- ---- `find_value`: so many halvings are left of what stands from low to high
 
@@ -210,18 +212,18 @@ module _ (s l : List ℕ) (place n key : ℕ) (w : Name) (base : ℕ) where
             pub value-fits : Fits w32 (base + 4 * i)
             value-fits = record { fits = omega (arith, rank-small, base-small) }
 
-            module _ (o : Order) (O : key ≡ key_of w → o ≡ order_at s l (base + 4 * i) w) where
-              by-order : (x : Order) → o ≡ x → key ≡ key_of w
+            module _ (o : Ordering) (O : key ≡ key_of w → o ≡ order_at s l (base + 4 * i) w) where
+              by-order : (x : Ordering) → o ≡ x → key ≡ key_of w
                   → value_in s l place n w ≡ by_order x (halved s l base n w (left - 1) (mid + 1) high) (base + 4 * i) (halved s l base n w (left - 1) low mid)
               by-order x e k = at-middle k ∙ rw (lt-ltb low high g, lt-ltb i n j, ← O k, e) refl
 
-              pub halving-before : o ≡ order.Before → Halving s l place n key w base (mid + 1) high (left - 1)
-              halving-before e = record { base-is = H.base-is; up = H.up; same_place = by-order order.Before e }
+              pub halving-before : o ≡ order.Less → Halving s l place n key w base (mid + 1) high (left - 1)
+              halving-before e = record { base-is = H.base-is; up = H.up; same_place = by-order order.Less e }
 
-              pub halving-same : o ≡ order.Same → key ≡ key_of w → base + 4 * i ≡ value_in s l place n w
-              halving-same e k = sym (by-order order.Same e k)
+              pub halving-same : o ≡ order.Equal → key ≡ key_of w → base + 4 * i ≡ value_in s l place n w
+              halving-same e k = sym (by-order order.Equal e k)
 
-              pub halving-after : o ≡ order.After → Halving s l place n key w base low mid (left - 1)
-              halving-after e = record { base-is = H.base-is; up = omega (arith, H.up, mid-below); same_place = by-order order.After e }
+              pub halving-after : o ≡ order.Greater → Halving s l place n key w base low mid (left - 1)
+              halving-after e = record { base-is = H.base-is; up = omega (arith, H.up, mid-below); same_place = by-order order.Greater e }
 
-pub ruleset halving-laws = (halving-none, halving-empty, halving-wild, halving-same)
+pub ruleset halving_laws = (halving-none, halving-empty, halving-wild, halving-same)

@@ -39,27 +39,19 @@ module _ (b : ℕ) (k : Class) (e : k ≡ class_of b) where
   unfolding letter_by
   letter-visible x f g = g ∙ by-class Visible f
 
-  pub letter-space : k ≡ Space → 0 ≡ letter_of b
+  pub letter_other : ((k ≡ Visible) → ⊥) → 0 ≡ letter_of b
   unfolding letter_by
-  letter-space f = by-class Space f
+  letter_other n = go k refl
+    where
+      go : (c : Class) → k ≡ c → 0 ≡ letter_of b
+      go Visible f = absurd (n f)
+      go Feed f = by-class Feed f
+      go Space f = by-class Space f
+      go Open f = by-class Open f
+      go Close f = by-class Close f
+      go Refused f = by-class Refused f
 
-  pub letter-open : k ≡ Open → 0 ≡ letter_of b
-  unfolding letter_by
-  letter-open f = by-class Open f
-
-  pub letter-close : k ≡ Close → 0 ≡ letter_of b
-  unfolding letter_by
-  letter-close f = by-class Close f
-
-  pub letter-feed : k ≡ Feed → 0 ≡ letter_of b
-  unfolding letter_by
-  letter-feed f = by-class Feed f
-
-  pub letter-refused : k ≡ Refused → 0 ≡ letter_of b
-  unfolding letter_by
-  letter-refused f = by-class Refused f
-
-pub ruleset letter-laws = (letter-visible, letter-space, letter-open, letter-close, letter-feed, letter-refused)
+pub ruleset letter_laws = (letter-visible, letter_other)
 
 module _ (a b : ℕ) where
   pub same_byte : a ≡ b → true ≡ eqb (letter_of a) (letter_of b)
@@ -68,7 +60,7 @@ module _ (a b : ℕ) where
   pub same-small : (x y : ℕ) → x ≡ letter_of a → y ≡ letter_of b → eqb x y ≡ eqb (letter_of a) (letter_of b)
   same-small x y e f = rw (e, f) refl
 
-pub ruleset same-letter-laws = (same_byte, same-small)
+pub ruleset same_letter_laws = (same_byte, same-small)
 
 module _ (s : List ℕ) (p q x y : ℕ) (e : x ≡ byte_at s p) (f : y ≡ byte_at s q) (t : Bool) (g : t ≡ eqb (letter_of x) (letter_of y)) where
   pub meet-differ : t ≡ false → meeting.Differ ≡ meets (letter_of (byte_at s p)) (letter_of (byte_at s q))
@@ -84,7 +76,7 @@ module _ (s : List ℕ) (p q x y : ℕ) (e : x ≡ byte_at s p) (f : y ≡ byte_
     unfolding meets
     meet-same n = rw (← e, ← f, ← g, h, ← k, ne_eqb z 0 n) refl
 
-pub ruleset meet-laws = (meet-differ, meet-end, meet-same)
+pub ruleset meet_laws = (meet-differ, meet-end, meet-same)
 
 -- ---- a word from p on: it has ended, or goes on with a letter that is not 0
 
@@ -121,11 +113,12 @@ module _ (s : List ℕ) (p : ℕ) where
     letter-there e = ap letter_of (sym (byte-there s p h)) ∙ sym (letter-visible (get_or s p 0) Visible e (small (get_or s p 0)) refl refl)
 
     classed : (k : Class) → k ≡ class_of (get_or s p 0) → Letters s p
-    classed Feed e = ends (letter-feed (get_or s p 0) Feed e refl) (feed-word s p Feed h e refl)
-    classed Space e = ends (letter-space (get_or s p 0) Space e refl) (space-word s p Space h e refl)
-    classed Open e = ends (letter-open (get_or s p 0) Open e refl) (open-word s p Open h e refl)
-    classed Close e = ends (letter-close (get_or s p 0) Close e refl) (close-word s p Close h e refl)
-    classed Refused e = ends (letter-refused (get_or s p 0) Refused e refl) (refused-word s p Refused h e refl)
+    unfolding letter_by
+    classed Feed e = ends (by-class (get_or s p 0) Feed e Feed refl) (feed-word s p Feed h e refl)
+    classed Space e = ends (by-class (get_or s p 0) Space e Space refl) (space-word s p Space h e refl)
+    classed Open e = ends (by-class (get_or s p 0) Open e Open refl) (open-word s p Open h e refl)
+    classed Close e = ends (by-class (get_or s p 0) Close e Close refl) (close-word s p Close h e refl)
+    classed Refused e = ends (by-class (get_or s p 0) Refused e Refused refl) (refused-word s p Refused h e refl)
     classed Visible e =
         going h (λ z. visible-some _ e (small-zero _ (sym (letter-there e) ∙ z)))
         (ap (map small) (word-word s p Visible h e refl) ∙ ap (λ (x : ℕ). x ∷ map small (word_at s (p + 1))) (sym (letter-there e)))

@@ -10,8 +10,8 @@ use Rattle.table_names.specs.Keys.{key_of}
 use Rattle.table_names.specs.Order.{ordered}
 use Rattle.table_names.specs.declared.Link.{Link}
 use Rattle.table_names.specs.declared.Spot.{Spot}
-use Rattle.table_names.specs.declared.order.Order.{Order}
-use Rattle.table_names.specs.declared.order.Order.TheVariants as order
+use Rattle.std.specs.declared.cmp.Ordering.{Ordering}
+use Rattle.std.specs.declared.cmp.Ordering.TheVariants as order
 
 -- the places of so many entries from p on
 unfoldable pub entries : ℕ → List ℕ → ℕ → List ℕ
@@ -58,8 +58,8 @@ places zero b = []
 places (suc n) b = b ∷ places n (b + 4)
 
 -- where the entry at p stands to a word: by key, and by name where keys agree
-unfoldable pub order_at : List ℕ → List ℕ → ℕ → Name → Order
-order_at s l p w = cond (ltb (key_at l p) (key_of w)) order.Before (cond (ltb (key_of w) (key_at l p)) order.After (ordered (name_at s l p) w))
+unfoldable pub order_at : List ℕ → List ℕ → ℕ → Name → Ordering
+order_at s l p w = cond (ltb (key_at l p) (key_of w)) order.Less (cond (ltb (key_of w) (key_at l p)) order.Greater (ordered (name_at s l p) w))
 
 -- which of the values from b on comes j-th in order
 unfoldable pub ranked : List ℕ → ℕ → ℕ → ℕ
@@ -70,10 +70,10 @@ unfoldable pub middle : ℕ → ℕ → ℕ
 middle low high = low + (high - low) / 2
 
 -- one of three by an order
-abbrev pub by_order : Order → ℕ → ℕ → ℕ → ℕ
-by_order order.Before x y z = x
-by_order order.Same x y z = y
-by_order order.After x y z = z
+abbrev pub by_order : Ordering → ℕ → ℕ → ℕ → ℕ
+by_order order.Less x y z = x
+by_order order.Equal x y z = y
+by_order order.Greater x y z = z
 
 -- the place of the value under a name among n from b on, found by halving at most so often what stands from low to high
 unfoldable pub halved : List ℕ → List ℕ → ℕ → ℕ → Name → ℕ → ℕ → ℕ → ℕ

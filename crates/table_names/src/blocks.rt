@@ -6,8 +6,10 @@ ghost use Rattle.law.specs.Trees.{word_at};
 ghost use Rattle.table_names.specs.Keys.{key_of};
 ghost use Rattle.table_names.specs.Chain.{first_value, order_at, ranked, middle, value_in};
 
+use std::cmp::Ordering;
+
 use crate::keys::OFFSETS;
-use crate::order::{Order, order_of};
+use crate::order::order_of;
 use table_list::at;
 
 // How far the first value stands from the type's entry: that has 4 numbers, its description 8.
@@ -33,18 +35,15 @@ pub fn first_value(place: u32) -> u32
 }
 
 // Where the entry at e stands to the word at an offset, which has this key.
-pub fn order_at(text: &[u8], work: &[u32], e: usize, key: u32, offset: usize) -> Order
+#[tactic(auto, using(crate::proofs::Ordering::at_laws))]
+pub fn order_at(text: &[u8], work: &[u32], e: usize, key: u32, offset: usize) -> Ordering
     ensures { key ≡ key_of (map small (word_at text.now offset)) → result ≡ order_at text.now work.now e (map small (word_at text.now offset)) }
 {
     let first = at(work, e);
-    let k = first / OFFSETS;
-    if k < key {
-        return Order::Before;
+    match (first / OFFSETS).cmp(&key) {
+        Ordering::Equal => order_of(text, (first % OFFSETS) as usize, offset),
+        other => other,
     }
-    if k > key {
-        return Order::After;
-    }
-    order_of(text, (first % OFFSETS) as usize, offset)
 }
 
 // The number of the value that comes j-th in order.
@@ -55,13 +54,11 @@ pub fn rank_at(work: &[u32], base: u32, j: u32) -> u32
 }
 
 // The middle of what stands from one number to another.
+#[tactic(auto, using(crate::proofs::Ordering::middle_is))]
 fn middle_of(low: u32, high: u32) -> u32
     ensures { result ≡ middle low high }
 {
-    if low < high {
-        return low + (high - low) / 2;
-    }
-    low
+    low + high.saturating_sub(low) / 2
 }
 
 // The place of the value that the word at an offset names, among the n of the type whose entry is at a place; 0 if none does.
@@ -83,15 +80,14 @@ pub fn find_value(text: &[u8], work: &[u32], place: u32, n: u32, key: u32, offse
         }
         left -= 1;
         let e = base + 4 * i;
-        let o = order_at(text, work, e as usize, key, offset);
-        match o {
-            Order::Before => {
+        match order_at(text, work, e as usize, key, offset) {
+            Ordering::Less => {
                 low = mid + 1;
             }
-            Order::Same => {
+            Ordering::Equal => {
                 return e;
             }
-            Order::After => {
+            Ordering::Greater => {
                 high = mid;
             }
         }

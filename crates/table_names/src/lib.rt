@@ -26,8 +26,7 @@ pub fn same_word(text: &[u8], a: usize, b: usize) -> bool
     let mut p = a;
     let mut q = b;
     loop {
-        let m = meet(text, p, q);
-        match m {
+        match meet(text, p, q) {
             Meeting::Same => {
                 p += 1;
                 q += 1;
@@ -51,13 +50,11 @@ pub struct Link {
 }
 
 // How many values stand behind an entry, by its second and third numbers: only a type's has any.
+#[tactic(auto, using(crate::proofs::Names::values_by_laws))]
 fn values_by(sort: u32, more: u32) -> u32
     ensures { result ≡ values_by sort more }
 {
-    if sort % 4 == 0 {
-        return more;
-    }
-    0
+    if sort % 4 == 0 { more } else { 0 }
 }
 
 // The entry at a place: mostly the list holds all of it, which is seen at once.
@@ -94,10 +91,7 @@ fn seek(work: &[u32], count: u32, newest: u32, key: u32) -> Spot
     let mut p = newest;
     while n > 0 {
         let e = link_at(work, p);
-        if e.first / OFFSETS == key {
-            return Spot { left: n, place: p };
-        }
-        if e.values > 0 {
+        if e.first / OFFSETS == key || e.values > 0 {
             return Spot { left: n, place: p };
         }
         p = e.next;
@@ -107,32 +101,20 @@ fn seek(work: &[u32], count: u32, newest: u32, key: u32) -> Spot
 }
 
 // Whether an entry with this first number has the name at an offset, whose key is given.
+#[tactic(auto, using(crate::proofs::Names::called_laws))]
 fn is_called(text: &[u8], first: u32, key: u32, offset: usize) -> bool
     ensures { result ≡ (eqb (first / 32768) key && same (map small (word_at text.now (first % 32768))) (map small (word_at text.now offset))) }
 {
-    if first / OFFSETS == key {
-        return same_word(text, (first % OFFSETS) as usize, offset);
-    }
-    false
-}
-
-// What is left of n without m.
-fn less(n: u32, m: u32) -> u32
-    ensures { result ≡ n - m }
-{
-    if m < n {
-        return n - m;
-    }
-    0
+    first / OFFSETS == key && same_word(text, (first % OFFSETS) as usize, offset)
 }
 
 // What comes in the chain after the values behind the entry at a place, of so many entries from it on.
 fn past_values(work: &[u32], left: u32, place: u32, values: u32) -> Spot
     ensures { result ≡ past_values work.now left place values }
 {
-    let last = first_value(place) as usize + 4 * less(values, 1) as usize;
+    let last = first_value(place) as usize + 4 * values.saturating_sub(1) as usize;
     Spot {
-        left: less(less(left, 1), values),
+        left: left.saturating_sub(1).saturating_sub(values),
         place: at(work, last + 3),
     }
 }
@@ -172,6 +154,5 @@ pub fn lookup(text: &[u8], work: &[u32], count: u32, newest: u32, offset: usize)
 pub fn declare(work: &mut [u32], top: u32, name: u32, sort: u32, more: u32, newest: u32) -> u32
     ensures { Laid (laid (name ∷ sort ∷ more ∷ newest ∷ []) top work.old) result work.new }
 {
-    let ns = [name, sort, more, newest];
-    lay(work, top, &ns)
+    lay(work, top, &[name, sort, more, newest])
 }

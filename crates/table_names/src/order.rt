@@ -5,43 +5,38 @@ ghost use Rattle.law.specs.Trees.{word_at};
 ghost use Rattle.table_names.specs.Letters.{letter_of, byte_at};
 ghost use Rattle.table_names.specs.Order.{lettered, ordered};
 
+use std::cmp::Ordering;
+
 use crate::letters::{Meeting, byte_at, letter_of, meet};
 
-// Whether a word comes before another, is the same, or comes after it.
-#[derive(Clone, Copy)]
-pub enum Order {
-    Before,
-    Same,
-    After,
-}
-
 // The order of two words by the letters at two offsets, which differ.
-fn by_letters(text: &[u8], p: usize, q: usize) -> Order
+#[tactic(auto, using(crate::proofs::Ordering::letters_laws))]
+fn by_letters(text: &[u8], p: usize, q: usize) -> Ordering
     ensures { result ≡ lettered (letter_of (byte_at text.now p)) (letter_of (byte_at text.now q)) }
 {
     let x = letter_of(byte_at(text, p));
     let y = letter_of(byte_at(text, q));
     if x < y {
-        return Order::Before;
+        Ordering::Less
+    } else {
+        Ordering::Greater
     }
-    Order::After
 }
 
 // The order of the words at two offsets, case ignored.
-pub(crate) fn order_of(text: &[u8], a: usize, b: usize) -> Order
+pub(crate) fn order_of(text: &[u8], a: usize, b: usize) -> Ordering
     ensures { result ≡ ordered (map small (word_at text.now a)) (map small (word_at text.now b)) }
 {
     let mut p = a;
     let mut q = b;
     loop {
-        let m = meet(text, p, q);
-        match m {
+        match meet(text, p, q) {
             Meeting::Same => {
                 p += 1;
                 q += 1;
             }
             Meeting::End => {
-                return Order::Same;
+                return Ordering::Equal;
             }
             Meeting::Differ => {
                 return by_letters(text, p, q);

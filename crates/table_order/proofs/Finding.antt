@@ -13,36 +13,36 @@ use Rattle.law_theorems.proofs.Inversion.{and-true}
 use Rattle.table_names.specs.Keys.{key_of}
 use Rattle.table_names.specs.Order.{lettered, ordered}
 use Rattle.table_names.specs.Chain.{name_at, key_at, is_called, place_in, first_value, places, order_at, ranked, middle, by_order, halved, value_in}
-use Rattle.table_names.specs.declared.order.Order.{Order}
-use Rattle.table_names.specs.declared.order.Order.TheVariants as order
+use Rattle.std.specs.declared.cmp.Ordering.{Ordering}
+use Rattle.std.specs.declared.cmp.Ordering.TheVariants as order
 use Rattle.table_names.proofs.Chained.{first-low}
 use Rattle.table_order.specs.Ordered.{Finds}
 
 -- ---- the same in order
 
-before_same : {X : Type 0} → order.Before ≡ order.Same → X
+before_same : {X : Type 0} → order.Less ≡ order.Equal → X
 before_same e = absurd (let z : ◌≡◌ {A = ℕ} 0 1 = cc in omega arith)
 
-after_same : {X : Type 0} → order.After ≡ order.Same → X
+after_same : {X : Type 0} → order.Greater ≡ order.Equal → X
 after_same e = absurd (let z : ◌≡◌ {A = ℕ} 0 1 = cc in omega arith)
 
-ordered_same : (v w : Name) → ordered v w ≡ order.Same → v ≡ w
+ordered_same : (v w : Name) → ordered v w ≡ order.Equal → v ≡ w
 unfolding ordered lettered
 ordered_same [] [] e = refl
 ordered_same [] (b ∷ w) e = before_same e
 ordered_same (a ∷ v) [] e = after_same e
 ordered_same (a ∷ v) (b ∷ w) e = go (eqb a b) refl (ltb a b) (ordered_same v w) e
   where
-    go : (t : Bool) → eqb a b ≡ t → (u : Bool) → (ordered v w ≡ order.Same → v ≡ w) → cond t (ordered v w) (cond u order.Before order.After) ≡ order.Same → a ∷ v ≡ b ∷ w
+    go : (t : Bool) → eqb a b ≡ t → (u : Bool) → (ordered v w ≡ order.Equal → v ≡ w) → cond t (ordered v w) (cond u order.Less order.Greater) ≡ order.Equal → a ∷ v ≡ b ∷ w
     go true f u k g = let x = eqb-true a b f in let y = k g in cc
     go false f true k g = before_same g
     go false f false k g = after_same g
 
-called_same : (s l : List ℕ) (p : ℕ) (w : Name) → order_at s l p w ≡ order.Same → is_called s l p w ≡ true
+called_same : (s l : List ℕ) (p : ℕ) (w : Name) → order_at s l p w ≡ order.Equal → is_called s l p w ≡ true
 unfolding order_at is_called
 called_same s l p w e = go (ltb (key_at l p) (key_of w)) refl (ltb (key_of w) (key_at l p)) refl e
   where
-    go : (t : Bool) → ltb (key_at l p) (key_of w) ≡ t → (u : Bool) → ltb (key_of w) (key_at l p) ≡ u → cond t order.Before (cond u order.After (ordered (name_at s l p) w)) ≡ order.Same
+    go : (t : Bool) → ltb (key_at l p) (key_of w) ≡ t → (u : Bool) → ltb (key_of w) (key_at l p) ≡ u → cond t order.Less (cond u order.Greater (ordered (name_at s l p) w)) ≡ order.Equal
         → (eqb (key_at l p) (key_of w) && same (name_at s l p) w) ≡ true
     go true f u g h = before_same h
     go false f true g h = after_same h
@@ -66,13 +66,13 @@ unfolding halved
 halved-hit s l b n w zero low high = missed refl
 halved-hit s l b n w (suc d) low high = outer (λ x y. halved-hit s l b n w d x y) (ltb low high) (ltb (ranked l b (middle low high)) n) refl (order_at s l (b + 4 * ranked l b (middle low high)) w) refl
   where
-    outer : ((x y : ℕ) → Hit s l b n w (halved s l b n w d x y)) → (t u : Bool) → ltb (ranked l b (middle low high)) n ≡ u → (o : Order) → order_at s l (b + 4 * ranked l b (middle low high)) w ≡ o
+    outer : ((x y : ℕ) → Hit s l b n w (halved s l b n w d x y)) → (t u : Bool) → ltb (ranked l b (middle low high)) n ≡ u → (o : Ordering) → order_at s l (b + 4 * ranked l b (middle low high)) w ≡ o
         → Hit s l b n w (cond t (cond u (by_order o (halved s l b n w d (middle low high + 1) high) (b + 4 * ranked l b (middle low high)) (halved s l b n w d low (middle low high))) 0) 0)
     outer k false u e o f = missed refl
     outer k true false e o f = missed refl
-    outer k true true e order.Before f = k (middle low high + 1) high
-    outer k true true e order.Same f = hit (ranked l b (middle low high)) (ltb-true (ranked l b (middle low high)) n e) refl (called_same s l (b + 4 * ranked l b (middle low high)) w f)
-    outer k true true e order.After f = k low (middle low high)
+    outer k true true e order.Less f = k (middle low high + 1) high
+    outer k true true e order.Equal f = hit (ranked l b (middle low high)) (ltb-true (ranked l b (middle low high)) n e) refl (called_same s l (b + 4 * ranked l b (middle low high)) w f)
+    outer k true true e order.Greater f = k low (middle low high)
 
 -- ---- and what the chain gives
 

@@ -5,10 +5,10 @@
 
 ghost use Rattle.table_order.specs.Ordered.{Ranks, Finds, Marking, Ordered};
 
+use std::cmp::Ordering;
 use table_list::{at, put};
 use table_names::blocks::{SORTS, VALUES, find_value, first_value, order_at, rank_at};
 use table_names::keys::{OFFSETS, key_of};
-use table_names::order::Order;
 
 // More than the places of a working list.
 const PLACES: u32 = 32768;
@@ -33,12 +33,7 @@ fn copy_rank(work: &mut [u32], base: u32, from: u32, to: u32)
 // Whether the value that comes j-th in order comes after the word at an offset, which has this key.
 fn comes_after(text: &[u8], work: &[u32], base: u32, j: u32, key: u32, offset: usize) -> bool {
     let e = base as usize + 4 * rank_at(work, base, j) as usize;
-    let o = order_at(text, work, e, key, offset);
-    match o {
-        Order::Before => false,
-        Order::Same => false,
-        Order::After => true,
-    }
+    order_at(text, work, e, key, offset) == Ordering::Greater
 }
 
 // Puts value i among those before it, which are in order.
@@ -47,33 +42,28 @@ fn insert(text: &[u8], work: &mut [u32], base: u32, i: u32)
 {
     let first = at(work, base as usize + 4 * i as usize);
     let mut j = i;
-    while j > 0 {
-        if comes_after(
+    while j > 0
+        && comes_after(
             text,
             work,
             base,
             j - 1,
             first / OFFSETS,
             (first % OFFSETS) as usize,
-        ) {
-            copy_rank(work, base, j - 1, j);
-            j -= 1;
-        } else {
-            set_rank(work, base, j, i);
-            return;
-        }
+        )
+    {
+        copy_rank(work, base, j - 1, j);
+        j -= 1;
     }
-    set_rank(work, base, 0, i);
+    set_rank(work, base, j, i);
 }
 
 // Puts the n values from a place on in order.
 fn sort(text: &[u8], work: &mut [u32], base: u32, n: u32)
     ensures { Ranks base work.old work.new }
 {
-    let mut i = 0;
-    while i < n {
+    for i in 0..n {
         insert(text, work, base, i);
-        i += 1;
     }
 }
 
@@ -82,15 +72,13 @@ fn all_found(text: &[u8], work: &[u32], place: u32, n: u32) -> bool
     ensures { Finds text.now work.now place n result }
 {
     let base = first_value(place);
-    let mut i = 0;
-    while i < n {
+    for i in 0..n {
         let e = base as usize + 4 * i as usize;
         let name = (at(work, e) % OFFSETS) as usize;
         let q = find_value(text, work, place, n, key_of(text, name), name);
         if q as usize != e {
             return false;
         }
-        i += 1;
     }
     true
 }
@@ -101,10 +89,9 @@ fn mark(text: &[u8], work: &mut [u32], place: u32, n: u32)
 {
     let p = place as usize + 2;
     put(work, p, n);
-    if all_found(text, work, place, n) {
-        return;
+    if !all_found(text, work, place, n) {
+        put(work, p, 0);
     }
-    put(work, p, 0);
 }
 
 // Puts the n values behind the type's entry at a place in order, and says so in the entry.

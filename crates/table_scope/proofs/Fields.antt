@@ -19,37 +19,34 @@ unfolding field_place
 asked s l w q zero h = absurd (omega arith)
 asked s l w q (suc n) h = let z : suc n - 1 ≡ n = omega arith in rw z refl
 
--- the n fields from p on are still to be asked
-pub record Asking (s l : List ℕ) (w : Name) (place fields n p : ℕ) : Type 0 where
-  pub same-field : field_place s l (place + 8) fields w ≡ field_place s l p n w
-  pub ends : p + 4 * n ≡ place + 8 + 4 * fields
-  pub early : p + 4 * n < 42949672960
+-- the fields from field j on are still to be asked
+pub record Asking (s l : List ℕ) (w : Name) (place fields j : ℕ) : Type 0 where
+  pub same-field : field_place s l (place + 8) fields w ≡ field_place s l (place + 8 + 4 * j) (fields - j) w
 
 module _ (s l : List ℕ) (w : Name) (place fields : ℕ) where
-  pub ask-start : Fits w32 place → Fits w32 fields → Asking s l w place fields fields (place + 8)
-  ask-start h g = record { same-field = refl; ends = refl; early = omega arith }
+  pub ask-start : Asking s l w place fields 0
+  ask-start = let a : place + 8 + 4 * 0 ≡ place + 8 = omega arith in let b : fields - 0 ≡ fields = omega arith in record { same-field = rw (a, b) refl }
 
-  module _ (n p : ℕ) (A : Asking s l w place fields n p) where
-    pub ask-none : n ≤ 0 → place + 8 + 4 * fields ≤ 4294967296 → 0 ≡ field_place s l (place + 8) fields w
+  module _ (j : ℕ) (A : Asking s l w place fields j) where
+    pub ask-none : fields ≤ j → place + 8 + 4 * fields ≤ 4294967296 → 0 ≡ field_place s l (place + 8) fields w
     unfolding field_place
-    ask-none h g = let z : n ≡ 0 = omega arith in sym (A.same-field ∙ rw z)
+    ask-none h g = let z : fields - j ≡ 0 = omega arith in sym (A.same-field ∙ rw z refl)
 
-    module _ (h : 0 < n) where
-      pub ask-early : p + 4 < 42949672960
-      ask-early = omega (arith, A.early)
+    module _ (h : j < fields) (name : ℕ) (e : name ≡ get_or l (place + 8 + 4 * j) 0) (b : Bool) (t : b ≡ same (map small (word_at s name)) w) where
+      told : same (map small (word_at s (get_or l (place + 8 + 4 * j) 0))) w ≡ b
+      told = rw (← e) (sym t)
 
-      module _ (name : ℕ) (e : name ≡ get_or l p 0) (b : Bool) (t : b ≡ same (map small (word_at s name)) w) where
-        told : same (map small (word_at s (get_or l p 0))) w ≡ b
-        told = rw (← e) (sym t)
+      left : 0 < fields - j
+      left = omega arith
 
-        pub ask-found : b ≡ true → (r : ℕ) → (p < 4294967296 → r ≡ p) → place + 8 + 4 * fields ≤ 4294967296 → r ≡ field_place s l (place + 8) fields w
-        ask-found g r f k = f (omega (arith, A.ends)) ∙ sym (A.same-field ∙ asked s l w p n h ∙ rw (told, g))
+      pub ask-found : b ≡ true → (r : ℕ) → (place + 8 + 4 * j < 4294967296 → r ≡ place + 8 + 4 * j) → place + 8 + 4 * fields ≤ 4294967296
+          → r ≡ field_place s l (place + 8) fields w
+      ask-found g r f k = f (omega arith) ∙ sym (A.same-field ∙ asked s l w (place + 8 + 4 * j) (fields - j) left ∙ rw (told, g) refl)
 
-        pub ask-on : b ≡ false → Asking s l w place fields (n - 1) (p + 4)
-        ask-on g = record {
-          same-field = A.same-field ∙ asked s l w p n h ∙ rw (told, g);
-          ends = omega (arith, A.ends);
-          early = omega (arith, A.early);
-        }
+      pub ask-on : b ≡ false → Asking s l w place fields (j + 1)
+      ask-on g =
+          let x : place + 8 + 4 * j + 4 ≡ place + 8 + 4 * (j + 1) = omega arith in
+          let y : fields - j - 1 ≡ fields - (j + 1) = omega arith in
+          record { same-field = A.same-field ∙ asked s l w (place + 8 + 4 * j) (fields - j) left ∙ rw (told, g, x, y) refl }
 
 pub ruleset ask-laws = (ask-none, ask-found, ask-on)

@@ -16,7 +16,7 @@ module _ (l : List ℕ) (f n : ℕ) (x : Frame) where
   unfolding frame_at
   at_some h a g e = e ∙ rw (le-ltb f n h, g) refl
 
-pub ruleset at-laws = (at_none, at_some)
+pub ruleset at_laws = (at_none, at_some)
 
 module _ (l : List ℕ) (p f : ℕ) (e : f ≡ get_or l (p + 4) 0) (x : Frame) where
   pub in-none : f ≡ 0 → x ≡ framed 0 0 0 → x ≡ frame_in l p
@@ -27,4 +27,4 @@ module _ (l : List ℕ) (p f : ℕ) (e : f ≡ get_or l (p + 4) 0) (x : Frame) w
   unfolding frame_in
   in_some z n h g = g ∙ rw (← e, ne_eqb f 0 z, h) refl
 
-pub ruleset in-laws = (in-none, in_some)
+pub ruleset in_laws = (in-none, in_some)

@@ -3,6 +3,7 @@ use mathlib.Core.Path.{◌≡◌, refl, sym, ap, ◌∙◌}
 use mathlib.Core.Bool.{Bool, true, false, cond, ◌||◌}
 use mathlib.Core.List.{List, [], ◌∷◌}
 use Prim.Native.Nat.{ℕ, zero, suc, ◌+◌, ◌-◌, ◌<◌, ◌≤◌}
+use native.Mathlib.Decide.{ℕ_discrete}
 use native.Mathlib.Omega.{arith}
 use borrow.Author.Tests.{eq-eqb, ne_eqb, lt-ltb, le-ltb, ltb-true, ltb-false}
 use lib.Dec.{eqb, ltb}
@@ -26,7 +27,7 @@ pub listed-most : (n : ℕ) → 33 ≤ n → 33 ≡ listed_loops n
 unfolding listed_loops
 listed-most n h = rw (le-ltb n 33 h) refl
 
-pub ruleset listed-laws = (listed-all, listed-most)
+pub ruleset listed_laws = (listed-all, listed-most)
 
 few-listed : (k : ℕ) → listed_loops k ≤ 33
 unfolding listed_loops
@@ -36,40 +37,45 @@ few-listed k = go (ltb k 33) refl
     go true e = let h = ltb-true k 33 e in omega arith
     go false e = omega arith
 
--- of the first k numbers, the first n are still to be compared
-pub record Comparing (is : List ℕ) (i k n : ℕ) : Type 0 where
-  pub rest : among is k i ≡ among is n i
-  pub few : n ≤ 33
+-- i is none of the first n numbers
+pub record Comparing (is : List ℕ) (i n : ℕ) : Type 0 where
+  pub none_so_far : among is n i ≡ false
 
-among_one : (is : List ℕ) (i n : ℕ) → 0 < n → among is n i ≡ (eqb i (get_or is (n - 1) 0) || among is (n - 1) i)
+among_at : (is : List ℕ) (i n k : ℕ) → n < k → get_or is n 0 ≡ i → among is k i ≡ true
 unfolding among
-among_one is i zero h = absurd (omega arith)
-among_one is i (suc n) h = let z : suc n - 1 ≡ n = omega arith in rw z refl
+among_at is i n zero h e = absurd (omega arith)
+among_at is i n (suc k) h e = go (ℕ_discrete n k) (λ f. among_at is i n k f e)
+  where
+    or-true : (b : Bool) → (b || true) ≡ true
+    or-true true = refl
+    or-true false = refl
 
-pub compare-start : (m : Loops) (is : List ℕ) (i k : ℕ) → k ≡ listed_loops m.count → Comparing is i k k
-compare-start m is i k e = record { rest = refl; few = rw e (few-listed m.count) }
+    go : Dec (n ≡ k) → (n < k → among is k i ≡ true) → (eqb i (get_or is k 0) || among is k i) ≡ true
+    go (yes f) _ = rw (← f, eq-eqb i (get_or is n 0) (sym e)) refl
+    go (no f) g = rw (g (omega (arith, f))) (or-true (eqb i (get_or is k 0)))
 
-module _ (is : List ℕ) (i k n : ℕ) (C : Comparing is i k n) where
-  pub compare-few : n ≤ 33
-  compare-few = C.few
+pub compare-start : (is : List ℕ) (i : ℕ) → Comparing is i 0
+unfolding among
+compare-start is i = record { none_so_far = refl }
 
-  pub compare-on : 0 < n → ((get_or is (n - 1) 0 ≡ i) → ⊥) → Comparing is i k (n - 1)
-  compare-on h d = record {
-    rest = C.rest ∙ among_one is i n h ∙ rw (ne_eqb i (get_or is (n - 1) 0) (λ e. d (sym e))) refl;
-    few = let f = C.few in omega arith;
-  }
+pub compare-few : (m : Loops) (k n : ℕ) → k ≡ listed_loops m.count → n < k → n < 33
+compare-few m k n e h = let f = few-listed m.count in omega (arith, e)
 
-module _ (m : Loops) (i k n : ℕ) (e : k ≡ listed_loops m.count) (C : Comparing m.over i k n) where
-  over-rest : loops_over m i ≡ among m.over n i
-  unfolding loops_over
-  over-rest = rw (← e) C.rest
-
-  pub compare-none : n ≤ 0 → false ≡ loops_over m i
+module _ (m : Loops) (i n : ℕ) (C : Comparing m.over i n) where
+  pub compare-on : ((get_or m.over n 0 ≡ i) → ⊥) → Comparing m.over i (n + 1)
   unfolding among
-  compare-none h = let z : n ≡ 0 = omega arith in sym (over-rest ∙ rw z refl)
+  compare-on d =
+      let z : n + 1 ≡ suc n = omega arith in
+      record { none_so_far = rw (z, ne_eqb i (get_or m.over n 0) (λ e. d (sym e))) C.none_so_far }
 
-  pub compare-found : 0 < n → get_or m.over (n - 1) 0 ≡ i → true ≡ loops_over m i
-  compare-found h f = sym (over-rest ∙ among_one m.over i n h ∙ rw (eq-eqb i (get_or m.over (n - 1) 0) (sym f)) refl)
+  module _ (k : ℕ) (e : k ≡ listed_loops m.count) where
+    pub compare-none : k ≤ n → n ≤ k → false ≡ loops_over m i
+    unfolding loops_over
+    compare-none g h = let z : n ≡ k = omega arith in rw (← e, ← z) (sym C.none_so_far)
+
+    pub compare-found : n < k → get_or m.over n 0 ≡ i → true ≡ loops_over m i
+    unfolding loops_over
+    compare-found h f = rw (← e) (sym (among_at m.over i n k h f))
 
 pub ruleset compare-laws = (compare-none, compare-found, compare-on)
 
@@ -81,7 +87,7 @@ pub with_none : (m : Loops) (i n : ℕ) → n ≡ m.count → 33 ≤ n → m ≡
 unfolding with_loop
 with_none m i n e h = rw (← e, le-ltb n 33 h) refl
 
-pub ruleset with-laws = (with-room, with_none)
+pub ruleset with_laws = (with-room, with_none)
 
 -- ---- what is in force
 

@@ -16,7 +16,7 @@ use Rattle.text_words.specs.Sights.{Looks, Ends}
 use Rattle.text_words.specs.declared.sight.Sight.{Sight}
 use Rattle.text_words.specs.declared.sight.Sight.TheVariants as sight
 use Rattle.text_skips.specs.Skips.{Past}
-use Rattle.table_scope.specs.declared.pairs.Paired.TheVariants as paired
+use Rattle.std.specs.Prelude.{Some, None}
 use Rattle.table_scope.specs.Pairs.{lead_in, after_lead, next_pair, pair_in, Leads, FollowsLead, FindsPair}
 
 -- ---- `first_word`
@@ -43,7 +43,7 @@ module _ (s : List ℕ) (at : ℕ) (v : Sight) (L : Looks s (stack_at s at) v) w
   lead-shut q e = let g = rw e at L.says in
       nothing-there (ap lead_in g.0 ∙ sym (ap (map small) (none-word s (length s) (omega arith)))) (ap after_lead g.0)
 
-pub ruleset lead-laws = (lead-leaf, lead-form, lead-shut)
+pub ruleset lead_laws = (lead-leaf, lead-form, lead-shut)
 
 -- ---- `type_word`
 
@@ -60,7 +60,7 @@ pub next_last : (j : ℕ) → 65535 ≤ j → j ≡ next_pair j
 unfolding next_pair
 next_last j h = rw (le-ltb j 65535 h) refl
 
-pub ruleset next-laws = (next_more, next_last)
+pub ruleset next_laws = (next_more, next_last)
 
 -- ---- `find_pair`
 
@@ -73,11 +73,11 @@ seek-start s at w = record { sought = refl }
 
 module _ (s : List ℕ) (at p : ℕ) (v : Sight) (L : Looks s (stack_at s p) v) where
   module _ (w : Name) (j : ℕ) (I : Seeking s at w j p) where
-    pub seek-leaf : (q : ℕ) → v ≡ sight.Leaf q → FindsPair s at w paired.Nothing
+    pub seek-leaf : (q : ℕ) → v ≡ sight.Leaf q → FindsPair s at w None
     unfolding pair_in
     seek-leaf q e = let g = rw e at L.says in record { says = I.sought ∙ ap (λ (k : List (Trees Run)). pair_in j (first k) w) g.0 }
 
-    pub seek-shut : (q : ℕ) → v ≡ sight.Shut q → FindsPair s at w paired.Nothing
+    pub seek-shut : (q : ℕ) → v ≡ sight.Shut q → FindsPair s at w None
     unfolding pair_in
     seek-shut q e = let g = rw e at L.says in record { says = I.sought ∙ ap (λ (ts : Trees Run). pair_in j ts w) g.0 }
 
@@ -98,7 +98,7 @@ module _ (s : List ℕ) (at p : ℕ) (v : Sight) (L : Looks s (stack_at s p) v) 
       compared = I.sought ∙ ap (λ (k : List (Trees Run)). pair_in j (first k) w) opened
           ∙ ap (λ (c : Bool). cond c (some (j, first (stack_at s q))) (pair_in (next_pair j) (first (later (stack_at s q))) w)) (ap (λ (n : Name). same n w) (sym F.name-is) ∙ sym t)
 
-      pub seek_found : b ≡ true → FindsPair s at w (paired.Found j q)
+      pub seek_found : b ≡ true → FindsPair s at w (Some (j, q))
       seek_found h = record { says = compared ∙ rw h refl }
 
       pub seek-on : b ≡ false → (r : ℕ) → Past s q r → (i : ℕ) → i ≡ next_pair j → Seeking s at w i r

@@ -21,8 +21,7 @@ use Rattle.text_parts.specs.Parts.{Stands}
 use Rattle.text_parts.specs.declared.Part.{Part}
 use Rattle.text_parts.specs.declared.Part.TheVariants as part
 use Rattle.table_scope.specs.Pairs.{after_lead, FollowsLead, FindsPair}
-use Rattle.table_scope.specs.declared.pairs.Paired.{Paired}
-use Rattle.table_scope.specs.declared.pairs.Paired.TheVariants as paired
+use Rattle.std.specs.Prelude.{Option, Some, None}
 use Rattle.table_scope.specs.Scene.{meaning_by, meaning_at, declared_in, declared_here, type_in, kind_by, kind_of, parameter_of, meaning_in}
 use Rattle.table_scope.specs.Sides.{host_in, class_in, side_in}
 use Rattle.table_scope.specs.declared.Info.{Info}
@@ -74,7 +73,7 @@ module _ (l ts : List ℕ) (k : ℕ) (x : Info) where
     unfolding info_of
     describe-other n f = f ∙ rw (ne_eqb k 0 a, ne_eqb k 1 b, ← e, ne_eqb p 0 n) refl
 
-pub ruleset describe-laws = (describe-integer, describe-boolean, describe-none, describe-other)
+pub ruleset describe_laws = (describe-integer, describe-boolean, describe-none, describe-other)
 
 -- ---- `meaning_by`
 
@@ -97,7 +96,7 @@ module _ (sort more : ℕ) where
       unfolding meaning_by
       by_value c = rw (ne_eqb (sort % 4) 0 a, ne_eqb (sort % 4) 1 b, ne_eqb (sort % 4) 2 c) refl
 
-pub ruleset by-laws = (by-type, by-var, by-proc, by_value)
+pub ruleset by_laws = (by-type, by-var, by-proc, by_value)
 
 -- ---- `declared`
 
@@ -110,7 +109,7 @@ module _ (s l : List ℕ) (scope : Scope) (w : Name) (p : ℕ) (e : p ≡ place_
   unfolding declared_in meaning_at
   declared-some n a b f g x h = h ∙ rw (← e, ne_eqb p 0 n, f, g) refl
 
-pub ruleset declared-laws = (declared-none, declared-some)
+pub ruleset declared_laws = (declared-none, declared-some)
 
 -- ---- `kind_by`, `kind_in`
 
@@ -133,7 +132,7 @@ module _ (a b : Atom) (e : a ≡ b) (m : Meaning) where
   pub no_kind : a ≡ AT.Nothing → 0 ≡ kind_by b m
   no_kind f = rw (sym e ∙ f) refl
 
-pub ruleset atom-laws = (number-kind, named-kind, truth-kind, last-kind, base-kind, no_kind)
+pub ruleset atom_laws = (number-kind, named-kind, truth-kind, last-kind, base-kind, no_kind)
 
 module _ (s l : List ℕ) (scope : Scope) (at q : ℕ) (F : FollowsLead s at q) (v : Part) (S : Stands s q v) where
   abbrev us : Trees Run
@@ -152,7 +151,7 @@ module _ (s l : List ℕ) (scope : Scope) (at q : ℕ) (F : FollowsLead s at q) 
   unfolding kind_of
   kind-shut p e = let h = rw e at S.says in sym (ap (kind_of s l scope) (sym F.follows ∙ h.here))
 
-pub ruleset kind-laws = (kind-leaf, kind-form, kind-shut)
+pub ruleset kind_laws = (kind-leaf, kind-form, kind-shut)
 
 -- ---- `parameter`
 
@@ -168,16 +167,16 @@ module _ (s l : List ℕ) (scope : Scope) (w : Name) (x : Meaning) where
   unfolding meaning_in
   meaning-plain e f = f ∙ rw (eq-eqb scope.pairs 0 e) refl
 
-  module _ (n : (scope.pairs ≡ 0) → ⊥) (v : Paired) (F : FindsPair s scope.pairs w v) where
-    pub meaning-paired : (j q : ℕ) → v ≡ paired.Found j q → x ≡ parameter_of s l scope j (first (stack_at s q)) → x ≡ meaning_in s l scope w
+  module _ (n : (scope.pairs ≡ 0) → ⊥) (v : Option (ℕ × ℕ)) (F : FindsPair s scope.pairs w v) where
+    pub meaning-paired : (j q : ℕ) → v ≡ Some (j, q) → x ≡ parameter_of s l scope j (first (stack_at s q)) → x ≡ meaning_in s l scope w
     unfolding meaning_in
     meaning-paired j q e f = let h = rw e at F.says in f ∙ rw (ne_eqb scope.pairs 0 n, h) refl
 
-    pub meaning-declared : v ≡ paired.Nothing → x ≡ declared_in s l scope w → x ≡ meaning_in s l scope w
+    pub meaning-declared : v ≡ None → x ≡ declared_in s l scope w → x ≡ meaning_in s l scope w
     unfolding meaning_in
     meaning-declared e f = let h = rw e at F.says in f ∙ rw (ne_eqb scope.pairs 0 n, h) refl
 
-pub ruleset meaning-laws = (meaning-plain, meaning-paired, meaning-declared)
+pub ruleset meaning_laws = (meaning-plain, meaning-paired, meaning-declared)
 
 -- ---- `host_of`
 
@@ -190,7 +189,7 @@ module _ (l ts : List ℕ) (k : ℕ) (x : Info) (e : x ≡ info_of l ts k) where
   unfolding host_in
   host-other f = rw (← e, ne_eqb x.shape 0 f) refl
 
-pub ruleset host-laws = (host-ordinal, host-other)
+pub ruleset host_laws = (host-ordinal, host-other)
 
 -- ---- `class_by`
 
@@ -216,7 +215,7 @@ module _ (shape k : ℕ) where
     unfolding class_in
     class-enum a b = rw (e, ne_eqb k 0 a, ne_eqb k 1 b) refl
 
-pub ruleset class-laws = (class-set, class-whole, class-integer, class-boolean, class-enum)
+pub ruleset class_laws = (class-set, class-whole, class-integer, class-boolean, class-enum)
 
 -- ---- `side_of`
 

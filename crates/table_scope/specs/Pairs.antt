@@ -1,12 +1,10 @@
 -- The pairs `(N T)` of a procedure's parameters as they stand in the text: parts of the list, in its order.
-use Rattle.std.specs.Prelude.{cond, List, [], map, ◌≡◌, ℕ, ◌+◌, ltb}
+use Rattle.std.specs.Prelude.{cond, List, [], map, ◌≡◌, ℕ, ◌+◌, ltb, Option as Maybe, Some, None}
 use Rattle.std.proofs.Math.Option.{Option, none, some}
 use Rattle.leaf_bytes.specs.Bytes.{small, same}
 use Rattle.law.specs.Base.{Name}
 use Rattle.law.specs.Trees.{Trees, word, form, end, ◌then◌, Run, first, word_at}
 use Rattle.law_theorems.specs.Readings.{rest_at, stack_at}
-use Rattle.table_scope.specs.declared.pairs.Paired.{Paired}
-use Rattle.table_scope.specs.declared.pairs.Paired.TheVariants as paired
 
 -- the word with which parts begin, the empty one where they begin with none; and the parts after it
 unfoldable pub lead_in : Trees Run → Name
@@ -39,9 +37,9 @@ pub record FollowsLead (s : List ℕ) (at q : ℕ) : Type 0 where
   pub follows : first (stack_at s q) ≡ after_lead (first (stack_at s at))
 
 -- a pair of the list is found, or none
-abbrev pub FoundBy : List ℕ → Option (ℕ × Trees Run) → Paired → Type 0
-FoundBy s o (paired.Found j q) = o ≡ some (j, first (stack_at s q))
-FoundBy s o paired.Nothing = o ≡ none
+abbrev pub FoundBy : List ℕ → Option (ℕ × Trees Run) → Maybe (ℕ × ℕ) → Type 0
+FoundBy s o (Some p) = o ≡ some (p.0, first (stack_at s p.1))
+FoundBy s o None = o ≡ none
 
-pub record FindsPair (s : List ℕ) (at : ℕ) (w : Name) (r : Paired) : Type 0 where
+pub record FindsPair (s : List ℕ) (at : ℕ) (w : Name) (r : Maybe (ℕ × ℕ)) : Type 0 where
   pub says : FoundBy s (pair_in 0 (first (stack_at s at)) w) r

@@ -24,24 +24,28 @@ fn frame_by(count: u32, types: u32, base: u32) -> Frame
 }
 
 // The frame at a place, of n parameters.
+#[tactic(auto, using(crate::proofs::FrameWays::at_laws))]
 fn frame_at(work: &[u32], f: u32, n: u32) -> Frame
     ensures { result ≡ frame_at work.now f n }
 {
     if n > f {
-        return frame_by(0, 0, 0);
+        frame_by(0, 0, 0)
+    } else {
+        frame_by(n, f - n, at(work, f as usize))
     }
-    frame_by(n, f - n, at(work, f as usize))
 }
 
 // The frame of the procedure whose body's node stands at a place.
+#[tactic(auto, using(crate::proofs::FrameWays::in_laws))]
 pub fn frame_of(work: &[u32], place: u32) -> Frame
     ensures { result ≡ frame_in work.now place }
 {
     let f = at(work, place as usize + 4);
     if f == 0 {
-        return frame_by(0, 0, 0);
+        frame_by(0, 0, 0)
+    } else {
+        frame_at(work, f, at(work, f as usize + 1))
     }
-    frame_at(work, f, at(work, f as usize + 1))
 }
 
 // The type of parameter j.

@@ -16,7 +16,7 @@ ghost use Rattle.table_scope.specs.Scene.{meaning_by, declared_here, type_in, ki
 ghost use Rattle.text_heads.specs.Heads.{atom_of};
 ghost use Rattle.table_scope.specs.Sides.{host_in, class_in, side_in};
 
-use crate::pairs::{PAIR_NUMBERS, Paired, find_pair, type_word};
+use crate::pairs::{PAIR_NUMBERS, find_pair, type_word};
 use leaf_words::words::Word;
 use table_kinds::{Class, Side};
 use table_list::at;
@@ -127,20 +127,18 @@ pub fn no_info() -> Info
 }
 
 // The description of type k; `types` holds the places.
+#[tactic(auto, using(crate::proofs::Ways::describe_laws))]
 pub fn describe(work: &[u32], types: &[u32], k: u32) -> Info
     ensures { result ≡ info_of work.now types.now k }
 {
-    if k == 0 {
-        return integer_info();
+    match k {
+        0 => integer_info(),
+        1 => boolean_info(),
+        _ => match at(types, k as usize) {
+            0 => no_info(),
+            place => read_info(work, place),
+        },
     }
-    if k == 1 {
-        return boolean_info();
-    }
-    let place = at(types, k as usize);
-    if place == 0 {
-        return no_info();
-    }
-    read_info(work, place)
 }
 
 // How many types there are at most: 64 declared ones and the two built-in.
@@ -150,31 +148,29 @@ pub const MOST_TYPES: usize = 66;
 pub const TYPE_NUMBERS: u32 = 128;
 
 // What an entry's second and third numbers mean.
+#[tactic(auto, using(crate::proofs::Ways::by_laws))]
 fn meaning_by(sort: u32, more: u32) -> Meaning
     ensures { result ≡ meaning_by sort more }
 {
-    if sort % 4 == 0 {
-        return Meaning::Type(sort / 4);
+    match sort % 4 {
+        0 => Meaning::Type(sort / 4),
+        1 => Meaning::Var(sort / 4, more % TYPE_NUMBERS, more / TYPE_NUMBERS),
+        2 => Meaning::Proc(more),
+        _ => Meaning::Value(sort / 4 % TYPE_NUMBERS, more),
     }
-    if sort % 4 == 1 {
-        return Meaning::Var(sort / 4, more % TYPE_NUMBERS, more / TYPE_NUMBERS);
-    }
-    if sort % 4 == 2 {
-        return Meaning::Proc(more);
-    }
-    Meaning::Value(sort / 4 % TYPE_NUMBERS, more)
 }
 
 // The meaning of the word at an offset among the names that lines declare.
+#[tactic(auto, using(crate::proofs::Ways::declared_laws))]
 fn declared(text: &[u8], work: &[u32], scope: Scope, offset: usize) -> Meaning
     ensures { result ≡ declared_here text.now work.now scope offset }
 {
-    let place = lookup(text, work, scope.count, scope.newest, offset);
-    if place == 0 {
-        return Meaning::Unknown;
+    let p = lookup(text, work, scope.count, scope.newest, offset) as usize;
+    if p == 0 {
+        Meaning::Unknown
+    } else {
+        meaning_by(at(work, p + 1), at(work, p + 2))
     }
-    let p = place as usize;
-    meaning_by(at(work, p + 1), at(work, p + 2))
 }
 
 // The type that a meaning is, 0 where it is none.
@@ -182,38 +178,31 @@ fn type_in(m: Meaning) -> u32
     ensures { result ≡ type_in m }
 {
     match m {
-        Meaning::Unknown => 0,
         Meaning::Type(t) => t,
-        Meaning::Var(_, _, _) => 0,
-        Meaning::Proc(_) => 0,
-        Meaning::Value(_, _) => 0,
+        _ => 0,
     }
 }
 
 // The type that the word w at p names, 0 where it names none.
+#[tactic(auto, using(crate::proofs::Ways::atom_laws))]
 fn kind_by(text: &[u8], work: &[u32], scope: Scope, w: Word, p: usize) -> u32
     ensures { result ≡ kind_by (atom_of w) (declared_here text.now work.now scope p) }
 {
-    let a = atom_of(w);
-    match a {
-        Atom::Number(_) => 0,
+    match atom_of(w) {
         Atom::Named => type_in(declared(text, work, scope, p)),
-        Atom::Truth(_) => 0,
-        Atom::ErrorNumber => 0,
         Atom::Base(k) => k,
-        Atom::Nothing => 0,
+        Atom::Number(_) | Atom::Truth(_) | Atom::ErrorNumber | Atom::Nothing => 0,
     }
 }
 
 // The type of the parameter whose pair's parts begin at an offset.
+#[tactic(auto, using(crate::proofs::Ways::kind_laws))]
 fn kind_in(text: &[u8], work: &[u32], scope: Scope, at: usize) -> u32
     ensures { result ≡ kind_of text.now work.now scope (after_lead (first (stack_at text.now at))) }
 {
-    let part = part_at(text, type_word(text, at));
-    match part {
+    match part_at(text, type_word(text, at)) {
         Part::Leaf(w, p, _) => kind_by(text, work, scope, w, p),
-        Part::Form(_) => 0,
-        Part::Shut(_) => 0,
+        Part::Form(_) | Part::Shut(_) => 0,
     }
 }
 
@@ -237,47 +226,42 @@ fn parameter(text: &[u8], work: &[u32], scope: Scope, j: u32, at: usize) -> Mean
 }
 
 // The meaning of the word at an offset.
+#[tactic(auto, using(crate::proofs::Ways::meaning_laws))]
 pub fn meaning_of(text: &[u8], work: &[u32], scope: Scope, offset: usize) -> Meaning
     ensures { result ≡ meaning_here text.now work.now scope offset }
 {
     if scope.pairs == 0 {
         return declared(text, work, scope, offset);
     }
-    let f = find_pair(text, scope.pairs, offset);
-    match f {
-        Paired::Found(j, q) => parameter(text, work, scope, j, q),
-        Paired::Nothing => declared(text, work, scope, offset),
+    match find_pair(text, scope.pairs, offset) {
+        Some((j, q)) => parameter(text, work, scope, j, q),
+        None => declared(text, work, scope, offset),
     }
 }
 
 // The kind of type k: an ordinal's host, any other type itself.
+#[tactic(auto, using(crate::proofs::Ways::host_laws))]
 pub fn host_of(work: &[u32], types: &[u32], k: u32) -> u32
     ensures { result ≡ host_in work.now types.now k }
 {
     let x = describe(work, types, k);
-    if x.shape == 0 {
-        return x.host;
-    }
-    k
+    if x.shape == 0 { x.host } else { k }
 }
 
 // The class of kind k by the number of its shape.
+#[tactic(auto, using(crate::proofs::Ways::class_laws))]
 fn class_by(shape: u32, k: u32) -> Class
     ensures { result ≡ class_in shape k }
 {
-    if shape == 1 {
-        return Class::Set;
+    match shape {
+        0 => match k {
+            0 => Class::Integer,
+            1 => Class::Boolean,
+            _ => Class::Enum,
+        },
+        1 => Class::Set,
+        _ => Class::Whole,
     }
-    if shape != 0 {
-        return Class::Whole;
-    }
-    if k == 0 {
-        return Class::Integer;
-    }
-    if k == 1 {
-        return Class::Boolean;
-    }
-    Class::Enum
 }
 
 // Kind k as a side of an operator.
@@ -298,25 +282,18 @@ pub fn side_of(work: &[u32], types: &[u32], k: u32) -> Side
 fn narrow(p: usize) -> u32
     ensures { p < 4294967296 → result ≡ p }
 {
-    if p < 4294967296 {
-        return p as u32;
-    }
-    0
+    if p < 4294967296 { p as u32 } else { 0 }
 }
 
 // The place of the field that the word at an offset names, among those of the description at a place; 0 if none does.
 pub fn find_field(text: &[u8], work: &[u32], place: u32, fields: u32, offset: usize) -> u32
     ensures { place + 8 + 4 * fields ≤ 4294967296 → result ≡ field_place text.now work.now (place + 8) fields (map small (word_at text.now offset)) }
 {
-    let mut n = fields;
-    let mut p = place as usize + 8;
-    while n > 0 {
-        let name = at(work, p) as usize;
-        if same_word(text, name, offset) {
+    for j in 0..fields {
+        let p = place as usize + 8 + 4 * j as usize;
+        if same_word(text, at(work, p) as usize, offset) {
             return narrow(p);
         }
-        p += 4;
-        n -= 1;
     }
     0
 }
@@ -345,13 +322,15 @@ pub fn no_loops() -> Loops
 }
 
 // A count of loops, as far as the list goes.
+#[tactic(auto, using(crate::proofs::Looping::listed_laws))]
 fn listed_loops(n: u32) -> usize
     ensures { result ≡ listed_loops n }
 {
     if n < LOOPS_END {
-        return n as usize;
+        n as usize
+    } else {
+        MOST_LOOPS
     }
-    MOST_LOOPS
 }
 
 // Whether variable i is the control variable of one.
@@ -359,10 +338,8 @@ pub fn loops_over(m: Loops, i: u32) -> bool
     ensures { result ≡ loops_over m i }
 {
     let over = m.over;
-    let mut n = listed_loops(m.count);
-    while n > 0 {
-        n -= 1;
-        if over[n] == i {
+    for j in 0..listed_loops(m.count) {
+        if over[j] == i {
             return true;
         }
     }
@@ -370,6 +347,7 @@ pub fn loops_over(m: Loops, i: u32) -> bool
 }
 
 // The loops with one over variable i besides, where the list has room for it.
+#[tactic(auto, using(crate::proofs::Looping::with_laws))]
 pub fn with_loop(m: Loops, i: u32) -> Loops
     ensures { result ≡ with_loop m i }
 {
@@ -377,7 +355,8 @@ pub fn with_loop(m: Loops, i: u32) -> Loops
     if n < LOOPS_END {
         let mut over = m.over;
         over[n as usize] = i;
-        return Loops { count: n + 1, over };
+        Loops { count: n + 1, over }
+    } else {
+        m
     }
-    m
 }

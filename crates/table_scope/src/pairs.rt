@@ -14,19 +14,11 @@ pub(crate) const PAIR_NUMBERS: u32 = 65536;
 // The last number of a pair.
 const LAST_PAIR: u32 = PAIR_NUMBERS - 1;
 
-// The pair with a name: how many pairs come before it, and the offset past its bracket; or none has it.
-#[derive(Clone, Copy)]
-pub enum Paired {
-    Found(u32, usize),
-    Nothing,
-}
-
 // The offset of the word with which the parts at an offset begin; the text's end where they begin with none.
 fn first_word(text: &[u8], at: usize) -> usize
     ensures { Leads text.now at result }
 {
-    let s = look(text, at);
-    match s {
+    match look(text, at) {
         Sight::Form(_) => text.len(),
         Sight::Leaf(p) => p,
         Sight::Shut(_) => text.len(),
@@ -41,36 +33,33 @@ pub(crate) fn type_word(text: &[u8], at: usize) -> usize
 }
 
 // The number after that of a pair; the last one is its own.
+#[tactic(auto, using(crate::proofs::PairWays::next_laws))]
 fn next_pair(j: u32) -> u32
     ensures { result ≡ next_pair j }
 {
-    if j < LAST_PAIR {
-        return j + 1;
-    }
-    j
+    if j < LAST_PAIR { j + 1 } else { j }
 }
 
-// The first pair from an offset on that begins with the word at another.
-pub(crate) fn find_pair(text: &[u8], at: usize, offset: usize) -> Paired
+// The first pair from an offset on that begins with the word at another: how many pairs come before it, and the offset past its bracket.
+pub(crate) fn find_pair(text: &[u8], at: usize, offset: usize) -> Option<(u32, usize)>
     ensures { FindsPair text.now at (map small (word_at text.now offset)) result }
 {
     let mut p = at;
     let mut j = 0;
     loop {
-        let s = look(text, p);
-        match s {
+        match look(text, p) {
             Sight::Form(q) => {
                 if same_word(text, first_word(text, q), offset) {
-                    return Paired::Found(j, q);
+                    return Some((j, q));
                 }
                 p = past_form(text, q);
                 j = next_pair(j);
             }
             Sight::Leaf(_) => {
-                return Paired::Nothing;
+                return None;
             }
             Sight::Shut(_) => {
-                return Paired::Nothing;
+                return None;
             }
         }
     }

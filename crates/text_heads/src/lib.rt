@@ -211,11 +211,9 @@ pub fn expr_head(w: Word) -> ExprHead
     ensures { result ≡ expr_head_of w }
 {
     match w {
-        Word::Number(_) => ExprHead::Nothing,
-        Word::Name => ExprHead::Nothing,
         Word::Reserved(k) => reserved_expr(k),
         Word::Operator(k) => operator_expr(k),
-        Word::Unknown => ExprHead::Nothing,
+        Word::Number(_) | Word::Name | Word::Unknown => ExprHead::Nothing,
     }
 }
 
@@ -224,11 +222,9 @@ pub fn verb_of(w: Word) -> Verb
     ensures { result ≡ verb_of w }
 {
     match w {
-        Word::Number(_) => Verb::Nothing,
-        Word::Name => Verb::Nothing,
         Word::Reserved(k) => reserved_verb(k),
         Word::Operator(k) => operator_verb(k),
-        Word::Unknown => Verb::Nothing,
+        Word::Number(_) | Word::Name | Word::Unknown => Verb::Nothing,
     }
 }
 
@@ -237,11 +233,8 @@ pub fn arm_head(w: Word) -> ArmHead
     ensures { result ≡ arm_head_of w }
 {
     match w {
-        Word::Number(_) => ArmHead::Nothing,
-        Word::Name => ArmHead::Nothing,
         Word::Reserved(k) => reserved_arm(k),
-        Word::Operator(_) => ArmHead::Nothing,
-        Word::Unknown => ArmHead::Nothing,
+        _ => ArmHead::Nothing,
     }
 }
 
@@ -250,11 +243,8 @@ pub fn maker_of(w: Word) -> Maker
     ensures { result ≡ maker_of w }
 {
     match w {
-        Word::Number(_) => Maker::Nothing,
-        Word::Name => Maker::Nothing,
         Word::Reserved(k) => reserved_maker(k),
-        Word::Operator(_) => Maker::Nothing,
-        Word::Unknown => Maker::Nothing,
+        _ => Maker::Nothing,
     }
 }
 
@@ -263,11 +253,8 @@ pub fn line_head(w: Word) -> LineHead
     ensures { result ≡ line_head_of w }
 {
     match w {
-        Word::Number(_) => LineHead::Nothing,
-        Word::Name => LineHead::Nothing,
         Word::Reserved(k) => reserved_line(k),
-        Word::Operator(_) => LineHead::Nothing,
-        Word::Unknown => LineHead::Nothing,
+        _ => LineHead::Nothing,
     }
 }
 

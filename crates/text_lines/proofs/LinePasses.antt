@@ -3,6 +3,7 @@ use mathlib.Core.Path.{◌≡◌, refl, sym, ap, ◌∙◌}
 use mathlib.Core.Bool.{Bool, true, false}
 use mathlib.Core.List.{List, ◌∷◌}
 use mathlib.Core.Option.{some}
+use Rattle.std.specs.Prelude.{Some, None}
 use Prim.Native.Nat.{ℕ, ◌+◌, ◌<◌, ◌≤◌}
 use native.Mathlib.Numerals.{add-one}
 use native.Mathlib.Omega.{arith}
@@ -16,7 +17,7 @@ use Rattle.law.specs.Lines.{refused_at}
 use Rattle.law.specs.Trees.{before, past}
 use Rattle.text_lines.specs.declared.lines.Standing.{Standing}
 use Rattle.text_lines.specs.declared.lines.Standing.TheVariants as standing
-use Rattle.text_lines.specs.Passes.{line_or, is_refused, feeds, place_of, is_after_now, balanced_from, after_line}
+use Rattle.text_lines.specs.Passes.{line_of, is_refused, feeds, place_of, is_after_now, balanced_from, after_line}
 use Rattle.text_lines.proofs.Standings.{after_is}
 
 -- the byte at p, and those after it
@@ -29,22 +30,18 @@ module _ (k : Class) (n : ℕ) where
   pub feeds-feed : k ≡ Feed → n + 1 ≡ feeds k n
   feeds-feed e = rw e
 
-  pub feeds-space : k ≡ Space → n ≡ feeds k n
-  feeds-space e = rw e
+  pub feeds_other : ((k ≡ Feed) → ⊥) → n ≡ feeds k n
+  feeds_other h = go k refl
+    where
+      go : (c : Class) → k ≡ c → n ≡ feeds c n
+      go Feed e = absurd (h e)
+      go Space e = refl
+      go Open e = refl
+      go Close e = refl
+      go Visible e = refl
+      go Refused e = refl
 
-  pub feeds-open : k ≡ Open → n ≡ feeds k n
-  feeds-open e = rw e
-
-  pub feeds-close : k ≡ Close → n ≡ feeds k n
-  feeds-close e = rw e
-
-  pub feeds-visible : k ≡ Visible → n ≡ feeds k n
-  feeds-visible e = rw e
-
-  pub feeds-refused : k ≡ Refused → n ≡ feeds k n
-  feeds-refused e = rw e
-
-pub ruleset feeds-laws = (feeds-feed, feeds-space, feeds-open, feeds-close, feeds-visible, feeds-refused)
+pub ruleset feeds_laws = (feeds-feed, feeds_other)
 
 feeds-le : (k : Class) (n : ℕ) → feeds k n ≤ n + 1
 feeds-le Feed n = omega arith
@@ -81,13 +78,13 @@ found n Visible b bs e h = let z : ◌≡◌ {A = ℕ} 0 1 = cc in absurd (omega
 found n Refused b bs e h = rw (← e, refused_at)
 
 module _ (s : List ℕ) (n p : ℕ) (i : Seeking s n p) where
-  pub seek-none : length s ≤ p → 0 ≡ line_or (refused_at 1 s)
+  pub seek-none : length s ≤ p → None ≡ line_of (refused_at 1 s)
   unfolding refused_at
-  seek-none h = sym (ap line_or (i.same ∙ ap (refused_at (n + 1)) (drop_of_length-le s h)))
+  seek-none h = sym (ap line_of (i.same ∙ ap (refused_at (n + 1)) (drop_of_length-le s h)))
 
   module _ (k : Class) (t : Bool) (h : p < length s) (e : k ≡ class_of (get_or s p 0)) (f : t ≡ is_refused k) where
-    pub seek_found : t ≡ true → n + 1 ≡ line_or (refused_at 1 s)
-    seek_found g = sym (ap line_or (i.same ∙ ap (refused_at (n + 1)) (split s p h) ∙ found n k (get_or s p 0) (drop (p + 1) s) e (sym f ∙ g)))
+    pub seek_found : t ≡ true → Some (n + 1) ≡ line_of (refused_at 1 s)
+    seek_found g = sym (ap line_of (i.same ∙ ap (refused_at (n + 1)) (split s p h) ∙ found n k (get_or s p 0) (drop (p + 1) s) e (sym f ∙ g)))
 
     pub seek-on : (m : ℕ) → t ≡ false → m ≡ feeds k n → Seeking s m (p + 1)
     seek-on m g j = record {
@@ -124,9 +121,9 @@ pub ruleset balance-laws = (balance-none, balance-feed, balance-on)
 
 -- ---- the next line: x is what stands after this one
 module _ (s : List ℕ) (p : ℕ) (x : List ℕ) (i : x ≡ after_line (drop p s)) where
-  pub next-none : length s ≤ p → drop p s ≡ x
+  pub next-none : length s ≤ p → (q : ℕ) → length s ≤ q → drop q s ≡ x
   unfolding after_line
-  next-none h = let e = drop_of_length-le s h in e ∙ sym (i ∙ rw e refl)
+  next-none h q g = let e = drop_of_length-le s h in drop_of_length-le s g ∙ sym (i ∙ rw e refl)
 
   pub next-feed : p < length s → get_or s p 0 ≡ 10 → drop (p + 1) s ≡ x
   unfolding after_line

@@ -28,9 +28,9 @@ unfolding closed
 shallower-more zero h = absurd (h refl)
 shallower-more (suc n) h = rw (sub-one (suc n))
 
-pub ruleset deeper-laws = (deeper-in, deeper-out)
+pub ruleset deeper_laws = (deeper-in, deeper-out)
 
-pub ruleset shallower-laws = (shallower-none, shallower-more)
+pub ruleset shallower_laws = (shallower-none, shallower-more)
 
 module _ (q : Standing) where
   pub open-before : q ≡ standing.Before → inside 0 ≡ opened (place_of q)
@@ -105,11 +105,11 @@ module _ (q : Standing) where
       unfolding past
       byte_word e h = rw e h
 
-pub ruleset open-laws = (open-before, open-inside, open_after, open-faulty)
+pub ruleset open_laws = (open-before, open-inside, open_after, open-faulty)
 
-pub ruleset close-laws = (close-before, close-inside, close-after, close-faulty)
+pub ruleset close_laws = (close-before, close-inside, close-after, close-faulty)
 
-pub ruleset spell-laws = (word-before, word-inside, word_after, word-faulty)
+pub ruleset spell_laws = (word-before, word-inside, word_after, word-faulty)
 
 pub ruleset byte_laws = (byte-feed, byte-refused, byte-space, byte-open, byte-close, byte_word)
 

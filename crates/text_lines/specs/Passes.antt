@@ -1,5 +1,5 @@
 -- The passes over the bytes of the text and its lines, as functions of the bytes from an offset on.
-use Rattle.std.specs.Prelude.{Bool, true, false, cond, List, [], ◌∷◌, ℕ, ◌+◌, eqb}
+use Rattle.std.specs.Prelude.{Bool, true, false, cond, List, [], ◌∷◌, ℕ, ◌+◌, eqb, Option as Maybe, Some, None}
 use Rattle.std.proofs.Math.Option.{Option, none, some}
 use Rattle.leaf_bytes.specs.declared.bytes.Class.{Class}
 use Rattle.leaf_bytes.specs.declared.bytes.Class.TheVariants.{Feed, Space, Open, Close, Visible, Refused}
@@ -11,10 +11,10 @@ use Rattle.text_lines.specs.declared.lines.Standing.TheVariants as standing
 
 -- ---- row 3
 
--- a line's number, 0 for none
-abbrev pub line_or : Option ℕ → ℕ
-line_or none = 0
-line_or (some n) = n
+-- a line's number, or none, as the code answers it
+abbrev pub line_of : Option ℕ → Maybe ℕ
+line_of none = None
+line_of (some n) = Some n
 
 abbrev pub is_refused : Class → Bool
 is_refused Feed = false

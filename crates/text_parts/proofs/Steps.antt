@@ -1,6 +1,7 @@
 -- The laws of reading parts: what is seen at an offset as a part of a form.
 use mathlib.Core.Path.{◌≡◌, refl, sym, ap, ◌∙◌, subst}
 use mathlib.Core.List.{List}
+use Rattle.std.specs.Prelude.{Some, None}
 use Prim.Native.Nat.{ℕ}
 use Rattle.leaf_words.specs.declared.words.Word.{Word}
 use Rattle.law.specs.Trees.{Tree, word, Trees, end, ◌then◌, Run, first, later, push, word_at}
@@ -11,7 +12,6 @@ use Rattle.text_words.specs.declared.sight.Seen.{Seen}
 use Rattle.text_words.specs.Sights.{Looks, Reads}
 use Rattle.text_parts.specs.declared.Part.{Part}
 use Rattle.text_parts.specs.declared.Part.TheVariants as part
-use Rattle.text_parts.specs.declared.End.TheVariants as ending
 use Rattle.text_parts.specs.Parts.{LeafAt, FormAt, ShutAt, LeafStands, Stands, Shuts}
 
 pub leaf-is : (s : List ℕ) (p : ℕ) (r : Seen) (w : Word) → Reads s p r → w ≡ r.word → LeafStands s p (part.Leaf w p r.next)
@@ -52,15 +52,15 @@ module _ (s : List ℕ) (at : ℕ) (x : Sight) (h : Looks s (stack_at s at) x) w
   part-leaf p (part.Form p') e f = absurd f.says
   part-leaf p (part.Shut q) e f = absurd f.says
 
-  pub end-shut : (p : ℕ) → x ≡ sight.Shut p → Shuts s at (ending.Past p)
+  pub end-shut : (p : ℕ) → x ≡ sight.Shut p → Shuts s at (Some p)
   end-shut p e = record { says = shut_at p e }
 
-  pub end-form : (p : ℕ) → x ≡ sight.Form p → Shuts s at ending.More
+  pub end-form : (p : ℕ) → x ≡ sight.Form p → Shuts s at None
   end-form p e = record { says = λ z. no_end (sym (form-at p e).here ∙ z) }
 
-  pub end-leaf : (p : ℕ) → x ≡ sight.Leaf p → Shuts s at ending.More
+  pub end-leaf : (p : ℕ) → x ≡ sight.Leaf p → Shuts s at None
   end-leaf p e = record { says = λ z. no_end (sym (ap first (rw e at h.says).0) ∙ z) }
 
-pub ruleset part-laws = (part-form, part-shut, part-leaf)
+pub ruleset part_laws = (part-form, part-shut, part-leaf)
 
-pub ruleset end-laws = (end-shut, end-form, end-leaf)
+pub ruleset end_laws = (end-shut, end-form, end-leaf)

@@ -1,12 +1,10 @@
 -- Parts of a form by offset: what stands there, in terms of the trees from there on, and how a walk moves over them.
-use Rattle.std.specs.Prelude.{List, ◌≡◌, ℕ}
+use Rattle.std.specs.Prelude.{List, ◌≡◌, ℕ, Option, Some, None}
 use Rattle.leaf_words.specs.Words.{word_of}
 use Rattle.law.specs.Trees.{Tree, word, form, end, ◌then◌, Run, first, later, word_at}
 use Rattle.law_theorems.specs.Readings.{rest_at, stack_at}
 use Rattle.text_parts.specs.declared.Part as part
 use Rattle.text_parts.specs.declared.Part.{Part}
-use Rattle.text_parts.specs.declared.End as ending
-use Rattle.text_parts.specs.declared.End.{End}
 
 -- from `at` on stands t, and then what stands from q on
 pub record Before (s : List ℕ) (at : ℕ) (t : Tree Run) (q : ℕ) : Type 0 where
@@ -51,10 +49,10 @@ past_part (part.TheVariants.Leaf w p q) = q
 past_part (part.TheVariants.Form p) = p
 past_part (part.TheVariants.Shut q) = q
 
--- whether the form ends there
-abbrev pub ShutsBy : List ℕ → ℕ → End → Type 0
-ShutsBy s at (ending.TheVariants.Past q) = ShutAt s at q
-ShutsBy s at ending.TheVariants.More = first (stack_at s at) ≡ end → ⊥
+-- whether the form ends there: the offset past its bracket
+abbrev pub ShutsBy : List ℕ → ℕ → Option ℕ → Type 0
+ShutsBy s at (Some q) = ShutAt s at q
+ShutsBy s at None = first (stack_at s at) ≡ end → ⊥
 
-pub record Shuts (s : List ℕ) (at : ℕ) (r : End) : Type 0 where
+pub record Shuts (s : List ℕ) (at : ℕ) (r : Option ℕ) : Type 0 where
   pub says : ShutsBy s at r

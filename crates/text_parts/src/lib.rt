@@ -30,39 +30,24 @@ pub struct Read<'a> {
     pub reader: Reader<'a>,
 }
 
-// The end of a form: the offset past its closing bracket, or another part comes first.
-#[derive(Clone, Copy)]
-pub enum End {
-    Past(usize),
-    More,
-}
-
 // A word that begins at p, as a part.
 fn leaf(text: &[u8], p: usize) -> Part
     ensures { LeafStands text.now p result }
 {
     let seen = word_at(text, p);
-    let word = seen.word;
-    Part::Leaf(word, p, seen.next)
+    Part::Leaf(seen.word, p, seen.next)
 }
 
 // The part at an offset of a text.
+#[tactic(auto, using(crate::proofs::Steps::part_laws))]
 fn stands_at(text: &[u8], at: usize) -> Part
     ensures { Stands text.now at result }
 {
-    let s = look(text, at);
-    match s {
+    match look(text, at) {
         Sight::Form(p) => Part::Form(p),
         Sight::Leaf(p) => leaf(text, p),
         Sight::Shut(p) => Part::Shut(p),
     }
-}
-
-// A reader that has reached an offset.
-pub fn reader_at<'a>(text: &'a [u8], at: usize) -> Reader<'a>
-    ensures { (result.text ≡ text.entry) × (result.at ≡ at) }
-{
-    Reader { text, at }
 }
 
 // The offset past a part: inside a form, behind a word or a closing bracket.
@@ -70,21 +55,49 @@ fn past(p: Part) -> usize
     ensures { result ≡ past_part p }
 {
     match p {
-        Part::Leaf(_, _, q) => q,
-        Part::Form(q) => q,
-        Part::Shut(q) => q,
+        Part::Leaf(_, _, q) | Part::Form(q) | Part::Shut(q) => q,
     }
 }
 
-// The part at the offset that a reader has reached, and the reader past it.
-pub fn next_part<'a>(r: Reader<'a>) -> Read<'a>
-    ensures { Stands r.entry.text.now r.entry.at result.part × (result.reader.text ≡ r.entry.text) × (result.reader.at ≡ past_part result.part) }
+// Whether the form ends at an offset of a text: the offset past its closing bracket, none where another part comes first.
+#[tactic(auto, using(crate::proofs::Steps::end_laws))]
+fn shuts_at(text: &[u8], at: usize) -> Option<usize>
+    ensures { Shuts text.now at result }
 {
-    let part = stands_at(r.text, r.at);
-    let at = past(part);
-    Read {
-        part,
-        reader: Reader { text: r.text, at },
+    match look(text, at) {
+        Sight::Shut(p) => Some(p),
+        Sight::Form(_) | Sight::Leaf(_) => None,
+    }
+}
+
+impl<'a> Reader<'a> {
+    // A reader that has reached an offset.
+    pub fn at(text: &'a [u8], at: usize) -> Reader<'a>
+        ensures { (result.text ≡ text.entry) × (result.at ≡ at) }
+    {
+        Reader { text, at }
+    }
+
+    // The part at the offset that the reader has reached, and the reader past it.
+    pub fn next_part(self) -> Read<'a>
+        ensures { Stands self.entry.text.now self.entry.at result.part × (result.reader.text ≡ self.entry.text) × (result.reader.at ≡ past_part result.part) }
+    {
+        let part = stands_at(self.text, self.at);
+        let at = past(part);
+        Read {
+            part,
+            reader: Reader {
+                text: self.text,
+                at,
+            },
+        }
+    }
+
+    // Whether the form ends at the offset that the reader has reached; no word is read for it.
+    pub fn next_end(self) -> Option<usize>
+        ensures { Shuts self.entry.text.now self.entry.at result }
+    {
+        shuts_at(self.text, self.at)
     }
 }
 
@@ -92,31 +105,12 @@ pub fn next_part<'a>(r: Reader<'a>) -> Read<'a>
 pub fn part_at(text: &[u8], at: usize) -> Part
     ensures { Stands text.now at result }
 {
-    next_part(reader_at(text, at)).part
+    Reader::at(text, at).next_part().part
 }
 
-// Whether the form ends at an offset of a text.
-fn shuts_at(text: &[u8], at: usize) -> End
+// Whether the form ends at an offset, as the checker asks for it: the offset past its closing bracket, none where another part comes first.
+pub fn end_at(text: &[u8], at: usize) -> Option<usize>
     ensures { Shuts text.now at result }
 {
-    let s = look(text, at);
-    match s {
-        Sight::Form(_) => End::More,
-        Sight::Leaf(_) => End::More,
-        Sight::Shut(p) => End::Past(p),
-    }
-}
-
-// Whether the form ends at the offset that a reader has reached; no word is read for it.
-pub fn next_end<'a>(r: Reader<'a>) -> End
-    ensures { Shuts r.entry.text.now r.entry.at result }
-{
-    shuts_at(r.text, r.at)
-}
-
-// Whether the form ends at an offset, as the checker asks for it.
-pub fn end_at(text: &[u8], at: usize) -> End
-    ensures { Shuts text.now at result }
-{
-    next_end(reader_at(text, at))
+    Reader::at(text, at).next_end()
 }

@@ -27,7 +27,7 @@ unfolding out_from
 shut-some zero q h = absurd (h refl)
 shut-some (suc n) q h = let e : suc n - 1 ≡ n = omega arith in rw e
 
-pub ruleset shut-laws = (shut_none, shut-some)
+pub ruleset shut_laws = (shut_none, shut-some)
 
 -- ---- a step
 
@@ -71,7 +71,7 @@ module _ (s : List ℕ) (p n : ℕ) (x : Sight) (h : Looks s (stack_at s p) x) w
       go zero = record { says = said.1 }
       go (suc m) = let a = same in record { says = (ap (λ (k : List (Trees Run)). levels_out m (later k)) said.1, (omega arith, omega arith)) }
 
-pub ruleset step-laws = (step-form, step-leaf, step-shut)
+pub ruleset step_laws = (step-form, step-leaf, step-shut)
 
 -- ---- the loop: from `at` on the walk came to p, inside n more forms
 
@@ -129,4 +129,4 @@ module _ (s : List ℕ) (at : ℕ) (x : Sight) (h : Looks s (stack_at s at) x) w
       none : {t : Tree Run} {us : Trees Run} → (t then us) ≡ end → ⊥
       none g = let z : ◌≡◌ {A = ℕ} 0 1 = cc in omega arith
 
-pub ruleset skip-laws = (skip-form, skip-leaf, skip-shut)
+pub ruleset skip_laws = (skip-form, skip-leaf, skip-shut)

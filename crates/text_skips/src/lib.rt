@@ -17,13 +17,15 @@ pub enum Move {
 }
 
 // Past a closing bracket that ends at q, where n forms are open.
+#[tactic(auto, using(crate::proofs::Skipping::shut_laws))]
 fn shut(n: usize, q: usize) -> Move
     ensures { result ≡ out_from n q }
 {
     if n == 0 {
-        return Move::Out(q);
+        Move::Out(q)
+    } else {
+        Move::To(q, n - 1)
     }
-    Move::To(q, n - 1)
 }
 
 // Past a word or a bracket inside a form in which n more are open.
@@ -31,8 +33,7 @@ fn step(text: &[u8], p: usize, n: usize) -> Move
     requires { n + nodes_all (stack_at text.now p) ≤ length text.now }
     ensures { Moves text.now p n result }
 {
-    let s = look(text, p);
-    match s {
+    match look(text, p) {
         Sight::Form(q) => Move::To(q, n + 1),
         Sight::Leaf(q) => Move::To(word_end(text, q), n),
         Sight::Shut(q) => shut(n, q),
@@ -46,8 +47,7 @@ pub fn past_form(text: &[u8], at: usize) -> usize
     let mut p = at;
     let mut n = 0;
     loop {
-        let s = step(text, p, n);
-        match s {
+        match step(text, p, n) {
             Move::To(q, m) => {
                 p = q;
                 n = m;
@@ -60,11 +60,11 @@ pub fn past_form(text: &[u8], at: usize) -> usize
 }
 
 // Past the part at an offset, or past the closing bracket where no part is left.
+#[tactic(auto, using(crate::proofs::Skipping::skip_laws))]
 pub fn skip(text: &[u8], at: usize) -> usize
     ensures { Skips text.now at result }
 {
-    let s = look(text, at);
-    match s {
+    match look(text, at) {
         Sight::Form(p) => past_form(text, p),
         Sight::Leaf(p) => word_end(text, p),
         Sight::Shut(q) => q,

@@ -23,8 +23,8 @@ use Rattle.text_words.specs.Sights.{Looks, Ends, Reads}
 
 -- ---- `look`: k₀ is what stands where it began
 module _ (s : List ℕ) (p : ℕ) (k₀ : List (Trees Run)) (i : k₀ ≡ stack_at s p) where
-  pub look_none : length s ≤ p → Looks s k₀ (Shut p)
-  look_none h = record { says = (rw (i, none-stack s p h), rw (i, none-stack s p h)); past = tt }
+  pub look_none : length s ≤ p → (q : ℕ) → length s ≤ q → Looks s k₀ (Shut q)
+  look_none h q g = record { says = (rw (i, none-stack s p h), rw (i, none-stack s p h, none-stack s q g)); past = tt }
 
   module _ (k : Class) (h : p < length s) (e : k ≡ class_of (get_or s p 0)) where
     pub look-space : k ≡ Space → k₀ ≡ stack_at s (p + 1)
@@ -81,22 +81,18 @@ module _ (s : List ℕ) (at p : ℕ) (g : Going s at p) where
       rest = g.rest ∙ word-rest s p k h e c;
     }
 
-    pub end-space : k ≡ Space → Ends s at p
-    end-space c = stops (space-word s p k h e c)
+    pub end_other : ((k ≡ Visible) → ⊥) → Ends s at p
+    end_other n = go k refl
+      where
+        go : (c : Class) → k ≡ c → Ends s at p
+        go Visible c = absurd (n c)
+        go Space c = stops (space-word s p k h e c)
+        go Open c = stops (open-word s p k h e c)
+        go Close c = stops (close-word s p k h e c)
+        go Feed c = stops (feed-word s p k h e c)
+        go Refused c = stops (refused-word s p k h e c)
 
-    pub end-open : k ≡ Open → Ends s at p
-    end-open c = stops (open-word s p k h e c)
-
-    pub end-close : k ≡ Close → Ends s at p
-    end-close c = stops (close-word s p k h e c)
-
-    pub end-feed : k ≡ Feed → Ends s at p
-    end-feed c = stops (feed-word s p k h e c)
-
-    pub end_refused : k ≡ Refused → Ends s at p
-    end_refused c = stops (refused-word s p k h e c)
-
-pub ruleset end-laws = (end_none, going_on, end-space, end-open, end-close, end-feed, end_refused)
+pub ruleset end-laws = (end_none, going_on, end_other)
 
 -- ---- `word_at`
 pub end_after : (s : List ℕ) (at q : ℕ) → Ends s at q → at ≤ q

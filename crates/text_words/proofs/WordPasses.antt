@@ -124,7 +124,7 @@ module _ (s : List ℕ) (p : ℕ) where
       inside = λ _. h;
     }
 
-pub ruleset hop-laws = (hop-none, hop-feed, hop-refused, hop-space, hop-close, hop-open, hop-word)
+pub ruleset hop_laws = (hop-none, hop-feed, hop-refused, hop-space, hop-close, hop-open, hop-word)
 
 -- ---- row 5: from `at` to p every word is of some kind
 pub record Knowing (s : List ℕ) (at p : ℕ) : Type 0 where

@@ -20,13 +20,7 @@ pub enum Hop {
 fn is_known(w: Word) -> bool
     ensures { result ≡ is_known w }
 {
-    match w {
-        Word::Number(_) => true,
-        Word::Name => true,
-        Word::Reserved(_) => true,
-        Word::Operator(_) => true,
-        Word::Unknown => false,
-    }
+    !matches!(w, Word::Unknown)
 }
 
 // A word that begins at p.
@@ -34,25 +28,22 @@ fn leaf_at(text: &[u8], p: usize) -> Hop
     ensures { LeafAt text.now p result }
 {
     let seen = word_at(text, p);
-    let word = seen.word;
-    Hop::Leaf(is_known(word), seen.next)
+    Hop::Leaf(is_known(seen.word), seen.next)
 }
 
 // What stands at p, and where to go on.
+#[tactic(auto, using(crate::proofs::WordPasses::hop_laws))]
 fn hop_at(text: &[u8], p: usize) -> Hop
     ensures { Hops text.now p result }
 {
     if p >= text.len() {
         return Hop::Stop;
     }
-    let k = class_of(text[p]);
-    match k {
-        Class::Feed => Hop::Stop,
-        Class::Space => Hop::Gap(p + 1),
+    match class_of(text[p]) {
+        Class::Space | Class::Close => Hop::Gap(p + 1),
         Class::Open => Hop::Open(p + 1),
-        Class::Close => Hop::Gap(p + 1),
         Class::Visible => leaf_at(text, p),
-        Class::Refused => Hop::Stop,
+        Class::Feed | Class::Refused => Hop::Stop,
     }
 }
 
@@ -60,12 +51,7 @@ fn hop_at(text: &[u8], p: usize) -> Hop
 fn stops(h: Hop) -> bool
     ensures { result ≡ is_stop h }
 {
-    match h {
-        Hop::Leaf(_, _) => false,
-        Hop::Open(_) => false,
-        Hop::Gap(_) => false,
-        Hop::Stop => true,
-    }
+    matches!(h, Hop::Stop)
 }
 
 // How many brackets and words this is: a pair is counted where it opens.
@@ -73,10 +59,8 @@ fn weight(h: Hop) -> usize
     ensures { result ≡ weight_of h }
 {
     match h {
-        Hop::Leaf(_, _) => 1,
-        Hop::Open(_) => 1,
-        Hop::Gap(_) => 0,
-        Hop::Stop => 0,
+        Hop::Leaf(_, _) | Hop::Open(_) => 1,
+        Hop::Gap(_) | Hop::Stop => 0,
     }
 }
 
@@ -86,9 +70,7 @@ fn fine(h: Hop) -> bool
 {
     match h {
         Hop::Leaf(b, _) => b,
-        Hop::Open(_) => true,
-        Hop::Gap(_) => true,
-        Hop::Stop => true,
+        Hop::Open(_) | Hop::Gap(_) | Hop::Stop => true,
     }
 }
 
@@ -97,9 +79,7 @@ fn next_of(h: Hop, p: usize) -> usize
     ensures { result ≡ next_of h p }
 {
     match h {
-        Hop::Leaf(_, q) => q,
-        Hop::Open(q) => q,
-        Hop::Gap(q) => q,
+        Hop::Leaf(_, q) | Hop::Open(q) | Hop::Gap(q) => q,
         Hop::Stop => p,
     }
 }
@@ -114,11 +94,10 @@ pub fn words_known(text: &[u8], at: usize) -> bool
         if stops(h) {
             return true;
         }
-        if fine(h) {
-            p = next_of(h, p);
-        } else {
+        if !fine(h) {
             return false;
         }
+        p = next_of(h, p);
     }
 }
 

@@ -28,13 +28,9 @@ pub struct Seen {
 pub fn look(text: &[u8], at: usize) -> Sight
     ensures { Looks text.now (stack_at text.now at) result }
 {
-    let mut p = at;
-    while p < text.len() {
-        let k = class_of(text[p]);
-        match k {
-            Class::Space => {
-                p += 1;
-            }
+    for p in at..text.len() {
+        match class_of(text[p]) {
+            Class::Space => {}
             Class::Open => {
                 return Sight::Form(p + 1);
             }
@@ -52,7 +48,7 @@ pub fn look(text: &[u8], at: usize) -> Sight
             }
         }
     }
-    Sight::Shut(p)
+    Sight::Shut(at.max(text.len()))
 }
 
 // The offset where the word that goes on at `at` ends.
@@ -61,24 +57,11 @@ pub fn word_end(text: &[u8], at: usize) -> usize
 {
     let mut p = at;
     while p < text.len() {
-        let k = class_of(text[p]);
-        match k {
+        match class_of(text[p]) {
             Class::Visible => {
                 p += 1;
             }
-            Class::Space => {
-                return p;
-            }
-            Class::Open => {
-                return p;
-            }
-            Class::Close => {
-                return p;
-            }
-            Class::Feed => {
-                return p;
-            }
-            Class::Refused => {
+            _ => {
                 return p;
             }
         }
@@ -98,8 +81,5 @@ pub fn word_at(text: &[u8], at: usize) -> Seen
     }
     let next = word_end(text, at);
     let word = word_of(&text[at..next]);
-    Seen {
-        word: word,
-        next: next,
-    }
+    Seen { word, next }
 }

@@ -2,8 +2,8 @@ use borrow.Author.Rules.{sfits_of}
 use Rattle.rule_atoms.proofs.Ways.{minus-end-laws}
 use Rattle.rule_atoms.proofs.minus_end.Goals as goal
 
-pub returns-in-Past : goal.returns-in-Past
-returns-in-Past c = search (minus-end-laws, sfits_of)
+pub returns-in-Some : goal.returns-in-Some
+returns-in-Some c = search (minus-end-laws, sfits_of)
 
-pub returns-in-More : goal.returns-in-More
-returns-in-More c = search (minus-end-laws, sfits_of)
+pub returns-in-None : goal.returns-in-None
+returns-in-None c = search (minus-end-laws, sfits_of)

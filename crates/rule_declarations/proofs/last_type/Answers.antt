@@ -4,8 +4,8 @@ use Rattle.rule_declarations.proofs.last_type.Goals as goal
 pub returns-then-is_form : goal.returns-then-is_form
 returns-then-is_form c = search last-laws
 
-pub returns-in-Past : goal.returns-in-Past
-returns-in-Past c = search last-laws
+pub returns-in-Some : goal.returns-in-Some
+returns-in-Some c = search last-laws
 
-pub returns-in-More : goal.returns-in-More
-returns-in-More c = search last-laws
+pub returns-in-None : goal.returns-in-None
+returns-in-None c = search last-laws

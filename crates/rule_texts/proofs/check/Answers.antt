@@ -7,8 +7,8 @@ returns-then-work-lt-WORK_LENGTH c = search check-laws
 pub returns-then-text-gt-TEXT_LENGTH : goal.returns-then-text-gt-TEXT_LENGTH
 returns-then-text-gt-TEXT_LENGTH c = search check-laws
 
-pub returns-then-n-ne0 : goal.returns-then-n-ne0
-returns-then-n-ne0 c = search check-laws
+pub returns-in-Some : goal.returns-in-Some
+returns-in-Some c = search check-laws
 
-pub returns : goal.returns
-returns c = search check-laws
+pub returns-in-None : goal.returns-in-None
+returns-in-None c = search check-laws

@@ -1,22 +1,23 @@
 use native.Mathlib.Omega.{arith}
+use Prim.Native.Nat.{◌<◌}
 use borrow.Author.Rules.{rules}
 use Rattle.table_scope.proofs.Looping.{compare-few, compare-laws, compare-start}
 use Rattle.table_scope.proofs.loops_over.Goals as goal
 
-pub loop-n-init : goal.loop-n-init
-loop-n-init c = search compare-start
+pub loop-j-init : goal.loop-j-init
+loop-j-init c = compare-start _ _
 
-pub bounds-over-n : goal.bounds-over-n
-bounds-over-n c = search (compare-few, rules)
+pub bounds-over-j : goal.bounds-over-j
+bounds-over-j c = search (compare-few, rules)
 
-pub returns-then-over-n : goal.returns-then-over-n
-returns-then-over-n c = search compare-laws
+pub offset_bounds-over-j : goal.offset_bounds-over-j
+offset_bounds-over-j c = let h : c.loop-j.j < 33 = search (compare-few, rules) in omega arith
 
-pub loop-n-smaller : goal.loop-n-smaller
-loop-n-smaller c = omega arith
+pub returns-then-over-j : goal.returns-then-over-j
+returns-then-over-j c = search compare-laws
 
-pub loop-n-preserved : goal.loop-n-preserved
-loop-n-preserved c = search compare-laws
+pub loop-j-preserved : goal.loop-j-preserved
+loop-j-preserved c = search compare-laws
 
 pub returns : goal.returns
 returns c = search compare-laws

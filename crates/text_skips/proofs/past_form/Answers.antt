@@ -5,8 +5,8 @@ use Rattle.text_skips.proofs.past_form.Goals as goal
 pub loop-q-init : goal.loop-q-init
 loop-q-init c = inside-start _ _
 
-pub step-s-requires : goal.step-s-requires
-step-s-requires c = search (inside-few, rules)
+pub step-requires : goal.step-requires
+step-requires c = search (inside-few, rules)
 
 pub loop-q-smaller : goal.loop-q-smaller
 loop-q-smaller c = search inside-falls

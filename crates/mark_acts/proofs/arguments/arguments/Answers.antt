@@ -5,8 +5,8 @@ use Rattle.mark_acts.proofs.arguments.arguments.Goals as goal
 pub loop-j-init : goal.loop-j-init
 loop-j-init c = (search rules, search sofar-start)
 
-pub returns-in-Past : goal.returns-in-Past
-returns-in-Past c = search gathered-laws
+pub returns-in-Some : goal.returns-in-Some
+returns-in-Some c = search gathered-laws
 
 pub returns-then-z-gt-GREATEST : goal.returns-then-z-gt-GREATEST
 returns-then-z-gt-GREATEST c = search gathered-laws

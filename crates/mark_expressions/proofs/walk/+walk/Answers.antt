@@ -90,8 +90,8 @@ mark_target-returns-in-Shut t c = search target-laws
 pub member_list-loop-z-init : goal.member_list-loop-z-init
 member_list-loop-z-init t c = sofar-start _ _ _ _ _ _ _ _
 
-pub member_list-returns-in-Past : goal.member_list-returns-in-Past
-member_list-returns-in-Past t c = search members-laws
+pub member_list-returns-in-Some : goal.member_list-returns-in-Some
+member_list-returns-in-Some t c = search members-laws
 
 pub member_list-returns-then-z-gt-GREATEST : goal.member_list-returns-then-z-gt-GREATEST
 member_list-returns-then-z-gt-GREATEST t c = search members-laws
@@ -108,11 +108,11 @@ minus-returns-in-Number t c = search minus-laws
 pub minus-returns-in-No : goal.minus-returns-in-No
 minus-returns-in-No t c = search minus-laws
 
-pub minus_parts-returns-in-Past : goal.minus_parts-returns-in-Past
-minus_parts-returns-in-Past t c = search minus-parts-laws
+pub minus_parts-returns-in-Some : goal.minus_parts-returns-in-Some
+minus_parts-returns-in-Some t c = search minus-parts-laws
 
-pub minus_parts-returns-in-More : goal.minus_parts-returns-in-More
-minus_parts-returns-in-More t c = search minus-parts-laws
+pub minus_parts-returns-in-None : goal.minus_parts-returns-in-None
+minus_parts-returns-in-None t c = search minus-parts-laws
 
 pub one-returns : goal.one-returns
 one-returns t c = search one-is

@@ -52,11 +52,11 @@ count_up-returns-in-Outside t c = search for-laws
 pub count_up-returns-in-Halted : goal.count_up-returns-in-Halted
 count_up-returns-in-Halted t c = search for-laws
 
-pub else_part-returns-in-Past : goal.else_part-returns-in-Past
-else_part-returns-in-Past t c = search else-laws
+pub else_part-returns-in-Some : goal.else_part-returns-in-Some
+else_part-returns-in-Some t c = search else-laws
 
-pub else_part-returns-in-More : goal.else_part-returns-in-More
-else_part-returns-in-More t c = search else-laws
+pub else_part-returns-in-None : goal.else_part-returns-in-None
+else_part-returns-in-None t c = search else-laws
 
 pub front-loop-store-init : goal.front-loop-store-init
 front-loop-store-init t c = search front-start
@@ -181,8 +181,8 @@ rounds-loop-scope-preserved t c = search (rounds-next, sfits_of)
 pub stmts-loop-store-init : goal.stmts-loop-store-init
 stmts-loop-store-init t c = search stmts-start
 
-pub stmts-returns-in-Past : goal.stmts-returns-in-Past
-stmts-returns-in-Past t c = search stmts-laws
+pub stmts-returns-in-Some : goal.stmts-returns-in-Some
+stmts-returns-in-Some t c = search stmts-laws
 
 pub stmts-returns-then-stopped : goal.stmts-returns-then-stopped
 stmts-returns-then-stopped t c = search stmts-laws

@@ -1,8 +1,8 @@
 use Rattle.rule_enum_lines.proofs.EnumNames.{end-laws}
 use Rattle.rule_enum_lines.proofs.enums.names_end.Goals as goal
 
-pub returns-in-Past : goal.returns-in-Past
-returns-in-Past c = search end-laws
+pub returns-in-Some : goal.returns-in-Some
+returns-in-Some c = search end-laws
 
-pub returns-in-More : goal.returns-in-More
-returns-in-More c = search end-laws
+pub returns-in-None : goal.returns-in-None
+returns-in-None c = search end-laws

@@ -83,8 +83,8 @@ load_dot-returns t c = search loads-dot
 pub member_list-loop-q-init : goal.member_list-loop-q-init
 member_list-loop-q-init t c = (refl, sofar-start _ _ _ _ _ _ _ _ _)
 
-pub member_list-returns-in-Past : goal.member_list-returns-in-Past
-member_list-returns-in-Past t c = search members-laws
+pub member_list-returns-in-Some : goal.member_list-returns-in-Some
+member_list-returns-in-Some t c = search members-laws
 
 pub member_list-returns-then-is_form : goal.member_list-returns-then-is_form
 member_list-returns-then-is_form t c = search members-laws
@@ -104,11 +104,11 @@ minus-returns-in-No t c = search (minus-laws, sfits_of)
 pub minus_parts-returns-then-is_form : goal.minus_parts-returns-then-is_form
 minus_parts-returns-then-is_form t c = search minus-parts-laws
 
-pub minus_parts-returns-in-Past : goal.minus_parts-returns-in-Past
-minus_parts-returns-in-Past t c = search minus-parts-laws
+pub minus_parts-returns-in-Some : goal.minus_parts-returns-in-Some
+minus_parts-returns-in-Some t c = search minus-parts-laws
 
-pub minus_parts-returns-in-More : goal.minus_parts-returns-in-More
-minus_parts-returns-in-More t c = search minus-parts-laws
+pub minus_parts-returns-in-None : goal.minus_parts-returns-in-None
+minus_parts-returns-in-None t c = search minus-parts-laws
 
 pub one-returns-then-f-ge11 : goal.one-returns-then-f-ge11
 one-returns-then-f-ge11 t c = search one_laws

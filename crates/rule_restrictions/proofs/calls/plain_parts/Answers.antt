@@ -6,8 +6,8 @@ use Rattle.rule_restrictions.proofs.calls.plain_parts.Goals as goal
 pub loop-left-init : goal.loop-left-init
 loop-left-init c = refl
 
-pub returns-in-Past : goal.returns-in-Past
-returns-in-Past c = search (count-laws, rules)
+pub returns-in-Some : goal.returns-in-Some
+returns-in-Some c = search (count-laws, rules)
 
 pub returns-then-left-eq0 : goal.returns-then-left-eq0
 returns-then-left-eq0 c = search (count-laws, rules)

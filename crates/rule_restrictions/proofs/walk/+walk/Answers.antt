@@ -44,11 +44,11 @@ case_of-returns-then-plain_part t c = search case-laws
 pub case_of-returns : goal.case_of-returns
 case_of-returns t c = search case-laws
 
-pub else_part-returns-in-Past : goal.else_part-returns-in-Past
-else_part-returns-in-Past t c = search else-laws
+pub else_part-returns-in-Some : goal.else_part-returns-in-Some
+else_part-returns-in-Some t c = search else-laws
 
-pub else_part-returns-in-More : goal.else_part-returns-in-More
-else_part-returns-in-More t c = search else-laws
+pub else_part-returns-in-None : goal.else_part-returns-in-None
+else_part-returns-in-None t c = search else-laws
 
 pub for_loop-returns-in-Fine : goal.for_loop-returns-in-Fine
 for_loop-returns-in-Fine t c = search for-laws
@@ -119,8 +119,8 @@ stmt-returns-in-Shut t c = search stmt-laws
 pub stmts-loop-p-init : goal.stmts-loop-p-init
 stmts-loop-p-init t c = do-start _ _ _ _ _ _
 
-pub stmts-returns-in-Past : goal.stmts-returns-in-Past
-stmts-returns-in-Past t c = search do-laws
+pub stmts-returns-in-Some : goal.stmts-returns-in-Some
+stmts-returns-in-Some t c = search do-laws
 
 pub stmts-loop-p-smaller : goal.stmts-loop-p-smaller
 stmts-loop-p-smaller t c = search do-falls

@@ -9,8 +9,8 @@ loop-scope-init c = (refl, search labels-start)
 pub returns-then-is_form : goal.returns-then-is_form
 returns-then-is_form c = search labels-laws
 
-pub returns-in-Past : goal.returns-in-Past
-returns-in-Past c = search labels-laws
+pub returns-in-Some : goal.returns-in-Some
+returns-in-Some c = search labels-laws
 
 pub loop-scope-smaller : goal.loop-scope-smaller
 loop-scope-smaller c = search labels-falls

@@ -6,8 +6,8 @@ use Rattle.rule_statements.proofs.simple.arguments.Goals as goal
 pub loop-q-init : goal.loop-q-init
 loop-q-init c = (refl, search arguments-start)
 
-pub returns-in-Past : goal.returns-in-Past
-returns-in-Past c = search arguments-laws
+pub returns-in-Some : goal.returns-in-Some
+returns-in-Some c = search arguments-laws
 
 pub returns-then-is_form : goal.returns-then-is_form
 returns-then-is_form c = search arguments-laws

@@ -10,8 +10,8 @@ use Rattle.rule_statements.proofs.walk.+walk.Goals as goal
 pub acts-loop-q-init : goal.acts-loop-q-init
 acts-loop-q-init t c = (refl, search chain-start)
 
-pub acts-returns-in-Past : goal.acts-returns-in-Past
-acts-returns-in-Past t c = search Chain-laws
+pub acts-returns-in-Some : goal.acts-returns-in-Some
+acts-returns-in-Some t c = search Chain-laws
 
 pub acts-returns-then-is_form : goal.acts-returns-then-is_form
 acts-returns-then-is_form t c = search Chain-laws
@@ -64,11 +64,11 @@ case_of-returns t c = search case-laws
 pub else_arm-returns : goal.else_arm-returns
 else_arm-returns t c = search else-way
 
-pub else_part-returns-in-Past : goal.else_part-returns-in-Past
-else_part-returns-in-Past t c = search else-laws
+pub else_part-returns-in-Some : goal.else_part-returns-in-Some
+else_part-returns-in-Some t c = search else-laws
 
-pub else_part-returns-in-More : goal.else_part-returns-in-More
-else_part-returns-in-More t c = search else-laws
+pub else_part-returns-in-None : goal.else_part-returns-in-None
+else_part-returns-in-None t c = search else-laws
 
 pub for_do-returns : goal.for_do-returns
 for_do-returns t c = search for-do

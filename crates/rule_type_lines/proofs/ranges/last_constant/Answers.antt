@@ -5,8 +5,8 @@ use Rattle.rule_type_lines.proofs.ranges.last_constant.Goals as goal
 pub returns-then-is_form : goal.returns-then-is_form
 returns-then-is_form c = search (last-laws, sfits_of)
 
-pub returns-in-Past : goal.returns-in-Past
-returns-in-Past c = search (last-laws, sfits_of)
+pub returns-in-Some : goal.returns-in-Some
+returns-in-Some c = search (last-laws, sfits_of)
 
-pub returns-in-More : goal.returns-in-More
-returns-in-More c = search (last-laws, sfits_of)
+pub returns-in-None : goal.returns-in-None
+returns-in-None c = search (last-laws, sfits_of)

@@ -1,5 +1,5 @@
 use borrow.Author.Rules.{rules}
-use Rattle.table_names.proofs.Ordering.{order-falls, order-laws, order-left, order-right, order-start}
+use Rattle.table_names.proofs.Ordering.{order-falls, order_laws, order-left, order-right, order-start}
 use Rattle.table_names.proofs.order.order_of.Goals as goal
 
 pub loop-p-init : goal.loop-p-init
@@ -15,10 +15,10 @@ pub loop-p-smaller : goal.loop-p-smaller
 loop-p-smaller c = search order-falls
 
 pub loop-p-preserved : goal.loop-p-preserved
-loop-p-preserved c = search order-laws
+loop-p-preserved c = search order_laws
 
 pub returns-in-End : goal.returns-in-End
-returns-in-End c = search order-laws
+returns-in-End c = search order_laws
 
 pub returns-in-Differ : goal.returns-in-Differ
-returns-in-Differ c = search order-laws
+returns-in-Differ c = search order_laws

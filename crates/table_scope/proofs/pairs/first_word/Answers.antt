@@ -1,11 +1,11 @@
-use Rattle.table_scope.proofs.PairWays.{lead-laws}
+use Rattle.table_scope.proofs.PairWays.{lead_laws}
 use Rattle.table_scope.proofs.pairs.first_word.Goals as goal
 
 pub returns-in-Form : goal.returns-in-Form
-returns-in-Form c = search lead-laws
+returns-in-Form c = search lead_laws
 
 pub returns-in-Leaf : goal.returns-in-Leaf
-returns-in-Leaf c = search lead-laws
+returns-in-Leaf c = search lead_laws
 
 pub returns-in-Shut : goal.returns-in-Shut
-returns-in-Shut c = search lead-laws
+returns-in-Shut c = search lead_laws

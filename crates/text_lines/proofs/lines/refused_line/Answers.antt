@@ -1,4 +1,3 @@
-use native.Mathlib.Omega.{arith}
 use borrow.Author.Rules.{rules}
 use Rattle.text_lines.proofs.LinePasses.{seek-few, seek-laws, seek-start}
 use Rattle.text_lines.proofs.lines.refused_line.Goals as goal
@@ -14,12 +13,6 @@ returns-then-is_refused c = search seek-laws
 
 pub feeds_after-n-requires : goal.feeds_after-n-requires
 feeds_after-n-requires c = search (seek-few, rules)
-
-pub overflow_add-p : goal.overflow_add-p
-overflow_add-p c = search (seek-few, rules)
-
-pub loop-p-smaller : goal.loop-p-smaller
-loop-p-smaller c = omega arith
 
 pub loop-p-preserved : goal.loop-p-preserved
 loop-p-preserved c = search seek-laws

@@ -13,5 +13,5 @@ loop-h-smaller c = search hop-falls
 pub loop-h-preserved : goal.loop-h-preserved
 loop-h-preserved c = search known-laws
 
-pub returns-else-fine : goal.returns-else-fine
-returns-else-fine c = search known-laws
+pub returns-then-not-fine : goal.returns-then-not-fine
+returns-then-not-fine c = search known-laws

@@ -1,13 +1,12 @@
 use mathlib.Core.Path.{refl}
+use Prim.Native.Nat.{◌≤◌}
+use lib.ListN.{length}
 use native.Mathlib.Omega.{arith}
 use Rattle.text_words.proofs.Looking.{look-laws}
 use Rattle.text_words.proofs.sight.look.Goals as goal
 
 pub loop-p-init : goal.loop-p-init
 loop-p-init c = refl
-
-pub loop-p-smaller : goal.loop-p-smaller
-loop-p-smaller c = omega arith
 
 pub loop-p-preserved : goal.loop-p-preserved
 loop-p-preserved c = search look-laws
@@ -28,4 +27,4 @@ pub returns-in-Refused : goal.returns-in-Refused
 returns-in-Refused c = search look-laws
 
 pub returns : goal.returns
-returns c = search look-laws
+returns c = let h : length c.args.text.now ≤ c.max.result = omega arith in search look-laws
