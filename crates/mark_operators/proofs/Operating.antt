@@ -29,7 +29,7 @@ use Rattle.table_kinds.specs.Functions.{node_of, told1, ruling1}
 use Rattle.table_kinds.proofs.TwoSided.{two-sided-rule}
 use Rattle.table_kinds.proofs.OneSided.{one-sided-rule}
 use Rattle.table_kinds.specs.declared.Side.{Side}
-use Rattle.table_kinds.specs.Kinds.{Ruling, fits}
+use Rattle.table_kinds.specs.Kinds.{Ruling}
 use Rattle.std.specs.Prelude.{Some, None}
 use Rattle.table_kinds.specs.declared.Ruled.{Ruled}
 use Rattle.code_calc.specs.Words.{no_result, greatest, word_of, applied1, InRange}

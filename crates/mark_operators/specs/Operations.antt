@@ -10,7 +10,7 @@ use Rattle.code.specs.Readback.{operation_at, operation1_at}
 use Rattle.law.specs.Types.{Types, ordinal?}
 use Rattle.table_kinds.specs.Kinds.{op_number}
 use Rattle.table_kinds.specs.Functions.{fun_number}
-use Rattle.table_kinds.specs.Kinds.{Ruling, fits}
+use Rattle.table_kinds.specs.Kinds.{Ruling}
 use Rattle.std.specs.Prelude.{Some, None}
 use Rattle.code_calc.specs.Words.{no_result, word_of, applied1}
 use Rattle.mark_values.specs.declared.values.Carried.{Carried}

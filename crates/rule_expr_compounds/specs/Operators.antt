@@ -3,7 +3,7 @@ use Rattle.std.specs.Prelude.{cond, List, [], ◌∷◌, ℕ, ltb}
 use Rattle.code.specs.Layout.{lay}
 use Rattle.table_kinds.specs.Kinds.{ruling2}
 use Rattle.table_kinds.specs.Functions.{ruling1}
-use Rattle.table_kinds.specs.Kinds.{Ruling, fits}
+use Rattle.table_kinds.specs.Kinds.{Ruling}
 use Rattle.std.specs.Prelude.{Some, None}
 use Rattle.rule_faults.specs.declared.Fault.TheVariants.{Kind}
 use Rattle.table_scope.specs.declared.Info.{Info}
