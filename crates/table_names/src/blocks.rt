@@ -6,10 +6,9 @@ ghost use Rattle.law.specs.Trees.{word_at};
 ghost use Rattle.table_names.specs.Keys.{key_of};
 ghost use Rattle.table_names.specs.Chain.{first_value, order_at, ranked, middle, value_in};
 
-use std::cmp::Ordering;
-
 use crate::keys::OFFSETS;
 use crate::order::order_of;
+use std::cmp::Ordering;
 use table_list::at;
 
 // How far the first value stands from the type's entry: that has 4 numbers, its description 8.
@@ -62,6 +61,7 @@ fn middle_of(low: u32, high: u32) -> u32
 }
 
 // The place of the value that the word at an offset names, among the n of the type whose entry is at a place; 0 if none does.
+// Kept: 0 for none, as in `lookup`, which answers it on (`value_in`): no plainer.
 pub fn find_value(text: &[u8], work: &[u32], place: u32, n: u32, key: u32, offset: usize) -> u32
     ensures { key ≡ key_of (map small (word_at text.now offset)) → result ≡ value_in text.now work.now place n (map small (word_at text.now offset)) }
 {

@@ -89,6 +89,7 @@ fn seek(work: &[u32], count: u32, newest: u32, key: u32) -> Spot
 {
     let mut n = count;
     let mut p = newest;
+    // Kept: n counts down since it is answered, how many entries are left: no plainer with `for`.
     while n > 0 {
         let e = link_at(work, p);
         if e.first / OFFSETS == key || e.values > 0 {
@@ -120,6 +121,7 @@ fn past_values(work: &[u32], left: u32, place: u32, values: u32) -> Spot
 }
 
 // The place of the entry that the word at an offset names, among so many from the newest on; 0 if none does.
+// Kept: 0 for none. An entry found at place 0 is none too (`place_by`, which names above stand on), so an Option would be asked for 0 besides: no plainer.
 pub fn lookup(text: &[u8], work: &[u32], count: u32, newest: u32, offset: usize) -> u32
     ensures { result ≡ place_by text.now work.now count newest (map small (word_at text.now offset)) }
 {

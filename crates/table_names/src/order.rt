@@ -5,9 +5,8 @@ ghost use Rattle.law.specs.Trees.{word_at};
 ghost use Rattle.table_names.specs.Letters.{letter_of, byte_at};
 ghost use Rattle.table_names.specs.Order.{lettered, ordered};
 
-use std::cmp::Ordering;
-
 use crate::letters::{Meeting, byte_at, letter_of, meet};
+use std::cmp::Ordering;
 
 // The order of two words by the letters at two offsets, which differ.
 #[tactic(auto, using(crate::proofs::Ordering::letters_laws))]

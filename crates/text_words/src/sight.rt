@@ -55,6 +55,7 @@ pub fn look(text: &[u8], at: usize) -> Sight
 pub fn word_end(text: &[u8], at: usize) -> usize
     ensures { Ends text.now at result }
 {
+    // Kept: p is the answer, also where `at` is past the text's end: no plainer with `for`.
     let mut p = at;
     while p < text.len() {
         match class_of(text[p]) {
