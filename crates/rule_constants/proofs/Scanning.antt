@@ -22,7 +22,6 @@ use Rattle.text_words.specs.Passes.{nodes_all}
 use Rattle.text_words.specs.declared.sight.Sight.{Sight}
 use Rattle.text_words.specs.declared.sight.Sight.TheVariants as sight
 use Rattle.text_words.specs.Sights.{Looks, Ends}
-use Rattle.rule_faults.specs.declared.Fault.{Fault}
 use Rattle.rule_faults.specs.Got.{fault_of}
 use Rattle.rule_atoms.specs.declared.Valued.{Valued}
 use Rattle.rule_atoms.specs.Answering.{GivesMinus, minus_form}
