@@ -1,5 +1,6 @@
 -- Into the arms, what each says, and the choice.
 use mathlib.Core.Path.{◌≡◌, refl, sym, ap, subst, ◌∙◌}
+use mathlib.Core.Bool.{Bool, true, false}
 use mathlib.Core.List.{List}
 use mathlib.Core.Option.{none, some}
 use Prim.Native.Nat.{ℕ, ◌+◌, ◌<◌, ◌≤◌}
@@ -9,6 +10,8 @@ use lib.IntN.{ℤ}
 use mir.Syntax.{w64}
 use mir.Val.{SFits}
 use mir.Facts.{to_z-of_z}
+use Rattle.std.specs.Prelude.{Result as Tried, Ok, Err}
+use Rattle.mark_arms.specs.declared.Stuck.{Stuck}
 use Rattle.leaf_integers.proofs.Machine.{wire}
 use Rattle.leaf_words.specs.declared.words.Word.{Word}
 use Rattle.law.specs.Base.{each}
@@ -38,8 +41,6 @@ use Rattle.mark_counts.proofs.Items.{bind-of}
 use Rattle.mark_counts.proofs.Numbers.{arms-first, arms-number}
 use Rattle.mark_arms.specs.declared.Entry.{Entry}
 use Rattle.mark_arms.specs.declared.Entry.TheVariants as entry
-use Rattle.mark_arms.specs.declared.Fit.{Fit}
-use Rattle.mark_arms.specs.declared.Fit.TheVariants as fit
 use Rattle.mark_arms.specs.declared.Turn.{Turn}
 use Rattle.mark_arms.specs.declared.Turn.TheVariants as turn
 use Rattle.mark_arms.specs.declared.Arm.TheVariants as chosen
@@ -100,9 +101,26 @@ module _ (s : List ℕ) (at : ℕ) (x : Part) (S : Stands s at x) where
       record { says = record { parts = first (stack_at s p); others = first (later (stack_at s p)); here = F.here; headed = E.says } }
   at-form p entry.Over e E = let F : FormAt s at p = rw e at S.says in record { says = subst NoArm (sym F.here) (E.says (first (later (stack_at s p)))) }
 
-pub ruleset enter-laws = (enter-arm, enter-else, enter-none, enter-form, enter-shut)
+module _ (s : List ℕ) (at : ℕ) (x : Part) (S : Stands s at x) where
+  pub enter-other : ((w : Word) (p q : ℕ) → x ≡ part.Leaf w p q → ⊥) → EntersForm s at entry.Over
+  enter-other f = go x refl
+    where
+      go : (y : Part) → x ≡ y → EntersForm s at entry.Over
+      go (part.Leaf w p q) e = absurd (f w p q e)
+      go (part.Form p) e = enter-form s at x S p e
+      go (part.Shut q) e = enter-shut s at x S q e
 
-pub ruleset at-laws = (at_leaf, at-shut, at-form)
+  pub at-other : ((p : ℕ) → x ≡ part.Form p → ⊥) → Enters s at entry.Over
+  at-other f = go x refl
+    where
+      go : (y : Part) → x ≡ y → Enters s at entry.Over
+      go (part.Leaf w p q) e = at_leaf s at x S w p q e
+      go (part.Form p) e = absurd (f p e)
+      go (part.Shut q) e = at-shut s at x S q e
+
+pub ruleset enter_laws = (enter-arm, enter-else, enter-none, enter-other)
+
+pub ruleset at_laws = (at-other, at-form)
 
 -- ---- an arm, opened
 
@@ -150,7 +168,7 @@ opened s σ d k z m at q f A L =
 module _ (s l : List ℕ) (scope : Scope) (k : ℕ) (z : ℤ) (at : ℕ) where
   module _ (q : ℕ) (A : ArmAt s at is_arm q) where
     -- what the labels come to
-    labels-are : (r : Fit) → Meets s l scope k z q r → (σ : Environment) → Held s l scope σ → (d m : ℕ) (f : Procs → ℕ → State → Answer)
+    labels-are : (r : Tried Bool Stuck) → Meets s l scope k z q r → (σ : Environment) → Held s l scope σ → (d m : ℕ) (f : Procs → ℕ → State → Answer)
         → (O : Opened s σ d k z m (form A.parts) q A.others f) → mark_labels σ.types σ.vars k z O.labels ≡ fit_of r
     labels-are r M σ H d m f O = M.says σ H (mark_labels σ.types σ.vars k z O.labels) (record {
       constants = O.constants;
@@ -165,7 +183,7 @@ module _ (s l : List ℕ) (scope : Scope) (k : ℕ) (z : ℤ) (at : ℕ) where
         let i = arms-number d (m + verbs (form A.parts)) A.others O.others O.others-read in
         omega (arith, i, O.few)
 
-    hit : (r : ℕ) → Meets s l scope k z q fit.Hit → EndsAt s q r → Turns s l scope k z at (turn.Taken r)
+    hit : (r : ℕ) → Meets s l scope k z q (Ok true) → EndsAt s q r → Turns s l scope k z at (turn.Taken r)
     hit r M E = record {
       falls = tt;
       says = λ σ H d m f L. go σ H d m f (opened s σ d k z m at q f A L);
@@ -178,17 +196,17 @@ module _ (s l : List ℕ) (scope : Scope) (k : ℕ) (z : ℤ) (at : ℕ) where
           reads = sym (E.says d m) ∙ arm-last d m (first (stack_at s q)) (O.constants, (O.read, m + verbs (form A.parts))) O.reads;
           names = O.names;
           few = below σ d m f O;
-          same = λ ps n u. O.same ps n u ∙ rw (labels-are fit.Hit M σ H d m f O) refl;
+          same = λ ps n u. O.same ps n u ∙ rw (labels-are (Ok true) M σ H d m f O) refl;
         }
 
-    stops : Meets s l scope k z q fit.Stuck → Turns s l scope k z at turn.Stuck
-    stops M = record {
+    stops : (x : Stuck) → Meets s l scope k z q (Err x) → Turns s l scope k z at turn.Stuck
+    stops x M = record {
       falls = tt;
       says = λ σ H d m f L. go σ H d m f (opened s σ d k z m at q f A L);
     }
       where
         go : (σ : Environment) → Held s l scope σ → (d m : ℕ) (f : Procs → ℕ → State → Answer) → Opened s σ d k z m (form A.parts) q A.others f → Sticks f
-        go σ H d m f O = record { same = λ ps n u. O.same ps n u ∙ rw (labels-are fit.Stuck M σ H d m f O) refl }
+        go σ H d m f O = record { same = λ ps n u. O.same ps n u ∙ rw (labels-are (Err x) M σ H d m f O) refl }
 
     module _ (p : ℕ) (K : Skips s at p) where
       past : Before s at (form A.parts) p
@@ -197,7 +215,7 @@ module _ (s l : List ℕ) (scope : Scope) (k : ℕ) (z : ℤ) (at : ℕ) where
       others-at : A.others ≡ first (stack_at s p)
       others-at = ap rest (sym A.here ∙ past.here)
 
-      on : Meets s l scope k z q fit.Miss → Turns s l scope k z at (turn.On p)
+      on : Meets s l scope k z q (Ok false) → Turns s l scope k z at (turn.On p)
       unfolding many
       on M = record {
         falls = fewer (ap many past.here);
@@ -215,7 +233,7 @@ module _ (s l : List ℕ) (scope : Scope) (k : ℕ) (z : ℤ) (at : ℕ) where
             reads = ap (λ (j : ℕ). arms_in d (m + j) (first (stack_at s p))) e ∙ ap (arms_in d (m + verbs (form A.parts))) (sym others-at) ∙ O.others-read;
             names = O.others-known;
             few = O.few;
-            same = λ ps n u. O.same ps n u ∙ rw (labels-are fit.Miss M σ H d m f O) refl;
+            same = λ ps n u. O.same ps n u ∙ rw (labels-are (Ok false) M σ H d m f O) refl;
           }
 
   -- a last `else`
@@ -258,18 +276,18 @@ module _ (s l : List ℕ) (scope : Scope) (k : ℕ) (z : ℤ) (at : ℕ) where
 -- ---- `turn_at`
 
 module _ (s l : List ℕ) (scope : Scope) (k : ℕ) (z : ℤ) (at : ℕ) (e : Entry) (E : Enters s at e) where
-  module _ (fz : SFits w64 z) (q : ℕ) (h : e ≡ entry.Labelled q) (g : Fit) (M : Meets s l scope k (wire z) q g) where
-    met-as : (r : Fit) → g ≡ r → Meets s l scope k z q r
+  module _ (fz : SFits w64 z) (q : ℕ) (h : e ≡ entry.Labelled q) (g : Tried Bool Stuck) (M : Meets s l scope k (wire z) q g) where
+    met-as : (r : Tried Bool Stuck) → g ≡ r → Meets s l scope k z q r
     met-as r i = subst (λ (y : ℤ). Meets s l scope k y q r) (to_z-of_z fz) (subst (Meets s l scope k (wire z) q) i M)
 
-    pub turn-hit : (r : ℕ) → g ≡ fit.Hit → EndsAt s q r → Turns s l scope k z at (turn.Taken r)
-    turn-hit r i N = hit s l scope k z at q (rw h at E.says) r (met-as fit.Hit i) N
+    pub turn-hit : (r : ℕ) (b : Bool) → g ≡ Ok b → b ≡ true → EndsAt s q r → Turns s l scope k z at (turn.Taken r)
+    turn-hit r b i j N = hit s l scope k z at q (rw h at E.says) r (met-as (Ok true) (i ∙ ap (λ (c : Bool). Ok c) j)) N
 
-    pub turn-stuck : g ≡ fit.Stuck → Turns s l scope k z at turn.Stuck
-    turn-stuck i = stops s l scope k z at q (rw h at E.says) (met-as fit.Stuck i)
+    pub turn-stuck : (x : Stuck) → g ≡ Err x → Turns s l scope k z at turn.Stuck
+    turn-stuck x i = stops s l scope k z at q (rw h at E.says) x (met-as (Err x) i)
 
-    pub turn_on : (p : ℕ) → g ≡ fit.Miss → Skips s at p → Turns s l scope k z at (turn.On p)
-    turn_on p i K = on s l scope k z at q (rw h at E.says) p K (met-as fit.Miss i)
+    pub turn_on : (p : ℕ) (b : Bool) → g ≡ Ok b → b ≡ false → Skips s at p → Turns s l scope k z at (turn.On p)
+    turn_on p b i j K = on s l scope k z at q (rw h at E.says) p K (met-as (Ok false) (i ∙ ap (λ (c : Bool). Ok c) j))
 
   pub turn-else : (q : ℕ) → e ≡ entry.Other q → Turns s l scope k z at (turn.Taken q)
   turn-else q h = else-taken s l scope k z at q (rw h at E.says)
@@ -277,7 +295,7 @@ module _ (s l : List ℕ) (scope : Scope) (k : ℕ) (z : ℤ) (at : ℕ) (e : En
   pub turn-none : e ≡ entry.Over → Turns s l scope k z at turn.Absent
   turn-none h = none_left s l scope k z at (rw h at E.says)
 
-pub ruleset turn-laws = (turn-hit, turn-stuck, turn_on, turn-else, turn-none, sfits_of)
+pub ruleset turn_laws = (turn-hit, turn-stuck, turn_on, turn-else, turn-none, sfits_of)
 
 -- ---- `choose_arm`
 
@@ -315,4 +333,4 @@ module _ (s l : List ℕ) (scope : Scope) (k : ℕ) (z : ℤ) (n at m p : ℕ) (
 pub choose-falls : (s l : List ℕ) (scope : Scope) (k : ℕ) (z : ℤ) (p q : ℕ) (t : Turn) → Turns s l scope k z p t → t ≡ turn.On q → many (first (stack_at s q)) < many (first (stack_at s p))
 choose-falls s l scope k z p q t T e = rw e at T.falls
 
-pub ruleset choose-laws = (choose-taken, choose-absent, choose-stuck, choose-on, sfits_of)
+pub ruleset choose_laws = (choose-taken, choose-absent, choose-stuck, choose-on, sfits_of)

@@ -12,6 +12,7 @@ use mir.Syntax.{w64}
 use mir.Val.{SFits}
 use mir.Facts.{to_z-of_z}
 use borrow.Author.Rules.{sfits_of}
+use Rattle.std.specs.Prelude.{Option as Maybe, Some, None}
 use Rattle.leaf_integers.proofs.Machine.{wire}
 use Rattle.leaf_integers.specs.Integers.{inside, least, most}
 use Rattle.leaf_integers.proofs.Ranges.{inside-mag}
@@ -48,8 +49,6 @@ use Rattle.rule_constants.proofs.Exprs.{number-inside, constant-plain}
 use Rattle.rule_labels.specs.Blocks.{Held}
 use Rattle.text_skips.specs.Skips.{Skips}
 use Rattle.mark_counts.proofs.Items.{bind-of}
-use Rattle.mark_arms.specs.declared.Spot.{Spot}
-use Rattle.mark_arms.specs.declared.Spot.TheVariants as spot
 use Rattle.mark_arms.specs.Arms.{many, labels_in, last_in, Marks, Spots, Labels, EndsAt}
 use Rattle.table_scope.specs.declared.Scope.{Scope}
 
@@ -165,12 +164,12 @@ module _ (s l : List ℕ) (scope : Scope) (at : ℕ) (v : Valued) (G : GivesCons
         (sym (ap (λ (y : Const). y.kind) w), sym (ap (λ (y : Const). y.value) w));
   }
 
-pub ruleset label-laws = (label-clear, label-past, sfits_of)
+pub ruleset label_laws = (label-clear, label-past, sfits_of)
 
 -- ---- `spot_at`
 
 module _ (s : List ℕ) (at : ℕ) (e : Maybe ℕ) (E : Shuts s at e) where
-  pub spot-none : (q : ℕ) → e ≡ Some q → Spots s at spot.Last
+  pub spot-none : (q : ℕ) → e ≡ Some q → Spots s at None
   spot-none q h = record { says = ap rest (rw h at E.says).here }
 
   module _ (h : e ≡ None) (q : ℕ) (K : Skips s at q) (f : Maybe ℕ) (F : Shuts s q f) where
@@ -181,13 +180,13 @@ module _ (s : List ℕ) (at : ℕ) (e : Maybe ℕ) (E : Shuts s at e) where
         go end g = absurd ((rw h at E.says) g)
         go (t then us) g = (t, K.says t us g)
 
-    pub spot-last : (p : ℕ) → f ≡ Some p → Spots s at spot.Last
+    pub spot-last : (p : ℕ) → f ≡ Some p → Spots s at None
     spot-last p g = record { says = ap rest here.1.here ∙ (rw g at F.says).here }
 
-    pub spot-marked : f ≡ None → Spots s at (spot.Marked q)
+    pub spot-marked : f ≡ None → Spots s at (Some q)
     spot-marked g = record { says = record { part = here.0; before = here.1; more = rw g at F.says } }
 
-pub ruleset spot-laws = (spot-none, spot-last, spot-marked)
+pub ruleset spot_laws = (spot-none, spot-last, spot-marked)
 
 -- ---- `last_part`
 
@@ -208,18 +207,18 @@ last_one d n (t then (u then us)) h = absurd (let z : ◌≡◌ {A = ℕ} 0 1 = 
 pub pass-start : (s : List ℕ) (at : ℕ) → Passing s at at
 pass-start s at = record { says = λ d n. refl }
 
-module _ (s : List ℕ) (at p : ℕ) (x : Spot) (S : Spots s p x) where
-  pub marked : (q : ℕ) → x ≡ spot.Marked q → Marks s p q
+module _ (s : List ℕ) (at p : ℕ) (x : Maybe ℕ) (S : Spots s p x) where
+  pub marked : (q : ℕ) → x ≡ Some q → Marks s p q
   marked q e = rw e at S.says
 
-  pub pass_on : (q : ℕ) → x ≡ spot.Marked q → Passing s at p → Passing s at q
+  pub pass_on : (q : ℕ) → x ≡ Some q → Passing s at p → Passing s at q
   pass_on q e P = let M = marked q e in record { says = λ d n. P.says d n ∙ ap (last_in d n) M.before.here ∙ last_more d n M.part (first (stack_at s q)) M.more }
 
-  pub pass-end : x ≡ spot.Last → Passing s at p → EndsAt s at p
+  pub pass-end : x ≡ None → Passing s at p → EndsAt s at p
   pass-end e P = record { says = λ d n. P.says d n ∙ last_one d n (first (stack_at s p)) (rw e at S.says) }
 
-  pub part_falls : (q : ℕ) → x ≡ spot.Marked q → many (first (stack_at s q)) < many (first (stack_at s p))
+  pub part_falls : (q : ℕ) → x ≡ Some q → many (first (stack_at s q)) < many (first (stack_at s p))
   unfolding many
   part_falls q e = let f : many (first (stack_at s p)) ≡ suc (many (first (stack_at s q))) = ap many (marked q e).before.here in omega arith
 
-pub ruleset pass-laws = (pass_on, pass-end)
+pub ruleset pass_laws = (pass_on, pass-end)

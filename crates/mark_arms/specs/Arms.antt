@@ -1,5 +1,5 @@
 -- The arms of a `case` by offset, and the one that a value takes in the marking machine (law, Marking).
-use Rattle.std.specs.Prelude.{Bool, true, false, List, [], ◌∷◌, ◌≡◌, ℕ, suc, ◌+◌, ◌<◌, ◌≤◌, ℤ}
+use Rattle.std.specs.Prelude.{Bool, List, [], ◌∷◌, ◌≡◌, ℕ, suc, ◌+◌, ◌<◌, ◌≤◌, ℤ, Some, None, Ok, Err, Option as Maybe, Result as Tried}
 use Rattle.std.proofs.Math.Option.{Option, none, some}
 use Rattle.law.specs.Base.{◌>>=◌, each}
 use Rattle.law.specs.Calculate.{Result, is, stuck, case_error}
@@ -20,10 +20,7 @@ use Rattle.text_heads.specs.Parts.{rest, constant_in, stmt_in, arm_head_in, arms
 use Rattle.rule_labels.specs.Blocks.{Held}
 use Rattle.mark_counts.specs.Statements.{CountsStatements}
 use Rattle.mark_arms.specs.declared.Label.{Label}
-use Rattle.mark_arms.specs.declared.Spot.{Spot}
-use Rattle.mark_arms.specs.declared.Spot.TheVariants as spot
-use Rattle.mark_arms.specs.declared.Fit.{Fit}
-use Rattle.mark_arms.specs.declared.Fit.TheVariants as fit
+use Rattle.mark_arms.specs.declared.Stuck.{Stuck}
 use Rattle.mark_arms.specs.declared.Entry.{Entry}
 use Rattle.mark_arms.specs.declared.Entry.TheVariants as entry
 use Rattle.mark_arms.specs.declared.Turn.{Turn}
@@ -57,11 +54,11 @@ pub record Marks (s : List ℕ) (at q : ℕ) : Type 0 where
   pub before : Before s at part q
   pub more : (first (stack_at s q) ≡ end) → ⊥
 
-abbrev pub SpotsBy : List ℕ → ℕ → Spot → Type 0
-SpotsBy s at (spot.Marked q) = Marks s at q
-SpotsBy s at spot.Last = rest (first (stack_at s at)) ≡ end
+abbrev pub SpotsBy : List ℕ → ℕ → Maybe ℕ → Type 0
+SpotsBy s at (Some q) = Marks s at q
+SpotsBy s at None = rest (first (stack_at s at)) ≡ end
 
-pub record Spots (s : List ℕ) (at : ℕ) (r : Spot) : Type 0 where
+pub record Spots (s : List ℕ) (at : ℕ) (r : Maybe ℕ) : Type 0 where
   pub says : SpotsBy s at r
 
 -- r is the label at an offset
@@ -75,10 +72,9 @@ pub record EndsAt (s : List ℕ) (at r : ℕ) : Type 0 where
 
 -- ---- whether z, of kind k, is a label
 
-abbrev pub fit_of : Fit → Result Bool
-fit_of fit.Hit = is true
-fit_of fit.Miss = is false
-fit_of fit.Stuck = stuck
+abbrev pub fit_of : Tried Bool Stuck → Result Bool
+fit_of (Ok b) = is b
+fit_of (Err x) = stuck
 
 -- v is what the labels among the parts us come to
 pub record LabelsLeft (σ : Environment) (k : ℕ) (z : ℤ) (us : Trees Run) (v : Result Bool) : Type 0 where
@@ -88,7 +84,7 @@ pub record LabelsLeft (σ : Environment) (k : ℕ) (z : ℤ) (us : Trees Run) (v
   pub known : each (constant_of σ) constants ≡ some values
   pub same : v ≡ mark_labels σ.types σ.vars k z values
 
-pub record Meets (s l : List ℕ) (scope : Scope) (k : ℕ) (z : ℤ) (at : ℕ) (r : Fit) : Type 0 where
+pub record Meets (s l : List ℕ) (scope : Scope) (k : ℕ) (z : ℤ) (at : ℕ) (r : Tried Bool Stuck) : Type 0 where
   pub says : (σ : Environment) → Held s l scope σ → (v : Result Bool) → LabelsLeft σ k z (first (stack_at s at)) v → v ≡ fit_of r
 
 -- ---- arms

@@ -20,20 +20,9 @@ pub struct Label {
     pub value: i64,
 }
 
-// A part of an arm: a label, with the offset of the next part; or no label is left.
+// The machine sticks, since a value meets a label of another kind.
 #[derive(Clone, Copy)]
-pub enum Spot {
-    Marked(usize),
-    Last,
-}
-
-// Whether a value is one of an arm's labels; stuck, where it met one of another kind.
-#[derive(Clone, Copy)]
-pub enum Fit {
-    Hit,
-    Miss,
-    Stuck,
-}
+pub struct Stuck;
 
 // An arm or an `else` by the offset after its head, or none is left.
 #[derive(Clone, Copy)]
@@ -78,47 +67,47 @@ fn label_at(text: &[u8], work: &[u32], scope: Scope, at: usize) -> Label
     }
 }
 
-// Whether a label stands at an offset in an arm: a part that is not the last.
-fn spot_at(text: &[u8], at: usize) -> Spot
+// The offset of the next part, if a label stands at an offset in an arm: a part that is not the last.
+fn spot_at(text: &[u8], at: usize) -> Option<usize>
     ensures { Spots text.now at result }
 {
     let e = end_at(text, at);
     match e {
-        Some(_) => Spot::Last,
+        Some(_) => None,
         None => {
             let q = skip(text, at);
             let f = end_at(text, q);
             match f {
-                Some(_) => Spot::Last,
-                None => Spot::Marked(q),
+                Some(_) => None,
+                None => Some(q),
             }
         }
     }
 }
 
 // Whether z, of a kind, is a label of the arm whose labels begin at an offset.
-fn fit_at(text: &[u8], work: &[u32], scope: Scope, kind: u32, z: i64, at: usize) -> Fit
+fn fit_at(
+    text: &[u8],
+    work: &[u32],
+    scope: Scope,
+    kind: u32,
+    z: i64,
+    at: usize,
+) -> Result<bool, Stuck>
     ensures { Meets text.now work.now scope kind z at result }
 {
     let mut p = at;
-    loop {
-        let x = spot_at(text, p);
-        match x {
-            Spot::Marked(q) => {
-                let v = label_at(text, work, scope, p);
-                if v.kind != kind {
-                    return Fit::Stuck;
-                }
-                if v.value == z {
-                    return Fit::Hit;
-                }
-                p = q;
-            }
-            Spot::Last => {
-                return Fit::Miss;
-            }
+    while let Some(q) = spot_at(text, p) {
+        let v = label_at(text, work, scope, p);
+        if v.kind != kind {
+            return Err(Stuck);
         }
+        if v.value == z {
+            return Ok(true);
+        }
+        p = q;
     }
+    Ok(false)
 }
 
 // The offset of an arm's last part, its statement.
@@ -126,25 +115,17 @@ fn last_part(text: &[u8], at: usize) -> usize
     ensures { EndsAt text.now at result }
 {
     let mut p = at;
-    loop {
-        let x = spot_at(text, p);
-        match x {
-            Spot::Marked(q) => {
-                p = q;
-            }
-            Spot::Last => {
-                return p;
-            }
-        }
+    while let Some(q) = spot_at(text, p) {
+        p = q;
     }
+    p
 }
 
 // Into the form whose parts begin at an offset.
 fn entry_in(text: &[u8], at: usize) -> Entry
     ensures { EntersForm text.now at result }
 {
-    let part = part_at(text, at);
-    match part {
+    match part_at(text, at) {
         Part::Leaf(w, _, q) => {
             let h = arm_head(w);
             match h {
@@ -153,8 +134,7 @@ fn entry_in(text: &[u8], at: usize) -> Entry
                 ArmHead::Nothing => Entry::Over,
             }
         }
-        Part::Form(_) => Entry::Over,
-        Part::Shut(_) => Entry::Over,
+        _ => Entry::Over,
     }
 }
 
@@ -162,11 +142,9 @@ fn entry_in(text: &[u8], at: usize) -> Entry
 fn entry_at(text: &[u8], at: usize) -> Entry
     ensures { Enters text.now at result }
 {
-    let part = part_at(text, at);
-    match part {
-        Part::Leaf(_, _, _) => Entry::Over,
+    match part_at(text, at) {
         Part::Form(p) => entry_in(text, p),
-        Part::Shut(_) => Entry::Over,
+        _ => Entry::Over,
     }
 }
 
@@ -177,11 +155,13 @@ fn turn_at(text: &[u8], work: &[u32], scope: Scope, kind: u32, z: i64, at: usize
     let e = entry_at(text, at);
     match e {
         Entry::Labelled(q) => {
-            let f = fit_at(text, work, scope, kind, z, q);
-            match f {
-                Fit::Hit => Turn::Taken(last_part(text, q)),
-                Fit::Miss => Turn::On(skip(text, at)),
-                Fit::Stuck => Turn::Stuck,
+            let Ok(hit) = fit_at(text, work, scope, kind, z, q) else {
+                return Turn::Stuck;
+            };
+            if hit {
+                Turn::Taken(last_part(text, q))
+            } else {
+                Turn::On(skip(text, at))
             }
         }
         Entry::Other(q) => Turn::Taken(q),

@@ -18,8 +18,7 @@ use Rattle.text_heads.specs.declared.Verb.{Verb}
 use Rattle.text_heads.specs.declared.Verb.TheVariants as verb
 use Rattle.rule_labels.proofs.Skipping.{before-nodes, form-fewer, shut-nodes}
 use Rattle.text_skips.proofs.Counts.{nodes-short}
-use Rattle.mark_counts.specs.declared.Move.{Move}
-use Rattle.mark_counts.specs.declared.Move.TheVariants as move
+use Rattle.std.specs.Prelude.{Option, Some, None}
 use Rattle.mark_counts.specs.Statements.{one_for, head_verbs, verbs, verbs_in, verbs_out, Room, shut_from, Moves, CountsStatements}
 
 -- ---- no more statements than brackets and words
@@ -90,23 +89,31 @@ module _ (s : List ℕ) (at : ℕ) (x : Part) (S : Stands s at x) where
       let h = rw e at S.says in
       g ∙ ap one_for (f ∙ ap verb_of h.1) ∙ sym (ap head_verbs h.0.leaf.here)
 
-  pub head-form : (p : ℕ) → x ≡ part.Form p → 0 ≡ head_verbs (first (stack_at s at))
+  head-form : (p : ℕ) → x ≡ part.Form p → 0 ≡ head_verbs (first (stack_at s at))
   unfolding head_verbs
   head-form p e = let h : FormAt s at p = rw e at S.says in sym (ap head_verbs h.here)
 
-  pub head-shut : (q : ℕ) → x ≡ part.Shut q → 0 ≡ head_verbs (first (stack_at s at))
+  head-shut : (q : ℕ) → x ≡ part.Shut q → 0 ≡ head_verbs (first (stack_at s at))
   unfolding head_verbs
   head-shut q e = let h : ShutAt s at q = rw e at S.says in sym (ap head_verbs h.here)
 
-pub ruleset head-laws = (head-leaf, head-form, head-shut)
+  pub head-other : ((w : Word) (p q : ℕ) → x ≡ part.Leaf w p q → ⊥) → 0 ≡ head_verbs (first (stack_at s at))
+  head-other k = go x refl
+    where
+      go : (y : Part) → x ≡ y → 0 ≡ head_verbs (first (stack_at s at))
+      go (part.Leaf w p q) e = absurd (k w p q e)
+      go (part.Form p) e = head-form p e
+      go (part.Shut q) e = head-shut q e
+
+pub ruleset head-laws = (head-leaf, head-other)
 
 -- ---- a step
 
-pub shut_none : (q m n : ℕ) → m ≡ 0 → move.Out ≡ shut_from q m n
+pub shut_none : (q m n : ℕ) → m ≡ 0 → None ≡ shut_from q m n
 unfolding shut_from
 shut_none q m n e = rw e
 
-pub shut-some : (q m n : ℕ) → ((m ≡ 0) → ⊥) → move.To q (m - 1) n ≡ shut_from q m n
+pub shut-some : (q m n : ℕ) → ((m ≡ 0) → ⊥) → Some (q, (m - 1), n) ≡ shut_from q m n
 unfolding shut_from
 shut-some q zero n h = absurd (h refl)
 shut-some q (suc m) n h = let e : suc m - 1 ≡ m = omega arith in rw e
@@ -114,7 +121,7 @@ shut-some q (suc m) n h = let e : suc m - 1 ≡ m = omega arith in rw e
 pub ruleset shut-laws = (shut_none, shut-some)
 
 module _ (s : List ℕ) (p m n : ℕ) (x : Part) (S : Stands s p x) where
-  pub step-leaf : (w : Word) (o q : ℕ) → x ≡ part.Leaf w o q → Moves s p m n (move.To q m n)
+  pub step-leaf : (w : Word) (o q : ℕ) → x ≡ part.Leaf w o q → Moves s p m n (Some (q, m, n))
   unfolding verbs nodes
   step-leaf w o q e =
       let B = (rw e at S.says).0.leaf in
@@ -130,7 +137,7 @@ module _ (s : List ℕ) (p m n : ℕ) (x : Part) (S : Stands s p x) where
       let b = R.counted in
       omega arith
 
-  pub step-form : (q h : ℕ) → x ≡ part.Form q → h ≡ head_verbs (first (stack_at s q)) → Moves s p m n (move.To q (m + 1) (n + h))
+  pub step-form : (q h : ℕ) → x ≡ part.Form q → h ≡ head_verbs (first (stack_at s q)) → Moves s p m n (Some (q, (m + 1), (n + h)))
   step-form q h e f =
       let F : FormAt s p q = rw e at S.says in
       let a = form-fewer s p q F in
@@ -138,7 +145,7 @@ module _ (s : List ℕ) (p m n : ℕ) (x : Part) (S : Stands s p x) where
       let c : verbs_out (suc (m + 1)) (stack_at s q) ≡ verbs_out (suc (suc m)) (stack_at s q) = ap (λ (i : ℕ). verbs_out (suc i) (stack_at s q)) (add-one m) in
       record { says = (omega arith, (omega arith, omega arith)) }
 
-  pub step-shut : (q : ℕ) (r : Move) → x ≡ part.Shut q → r ≡ shut_from q m n → Moves s p m n r
+  pub step-shut : (q : ℕ) (r : Option (ℕ × ℕ × ℕ)) → x ≡ part.Shut q → r ≡ shut_from q m n → Moves s p m n r
   unfolding shut_from verbs_out
   step-shut q r e f = rw f (go m)
     where
@@ -170,8 +177,8 @@ count_room s at p m n I =
     let e = nodes-short s at in
     record { levels = omega arith; counted = omega arith }
 
-module _ (s : List ℕ) (p m n : ℕ) (r : Move) (M : Moves s p m n r) where
-  pub count-on : (at q m' n' : ℕ) → Counting s at p m n → r ≡ move.To q m' n' → Counting s at q m' n'
+module _ (s : List ℕ) (p m n : ℕ) (r : Option (ℕ × ℕ × ℕ)) (M : Moves s p m n r) where
+  pub count-on : (at q m' n' : ℕ) → Counting s at p m n → r ≡ Some (q, m', n') → Counting s at q m' n'
   count-on at q m' n' I e =
       let g = rw e at M.says in
       let a = I.same in
@@ -180,10 +187,10 @@ module _ (s : List ℕ) (p m n : ℕ) (r : Move) (M : Moves s p m n r) where
       let d = g.1.0 in
       record { same = omega arith; few = omega arith }
 
-  pub count-out : (at : ℕ) → Counting s at p m n → r ≡ move.Out → n ≡ head_verbs (first (stack_at s at)) + verbs_in (first (stack_at s at))
+  pub count-out : (at : ℕ) → Counting s at p m n → r ≡ None → n ≡ head_verbs (first (stack_at s at)) + verbs_in (first (stack_at s at))
   count-out at I e = let g : verbs_out (suc m) (stack_at s p) ≡ 0 = rw e at M.says in let a = I.same in omega arith
 
-  pub count-falls : (q m' n' : ℕ) → r ≡ move.To q m' n' → 2 * nodes_all (stack_at s q) + m' < 2 * nodes_all (stack_at s p) + m
+  pub count-falls : (q m' n' : ℕ) → r ≡ Some (q, m', n') → 2 * nodes_all (stack_at s q) + m' < 2 * nodes_all (stack_at s p) + m
   count-falls q m' n' e = let g = rw e at M.says in g.1.1
 
 pub ruleset count-laws = (count-on, count-out)
@@ -212,4 +219,12 @@ module _ (s : List ℕ) (at : ℕ) (x : Part) (S : Stands s at x) where
       no_part : {t : Tree Run} {us : Trees Run} → (t then us) ≡ end → ⊥
       no_part g = let z : ◌≡◌ {A = ℕ} 0 1 = cc in omega arith
 
-pub ruleset part-laws = (part-leaf, part-form, part-shut)
+  pub part-other : ((p : ℕ) → x ≡ part.Form p → ⊥) → CountsStatements s at 0
+  part-other k = go x refl
+    where
+      go : (y : Part) → x ≡ y → CountsStatements s at 0
+      go (part.Leaf w p q) e = part-leaf w p q e
+      go (part.Form p) e = absurd (k p e)
+      go (part.Shut q) e = part-shut q e
+
+pub ruleset part-laws = (part-form, part-other)

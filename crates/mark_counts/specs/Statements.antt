@@ -1,5 +1,5 @@
 -- How many statements a part holds: by that much a statement's number rises where a walk over the text passes the part.
-use Rattle.std.specs.Prelude.{List, ◌≡◌, ℕ, zero, suc, ◌+◌, ◌*◌, ◌<◌, ◌≤◌, length}
+use Rattle.std.specs.Prelude.{List, ◌≡◌, ℕ, zero, suc, ◌+◌, ◌*◌, ◌<◌, ◌≤◌, length, Option, Some, None}
 use Rattle.leaf_words.specs.Words.{word_of}
 use Rattle.law.specs.Trees.{Tree, word, form, Trees, end, ◌then◌, Run, first, later}
 use Rattle.law_theorems.specs.Readings.{stack_at}
@@ -7,8 +7,6 @@ use Rattle.text_words.specs.Passes.{nodes_all}
 use Rattle.text_heads.specs.Heads.{verb_of}
 use Rattle.text_heads.specs.declared.Verb.{Verb}
 use Rattle.text_heads.specs.declared.Verb.TheVariants as verb
-use Rattle.mark_counts.specs.declared.Move.{Move}
-use Rattle.mark_counts.specs.declared.Move.TheVariants as move
 
 -- ---- on trees
 
@@ -53,18 +51,18 @@ pub record Room (s : List ℕ) (p m n : ℕ) : Type 0 where
   pub counted : n + verbs_out (suc m) (stack_at s p) ≤ length s
 
 -- past a closing bracket that ends at q
-unfoldable pub shut_from : ℕ → ℕ → ℕ → Move
-shut_from q zero n = move.Out
-shut_from q (suc m) n = move.To q m n
+unfoldable pub shut_from : ℕ → ℕ → ℕ → Option (ℕ × ℕ × ℕ)
+shut_from q zero n = None
+shut_from q (suc m) n = Some (q, m, n)
 
 -- one word or bracket is passed at p: the statements counted and those to come stay, the open forms and what is left do not grow, and a step
 -- falls; or the form ends
-abbrev pub MovesBy : List ℕ → ℕ → ℕ → ℕ → Move → Type 0
-MovesBy s p m n (move.To q m' n') = (n + verbs_out (suc m) (stack_at s p) ≡ n' + verbs_out (suc m') (stack_at s q))
+abbrev pub MovesBy : List ℕ → ℕ → ℕ → ℕ → Option (ℕ × ℕ × ℕ) → Type 0
+MovesBy s p m n (Some (q, m', n')) = (n + verbs_out (suc m) (stack_at s p) ≡ n' + verbs_out (suc m') (stack_at s q))
     × ((m' + nodes_all (stack_at s q) ≤ m + nodes_all (stack_at s p)) × (2 * nodes_all (stack_at s q) + m' < 2 * nodes_all (stack_at s p) + m))
-MovesBy s p m n move.Out = verbs_out (suc m) (stack_at s p) ≡ 0
+MovesBy s p m n None = verbs_out (suc m) (stack_at s p) ≡ 0
 
-pub record Moves (s : List ℕ) (p m n : ℕ) (r : Move) : Type 0 where
+pub record Moves (s : List ℕ) (p m n : ℕ) (r : Option (ℕ × ℕ × ℕ)) : Type 0 where
   pub says : MovesBy s p m n r
 
 -- where a part stands at an offset, r is the number of statements in it

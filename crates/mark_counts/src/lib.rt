@@ -10,27 +10,13 @@ ghost use Rattle.mark_counts.specs.Statements.{one_for, head_verbs, verbs_in, Ro
 use text_heads::{Verb, verb_of};
 use text_parts::{Part, part_at};
 
-// On inside a form: the offset reached, how many more forms are open there and the statements counted; or the form has ended.
-#[derive(Clone, Copy)]
-pub enum Move {
-    To(usize, usize, usize),
-    Out,
-}
-
 // A statement's head is one.
 fn one_for(v: Verb) -> usize
     ensures { result ≡ one_for v }
 {
     match v {
-        Verb::Assign => 1,
-        Verb::Begin => 1,
-        Verb::If => 1,
-        Verb::While => 1,
-        Verb::For => 1,
-        Verb::Case => 1,
-        Verb::Call => 1,
-        Verb::Raise => 1,
         Verb::Nothing => 0,
+        _ => 1,
     }
 }
 
@@ -41,30 +27,30 @@ fn head_at(text: &[u8], at: usize) -> usize
     let part = part_at(text, at);
     match part {
         Part::Leaf(w, _, _) => one_for(verb_of(w)),
-        Part::Form(_) => 0,
-        Part::Shut(_) => 0,
+        _ => 0,
     }
 }
 
-// Past a closing bracket that ends at q, where m forms are open and n statements counted.
-fn shut(q: usize, m: usize, n: usize) -> Move
+// Past a closing bracket that ends at q, where m more forms are open and n statements counted; `None` where the form itself ends.
+fn shut(q: usize, m: usize, n: usize) -> Option<(usize, usize, usize)>
     ensures { result ≡ shut_from q m n }
 {
     if m == 0 {
-        return Move::Out;
+        return None;
     }
-    Move::To(q, m - 1, n)
+    Some((q, m - 1, n))
 }
 
-// Past a word or a bracket at p, where m forms are open and n statements counted.
-fn step(text: &[u8], p: usize, m: usize, n: usize) -> Move
+// Past a word or a bracket at p, where m more forms are open and n statements counted: the offset reached and both numbers there; `None` where the
+// form has ended.
+fn step(text: &[u8], p: usize, m: usize, n: usize) -> Option<(usize, usize, usize)>
     requires { Room text.now p m n }
     ensures { Moves text.now p m n result }
 {
     let part = part_at(text, p);
     match part {
-        Part::Leaf(_, _, q) => Move::To(q, m, n),
-        Part::Form(q) => Move::To(q, m + 1, n + head_at(text, q)),
+        Part::Leaf(_, _, q) => Some((q, m, n)),
+        Part::Form(q) => Some((q, m + 1, n + head_at(text, q))),
         Part::Shut(q) => shut(q, m, n),
     }
 }
@@ -77,17 +63,12 @@ fn count_form(text: &[u8], at: usize) -> usize
     let mut m = 0;
     let mut n = head_at(text, at);
     loop {
-        let s = step(text, p, m, n);
-        match s {
-            Move::To(q, deep, many) => {
-                p = q;
-                m = deep;
-                n = many;
-            }
-            Move::Out => {
-                return n;
-            }
-        }
+        let Some((q, deep, many)) = step(text, p, m, n) else {
+            return n;
+        };
+        p = q;
+        m = deep;
+        n = many;
     }
 }
 
@@ -97,8 +78,7 @@ pub fn count_statements(text: &[u8], at: usize) -> usize
 {
     let part = part_at(text, at);
     match part {
-        Part::Leaf(_, _, _) => 0,
         Part::Form(p) => count_form(text, p),
-        Part::Shut(_) => 0,
+        _ => 0,
     }
 }

@@ -22,7 +22,6 @@ use Rattle.text_words.specs.Passes.{nodes_all}
 use Rattle.text_words.specs.declared.sight.Sight.{Sight}
 use Rattle.text_words.specs.declared.sight.Sight.TheVariants as sight
 use Rattle.text_words.specs.Sights.{Looks, Ends}
-use Rattle.rule_faults.specs.declared.Fault.{Fault}
 use Rattle.rule_faults.specs.Got.{fault_of}
 use Rattle.rule_atoms.specs.declared.Valued.{Valued}
 use Rattle.rule_atoms.specs.Answering.{GivesMinus, minus_form}
@@ -52,8 +51,8 @@ kind-is (some (truth true)) = refl
 kind-is (some (truth false)) = refl
 kind-is (some (named w)) = refl
 
-pub past_is : (s : List ℕ) (p : ℕ) (v : Valued) (f : Fault) (r : Bool) → GivesMinus s p (minus_form (first (stack_at s p))) v → f ≡ v.fault → r ≡ is_kind f → r ≡ not (sound_by (minus_form (first (stack_at s p))))
-past_is s p v f r g e h = h ∙ ap is_kind (e ∙ (g.says nothing_declared.env).fault-is) ∙ kind-is (minus_form (first (stack_at s p)))
+pub past_is : (s : List ℕ) (p : ℕ) (v : Valued) (r : Bool) → GivesMinus s p (minus_form (first (stack_at s p))) v → r ≡ is_kind v.fault → r ≡ not (sound_by (minus_form (first (stack_at s p))))
+past_is s p v r g h = h ∙ ap is_kind (g.says nothing_declared.env).fault-is ∙ kind-is (minus_form (first (stack_at s p)))
 
 -- ---- into a form
 
@@ -85,7 +84,7 @@ unfolding out_from
 shut-some zero q h = absurd (h refl)
 shut-some (suc n) q h = let e : suc n - 1 ≡ n = omega arith in rw e
 
-pub ruleset shut-laws = (shut_none, shut-some)
+pub ruleset shut_laws = (shut_none, shut-some)
 
 -- ---- a step
 
@@ -183,13 +182,13 @@ pub ruleset scan-laws = (scan-on, scan-out, scan-bad)
 -- ---- a form, a part
 
 module _ (s : List ℕ) (p : ℕ) (r : Bool) (h : r ≡ not (sound_by (minus_form (first (stack_at s p))))) where
-  pub form-bad : r ≡ true → false ≡ (sound_by (minus_form (first (stack_at s p))) && plain_in (first (stack_at s p)))
-  form-bad e = sym (ap (λ (b : Bool). b && plain_in (first (stack_at s p))) (not-true (sound_by (minus_form (first (stack_at s p)))) (sym e ∙ h)))
+  pub form-bad : r ≡ true → not r ≡ (sound_by (minus_form (first (stack_at s p))) && plain_in (first (stack_at s p)))
+  form-bad e = ap not e ∙ sym (ap (λ (b : Bool). b && plain_in (first (stack_at s p))) (not-true (sound_by (minus_form (first (stack_at s p)))) (sym e ∙ h)))
 
   pub form-good : (t : Bool) → r ≡ false → t ≡ plain_in (first (stack_at s p)) → t ≡ (sound_by (minus_form (first (stack_at s p))) && plain_in (first (stack_at s p)))
   form-good t e g = g ∙ sym (ap (λ (b : Bool). b && plain_in (first (stack_at s p))) (not-false (sound_by (minus_form (first (stack_at s p)))) (sym e ∙ h)))
 
-pub ruleset form-laws = (form-bad, form-good)
+pub ruleset form_laws = (form-bad, form-good)
 
 module _ (s : List ℕ) (at : ℕ) (x : Sight) (h : Looks s (stack_at s at) x) where
   pub part-form : (p : ℕ) (r : Bool) → x ≡ sight.Form p → r ≡ (sound_by (minus_form (first (stack_at s p))) && plain_in (first (stack_at s p))) → r ≡ plain_first (first (stack_at s at))
@@ -204,4 +203,12 @@ module _ (s : List ℕ) (at : ℕ) (x : Sight) (h : Looks s (stack_at s at) x) w
   unfolding plain_first
   part-shut q e = sym (ap plain_first (rw e at h.says).0)
 
-pub ruleset part-laws = (part-form, part-leaf, part-shut)
+  pub part-other : ((p : ℕ) → x ≡ sight.Form p → ⊥) → true ≡ plain_first (first (stack_at s at))
+  part-other f = go x refl
+    where
+      go : (y : Sight) → x ≡ y → true ≡ plain_first (first (stack_at s at))
+      go (sight.Form p) e = absurd (f p e)
+      go (sight.Leaf p) e = part-leaf p e
+      go (sight.Shut q) e = part-shut q e
+
+pub ruleset part_laws = (part-form, part-other)

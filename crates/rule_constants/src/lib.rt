@@ -15,6 +15,7 @@ use rule_faults::Fault;
 use text_words::sight::{Sight, look, word_end};
 
 // On in a form: the offset reached and how many forms are open there; the form has ended; or a constant past the integers stands here.
+// Kept: an Option or a Result is no plainer, since the scan has three ways on, two of which end it with an answer of their own.
 #[derive(Clone, Copy)]
 pub enum Stride {
     To(usize, usize),
@@ -26,21 +27,14 @@ pub enum Stride {
 fn is_kind(f: Fault) -> bool
     ensures { result ≡ is_kind f }
 {
-    match f {
-        Fault::Clear => false,
-        Fault::Kind => true,
-        Fault::Name => false,
-        Fault::Form => false,
-    }
+    matches!(f, Fault::Kind)
 }
 
 // Whether a form whose parts begin at p is a constant past the integers.
 fn past_integers(text: &[u8], p: usize) -> bool
     ensures { result ≡ not (sound_by (minus_form (first (stack_at text.now p)))) }
 {
-    let v = minus_form(text, p);
-    let f = v.fault;
-    is_kind(f)
+    is_kind(minus_form(text, p).fault)
 }
 
 // Into a form whose parts begin at q, where n are open around it.
@@ -55,13 +49,15 @@ fn open_form(text: &[u8], q: usize, n: usize) -> Stride
 }
 
 // Past a closing bracket that ends at q, where n forms are open.
+#[tactic(auto, using(crate::proofs::Scanning::shut_laws))]
 fn shut(n: usize, q: usize) -> Stride
     ensures { result ≡ out_from n q }
 {
     if n == 0 {
-        return Stride::Out;
+        Stride::Out
+    } else {
+        Stride::To(q, n - 1)
     }
-    Stride::To(q, n - 1)
 }
 
 // Past a word or a bracket inside a form in which n more are open.
@@ -101,23 +97,20 @@ fn plain_parts(text: &[u8], at: usize) -> bool
 }
 
 // The same of a form whose parts begin at p.
+#[tactic(auto, using(crate::proofs::Scanning::form_laws))]
 fn plain_form(text: &[u8], p: usize) -> bool
     ensures { result ≡ (sound_by (minus_form (first (stack_at text.now p))) && plain_in (first (stack_at text.now p))) }
 {
-    if past_integers(text, p) {
-        return false;
-    }
-    plain_parts(text, p)
+    !past_integers(text, p) && plain_parts(text, p)
 }
 
 // Whether the part at an offset, if there is one, has no constant past the integers.
+#[tactic(auto, using(crate::proofs::Scanning::part_laws))]
 pub fn plain_part(text: &[u8], at: usize) -> bool
     ensures { result ≡ plain_first (first (stack_at text.now at)) }
 {
-    let s = look(text, at);
-    match s {
+    match look(text, at) {
         Sight::Form(p) => plain_form(text, p),
-        Sight::Leaf(_) => true,
-        Sight::Shut(_) => true,
+        _ => true,
     }
 }

@@ -14,7 +14,9 @@ use Rattle.law.specs.Rules.{labelled, differ, labels_of}
 use Rattle.law.specs.Script.{Const, Arms, arm, else_arm, no_else}
 use Rattle.law.specs.Types.{Types, Vars}
 use Rattle.law_theorems.proofs.Inversion.{bind-some, both_some, given-some, and-true, and-both}
-use Rattle.rule_labels.specs.Blocks.{among, apart, meets, numbers_of}
+use Rattle.rule_labels.specs.Blocks.{among, apart, meets}
+use Rattle.rule_labels.specs.Numbers.{numbers_of}
+use Rattle.rule_labels.specs.declared.By.TheVariants as by
 use Rattle.rule_labels.proofs.Telling.{equal-self, equal_is}
 
 -- ---- integers
@@ -87,19 +89,19 @@ all_append k (x ∷ xs) ys h i = let g = and-true (eqb k x.kind) (all_of k xs) h
 same_kind : (k : ℕ) (x y : Const) → eqb k x.kind ≡ true → eqb k y.kind ≡ true → eqb x.kind y.kind ≡ true
 same_kind k x y h i = eq-eqb x.kind y.kind (sym (eqb-true k x.kind h) ∙ eqb-true k y.kind i)
 
-labelled-among : (k : ℕ) (x : Const) (xs : List Const) → eqb k x.kind ≡ true → all_of k xs ≡ true → labelled x xs ≡ among x.value (numbers_of xs)
+labelled-among : (k : ℕ) (x : Const) (xs : List Const) → eqb k x.kind ≡ true → all_of k xs ≡ true → labelled x xs ≡ among x.value (numbers_of by.Value xs)
 unfolding all_of labelled among numbers_of
 labelled-among k x [] h i = refl
 labelled-among k x (y ∷ ys) h i =
     let g = and-true (eqb k y.kind) (all_of k ys) i in
     ap (λ (t : Bool). (t && equal_z x.value y.value) || labelled x ys) (same_kind k x y h g.0) ∙ ap (λ (t : Bool). equal_z x.value y.value || t) (labelled-among k x ys h g.1)
 
-pub differ-apart : (k : ℕ) (xs : List Const) → all_of k xs ≡ true → differ xs ≡ apart (numbers_of xs)
+pub differ-apart : (k : ℕ) (xs : List Const) → all_of k xs ≡ true → differ xs ≡ apart (numbers_of by.Value xs)
 unfolding all_of differ apart numbers_of
 differ-apart k [] i = refl
 differ-apart k (x ∷ xs) i =
     let g = and-true (eqb k x.kind) (all_of k xs) i in
-    ap (λ (t : Bool). not t && differ xs) (labelled-among k x xs g.0 g.1) ∙ ap (λ (t : Bool). not (among x.value (numbers_of xs)) && t) (differ-apart k xs g.1)
+    ap (λ (t : Bool). not t && differ xs) (labelled-among k x xs g.0 g.1) ∙ ap (λ (t : Bool). not (among x.value (numbers_of by.Value xs)) && t) (differ-apart k xs g.1)
 
 module _ (Γ : Types) (Δ : Vars) (k : ℕ) where
   labels-kind : (cs : List Const) (zs : List ℤ) → elab_labels Γ Δ k cs ≡ some zs → all_of k cs ≡ true

@@ -28,8 +28,8 @@ use Rattle.rule_labels.specs.Marks.{with_mark, marks_in, marks_of}
 use Rattle.rule_labels.specs.declared.Mark.{Mark}
 use Rattle.rule_labels.specs.declared.Hop.{Hop}
 use Rattle.rule_labels.specs.declared.Hop.TheVariants as hop
-use Rattle.rule_labels.specs.declared.Next.TheVariants as next
-use Rattle.rule_labels.specs.Hops.{left_at, Marked, Passes, EntersForm, EntersArm, Hops, Nexts}
+use Rattle.std.specs.Prelude.{Some, None, Option as Maybe}
+use Rattle.rule_labels.specs.Hops.{left_at, Marked, Passes, EntersForm, EntersArm, HopsIn, Hops, Nexts}
 use Rattle.rule_labels.proofs.Skipping.{before-fewer, form-fewer, shut-nodes, passed-form}
 
 -- ---- whether the part is the last
@@ -43,45 +43,44 @@ module _ (s : List ℕ) (o : Option Constant) (q : ℕ) (e : Maybe ℕ) (S : Shu
   pass-marked (hop.Over p) f M = record { says = (M.says.0, inr M.says.1) }
   pass-marked hop.End f M = absurd M.says
 
-pub ruleset pass-laws = (pass-last, pass-marked)
+pub ruleset pass_laws = (pass-last, pass-marked)
 
 -- ---- into the next arm
 
 module _ (s : List ℕ) (p : ℕ) (x : Part) (S : Stands s p x) where
-  pub enter-leaf : (w : Word) (o q : ℕ) → x ≡ part.Leaf w o q → EntersForm s p (hop.Over q)
+  pub enter-leaf : (w : Word) (o q : ℕ) → x ≡ part.Leaf w o q → EntersForm s p (Some q)
   unfolding marks_of
   enter-leaf w o q e =
       let g : LeafAt s p o q × (w ≡ word_of (word_at s o)) = rw e at S.says in
       record { says = (λ ts. ap (λ (us : Trees Run). marks_of (form us then ts)) g.0.leaf.here, (g.0.leaf.around, record { nearer = before-fewer s p q _ g.0.leaf })) }
 
-  pub enter-form : (q : ℕ) → x ≡ part.Form q → EntersForm s p hop.End
+  pub enter-form : (q : ℕ) → x ≡ part.Form q → EntersForm s p None
   unfolding marks_of
   enter-form q e =
       let g : FormAt s p q = rw e at S.says in
       record { says = λ ts. ap (λ (us : Trees Run). marks_of (form us then ts)) g.here }
 
-  pub enter-shut : (q : ℕ) → x ≡ part.Shut q → EntersForm s p hop.End
+  pub enter-shut : (q : ℕ) → x ≡ part.Shut q → EntersForm s p None
   unfolding marks_of
   enter-shut q e =
       let g : ShutAt s p q = rw e at S.says in
       record { says = λ ts. ap (λ (us : Trees Run). marks_of (form us then ts)) g.here }
 
-  pub arms-leaf : (w : Word) (o q : ℕ) → x ≡ part.Leaf w o q → EntersArm s p hop.End
+  pub arms-leaf : (w : Word) (o q : ℕ) → x ≡ part.Leaf w o q → EntersArm s p None
   unfolding marks_of
   arms-leaf w o q e =
       let g : LeafAt s p o q × (w ≡ word_of (word_at s o)) = rw e at S.says in
       record { says = ap marks_of g.0.leaf.here }
 
-  pub arms-shut : (q : ℕ) → x ≡ part.Shut q → EntersArm s p hop.End
+  pub arms-shut : (q : ℕ) → x ≡ part.Shut q → EntersArm s p None
   unfolding marks_of
   arms-shut q e =
       let g : ShutAt s p q = rw e at S.says in
       record { says = ap marks_of g.here }
 
-  pub arms-form : (q : ℕ) (h : Hop) → x ≡ part.Form q → EntersForm s q h → EntersArm s p h
+  pub arms-form : (q : ℕ) (h : Maybe ℕ) → x ≡ part.Form q → EntersForm s q h → EntersArm s p h
   unfolding left_at
-  arms-form q (hop.Label m r) e E = absurd E.says
-  arms-form q (hop.Over r) e E =
+  arms-form q (Some r) e E =
       let g : FormAt s p q = rw e at S.says in
       record {
         says = (
@@ -89,13 +88,39 @@ module _ (s : List ℕ) (p : ℕ) (x : Part) (S : Stands s p x) where
           record { nearer = let a = E.says.1.1.nearer in let b = form-fewer s p q g in omega arith },
         );
       }
-  arms-form q hop.End e E =
+  arms-form q None e E =
       let g : FormAt s p q = rw e at S.says in
       record { says = ap marks_of g.here ∙ E.says (first (later (stack_at s q))) }
 
-pub ruleset enter-laws = (enter-leaf, enter-form, enter-shut)
+  pub enter-other : ((w : Word) (o q : ℕ) → x ≡ part.Leaf w o q → ⊥) → EntersForm s p None
+  enter-other k = go x refl
+    where
+      go : (y : Part) → x ≡ y → EntersForm s p None
+      go (part.Leaf w o q) e = absurd (k w o q e)
+      go (part.Form q) e = enter-form q e
+      go (part.Shut q) e = enter-shut q e
 
-pub ruleset arms-laws = (arms-leaf, arms-form, arms-shut)
+  pub arms-other : ((q : ℕ) → x ≡ part.Form q → ⊥) → EntersArm s p None
+  arms-other k = go x refl
+    where
+      go : (y : Part) → x ≡ y → EntersArm s p None
+      go (part.Leaf w o q) e = arms-leaf w o q e
+      go (part.Form q) e = absurd (k q e)
+      go (part.Shut q) e = arms-shut q e
+
+pub ruleset enter_laws = (enter-leaf, enter-other)
+
+pub ruleset arms_laws = (arms-form, arms-other)
+
+-- the same as a hop
+module _ (s : List ℕ) (p : ℕ) (x : Maybe ℕ) (A : EntersArm s p x) where
+  pub in-arm : (q : ℕ) → x ≡ Some q → HopsIn s p (hop.Over q)
+  in-arm q e = record { says = rw e at A.says }
+
+  pub in-none : x ≡ None → HopsIn s p hop.End
+  in-none e = record { says = rw e at A.says }
+
+pub ruleset in_laws = (in-arm, in-none)
 
 -- ---- one hop
 
@@ -171,7 +196,7 @@ module _ (s : List ℕ) (at : ℕ) (x : Part) (S : Stands s at x) where
       let g : FormAt s at p = rw e at S.says in
       passed-hop s at q (form (first (stack_at s p))) (passed-form s at p q g G) _ h (form-constant (first (stack_at s p))) P
 
-  pub hop-shut : (q : ℕ) (h : Hop) → x ≡ part.Shut q → EntersArm s q h → Hops s at h
+  pub hop-shut : (q : ℕ) (h : Hop) → x ≡ part.Shut q → HopsIn s q h → Hops s at h
   unfolding left_at marks_in
   hop-shut q (hop.Label m r) e A = absurd A.says
   hop-shut q (hop.Over r) e A =
@@ -184,7 +209,7 @@ module _ (s : List ℕ) (at : ℕ) (x : Part) (S : Stands s at x) where
       let g : ShutAt s at q = rw e at S.says in
       record { says = ap (λ (us : Trees Run). marks_in us ++ marks_of (first (later (stack_at s at)))) g.here ∙ ap (λ (k : List (Trees Run)). marks_of (first k)) g.around ∙ A.says }
 
-pub ruleset hop-laws = (hop-leaf, hop-form, hop-shut)
+pub ruleset hop_laws = (hop-leaf, hop-form, hop-shut)
 
 -- ---- up to the next label
 
@@ -203,7 +228,7 @@ module _ (s : List ℕ) (p : ℕ) (h : Hop) (H : Hops s p h) where
   pub seek-on : (at q : ℕ) → Seeking s at p → h ≡ hop.Over q → Seeking s at q
   seek-on at q I e = let g = rw e at H.says in record { same_left = I.same_left ∙ g.0; fewer = let a = I.fewer in let b = g.1.nearer in omega arith }
 
-  pub seek-label : (at q : ℕ) (m : Mark) → Seeking s at p → h ≡ hop.Label m q → Nexts s at (next.Label m q)
+  pub seek-label : (at q : ℕ) (m : Mark) → Seeking s at p → h ≡ hop.Label m q → Nexts s at (Some (m, q))
   seek-label at q m I e = let g = rw e at H.says in record {
     says = (
       (g.0.0, (I.same_left ∙ g.0.1.0, g.0.1.1)),
@@ -211,7 +236,7 @@ module _ (s : List ℕ) (p : ℕ) (h : Hop) (H : Hops s p h) where
     );
   }
 
-  pub seek-end : (at : ℕ) → Seeking s at p → h ≡ hop.End → Nexts s at next.Done
+  pub seek-end : (at : ℕ) → Seeking s at p → h ≡ hop.End → Nexts s at None
   seek-end at I e = let g = rw e at H.says in record { says = I.same_left ∙ g }
 
-pub ruleset seek-laws = (seek-on, seek-label, seek-end)
+pub ruleset seek_laws = (seek-on, seek-label, seek-end)

@@ -20,7 +20,9 @@ use Rattle.law.specs.Script.{Const}
 use Rattle.law_theorems.proofs.Inversion.{and-true, and-both}
 use Rattle.rule_labels.specs.Blocks.{among, apart}
 use Rattle.rule_labels.proofs.Telling.{equal-self, equal_is, wide_is}
-use Rattle.rule_labels.specs.Keys.{key_by, keys_of}
+use Rattle.rule_labels.specs.Keys.{key_by}
+use Rattle.rule_labels.specs.Numbers.{numbers_of}
+use Rattle.rule_labels.specs.declared.By.TheVariants as by
 
 -- ---- the number of a kind and a value
 
@@ -153,19 +155,19 @@ same_key x y p q = both_ways (same_const x y) (equal_z (key_by x.kind x.value) (
 
 -- ---- labels and their keys
 
-labelled-among : (x : Const) (xs : List Const) → plain x ≡ true → all_plain xs ≡ true → labelled x xs ≡ among (key_by x.kind x.value) (keys_of xs)
-unfolding all_plain labelled among keys_of
+labelled-among : (x : Const) (xs : List Const) → plain x ≡ true → all_plain xs ≡ true → labelled x xs ≡ among (key_by x.kind x.value) (numbers_of by.Key xs)
+unfolding all_plain labelled among numbers_of
 labelled-among x [] p h = refl
 labelled-among x (y ∷ ys) p h =
     let g = and-true (plain y) (all_plain ys) h in
     ap (λ (t : Bool). t || labelled x ys) (same_key x y p g.0) ∙ ap (λ (t : Bool). equal_z (key_by x.kind x.value) (key_by y.kind y.value) || t) (labelled-among x ys p g.1)
 
-pub differ-apart : (xs : List Const) → all_plain xs ≡ true → differ xs ≡ apart (keys_of xs)
-unfolding all_plain differ apart keys_of
+pub differ-apart : (xs : List Const) → all_plain xs ≡ true → differ xs ≡ apart (numbers_of by.Key xs)
+unfolding all_plain differ apart numbers_of
 differ-apart [] h = refl
 differ-apart (x ∷ xs) h =
     let g = and-true (plain x) (all_plain xs) h in
-    ap (λ (t : Bool). not t && differ xs) (labelled-among x xs g.0 g.1) ∙ ap (λ (t : Bool). not (among (key_by x.kind x.value) (keys_of xs)) && t) (differ-apart xs g.1)
+    ap (λ (t : Bool). not t && differ xs) (labelled-among x xs g.0 g.1) ∙ ap (λ (t : Bool). not (among (key_by x.kind x.value) (numbers_of by.Key xs)) && t) (differ-apart xs g.1)
 
 -- ---- the laws of `key`, with each number as its local holds it
 

@@ -3,6 +3,6 @@ pub mod Skipping
 pub mod Telling
 pub mod Hopping
 pub mod Differing
-pub mod Finding
 pub mod Keying
-pub mod Comparing
+pub mod KeyTelling
+pub mod Finding

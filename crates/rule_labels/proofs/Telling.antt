@@ -5,10 +5,12 @@ use mathlib.Core.List.{List, [], map}
 use mathlib.Core.Option.{Option, none, some}
 use Prim.Native.Nat.{ℕ, ◌<◌}
 use native.Mathlib.Omega.{arith}
-use borrow.Author.Tests.{eqb-true}
+use borrow.Author.Tests.{eq-eqb, eqb-true}
+use lib.Dec.{eqb}
 use lib.IntN.{ℤ, pos, negsuc, neg_ℤ, ◌-ℤ◌, ◌+ℤ◌, +ℤ_invr, +ℤ_idl, -ℤ-+ℤ_cancel}
 use mir.Val.{SFits, to_z, of_z}
 use mir.Facts.{to_z-of_z}
+use borrow.Author.Rules.{sfits_of}
 use mir.Syntax.{w64}
 use Rattle.leaf_integers.specs.Integers.{is_zero}
 use Rattle.leaf_integers.proofs.Machine.{wire, same_bits}
@@ -74,7 +76,12 @@ number_same x y p q e = let h : x ≡ y = same_bits x y p q e in sym (rw h (equa
 pub number-other : (x y : ℤ) → (of_z w64 x ≡ of_z w64 y → ⊥) → false ≡ equal_z x y
 number-other x y h = sym (equal-not x y (λ e. h (ap (of_z w64) e)))
 
-pub ruleset number-laws = (number_same, number-other)
+pub number-eqb : (x y : ℤ) → SFits w64 x → SFits w64 y → eqb (of_z w64 x) (of_z w64 y) ≡ equal_z x y
+number-eqb x y p q = go (eqb (of_z w64 x) (of_z w64 y)) refl
+  where
+    go : (t : Bool) → eqb (of_z w64 x) (of_z w64 y) ≡ t → t ≡ equal_z x y
+    go true e = number_same x y p q (eqb-true _ _ e)
+    go false e = number-other x y (λ h. true≢false (sym (eq-eqb _ _ h) ∙ e))
 
 -- ---- the value of a label
 
@@ -89,28 +96,26 @@ pub truth-false : (b : Bool) → b ≡ false → pos 0 ≡ truth b
 unfolding truth
 truth-false b e = rw e refl
 
-pub ruleset truth-laws = (truth-true, truth-false)
+pub ruleset truth_laws = (truth-true, truth-false)
 
 pub wide_is : (n : ℕ) → n < 4294967296 → to_z w64 n ≡ pos n
 wide_is n h = to_z-of_z {w = w64} {z = pos n} (record { sfits = omega arith })
 
 module _ (m : Meaning) where
-  pub ordinal-unknown : m ≡ meaning.Unknown → pos 0 ≡ ordinal_in m
-  ordinal-unknown e = rw e refl
+  pub ordinal-is : (k n : ℕ) → m ≡ meaning.Value k n → n < 4294967296 → to_z w64 n ≡ ordinal_in m
+  ordinal-is k n e h = rw e (wide_is n h)
 
-  pub ordinal-type : (t : ℕ) → m ≡ meaning.Type t → pos 0 ≡ ordinal_in m
-  ordinal-type t e = rw e refl
+  pub ordinal-none : ((k n : ℕ) → m ≡ meaning.Value k n → ⊥) → pos 0 ≡ ordinal_in m
+  ordinal-none f = go m refl
+    where
+      go : (x : Meaning) → m ≡ x → pos 0 ≡ ordinal_in m
+      go meaning.Unknown e = rw e refl
+      go (meaning.Type t) e = rw e refl
+      go (meaning.Var i t a) e = rw e refl
+      go (meaning.Proc p) e = rw e refl
+      go (meaning.Value k n) e = absurd (f k n e)
 
-  pub ordinal-var : (i t a : ℕ) → m ≡ meaning.Var i t a → pos 0 ≡ ordinal_in m
-  ordinal-var i t a e = rw e refl
-
-  pub ordinal-proc : (p : ℕ) → m ≡ meaning.Proc p → pos 0 ≡ ordinal_in m
-  ordinal-proc p e = rw e refl
-
-  pub ordinal-is : (r : ℤ) (k n : ℕ) → m ≡ meaning.Value k n → r ≡ pos n → SFits w64 r → wire r ≡ ordinal_in m
-  ordinal-is r k n e f p = let i = to_z-of_z p in rw e (i ∙ f)
-
-pub ruleset ordinal-laws = (ordinal-unknown, ordinal-type, ordinal-var, ordinal-proc, ordinal-is)
+pub ruleset ordinal_laws = (ordinal-none, ordinal-is)
 
 module _ (s l : List ℕ) (scope : Scope) (m : Mark) where
   pub value-number : (z : ℤ) → m ≡ mark.Number z → SFits w64 z → wire z ≡ value_at s l scope m
@@ -122,7 +127,7 @@ module _ (s l : List ℕ) (scope : Scope) (m : Mark) where
   pub value-name : (p : ℕ) (x : Meaning) (r : ℤ) → m ≡ mark.Named p → x ≡ meaning_here s l scope p → r ≡ ordinal_in x → SFits w64 r → wire r ≡ value_at s l scope m
   value-name p x r e f g q = let i = to_z-of_z q in rw e (i ∙ g ∙ ap ordinal_in f)
 
-pub ruleset value-laws = (value-number, value-truth, value-name)
+pub ruleset value_laws = (value-number, value-truth, value-name, sfits_of)
 
 -- the meaning of an enum name in the tables has its ordinal
 ordinal-means : {σ : Environment} {bs : List ℕ} {y : Meaning} {n : NameSort} (x : Const) → Means σ bs y n → n ≡ a_value x → ordinal_in y ≡ x.value
@@ -171,7 +176,18 @@ module _ (s : List ℕ) (w : Word) (p q : ℕ) (a : Atom) (e : a ≡ atom_of w) 
   pub word-truth : (b : Bool) → a ≡ AT.Truth b → Marked s (atom_constant (atom_of w) (map small (word_at s p))) q (hop.Label (mark.Truth b) q)
   word-truth b f = rw (← e, f) (record { says = (refl, (Syntax.truth b, (refl, tells-truth s b))) })
 
-pub ruleset word_laws = (word_number, word-name, word-truth)
+  pub word-other : ((z : ℤ) → a ≡ AT.Number z → ⊥) → (a ≡ AT.Named → ⊥) → ((b : Bool) → a ≡ AT.Truth b → ⊥) → Marked s (atom_constant (atom_of w) (map small (word_at s p))) q (hop.Over q)
+  word-other f g h = rw (← e) (record { says = (refl, go a refl) })
+    where
+      go : (x : Atom) → a ≡ x → atom_constant x (map small (word_at s p)) ≡ none
+      go (AT.Number z) i = absurd (f z i)
+      go AT.Named i = absurd (g i)
+      go (AT.Truth b) i = absurd (h b i)
+      go AT.ErrorNumber i = refl
+      go (AT.Base b) i = refl
+      go AT.Nothing i = refl
+
+pub ruleset word_laws = (word_number, word-name, word-truth, word-other, sfits_of)
 
 -- ---- `(- number)` as a label
 
@@ -247,4 +263,4 @@ module _ (s : List ℕ) (p q : ℕ) (v : Valued) (G : GivesMinus s p (minus_form
       go none k = absurd (true≢false (sym (ap is_form ((G.says nobody).fault-is ∙ ap (λ (o : Option Constant). fault_of (staged o (constant_of nobody) plain some)) k)) ∙ sym e ∙ h))
       go (some c) k = record { says = (refl, (c, (refl, minus-tells c k))) }
 
-pub ruleset minus-laws = (minus-over, minus-label)
+pub ruleset minus_laws = (minus-over, minus-label, sfits_of)

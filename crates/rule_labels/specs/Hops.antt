@@ -1,5 +1,5 @@
 -- The walk over the labels of a `case`, from label to label, by offset.
-use Rattle.std.specs.Prelude.{Bool, true, ◌⊎◌, List, [], ◌∷◌, ◌++◌, map, ◌≡◌, ℕ, ◌<◌, ℤ}
+use Rattle.std.specs.Prelude.{Bool, true, ◌⊎◌, List, [], ◌∷◌, ◌++◌, map, ◌≡◌, ℕ, ◌<◌, ℤ, Some, None, Option as Maybe}
 use Rattle.std.proofs.Math.Option.{Option, none, some}
 use Rattle.leaf_bytes.specs.Bytes.{small}
 use Rattle.law.specs.Base.{find}
@@ -17,8 +17,6 @@ use Rattle.rule_labels.specs.declared.Mark.{Mark}
 use Rattle.rule_labels.specs.declared.Mark.TheVariants as mark
 use Rattle.rule_labels.specs.declared.Hop.{Hop}
 use Rattle.rule_labels.specs.declared.Hop.TheVariants as hop
-use Rattle.rule_labels.specs.declared.Next.{Next}
-use Rattle.rule_labels.specs.declared.Next.TheVariants as next
 
 -- ---- labels
 
@@ -61,22 +59,29 @@ pub record Passes (s : List ℕ) (o : Option Constant) (q : ℕ) (h : Hop) : Typ
   pub says : PassesBy s o q h
 
 -- into the next arm, whose parts begin at p: past its head, or there are no labels
-abbrev pub EntersFormBy : List ℕ → ℕ → Hop → Type 0
-EntersFormBy s p (hop.Label m q) = ⊥
-EntersFormBy s p (hop.Over q) = ((ts : Trees Run) → marks_of (form (first (stack_at s p)) then ts) ≡ (marks_in (first (stack_at s q)) ++ marks_of ts)) × ((later (stack_at s p) ≡ later (stack_at s q)) × Nearer s p q)
-EntersFormBy s p hop.End = (ts : Trees Run) → marks_of (form (first (stack_at s p)) then ts) ≡ []
+abbrev pub EntersFormBy : List ℕ → ℕ → Maybe ℕ → Type 0
+EntersFormBy s p (Some q) = ((ts : Trees Run) → marks_of (form (first (stack_at s p)) then ts) ≡ (marks_in (first (stack_at s q)) ++ marks_of ts)) × ((later (stack_at s p) ≡ later (stack_at s q)) × Nearer s p q)
+EntersFormBy s p None = (ts : Trees Run) → marks_of (form (first (stack_at s p)) then ts) ≡ []
 
-pub record EntersForm (s : List ℕ) (p : ℕ) (h : Hop) : Type 0 where
+pub record EntersForm (s : List ℕ) (p : ℕ) (h : Maybe ℕ) : Type 0 where
   pub says : EntersFormBy s p h
 
 -- the same from an offset where arms stand
-abbrev pub EntersArmBy : List ℕ → ℕ → Hop → Type 0
-EntersArmBy s at (hop.Label m q) = ⊥
-EntersArmBy s at (hop.Over q) = (marks_of (first (stack_at s at)) ≡ left_at s q) × Nearer s at q
-EntersArmBy s at hop.End = marks_of (first (stack_at s at)) ≡ []
+abbrev pub EntersArmBy : List ℕ → ℕ → Maybe ℕ → Type 0
+EntersArmBy s at (Some q) = (marks_of (first (stack_at s at)) ≡ left_at s q) × Nearer s at q
+EntersArmBy s at None = marks_of (first (stack_at s at)) ≡ []
 
-pub record EntersArm (s : List ℕ) (at : ℕ) (h : Hop) : Type 0 where
+pub record EntersArm (s : List ℕ) (at : ℕ) (h : Maybe ℕ) : Type 0 where
   pub says : EntersArmBy s at h
+
+-- the same as a hop
+abbrev pub HopsInBy : List ℕ → ℕ → Hop → Type 0
+HopsInBy s at (hop.Label m q) = ⊥
+HopsInBy s at (hop.Over q) = (marks_of (first (stack_at s at)) ≡ left_at s q) × Nearer s at q
+HopsInBy s at hop.End = marks_of (first (stack_at s at)) ≡ []
+
+pub record HopsIn (s : List ℕ) (at : ℕ) (h : Hop) : Type 0 where
+  pub says : HopsInBy s at h
 
 -- one part of an arm is passed, or its closing bracket and the next arm's head
 abbrev pub HopsBy : List ℕ → ℕ → Hop → Type 0
@@ -88,9 +93,9 @@ pub record Hops (s : List ℕ) (at : ℕ) (h : Hop) : Type 0 where
   pub says : HopsBy s at h
 
 -- the next label is passed, or none is left
-abbrev pub NextsBy : List ℕ → ℕ → Next → Type 0
-NextsBy s at (next.Label m q) = ((c : Constant) × ((left_at s at ≡ (c ∷ left_at s q)) × Tells s m c)) × Nearer s at q
-NextsBy s at next.Done = left_at s at ≡ []
+abbrev pub NextsBy : List ℕ → ℕ → Maybe (Mark × ℕ) → Type 0
+NextsBy s at (Some (m, q)) = ((c : Constant) × ((left_at s at ≡ (c ∷ left_at s q)) × Tells s m c)) × Nearer s at q
+NextsBy s at None = left_at s at ≡ []
 
-pub record Nexts (s : List ℕ) (at : ℕ) (r : Next) : Type 0 where
+pub record Nexts (s : List ℕ) (at : ℕ) (r : Maybe (Mark × ℕ)) : Type 0 where
   pub says : NextsBy s at r

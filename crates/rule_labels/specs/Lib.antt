@@ -3,4 +3,5 @@ pub mod Repeating
 pub mod Hops
 pub mod Blocks
 pub mod Keys
+pub mod Numbers
 pub mod Differ

@@ -176,7 +176,15 @@ module _ (s l : List ℕ) (scope : Scope) (at : ℕ) (x : Part) (X : Stands s at
         says = λ ts top σ bs S. told_same (ap pair_first g.here) (G.says ts top σ bs S);
       }
 
-pub ruleset at-laws = (at-word, at-shut, at-form)
+  pub at-other : ((u : ℕ) → x ≡ part.Form u → ⊥) → r ≡ pair_given fault.Form 0 0 at → GivesPair s l scope at r
+  at-other f h = go x refl
+    where
+      go : (y : Part) → x ≡ y → GivesPair s l scope at r
+      go (part.Leaf w a b) e = at-word w a b e h
+      go (part.Form u) e = absurd (f u e)
+      go (part.Shut q) e = at-shut q e h
+
+pub ruleset at_laws = (at-other, at-form)
 
 -- ---- one pair, then the others
 
@@ -259,7 +267,7 @@ none-pair n f e = rw (eq-eqb n 0 e) refl
 pub some_pair : (n : ℕ) (f : Fault) → (n ≡ 0 → ⊥) → f ≡ cond (eqb n 0) fault.Form f
 some_pair n f e = rw (ne_eqb n 0 e) refl
 
-pub ruleset some-laws = (none-pair, some_pair)
+pub ruleset some_laws = (none-pair, some_pair)
 
 module _ (s : List ℕ) (p n size : ℕ) (ok : Bool) (e : Maybe ℕ) (E : Shuts s p e) (r : Pairs) where
   pub pairs-past : (q : ℕ) → e ≡ Some q → (o : Bool) → o ≡ ok → (f : Fault) → f ≡ cond o fault.Clear fault.Name → (g : Fault) → g ≡ cond (eqb n 0) fault.Form f

@@ -19,6 +19,7 @@ use text_parts::{Part, end_at, part_at};
 
 // The answer for a pair: its fault of rows 6 and 7; with none of row 6 its name's offset, its type if that is known, and where the next
 // part stands.
+// Kept: a Result is no plainer, since a fault of row 7 stands beside the name's offset and the next part's.
 #[derive(Clone, Copy)]
 pub struct Pair {
     pub fault: Fault,
@@ -29,6 +30,7 @@ pub struct Pair {
 
 // The answer for all pairs: the fault; with none of row 6 how many, up to 1,000, and where the next part stands; with none the sum of
 // their types' cells, or some number past 2,048.
+// Kept: a Result is no plainer, since a fault of row 7 stands beside the number of pairs and the next part's offset.
 #[derive(Clone, Copy)]
 pub struct Pairs {
     pub fault: Fault,
@@ -42,10 +44,10 @@ fn pair_answer(fault: Fault, name: usize, kind: u32, next: usize) -> Pair
     ensures { result ≡ pair_given fault name kind next }
 {
     Pair {
-        fault: fault,
-        name: name,
-        kind: kind,
-        next: next,
+        fault,
+        name,
+        kind,
+        next,
     }
 }
 
@@ -53,16 +55,14 @@ fn pair_answer(fault: Fault, name: usize, kind: u32, next: usize) -> Pair
 fn pair_typed(t: Typed, y: usize) -> Pair
     ensures { result ≡ pair_given t.fault y t.kind t.next }
 {
-    let f = t.fault;
-    pair_answer(f, y, t.kind, t.next)
+    pair_answer(t.fault, y, t.kind, t.next)
 }
 
 // A pair, past its bracket.
 fn pair_parts(text: &[u8], work: &[u32], scope: Scope, at: usize) -> Pair
     ensures { GivesParts text.now work.now scope at result }
 {
-    let n = name_at(text, at);
-    match n {
+    match name_at(text, at) {
         Naming::Called(y, q) => pair_typed(last_type(text, work, scope, q), y),
         Naming::Nothing => pair_answer(Fault::Form, 0, 0, at),
     }
@@ -72,11 +72,9 @@ fn pair_parts(text: &[u8], work: &[u32], scope: Scope, at: usize) -> Pair
 pub fn pair_at(text: &[u8], work: &[u32], scope: Scope, at: usize) -> Pair
     ensures { GivesPair text.now work.now scope at result }
 {
-    let part = part_at(text, at);
-    match part {
-        Part::Leaf(_, _, _) => pair_answer(Fault::Form, 0, 0, at),
+    match part_at(text, at) {
         Part::Form(p) => pair_parts(text, work, scope, p),
-        Part::Shut(_) => pair_answer(Fault::Form, 0, 0, at),
+        _ => pair_answer(Fault::Form, 0, 0, at),
     }
 }
 
@@ -100,18 +98,15 @@ pub fn add_size(a: u32, b: u32) -> u32
 pub fn add_type_size(work: &[u32], types: &[u32], a: u32, kind: u32) -> u32
     ensures { result ≡ add_size a (info_of work.now types.now kind).size }
 {
-    let x = describe(work, types, kind);
-    add_size(a, x.size)
+    add_size(a, describe(work, types, kind).size)
 }
 
 // Row 6 where there is no pair.
+#[tactic(auto, using(crate::proofs::PairParts::some_laws))]
 fn some_fault(n: u32, f: Fault) -> Fault
     ensures { result ≡ cond (eqb n 0) Form f }
 {
-    if n == 0 {
-        return Fault::Form;
-    }
-    f
+    if n == 0 { Fault::Form } else { f }
 }
 
 // An answer for all pairs from its parts.
@@ -119,10 +114,10 @@ fn pairs_answer(fault: Fault, names: u32, size: u32, next: usize) -> Pairs
     ensures { result ≡ pairs_given fault names size next }
 {
     Pairs {
-        fault: fault,
-        names: names,
-        size: size,
-        next: next,
+        fault,
+        names,
+        size,
+        next,
     }
 }
 

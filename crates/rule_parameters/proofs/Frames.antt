@@ -147,7 +147,7 @@ module _ (l : List ℕ) (x : Info) (top t : ℕ) (l' : List ℕ) where
   unfolding want_by
   want-set e L = rw (ne_eqb x.shape 0 e) L
 
-pub ruleset want-laws = (want-ordinal, want-set)
+pub ruleset want_laws = (want-ordinal, want-set)
 
 want-told : {s l ts : List ℕ} {scope : Scope} {low : ℕ} {σ : Environment} {bs : List ℕ} → Scene s l ts scope low σ bs → (k : ℕ) → want_by (info_of l ts k) ≡ want_numbers (want_of σ.types k)
 unfolding want_by want_numbers shape_number
@@ -302,9 +302,9 @@ module _ (st : State) (n : ℕ) where
   unfolding proc_fits
   proc-past h = rw (le-ltb st.procs 32 h) refl
 
-pub ruleset fit-laws = (many-parameters, few-parameters)
+pub ruleset fit_laws = (many-parameters, few-parameters)
 
-pub ruleset proc-fit-laws = (proc-there, proc-past)
+pub ruleset proc_fit_laws = (proc-there, proc-past)
 
 pub state-laid : (st a b r : State) (n t u : ℕ) → a ≡ with_names st 1 t u → b ≡ body_state a u → r ≡ with_parameters b n → r ≡ proc_state st n t u
 state-laid st a b r n t u e f g = g ∙ rw (f, e) refl

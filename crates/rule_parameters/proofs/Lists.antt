@@ -8,6 +8,7 @@ use native.Mathlib.Omega.{arith}
 use borrow.Author.Tests.{lt-ltb, le-ltb}
 use lib.Dec.{ltb}
 use lib.ListN.{length}
+use Rattle.std.specs.Prelude.{Option as Maybe, Some, None}
 use Rattle.leaf_bytes.specs.Bytes.{small, same}
 use Rattle.law.specs.Base.{Name, ◌>>=◌, each, given}
 use Rattle.law.specs.Environment.{Environment}
@@ -40,25 +41,26 @@ use Rattle.rule_pairs.proofs.Resolving.{Good, good-yes, good-no, good-told}
 use Rattle.rule_pairs.specs.declared.Pair.{Pair}
 use Rattle.rule_pairs.specs.declared.Pairs.{Pairs}
 use Rattle.rule_pairs.proofs.PairParts.{pairs-fewer, pairs-more, pairs-nothing}
-use Rattle.rule_parameters.specs.Listing.{list_of, parameters_by, list_after, StartsList, no-list, a-list, list_new, list_staged, kind_fault, pair_fault, faults_from, fault_by, GivesFaults, no_list, listed_by, ListTold, list-none, list-wrong, list_read, GivesList}
+use Rattle.rule_parameters.specs.Listing.{list_of, parameters_by, list_after, AList, StartsList, list_new, list_staged, kind_fault, pair_fault, faults_from, fault_by, GivesFaults, no_list, listed_by, ListTold, list-none, list-wrong, list_read, GivesList}
 use Rattle.rule_parameters.specs.declared.listing.Listed.{Listed}
 
 -- ---- `list_in`
 
 module _ (s : List ℕ) (p : ℕ) (x : Sight) (L : Looks s (stack_at s p) x) where
-  pub in-form : (a : ℕ) → x ≡ sight.Form a → p ≡ list_after (first (stack_at s p)) p
+  pub in-form : (a : ℕ) → x ≡ sight.Form a → Some p ≡ list_after (first (stack_at s p)) p
   unfolding list_after
   in-form a e = let g = rw e at L.says in sym (ap (λ (k : List (Trees Run)). list_after (first k) p) g)
 
-  pub in_leaf : (a : ℕ) → x ≡ sight.Leaf a → 0 ≡ list_after (first (stack_at s p)) p
+  pub in-other : ((a : ℕ) → x ≡ sight.Form a → ⊥) → None ≡ list_after (first (stack_at s p)) p
   unfolding list_after
-  in_leaf a e = let g = rw e at L.says in sym (ap (λ (k : List (Trees Run)). list_after (first k) p) g.0)
+  in-other f = go x refl
+    where
+      go : (y : Sight) → x ≡ y → None ≡ list_after (first (stack_at s p)) p
+      go (sight.Form a) e = absurd (f a e)
+      go (sight.Leaf a) e = let g = rw e at L.says in sym (ap (λ (k : List (Trees Run)). list_after (first k) p) g.0)
+      go (sight.Shut a) e = let g = rw e at L.says in sym (ap (λ (us : Trees Run). list_after us p) g.0)
 
-  pub in-shut : (a : ℕ) → x ≡ sight.Shut a → 0 ≡ list_after (first (stack_at s p)) p
-  unfolding list_after
-  in-shut a e = let g = rw e at L.says in sym (ap (λ (us : Trees Run). list_after us p) g.0)
-
-pub ruleset in-laws = (in-form, in_leaf, in-shut)
+pub ruleset in_laws = (in-form, in-other)
 
 -- ---- `list_at`
 
@@ -66,26 +68,27 @@ pub ruleset in-laws = (in-form, in_leaf, in-shut)
 starts : (s : List ℕ) (at p : ℕ) → 1 ≤ p → p ≤ length s → (us : Trees Run) → first (stack_at s p) ≡ us
     → first (stack_at s at) ≡ (form us then first (later (stack_at s p))) → later (stack_at s at) ≡ later (later (stack_at s p)) → StartsList s at (list_after us p)
 unfolding list_after list_of
-starts s at p o h end e f g = no-list refl (rw f refl)
-starts s at p o h (word x then ts) e f g = no-list refl (rw f refl)
-starts s at p o h (form vs then ts) e f g = a-list o h (rw (f, e) refl) (ap rest f) g
+starts s at p o h end e f g = record { says = rw f refl }
+starts s at p o h (word x then ts) e f g = record { says = rw f refl }
+starts s at p o h (form vs then ts) e f g = record { says = record { from = o; within = h; here = rw (f, e) refl; past = ap rest f; around = g } }
 
 module _ (s : List ℕ) (at : ℕ) (x : Sight) (L : Looks s (stack_at s at) x) where
-  pub at-form : (p : ℕ) → x ≡ sight.Form p → (r : ℕ) → r ≡ list_after (first (stack_at s p)) p → StartsList s at r
+  pub at-form : (p : ℕ) → x ≡ sight.Form p → (r : Maybe ℕ) → r ≡ list_after (first (stack_at s p)) p → StartsList s at r
   at-form p e r h =
       let g = rw e at L.says in
       let b = rw e at L.past in
       rw h (starts s at p b.0 b.1 (first (stack_at s p)) refl (ap first g) (ap later g))
 
-  pub at_leaf : (p : ℕ) → x ≡ sight.Leaf p → StartsList s at 0
+  pub at-other : ((p : ℕ) → x ≡ sight.Form p → ⊥) → StartsList s at None
   unfolding list_of
-  at_leaf p e = let g = rw e at L.says in no-list refl (ap (λ (k : List (Trees Run)). list_of (first k)) g.0)
+  at-other f = go x refl
+    where
+      go : (y : Sight) → x ≡ y → StartsList s at None
+      go (sight.Form p) e = absurd (f p e)
+      go (sight.Leaf p) e = let g = rw e at L.says in record { says = ap (λ (k : List (Trees Run)). list_of (first k)) g.0 }
+      go (sight.Shut p) e = let g = rw e at L.says in record { says = ap list_of g.0 }
 
-  pub at-shut : (p : ℕ) → x ≡ sight.Shut p → StartsList s at 0
-  unfolding list_of
-  at-shut p e = let g = rw e at L.says in no-list refl (ap list_of g.0)
-
-pub ruleset at-laws = (at-form, at_leaf, at-shut)
+pub ruleset at_laws = (at-form, at-other)
 
 -- ---- `kind_fault`, `pair_fault`
 
@@ -98,7 +101,7 @@ module _ (l ts : List ℕ) (kind : ℕ) (x : Info) (e : x ≡ info_of l ts kind)
   unfolding kind_fault
   kind-unfit h = let b : ltb (info_of l ts kind).shape 2 ≡ false = ap (λ (y : Info). ltb y.shape 2) (sym e) ∙ le-ltb x.shape 2 h in rw b refl
 
-pub ruleset kind-laws = (kind_fits, kind-unfit)
+pub ruleset kind_laws = (kind_fits, kind-unfit)
 
 module _ (s l ts : List ℕ) (scope : Scope) (own : ℕ) (x : Pair) (f : Fault) (F : f ≡ kind_fault (ltb (info_of l ts x.kind).shape 2))
     (b : Bool) (B : b ≡ same (map small (word_at s x.name)) (map small (word_at s own))) (r : Fault) where
@@ -292,30 +295,28 @@ no-empty (form (form vs₀ then us) then ts) vs e h =
     not-empty : (f : Name × TypeName) (fs : List (Name × TypeName)) → (f ∷ fs) ≡ [] → ⊥
     not-empty f fs q = let z : ◌≡◌ {A = ℕ} 0 1 = cc in omega arith
 
-module _ (s l ts : List ℕ) (scope : Scope) (own at q : ℕ) (Q : StartsList s at q) where
-  pub no-parameters : q ≡ 0 → (c : Listed) → c ≡ no_list at → GivesList s l ts scope own at c
-  no-parameters e c h = record { says = λ top σ bs S. go Q }
-    where
-      go : {σ : Environment} → StartsList s at q → ListTold s σ (map small (word_at s own)) at c
-      go (no-list _ n) = list-none n h
-      go (a-list o _ _ _ _) = absurd (omega (arith, o, e))
+module _ (s l ts : List ℕ) (scope : Scope) (own at : ℕ) (o : Maybe ℕ) (Q : StartsList s at o) where
+  pub no-parameters : o ≡ None → (c : Listed) → c ≡ no_list at → GivesList s l ts scope own at c
+  no-parameters e c h = let n = rw e at Q.says in record { says = λ top σ bs S. list-none n h }
 
-  module _ (c : Pairs) (P : GivesPairs s l ts scope q c) (f : Fault) (hf : f ≡ c.fault) (b : Bool) (i : b ≡ is_clear f) (no : (q ≡ 0) → ⊥) where
+  module _ (q : ℕ) (hq : o ≡ Some q) (c : Pairs) (P : GivesPairs s l ts scope q c) (f : Fault) (hf : f ≡ c.fault) (b : Bool) (i : b ≡ is_clear f) where
+    listed : AList s at q
+    listed = rw hq at Q.says
+
     read_told : (σ : Environment) → (g : Fault) → PairsTold s σ q c
         → ((p : Name × TypeName) (ps : List (Name × TypeName)) → pairs_in (first (stack_at s q)) ≡ some (p ∷ ps) → c.fault ≡ cond (pairs_good σ (p ∷ ps)) Clear Unnamed → g ≡ fault_of (list_staged σ (map small (word_at s own)) (p ∷ ps)))
-        → (c.fault ≡ Form → g ≡ Form) → StartsList s at q → ListTold s σ (map small (word_at s own)) at (listed_by c g q)
+        → (c.fault ≡ Form → g ≡ Form) → AList s at q → ListTold s σ (map small (word_at s own)) at (listed_by c g q)
     unfolding parameters_by
-    read_told σ g T k m (no-list z _) = absurd (no z)
-    read_told σ g (pairs-wrong e n) k m (a-list o h a r y) = list-wrong (rw a n) (m e)
-    read_told σ g (pairs-empty e n) k m (a-list o h a r y) = absurd (no-empty (first (stack_at s at)) (first (stack_at s q)) a n)
-    read_told σ g (pairs-read p ps n d few full e tr) k m (a-list o h a r y) =
-        list_read p ps a n o h (ap first (sym d) ∙ sym r) (y ∙ ap later d) few full (k p ps n e)
+    read_told σ g (pairs-wrong e n) k m A = list-wrong (rw A.here n) (m e)
+    read_told σ g (pairs-empty e n) k m A = absurd (no-empty (first (stack_at s at)) (first (stack_at s q)) A.here n)
+    read_told σ g (pairs-read p ps n d few full e tr) k m A =
+        list_read p ps A.here n A.from A.within (ap first (sym d) ∙ sym A.past) (A.around ∙ ap later d) few full (k p ps n e)
 
     pub some-clear : b ≡ true → (g : Fault) → GivesFaults s l ts scope own q g → (r : Listed) → r ≡ listed_by c g q → GivesList s l ts scope own at r
     some-clear j g G r h = rw h (record {
       says = λ top σ bs S. read_told σ g (P.says top σ bs S)
           (λ p ps n e. let y = good-staged σ (map small (word_at s own)) (p ∷ ps) (clear-good (pairs_good σ (p ∷ ps)) (sym e ∙ clear)) in G.says top σ bs S (p ∷ ps) y.0 n y.1 ∙ y.2)
-          (λ e. absurd (not-form (sym e ∙ clear))) Q;
+          (λ e. absurd (not-form (sym e ∙ clear))) listed;
     })
       where
         clear : c.fault ≡ Clear
@@ -331,7 +332,7 @@ module _ (s l ts : List ℕ) (scope : Scope) (own at q : ℕ) (Q : StartsList s 
     pub some-fault : b ≡ false → (r : Listed) → r ≡ listed_by c f q → GivesList s l ts scope own at r
     some-fault j r h = rw h (record {
       says = λ top σ bs S. read_told σ f (P.says top σ bs S)
-          (λ p ps n e. bad σ p ps (pairs_good σ (p ∷ ps)) refl (hf ∙ e)) (λ e. hf ∙ e) Q;
+          (λ p ps n e. bad σ p ps (pairs_good σ (p ∷ ps)) refl (hf ∙ e)) (λ e. hf ∙ e) listed;
     })
       where
         bad : (σ : Environment) (p : Name × TypeName) (ps : List (Name × TypeName)) (t : Bool) → pairs_good σ (p ∷ ps) ≡ t → f ≡ cond (pairs_good σ (p ∷ ps)) Clear Unnamed

@@ -1,5 +1,5 @@
 -- The list of a `proc` line's parameters, as the parts after its name (law, Forms: `parameters`), and its stages.
-use Rattle.std.specs.Prelude.{Bool, cond, ◌&&◌, ◌||◌, List, [], ◌∷◌, map, ◌≡◌, ℕ, ◌<◌, ◌≤◌, ltb, length}
+use Rattle.std.specs.Prelude.{Bool, cond, ◌&&◌, ◌||◌, List, [], ◌∷◌, map, ◌≡◌, ℕ, ◌<◌, ◌≤◌, ltb, length, Option as Maybe, Some, None}
 use Rattle.std.proofs.Math.Option.{Option, none, some}
 use Rattle.leaf_bytes.specs.Bytes.{small, same}
 use Rattle.law.specs.Base.{Name, ◌>>=◌, each, given}
@@ -52,15 +52,25 @@ body_part us = body_by (list_of us) us
 -- ---- where they stand
 
 -- p, if the parts there begin with a form
-unfoldable pub list_after : Trees Run → ℕ → ℕ
-list_after end p = 0
-list_after (word x then ts) p = 0
-list_after (form us then ts) p = p
+unfoldable pub list_after : Trees Run → ℕ → Maybe ℕ
+list_after end p = None
+list_after (word x then ts) p = None
+list_after (form us then ts) p = Some p
 
-pub data StartsList (s : List ℕ) (at q : ℕ) : Type 0 where
-  no-list : q ≡ 0 → list_of (first (stack_at s at)) ≡ none → StartsList s at q
-  a-list : 1 ≤ q → q ≤ length s → list_of (first (stack_at s at)) ≡ some (first (stack_at s q)) → rest (first (stack_at s at)) ≡ first (later (stack_at s q)) → later (stack_at s at) ≡ later (later (stack_at s q))
-      → StartsList s at q
+-- the pairs of the list at an offset stand at q
+pub record AList (s : List ℕ) (at q : ℕ) : Type 0 where
+  pub from : 1 ≤ q
+  pub within : q ≤ length s
+  pub here : list_of (first (stack_at s at)) ≡ some (first (stack_at s q))
+  pub past : rest (first (stack_at s at)) ≡ first (later (stack_at s q))
+  pub around : later (stack_at s at) ≡ later (later (stack_at s q))
+
+abbrev pub StartsListBy : List ℕ → ℕ → Maybe ℕ → Type 0
+StartsListBy s at (Some q) = AList s at q
+StartsListBy s at None = list_of (first (stack_at s at)) ≡ none
+
+pub record StartsList (s : List ℕ) (at : ℕ) (r : Maybe ℕ) : Type 0 where
+  pub says : StartsListBy s at r
 
 -- ---- stages
 

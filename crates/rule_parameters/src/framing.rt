@@ -34,12 +34,7 @@ pub struct Framed {
 fn lets_in(f: Fault) -> bool
     ensures { result ≡ lets_in f }
 {
-    match f {
-        Fault::Clear => true,
-        Fault::Kind => true,
-        Fault::Name => false,
-        Fault::Form => false,
-    }
+    matches!(f, Fault::Clear | Fault::Kind)
 }
 
 // What is known in the body after a list with no fault of rows 6 and 7.
@@ -77,8 +72,7 @@ fn lay_types(text: &[u8], work: &mut [u32], scope: Scope, n: u32, at: usize, top
         return top;
     }
     let x = pair_at(text, work, scope, at);
-    let ns = [x.kind];
-    let t = lay(work, top, &ns);
+    let t = lay(work, top, &[x.kind]);
     lay_types(text, work, scope, n - 1, x.next, t)
 }
 
@@ -87,11 +81,10 @@ fn lay_want(work: &mut [u32], x: Info, top: u32) -> u32
     ensures { Laid (laid (want_by x) top work.old) result work.new }
 {
     if x.shape == 0 {
-        let ns = [x.low, x.high];
-        return lay(work, top, &ns);
+        lay(work, top, &[x.low, x.high])
+    } else {
+        lay(work, top, &[1, 0])
     }
-    let ns = [1, 0];
-    lay(work, top, &ns)
 }
 
 // Lays what the n parameters take whose pairs begin at an offset; the free place then.
@@ -127,8 +120,7 @@ fn lay_frame(text: &[u8], work: &mut [u32], types: &[u32], st: State, n: u32, at
     ensures { LaysFrame text.now work.old types.now st n at result work.new }
 {
     let place = lay_types(text, work, st.scope, n, at, st.top);
-    let ns = [base_of(st), n];
-    let t = lay(work, place, &ns);
+    let t = lay(work, place, &[base_of(st), n]);
     let top = lay_wants(text, work, types, st.scope, n, at, t);
     Framed { place, top }
 }
@@ -161,23 +153,19 @@ fn frame_after(text: &[u8], work: &mut [u32], types: &[u32], st: State, c: Liste
 }
 
 // Whether n parameters more are within the ceilings of row 9.
+#[tactic(auto, using(crate::proofs::Frames::fit_laws))]
 fn parameters_fit(st: State, n: u32) -> bool
     ensures { result ≡ parameters_fit st n }
 {
-    if n > MOST_PARAMETERS {
-        return false;
-    }
-    vars_fit(st, n, n)
+    n <= MOST_PARAMETERS && vars_fit(st, n, n)
 }
 
 // Whether a procedure of n parameters is within the ceilings of row 9.
+#[tactic(auto, using(crate::proofs::Frames::proc_fit_laws))]
 pub fn proc_fits(st: State, n: u32) -> bool
     ensures { result ≡ proc_fits st n }
 {
-    if st.procs < MOST_PROCS {
-        return parameters_fit(st, n);
-    }
-    false
+    st.procs < MOST_PROCS && parameters_fit(st, n)
 }
 
 // What is held after a procedure of n parameters: its entry stands at a place, the free place then is u.
@@ -206,9 +194,8 @@ pub fn open_body(text: &[u8], work: &mut [u32], types: &[u32], st: State, c: Lis
 pub fn open_main(st: State, at: usize) -> Opened
     ensures { result ≡ opened_main st at }
 {
-    let scope = st.scope;
     Opened {
-        scope,
+        scope: st.scope,
         frame: 0,
         at,
         top: st.top,

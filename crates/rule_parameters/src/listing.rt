@@ -14,6 +14,7 @@ use text_words::sight::{Sight, look};
 
 // The answer for the list of a procedure: its fault; with none of row 6 how many parameters, up to 1,000, where their pairs begin (0: there is no
 // list), and where the body begins.
+// Kept: a Result is no plainer, since faults of rows 7 and 8 stand beside the other answers; and `pairs` goes into the bodies' table as it is.
 #[derive(Clone, Copy)]
 pub struct Listed {
     pub fault: Fault,
@@ -22,39 +23,38 @@ pub struct Listed {
     pub next: usize,
 }
 
-// The offset p past a bracket, if the form there begins with a form; else 0.
-fn list_in(text: &[u8], p: usize) -> usize
+// The offset p past a bracket, if the form there begins with a form.
+#[tactic(auto, using(crate::proofs::Lists::in_laws))]
+fn list_in(text: &[u8], p: usize) -> Option<usize>
     ensures { result ≡ list_after (first (stack_at text.now p)) p }
 {
-    let s = look(text, p);
-    match s {
-        Sight::Form(_) => p,
-        Sight::Leaf(_) => 0,
-        Sight::Shut(_) => 0,
+    match look(text, p) {
+        Sight::Form(_) => Some(p),
+        _ => None,
     }
 }
 
-// Where the pairs begin of the list at an offset; 0 where the part there is none.
-fn list_at(text: &[u8], at: usize) -> usize
+// Where the pairs begin of the list at an offset, if the part there is one.
+#[tactic(auto, using(crate::proofs::Lists::at_laws))]
+fn list_at(text: &[u8], at: usize) -> Option<usize>
     ensures { StartsList text.now at result }
 {
-    let s = look(text, at);
-    match s {
+    match look(text, at) {
         Sight::Form(p) => list_in(text, p),
-        Sight::Leaf(_) => 0,
-        Sight::Shut(_) => 0,
+        _ => None,
     }
 }
 
 // The fault of a parameter's type: it is no ordinal and no set.
+#[tactic(auto, using(crate::proofs::Lists::kind_laws))]
 fn kind_fault(work: &[u32], types: &[u32], kind: u32) -> Fault
     ensures { result ≡ kind_fault (ltb (info_of work.now types.now kind).shape 2) }
 {
-    let x = describe(work, types, kind);
-    if x.shape < 2 {
-        return Fault::Clear;
+    if describe(work, types, kind).shape < 2 {
+        Fault::Clear
+    } else {
+        Fault::Kind
     }
-    Fault::Kind
 }
 
 // The fault of a pair whose form is right and whose type is known: the type is no ordinal and no set, or the name is known or the procedure's, which
@@ -111,7 +111,7 @@ fn list_answer(c: Pairs, fault: Fault, q: usize) -> Listed
     ensures { result ≡ listed_by c fault q }
 {
     Listed {
-        fault: fault,
+        fault,
         count: c.names,
         pairs: q,
         next: c.next,
@@ -129,10 +129,9 @@ pub fn parameters_at(
 ) -> Listed
     ensures { GivesList text.now work.now types.now scope own at result }
 {
-    let q = list_at(text, at);
-    if q == 0 {
+    let Some(q) = list_at(text, at) else {
         return no_list(at);
-    }
+    };
     let c = pairs_from(text, work, types, scope, q);
     let f = c.fault;
     if is_clear(f) {

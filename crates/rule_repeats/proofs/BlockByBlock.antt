@@ -1,5 +1,5 @@
 -- Names compared block by block: a block is filled, the names after it are compared with it, and the next block begins after it.
-use mathlib.Core.Path.{◌≡◌, refl, sym, ap, ◌∙◌}
+use mathlib.Core.Path.{◌≡◌, refl, sym, ap, subst, ◌∙◌}
 use mathlib.Core.Bool.{Bool, true, false, not, ◌&&◌, ◌||◌}
 use mathlib.Core.List.{List, [], ◌∷◌, ◌++◌}
 use Prim.Native.Nat.{ℕ, suc, ◌+◌, ◌<◌, ◌≤◌}
@@ -7,19 +7,16 @@ use native.Mathlib.Decide.{dec_lt}
 use native.Mathlib.Omega.{arith}
 use lib.ListN.{length, get_or, set, take, drop, length-set, length-drop, take-append-drop}
 use lib.Seq.{take-suc, drop-drop, get_or-drop, get_or-set_same, get_or-set_other}
+use Rattle.std.specs.Prelude.{Option as Maybe, Some, None}
 use Rattle.law.specs.Base.{Name}
 use Rattle.rule_repeats.specs.declared.leads.Lead.{Lead}
-use Rattle.rule_repeats.specs.declared.leads.Next.{Next}
-use Rattle.rule_repeats.specs.declared.leads.Next.TheVariants as next
-use Rattle.rule_repeats.specs.declared.blocks.Filled.{Filled}
-use Rattle.rule_repeats.specs.declared.blocks.Filled.TheVariants as filled
 use Rattle.rule_repeats.specs.Keys.{low_of, high_of, name_at}
 use Rattle.rule_repeats.specs.Leads.{leads_at, LeadIs, Nexts}
 use Rattle.rule_repeats.specs.Blocks.{among, apart, meets, Block, Meets, Held, Fills, ComesAgain}
 use Rattle.rule_repeats.proofs.NamesApart.{apart-append}
 
 -- each name makes those that are left one fewer
-pub names-fewer : (s : List ℕ) (p : ℕ) (y : Next) → Nexts s p y → (x : Lead) (q : ℕ) → y ≡ next.Name x q → length (leads_at s q) < length (leads_at s p)
+pub names-fewer : (s : List ℕ) (p : ℕ) (y : Maybe (Lead × ℕ)) → Nexts s p y → (x : Lead) (q : ℕ) → y ≡ Some (x, q) → length (leads_at s q) < length (leads_at s p)
 names-fewer s p y N x q e = let g = rw e at N.says in let z = ap length g.0 in omega arith
 
 -- ---- `fill_block`
@@ -55,18 +52,21 @@ module _ (s : List ℕ) (at : ℕ) (ls hs : List ℕ) (n p : ℕ) (I : Filling s
   abbrev ns : List Name
   ns = leads_at s at
 
-  pub fill-full : 256 ≤ n → Fills s at (filled.Up n p) ls hs
-  fill-full h = record { long-lows = I.long-lows; long-highs = I.long-highs; says = (I.held, λ e. absurd (omega arith)) }
+  pub fill-full : 256 ≤ n → Fills s at (Some (256, p)) ls hs
+  fill-full h =
+      let z : n ≡ 256 = let f = I.held.block.few in omega arith in
+      let held : Held s at 256 p ls hs = subst (λ (j : ℕ). Held s at j p ls hs) z I.held in
+      record { long-lows = I.long-lows; long-highs = I.long-highs; says = (held, λ e. absurd (omega arith)) }
 
-  module _ (y : Next) (N : Nexts s p y) where
-    pub fill_end : y ≡ next.Done → Fills s at (filled.Up n p) ls hs
+  module _ (y : Maybe (Lead × ℕ)) (N : Nexts s p y) where
+    pub fill_end : y ≡ None → Fills s at (Some (n, p)) ls hs
     fill_end e = let g = rw e at N.says in record {
       long-lows = I.long-lows;
       long-highs = I.long-highs;
       says = (I.held, λ z. sym (ap (λ (j : ℕ). drop j ns) z) ∙ I.held.split ∙ g);
     }
 
-    module _ (x : Lead) (q : ℕ) (e : y ≡ next.Name x q) (t : Bool) (M : Meets s ls hs at n x t) where
+    module _ (x : Lead) (q : ℕ) (e : y ≡ Some (x, q)) (t : Bool) (M : Meets s ls hs at n x t) where
       abbrev w : Name
       w = name_at s x.at
 
@@ -92,7 +92,7 @@ module _ (s : List ℕ) (at : ℕ) (ls hs : List ℕ) (n p : ℕ) (I : Filling s
       again-bits true b = refl
       again-bits false b = refl
 
-      pub fill-again : t ≡ true → Fills s at filled.Again ls hs
+      pub fill-again : t ≡ true → Fills s at None ls hs
       unfolding meets
       fill-again h = record {
         long-lows = I.long-lows;
@@ -123,7 +123,7 @@ module _ (s : List ℕ) (at : ℕ) (ls hs : List ℕ) (n p : ℕ) (I : Filling s
         };
       }
 
-pub ruleset fill-laws = (fill-full, fill_end, fill-again, fill_on)
+pub ruleset fill_laws = (fill_start, fill-full, fill_end, fill-again, fill_on)
 
 -- ---- `comes_again`
 
@@ -134,15 +134,15 @@ pub record Seeking (s ls hs : List ℕ) (from n at p : ℕ) : Type 0 where
 pub seek-start : (s ls hs : List ℕ) (from n at : ℕ) → Seeking s ls hs from n at at
 seek-start s ls hs from n at = record { sought = λ B. refl }
 
-module _ (s ls hs : List ℕ) (from n at p : ℕ) (I : Seeking s ls hs from n at p) (y : Next) (N : Nexts s p y) where
+module _ (s ls hs : List ℕ) (from n at p : ℕ) (I : Seeking s ls hs from n at p) (y : Maybe (Lead × ℕ)) (N : Nexts s p y) where
   abbrev bs : List Name
   bs = take n (leads_at s from)
 
-  pub seek-end : y ≡ next.Done → ComesAgain s ls hs from n at false
+  pub seek-end : y ≡ None → ComesAgain s ls hs from n at false
   unfolding meets
   seek-end e = let g = rw e at N.says in record { says = λ B. sym (I.sought B ∙ ap (λ (ws : List Name). meets ws bs) g) }
 
-  module _ (x : Lead) (q : ℕ) (e : y ≡ next.Name x q) (t : Bool) (M : Meets s ls hs from n x t) where
+  module _ (x : Lead) (q : ℕ) (e : y ≡ Some (x, q)) (t : Bool) (M : Meets s ls hs from n x t) where
     seen : Block s from n ls hs → meets (leads_at s at) bs ≡ (t || meets (leads_at s q) bs)
     unfolding meets
     seen B = let g = rw e at N.says in
@@ -154,7 +154,7 @@ module _ (s ls hs : List ℕ) (from n at p : ℕ) (I : Seeking s ls hs from n at
     pub seek-on : t ≡ false → Seeking s ls hs from n at q
     seek-on h = record { sought = λ B. seen B ∙ ap (λ (b : Bool). b || meets (leads_at s q) bs) h }
 
-pub ruleset seek-laws = (seek-end, seek_found, seek-on)
+pub ruleset seek_laws = (seek-start, names-fewer, seek-end, seek_found, seek-on)
 
 -- ---- `differ_from`
 
@@ -170,11 +170,11 @@ module _ (s : List ℕ) (at : ℕ) (ls hs : List ℕ) (p : ℕ) (I : Clearing s 
   pub clear-long : (length ls ≡ 256) × (length hs ≡ 256)
   clear-long = I.long
 
-  module _ (f : Filled) (ls' hs' : List ℕ) (F : Fills s p f ls' hs') where
-    pub clear-again : f ≡ filled.Again → false ≡ apart (leads_at s at)
+  module _ (f : Maybe (ℕ × ℕ)) (ls' hs' : List ℕ) (F : Fills s p f ls' hs') where
+    pub clear-again : f ≡ None → false ≡ apart (leads_at s at)
     clear-again e = let g = rw e at F.says in sym (I.cleared ∙ g)
 
-    module _ (n q : ℕ) (e : f ≡ filled.Up n q) where
+    module _ (n q : ℕ) (e : f ≡ Some (n, q)) where
       pub clear-end : n ≡ 0 → true ≡ apart (leads_at s at)
       unfolding apart
       clear-end h = let g = rw e at F.says in sym (I.cleared ∙ ap apart (g.1 h))
@@ -203,7 +203,7 @@ module _ (s : List ℕ) (at : ℕ) (ls hs : List ℕ) (p : ℕ) (I : Clearing s 
         pub clear-on : t ≡ false → Clearing s at ls' hs' q
         clear-on h = record { long = (F.long-lows, F.long-highs); cleared = after ∙ ap (λ (b : Bool). not b && apart (leads_at s q)) h }
 
-pub ruleset clear-laws = (clear-again, clear-end, clear-found, clear-on)
+pub ruleset clear_laws = (clear-start, clear-long, clear-fewer, clear-again, clear-end, clear-found, clear-on)
 
 -- ---- `differ_too`
 
@@ -213,4 +213,4 @@ too-first a b r e h = rw e h
 pub too-none : (a b : Bool) → a ≡ false → false ≡ (a && b)
 too-none a b e = rw e refl
 
-pub ruleset too-laws = (too-first, too-none)
+pub ruleset too_laws = (too-first, too-none)

@@ -1,10 +1,11 @@
 -- The names with which parts begin: the ways through `lead_in` and `next_name`.
-use mathlib.Core.Path.{◌≡◌, sym, ap, ◌∙◌}
+use mathlib.Core.Path.{◌≡◌, refl, sym, ap, ◌∙◌}
 use mathlib.Core.List.{List, ◌∷◌, map}
 use mathlib.Core.Option.{Option, none, some}
 use Prim.Native.Nat.{ℕ}
 use native.Mathlib.Omega.{arith}
 use lib.ListN.{length}
+use Rattle.std.specs.Prelude.{Some, None}
 use Rattle.leaf_bytes.specs.Bytes.{small}
 use Rattle.leaf_words.specs.declared.words.Word as Kind
 use Rattle.leaf_words.specs.Words.{word_of}
@@ -21,7 +22,6 @@ use Rattle.text_words.specs.declared.sight.Sight.TheVariants as sight
 use Rattle.text_skips.specs.Skips.{Past}
 use Rattle.rule_repeats.specs.declared.keys.Keyed.{Keyed}
 use Rattle.rule_repeats.specs.declared.leads.Lead.{Lead}
-use Rattle.rule_repeats.specs.declared.leads.Next.TheVariants as next
 use Rattle.rule_repeats.specs.Keys.{KeyedAt}
 use Rattle.rule_repeats.specs.Leads.{lead_in, lead_of, leads, lead_by, LeadsIn, Nexts}
 
@@ -42,14 +42,22 @@ module _ (s : List ℕ) (at : ℕ) (v : Sight) (L : Looks s (stack_at s at) v) w
   unfolding lead_in
   in-shut q e = let g = rw e at L.says in record { name-is = ap (map small) (none-word s (length s) (omega arith)) ∙ sym (ap lead_in g.0) }
 
+  pub in-other : ((p : ℕ) → v ≡ sight.Leaf p → ⊥) → LeadsIn s at (length s)
+  in-other f = go v refl
+    where
+      go : (u : Sight) → v ≡ u → LeadsIn s at (length s)
+      go (sight.Leaf p) e = absurd (f p e)
+      go (sight.Form p) e = in-form p e
+      go (sight.Shut q) e = in-shut q e
+
   -- ---- `next_name`
 
-  pub next-done : (q : ℕ) → v ≡ sight.Shut q → Nexts s at next.Done
+  pub next-done : (q : ℕ) → v ≡ sight.Shut q → Nexts s at None
   unfolding leads
   next-done q e = let g = rw e at L.says in record { says = ap leads g.0 }
 
   module _ (p : ℕ) (k : Keyed) (x : Lead) where
-    pub next-leaf : v ≡ sight.Leaf p → KeyedAt s p k → x ≡ lead_by p k → Nexts s at (next.Name x k.next)
+    pub next-leaf : v ≡ sight.Leaf p → KeyedAt s p k → x ≡ lead_by p k → Nexts s at (Some (x, k.next))
     unfolding leads lead_of
     next-leaf e K m = let g = rw e at L.says in rw m (record {
       says = (
@@ -58,7 +66,7 @@ module _ (s : List ℕ) (at : ℕ) (v : Sight) (L : Looks s (stack_at s at) v) w
       );
     })
 
-    pub next-form : (y q : ℕ) → v ≡ sight.Form p → LeadsIn s p y → KeyedAt s y k → x ≡ lead_by y k → Past s p q → Nexts s at (next.Name x q)
+    pub next-form : (y q : ℕ) → v ≡ sight.Form p → LeadsIn s p y → KeyedAt s y k → x ≡ lead_by y k → Past s p q → Nexts s at (Some (x, q))
     unfolding leads lead_of
     next-form y q e I K m P = let g = rw e at L.says in rw m (record {
       says = (
@@ -68,9 +76,9 @@ module _ (s : List ℕ) (at : ℕ) (v : Sight) (L : Looks s (stack_at s at) v) w
       );
     })
 
-pub ruleset in-laws = (in_leaf, in-form, in-shut)
+pub ruleset in_laws = (in_leaf, in-other)
 
-pub ruleset next-laws = (next-done, next-leaf, next-form)
+pub ruleset next_laws = (next-done, next-leaf, next-form)
 
 -- ---- a part that is a free name begins with it
 

@@ -9,13 +9,12 @@ use borrow.Author.Tests.{eq-eqb}
 use lib.Dec.{eqb}
 use lib.ListN.{length, get_or, take}
 use lib.Seq.{take-nil}
+use Rattle.std.specs.Prelude.{Option as Maybe, Some, None}
 use Rattle.leaf_bytes.specs.Bytes.{same}
 use Rattle.leaf_bytes.proofs.Same.{not_same}
 use Rattle.law.specs.Base.{Name}
 use Rattle.law_theorems.proofs.Inversion.{and-both}
 use Rattle.rule_repeats.specs.declared.leads.Lead.{Lead}
-use Rattle.rule_repeats.specs.declared.leads.Next.{Next}
-use Rattle.rule_repeats.specs.declared.leads.Next.TheVariants as next
 use Rattle.rule_repeats.specs.Keys.{low_of, high_of, name_at}
 use Rattle.rule_repeats.specs.Leads.{leads_at, Nexts}
 use Rattle.rule_repeats.specs.Blocks.{among, has_to, has_both_to, Listed, Meets}
@@ -31,9 +30,9 @@ unfolding has_to
 have-start a xs = record { few = omega arith; any-is = refl }
 
 module _ (a : ℕ) (xs : List ℕ) (any : Bool) (i : ℕ) (H : Having a xs any i) where
-  pub have-on : i < 256 → (t : Bool) → t ≡ (any || eqb (get_or xs i 0) a) → Having a xs t (i + 1)
+  pub have-on : i < 256 → Having a xs (any || eqb (get_or xs i 0) a) (i + 1)
   unfolding has_to
-  have-on h t e = record { few = omega arith; any-is = e ∙ ap (λ (b : Bool). b || eqb (get_or xs i 0) a) H.any-is ∙ next-is }
+  have-on h = record { few = omega arith; any-is = ap (λ (b : Bool). b || eqb (get_or xs i 0) a) H.any-is ∙ next-is }
     where
       next-is : has_to (suc i) a xs ≡ has_to (i + 1) a xs
       next-is = let z : suc i ≡ i + 1 = omega arith in ap (λ (j : ℕ). has_to j a xs) z
@@ -41,7 +40,7 @@ module _ (a : ℕ) (xs : List ℕ) (any : Bool) (i : ℕ) (H : Having a xs any i
   pub have-end : 256 ≤ i → any ≡ has_to 256 a xs
   have-end h = let z : i ≡ 256 = omega (arith, H.few) in H.any-is ∙ ap (λ (j : ℕ). has_to j a xs) z
 
-pub ruleset have-laws = (have-on, have-end)
+pub ruleset have_laws = (have-start, have-on, have-end)
 
 pub record HavingBoth (a b : ℕ) (xs ys : List ℕ) (any : Bool) (i : ℕ) : Type 0 where
   pub few : i ≤ 256
@@ -52,11 +51,11 @@ unfolding has_both_to
 both-start a b xs ys = record { few = omega arith; any-is = refl }
 
 module _ (a b : ℕ) (xs ys : List ℕ) (any : Bool) (i : ℕ) (H : HavingBoth a b xs ys any i) where
-  pub both-on : i < 256 → (u : Bool) → u ≡ (eqb (get_or xs i 0) a && eqb (get_or ys i 0) b) → (t : Bool) → t ≡ (any || u) → HavingBoth a b xs ys t (i + 1)
+  pub both-on : i < 256 → HavingBoth a b xs ys (any || (eqb (get_or xs i 0) a && eqb (get_or ys i 0) b)) (i + 1)
   unfolding has_both_to
-  both-on h u f t e = record {
+  both-on h = record {
     few = omega arith;
-    any-is = e ∙ ap (λ (c : Bool). any || c) f ∙ ap (λ (c : Bool). c || (eqb (get_or xs i 0) a && eqb (get_or ys i 0) b)) H.any-is ∙ next-is;
+    any-is = ap (λ (c : Bool). c || (eqb (get_or xs i 0) a && eqb (get_or ys i 0) b)) H.any-is ∙ next-is;
   }
     where
       next-is : has_both_to (suc i) a b xs ys ≡ has_both_to (i + 1) a b xs ys
@@ -65,7 +64,7 @@ module _ (a b : ℕ) (xs ys : List ℕ) (any : Bool) (i : ℕ) (H : HavingBoth a
   pub both_end : 256 ≤ i → any ≡ has_both_to 256 a b xs ys
   both_end h = let z : i ≡ 256 = omega (arith, H.few) in H.any-is ∙ ap (λ (j : ℕ). has_both_to j a b xs ys) z
 
-pub ruleset both-laws = (both-on, both_end)
+pub ruleset both_laws = (both-start, both-on, both_end)
 
 or-none : (a b : Bool) → (a || b) ≡ false → (a ≡ false) × (b ≡ false)
 or-none true b h = absurd (false≢true (sym h))
@@ -79,47 +78,52 @@ both-none (suc i) a b xs ys h =
     let g = or-none (has_to i a xs) (eqb (get_or xs i 0) a) h in
     ap (λ (c : Bool). c || (eqb (get_or xs i 0) a && eqb (get_or ys i 0) b)) (both-none i a b xs ys g.0) ∙ ap (λ (c : Bool). c && eqb (get_or ys i 0) b) g.1
 
-pub agree-none : (a b : ℕ) (xs ys : List ℕ) (t : Bool) → t ≡ has_to 256 a xs → t ≡ false → false ≡ has_both_to 256 a b xs ys
-agree-none a b xs ys t e h = sym (both-none 256 a b xs ys (sym e ∙ h))
+pub agree_none : (a b : ℕ) (xs ys : List ℕ) (t : Bool) → t ≡ has_to 256 a xs → t ≡ false → false ≡ has_both_to 256 a b xs ys
+agree_none a b xs ys t e h = sym (both-none 256 a b xs ys (sym e ∙ h))
 
 -- ---- `listed`
 
--- among the first n names is what is among the `left` ones from p on
+-- among the first n names is what is among the `left` ones from p on, which are n but k
 pub record Listing (s : List ℕ) (x from n p left : ℕ) : Type 0 where
   pub left_is : among (name_at s x) (take n (leads_at s from)) ≡ among (name_at s x) (take left (leads_at s p))
 
-pub list-start : (s : List ℕ) (x from n : ℕ) → Listing s x from n from n
-list-start s x from n = record { left_is = refl }
+pub list-start : (s : List ℕ) (x from n : ℕ) → Listing s x from n from (n - 0)
+list-start s x from n = let z : n - 0 ≡ n = omega arith in record { left_is = ap (λ (j : ℕ). among (name_at s x) (take j (leads_at s from))) (sym z) }
 
 take-first : (k : ℕ) (w : Name) (ws : List Name) → 0 < k → take k (w ∷ ws) ≡ (w ∷ take (k - 1) ws)
 take-first zero w ws h = absurd (omega arith)
 take-first (suc k) w ws h = let z : k ≡ suc k - 1 = omega arith in ap (λ (j : ℕ). w ∷ take j ws) z
 
-module _ (s : List ℕ) (x from n p left : ℕ) (I : Listing s x from n p left) where
-  pub list-end : left ≤ 0 → Listed s x from n false
+module _ (s : List ℕ) (x from n p k : ℕ) (I : Listing s x from n p (n - k)) where
+  abbrev left : ℕ
+  left = n - k
+
+  pub list-end : n ≤ k → Listed s x from n false
   unfolding among
   list-end h = let z : left ≡ 0 = omega arith in record { says = sym (I.left_is ∙ ap (λ (j : ℕ). among (name_at s x) (take j (leads_at s p))) z) }
 
-  module _ (y : Next) (N : Nexts s p y) where
-    pub list_done : y ≡ next.Done → Listed s x from n false
+  module _ (y : Maybe (Lead × ℕ)) (N : Nexts s p y) where
+    pub list_done : y ≡ None → Listed s x from n false
     unfolding among
     list_done e = let g = rw e at N.says in record { says = sym (I.left_is ∙ ap (λ (ws : List Name). among (name_at s x) (take left ws)) g ∙ ap (among (name_at s x)) (take-nil left)) }
 
-    module _ (z : Lead) (q : ℕ) (e : y ≡ next.Name z q) (h : 0 < left) (t : Bool) (f : t ≡ same (name_at s z.at) (name_at s x)) where
+    module _ (z : Lead) (q : ℕ) (e : y ≡ Some (z, q)) (h : k < n) (t : Bool) (f : t ≡ same (name_at s z.at) (name_at s x)) where
       told : among (name_at s x) (take n (leads_at s from)) ≡ (t || among (name_at s x) (take (left - 1) (leads_at s q)))
       unfolding among
       told = let g = rw e at N.says in
           I.left_is ∙ ap (λ (ws : List Name). among (name_at s x) (take left ws)) g.0
-          ∙ ap (among (name_at s x)) (take-first left (name_at s z.at) (leads_at s q) h)
+          ∙ ap (among (name_at s x)) (take-first left (name_at s z.at) (leads_at s q) (omega arith))
           ∙ ap (λ (b : Bool). b || among (name_at s x) (take (left - 1) (leads_at s q))) (sym f)
 
       pub list-found : t ≡ true → Listed s x from n true
       list-found i = record { says = sym (told ∙ ap (λ (b : Bool). b || among (name_at s x) (take (left - 1) (leads_at s q))) i) }
 
-      pub list_on : t ≡ false → Listing s x from n q (left - 1)
-      list_on i = record { left_is = told ∙ ap (λ (b : Bool). b || among (name_at s x) (take (left - 1) (leads_at s q))) i }
+      pub list_on : t ≡ false → Listing s x from n q (n - (k + 1))
+      list_on i = let z : left - 1 ≡ n - (k + 1) = omega arith in record {
+        left_is = told ∙ ap (λ (b : Bool). b || among (name_at s x) (take (left - 1) (leads_at s q))) i ∙ ap (λ (j : ℕ). among (name_at s x) (take j (leads_at s q))) z;
+      }
 
-pub ruleset list-laws = (list-end, list_done, list-found, list_on)
+pub ruleset list_laws = (list-start, list-end, list_done, list-found, list_on)
 
 -- ---- `meets`
 
@@ -157,4 +161,4 @@ module _ (s ls hs : List ℕ) (from n : ℕ) (x : Lead) (t : Bool) (e : t ≡ ha
   pub meet-some : t ≡ true → (r : Bool) → Listed s x.at from n r → Meets s ls hs from n x r
   meet-some h r I = record { says = λ B L. I.says }
 
-pub ruleset meet-laws = (meet-none, meet-some)
+pub ruleset meet_laws = (meet-none, meet-some)

@@ -2,23 +2,24 @@
 use mathlib.Core.Path.{◌≡◌, refl, sym, ap, ◌∙◌}
 use mathlib.Core.List.{List, [], map}
 use Prim.Native.Nat.{ℕ, ◌+◌, ◌*◌, ◌%◌, ◌<◌, ◌≤◌}
+use native.Mathlib.Omega.{arith}
 use lib.ListN.{length, get_or}
 use Rattle.leaf_bytes.specs.declared.bytes.Class.{Class}
 use Rattle.leaf_bytes.specs.declared.bytes.Class.TheVariants.{Feed, Space, Open, Close, Visible, Refused}
 use Rattle.leaf_bytes.specs.Bytes.{class_of, small}
 use Rattle.law.specs.Trees.{Run, word_at}
 use Rattle.law_theorems.specs.Readings.{rest_at}
-use Rattle.law_theorems.proofs.Reading.{none-word, wordless, word-rest, word-word, space-word, open-word, close-word, feed-word, refused-word}
+use Rattle.law_theorems.proofs.Reading.{none-word, none-stack, wordless, word-rest, word-word, space-word, open-word, close-word, feed-word, refused-word}
 use Rattle.rule_repeats.specs.declared.keys.Keyed.{Keyed}
 use Rattle.rule_repeats.specs.Keys.{key_with, key_from, low_factor, high_factor, low_of, high_of, name_at, keyed_by, KeyedAt}
 
-pub low-more : (k b : ℕ) → (k * 75 + b) % 4294967296 ≡ key_with low_factor k b
+pub low_more : (k b : ℕ) → (k * 75 + b) % 4294967296 ≡ key_with low_factor k b
 unfolding key_with
-low-more k b = refl
+low_more k b = refl
 
-pub high-more : (k b : ℕ) → (k * 2654435769 + b) % 4294967296 ≡ key_with high_factor k b
+pub high_more : (k b : ℕ) → (k * 2654435769 + b) % 4294967296 ≡ key_with high_factor k b
 unfolding key_with
-high-more k b = refl
+high_more k b = refl
 
 -- ---- `key_at`
 
@@ -55,23 +56,25 @@ module _ (s : List ℕ) (at p low high : ℕ) (S : Spelled s at p low high) wher
       rest = wordless s p e ∙ sym S.rest;
     })
 
-    pub key-none : length s ≤ p → KeyedAt s at r
-    key-none h = ends (none-word s p h)
-
     module _ (k : Class) (h : p < length s) (e : k ≡ class_of (get_or s p 0)) where
-      pub key-space : k ≡ Space → KeyedAt s at r
-      key-space c = ends (space-word s p k h e c)
+      pub key-other : (k ≡ Visible → ⊥) → KeyedAt s at r
+      key-other f = ends (go k refl)
+        where
+          go : (j : Class) → k ≡ j → word_at s p ≡ []
+          go Visible c = absurd (f c)
+          go Space c = space-word s p k h e c
+          go Open c = open-word s p k h e c
+          go Close c = close-word s p k h e c
+          go Feed c = feed-word s p k h e c
+          go Refused c = refused-word s p k h e c
 
-      pub key-open : k ≡ Open → KeyedAt s at r
-      key-open c = ends (open-word s p k h e c)
+  -- past the text's end
+  pub key-none : (r : Keyed) → r ≡ keyed_by low high (length s) → length s ≤ p → KeyedAt s at r
+  unfolding key_from
+  key-none r m h = rw m (record {
+    low-is = sym (S.low-is ∙ ap (λ (w : Run). key_from low_factor low (map small w)) (none-word s p h));
+    high_is = sym (S.high_is ∙ ap (λ (w : Run). key_from high_factor high (map small w)) (none-word s p h));
+    rest = none-stack s (length s) (omega arith) ∙ sym (none-stack s p h) ∙ wordless s p (none-word s p h) ∙ sym S.rest;
+  })
 
-      pub key-close : k ≡ Close → KeyedAt s at r
-      key-close c = ends (close-word s p k h e c)
-
-      pub key-feed : k ≡ Feed → KeyedAt s at r
-      key-feed c = ends (feed-word s p k h e c)
-
-      pub key-refused : k ≡ Refused → KeyedAt s at r
-      key-refused c = ends (refused-word s p k h e c)
-
-pub ruleset key_laws = (key-on, key-none, key-space, key-open, key-close, key-feed, key-refused)
+pub ruleset key_laws = (key-on, key-none, key-other)

@@ -1,12 +1,10 @@
 -- Names that differ, told by their keys in blocks of 256.
-use Rattle.std.specs.Prelude.{Bool, true, false, not, ◌&&◌, ◌||◌, List, [], ◌∷◌, ◌≡◌, ℕ, zero, suc, ◌<◌, ◌≤◌, eqb, length, get_or, take, drop}
+use Rattle.std.specs.Prelude.{Bool, true, false, not, ◌&&◌, ◌||◌, List, [], ◌∷◌, ◌≡◌, ℕ, zero, suc, ◌<◌, ◌≤◌, eqb, length, get_or, take, drop, Option, Some, None}
 use Rattle.leaf_bytes.specs.Bytes.{same}
 use Rattle.law.specs.Base.{Name}
 use Rattle.rule_repeats.specs.Keys.{low_of, high_of, name_at}
 use Rattle.rule_repeats.specs.Leads.{leads_at, LeadIs}
 use Rattle.rule_repeats.specs.declared.leads.Lead.{Lead}
-use Rattle.rule_repeats.specs.declared.blocks.Filled.{Filled}
-use Rattle.rule_repeats.specs.declared.blocks.Filled.TheVariants as filled
 
 -- ---- names that differ
 
@@ -62,11 +60,11 @@ pub record Held (s : List ℕ) (at n p : ℕ) (ls hs : List ℕ) : Type 0 where
   pub once : apart (take n (leads_at s at)) ≡ true
 
 -- a block is filled, with nothing only where no name is left; or a name has come again
-abbrev pub FillsBy : List ℕ → ℕ → Filled → List ℕ → List ℕ → Type 0
-FillsBy s at (filled.Up n p) ls hs = Held s at n p ls hs × (n ≡ 0 → leads_at s at ≡ [])
-FillsBy s at filled.Again ls hs = apart (leads_at s at) ≡ false
+abbrev pub FillsBy : List ℕ → ℕ → Option (ℕ × ℕ) → List ℕ → List ℕ → Type 0
+FillsBy s at (Some (n, p)) ls hs = Held s at n p ls hs × (n ≡ 0 → leads_at s at ≡ [])
+FillsBy s at None ls hs = apart (leads_at s at) ≡ false
 
-pub record Fills (s : List ℕ) (at : ℕ) (r : Filled) (ls hs : List ℕ) : Type 0 where
+pub record Fills (s : List ℕ) (at : ℕ) (r : Option (ℕ × ℕ)) (ls hs : List ℕ) : Type 0 where
   pub long-lows : length ls ≡ 256
   pub long-highs : length hs ≡ 256
   pub says : FillsBy s at r ls hs

@@ -1,5 +1,5 @@
 -- The names with which the parts of a form begin: a word itself, or the first word of a form.
-use Rattle.std.specs.Prelude.{List, [], ◌∷◌, map, ◌≡◌, ℕ}
+use Rattle.std.specs.Prelude.{List, [], ◌∷◌, map, ◌≡◌, ℕ, Option, Some, None}
 use Rattle.leaf_bytes.specs.Bytes.{small}
 use Rattle.law.specs.Base.{Name}
 use Rattle.law.specs.Trees.{Tree, word, form, Trees, end, ◌then◌, Run, first}
@@ -7,8 +7,6 @@ use Rattle.law_theorems.specs.Readings.{stack_at}
 use Rattle.rule_repeats.specs.Keys.{low_of, high_of, name_at}
 use Rattle.rule_repeats.specs.declared.keys.Keyed.{Keyed}
 use Rattle.rule_repeats.specs.declared.leads.Lead.{Lead}
-use Rattle.rule_repeats.specs.declared.leads.Next.{Next}
-use Rattle.rule_repeats.specs.declared.leads.Next.TheVariants as next
 
 -- the first word; the empty name where there is none
 unfoldable pub lead_in : Trees Run → Name
@@ -41,9 +39,9 @@ pub record LeadIs (s : List ℕ) (x : Lead) : Type 0 where
   pub high_is : x.high ≡ high_of (name_at s x.at)
 
 -- the next name, and where the others stand; or none is left
-abbrev pub NextsBy : List ℕ → ℕ → Next → Type 0
-NextsBy s at (next.Name x q) = (leads_at s at ≡ (name_at s x.at ∷ leads_at s q)) × LeadIs s x
-NextsBy s at next.Done = leads_at s at ≡ []
+abbrev pub NextsBy : List ℕ → ℕ → Option (Lead × ℕ) → Type 0
+NextsBy s at (Some (x, q)) = (leads_at s at ≡ (name_at s x.at ∷ leads_at s q)) × LeadIs s x
+NextsBy s at None = leads_at s at ≡ []
 
-pub record Nexts (s : List ℕ) (at : ℕ) (r : Next) : Type 0 where
+pub record Nexts (s : List ℕ) (at : ℕ) (r : Option (Lead × ℕ)) : Type 0 where
   pub says : NextsBy s at r

@@ -13,6 +13,7 @@ pub struct Keyed {
 }
 
 // The low number with one more letter.
+#[tactic(auto, using(crate::proofs::Spelling::low_more))]
 fn low_with(k: u32, b: u8) -> u32
     ensures { result ≡ key_with low_factor k b }
 {
@@ -20,6 +21,7 @@ fn low_with(k: u32, b: u8) -> u32
 }
 
 // The high number with one more letter.
+#[tactic(auto, using(crate::proofs::Spelling::high_more))]
 fn high_with(k: u32, b: u8) -> u32
     ensures { result ≡ key_with high_factor k b }
 {
@@ -30,45 +32,22 @@ fn high_with(k: u32, b: u8) -> u32
 fn key_made(low: u32, high: u32, next: usize) -> Keyed
     ensures { result ≡ keyed_by low high next }
 {
-    Keyed {
-        low: low,
-        high: high,
-        next: next,
-    }
+    Keyed { low, high, next }
 }
 
 // The key of the word that goes on at an offset, case ignored.
 pub fn key_at(text: &[u8], at: usize) -> Keyed
     ensures { KeyedAt text.now at result }
 {
-    let mut p = at;
     let mut low = 0;
     let mut high = 0;
-    while p < text.len() {
-        let k = class_of(text[p]);
-        match k {
-            Class::Visible => {
-                let b = small_of(text[p]);
-                low = low_with(low, b);
-                high = high_with(high, b);
-                p += 1;
-            }
-            Class::Space => {
-                return key_made(low, high, p);
-            }
-            Class::Open => {
-                return key_made(low, high, p);
-            }
-            Class::Close => {
-                return key_made(low, high, p);
-            }
-            Class::Feed => {
-                return key_made(low, high, p);
-            }
-            Class::Refused => {
-                return key_made(low, high, p);
-            }
-        }
+    for p in at..text.len() {
+        let Class::Visible = class_of(text[p]) else {
+            return key_made(low, high, p);
+        };
+        let b = small_of(text[p]);
+        low = low_with(low, b);
+        high = high_with(high, b);
     }
-    key_made(low, high, p)
+    key_made(low, high, text.len())
 }

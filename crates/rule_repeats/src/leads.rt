@@ -14,13 +14,6 @@ pub struct Lead {
     pub high: u32,
 }
 
-// The name with which the next part begins, and the offset after the part; or no part is left.
-#[derive(Clone, Copy)]
-pub enum Next {
-    Name(Lead, usize),
-    Done,
-}
-
 // A name at an offset from its key.
 fn lead_at(at: usize, k: Keyed) -> Lead
     ensures { result ≡ lead_by at k }
@@ -33,32 +26,31 @@ fn lead_at(at: usize, k: Keyed) -> Lead
 }
 
 // The offset of the word with which the parts at an offset begin; the text's end where they begin with none.
+#[tactic(auto, using(crate::proofs::LeadParts::in_laws))]
 fn lead_in(text: &[u8], at: usize) -> usize
     ensures { LeadsIn text.now at result }
 {
-    let s = look(text, at);
-    match s {
-        Sight::Form(_) => text.len(),
+    match look(text, at) {
         Sight::Leaf(p) => p,
-        Sight::Shut(_) => text.len(),
+        _ => text.len(),
     }
 }
 
-// The name of the part at an offset.
-pub fn next_name(text: &[u8], at: usize) -> Next
+// The name with which the part at an offset begins, and the offset after the part; `None` where no part is left.
+#[tactic(auto, using(crate::proofs::LeadParts::next_laws))]
+pub fn next_name(text: &[u8], at: usize) -> Option<(Lead, usize)>
     ensures { Nexts text.now at result }
 {
-    let s = look(text, at);
-    match s {
+    match look(text, at) {
         Sight::Form(p) => {
             let y = lead_in(text, p);
             let k = key_at(text, y);
-            Next::Name(lead_at(y, k), past_form(text, p))
+            Some((lead_at(y, k), past_form(text, p)))
         }
         Sight::Leaf(p) => {
             let k = key_at(text, p);
-            Next::Name(lead_at(p, k), k.next)
+            Some((lead_at(p, k), k.next))
         }
-        Sight::Shut(_) => Next::Done,
+        Sight::Shut(_) => None,
     }
 }

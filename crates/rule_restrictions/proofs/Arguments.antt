@@ -127,23 +127,18 @@ unfolding count_by
 parameters-are l m p e x h = ap (λ (y : Frame). y.count) h ∙ rw e refl
 
 module _ (l : List ℕ) (m : Meaning) where
-  pub no-unknown : m ≡ meaning.Unknown → 0 ≡ count_by l m
+  pub no_frame : ((p : ℕ) → m ≡ meaning.Proc p → ⊥) → 0 ≡ count_by l m
   unfolding count_by
-  no-unknown e = rw e refl
+  no_frame h = go m refl
+    where
+      go : (x : Meaning) → m ≡ x → 0 ≡ count_by l m
+      go meaning.Unknown e = rw e refl
+      go (meaning.Type t) e = rw e refl
+      go (meaning.Var i t a) e = rw e refl
+      go (meaning.Proc p) e = absurd (h p e)
+      go (meaning.Value k n) e = rw e refl
 
-  pub no-type : (t : ℕ) → m ≡ meaning.Type t → 0 ≡ count_by l m
-  unfolding count_by
-  no-type t e = rw e refl
-
-  pub no-var : (i t a : ℕ) → m ≡ meaning.Var i t a → 0 ≡ count_by l m
-  unfolding count_by
-  no-var i t a e = rw e refl
-
-  pub no_value : (k n : ℕ) → m ≡ meaning.Value k n → 0 ≡ count_by l m
-  unfolding count_by
-  no_value k n e = rw e refl
-
-pub ruleset parameters-laws = (parameters-are, no-unknown, no-type, no-var, no_value)
+pub ruleset parameters_laws = (parameters-are, no_frame)
 
 module _ (s l : List ℕ) (scope : Scope) (at : ℕ) (y : Part) (S : Stands s at y) where
   -- a name that is free is the word as it stands
@@ -184,4 +179,12 @@ module _ (s l : List ℕ) (scope : Scope) (at : ℕ) (y : Part) (S : Stands s at
   unfolding name_in part_of ◌>>=◌
   call-shut q e = let C : ShutAt s at q = rw e at S.says in nothing-called end C.here refl true
 
-pub ruleset call-laws = (call-leaf, call-form, call-shut)
+  pub call-other : ((w : Word) (p q : ℕ) → y ≡ part.Leaf w p q → ⊥) → KeepsCall s l scope at true
+  call-other h = go y refl
+    where
+      go : (x : Part) → y ≡ x → KeepsCall s l scope at true
+      go (part.Leaf w p q) e = absurd (h w p q e)
+      go (part.Form p) e = call-form p e
+      go (part.Shut q) e = call-shut q e
+
+pub ruleset call_laws = (call-leaf, call-other)

@@ -164,8 +164,8 @@ arms-falls s p q z e E f S = let F : ArmFormAt is_arm s p q = rw f at E.says in 
 -- ---- the case
 
 module _ (s l : List ℕ) (scope : Scope) (loops : Loops) (d at : ℕ) (t : Bool) (K : KeepsArms s l scope loops d at t) where
-  pub cases-bad : t ≡ false → KeepsCases s l scope loops d at false
-  cases-bad g = record { says = λ σ js N n a b h k. sym (ap (λ (c : Bool). differ (labels_of b) && c) (sym (K.says σ js N n a b h k) ∙ g) ∙ and_none (differ (labels_of b))) }
+  pub cases-bad : t ≡ false → KeepsCases s l scope loops d at t
+  cases-bad g = record { says = λ σ js N n a b h k. g ∙ sym (ap (λ (c : Bool). differ (labels_of b) && c) (sym (K.says σ js N n a b h k) ∙ g) ∙ and_none (differ (labels_of b))) }
 
   pub cases-on : (r : Bool) → t ≡ true → Differs s l scope at r → KeepsCases s l scope loops d at r
   cases-on r g D = record {
@@ -198,8 +198,8 @@ module _ (s l : List ℕ) (scope : Scope) (loops : Loops) (d at : ℕ) (t : Bool
         rw (← some_inj j, expr-first N us e u he hu ∙ sym f ∙ g) (H σ js (near-in N) n a y (expr-some 33 he) ha (ap (arms_of σ) (first-is a.0 c hc) ∙ hy));
   }
 
-  pub case-bad : t ≡ false → KeepsVerb s l scope loops VB.Case d at false
-  case-bad g = cased false false g λ σ js N n a y z ha hy. refl
+  pub case-bad : t ≡ false → KeepsVerb s l scope loops VB.Case d at t
+  case-bad g = cased t false g λ σ js N n a y z ha hy. g
 
   pub case-on : (q : ℕ) (r : Bool) → t ≡ true → Skips s at q → KeepsCases s l scope loops d q r → KeepsVerb s l scope loops VB.Case d at r
   case-on q r g S K = cased r true g λ σ js N n a y z ha hy. K.says σ js N n a y (ap (arms_in d n) (skip-rest S z) ∙ ha) hy

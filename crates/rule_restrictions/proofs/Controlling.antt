@@ -41,8 +41,7 @@ use Rattle.table_scope.proofs.Looping.{in-force-more}
 use Rattle.table_scope.proofs.Telling.{meant}
 use Rattle.rule_statements.specs.Walks.{for_in}
 use Rattle.rule_statements.proofs.Shapes.{assign-shape, for-shape}
-use Rattle.rule_restrictions.specs.declared.control.Start.{Start}
-use Rattle.rule_restrictions.specs.declared.control.Start.TheVariants as start
+use Rattle.std.specs.Prelude.{Option as Maybe, Some, None}
 use Rattle.rule_restrictions.specs.Walks.{Near, KeepsAssign}
 use Rattle.rule_restrictions.specs.Control.{PlainTwo, SkipsTwo, free_by, Free, Bounded, StartsBy, StartsAs, Starts}
 use Rattle.rule_restrictions.proofs.Passing.{closed_is, split, expr-some, target-some, skip-then, expr-first, target_first}
@@ -58,10 +57,10 @@ module _ (s : List ℕ) (at : ℕ) (t : Bool) (h : t ≡ plain_first (first (sta
   unfolding plain_first
   two-on q r f S g = record { says = λ u us e. g ∙ ap plain_first (skip-then S u us e) ∙ sym (ap (λ (b : Bool). b && plain_first us) (sym (h ∙ ap plain_first e) ∙ f)) }
 
-pub ruleset two-laws = (two-bad, two-on)
+pub ruleset two_laws = (two-bad, two-on)
 
-pub skip-twice : (s : List ℕ) (at q r : ℕ) → Skips s at q → Skips s q r → SkipsTwo s at r
-skip-twice s at q r S T = record { says = λ t u us e. skip-then T u us (skip-then S t (u then us) e) }
+pub skip_twice : (s : List ℕ) (at q r : ℕ) → Skips s at q → Skips s q r → SkipsTwo s at r
+skip_twice s at q r S T = record { says = λ t u us e. skip-then T u us (skip-then S t (u then us) e) }
 
 two-told : {s : List ℕ} {at : ℕ} {r : Bool} → PlainTwo s at r → (first (stack_at s at) ≡ end → ⊥) → r ≡ (plain_first (first (stack_at s at)) && plain_first (rest (first (stack_at s at))))
 unfolding plain_first
@@ -69,32 +68,21 @@ two-told {s} {at} P h = split (first (stack_at s at)) h λ t ts e. P.says t ts e
 
 -- ---- variables of the loops around
 
-module _ (w : Loops) (i : ℕ) (b : Bool) (h : b ≡ loops_over w i) where
-  pub step-over : b ≡ true → false ≡ not (loops_over w i)
-  step-over e = sym (ap not (sym h ∙ e))
-
-  pub step-free : b ≡ false → true ≡ not (loops_over w i)
-  step-free e = sym (ap not (sym h ∙ e))
-
-pub ruleset step-laws = (step-over, step-free)
-
 module _ (w : Loops) (m : Meaning) where
-  pub free-unknown : m ≡ meaning.Unknown → true ≡ free_by w m
-  free-unknown e = rw e refl
+  pub free-var : (i k a : ℕ) (b : Bool) → m ≡ meaning.Var i k a → b ≡ loops_over w i → not b ≡ free_by w m
+  free-var i k a b e h = rw e (ap not h)
 
-  pub free-type : (k : ℕ) → m ≡ meaning.Type k → true ≡ free_by w m
-  free-type k e = rw e refl
+  pub free-none : ((i k a : ℕ) → m ≡ meaning.Var i k a → ⊥) → true ≡ free_by w m
+  free-none h = go m refl
+    where
+      go : (x : Meaning) → m ≡ x → true ≡ free_by w m
+      go meaning.Unknown e = rw e refl
+      go (meaning.Type k) e = rw e refl
+      go (meaning.Var i k a) e = absurd (h i k a e)
+      go (meaning.Proc p) e = rw e refl
+      go (meaning.Value k n) e = rw e refl
 
-  pub free-var : (i k a : ℕ) (r : Bool) → m ≡ meaning.Var i k a → r ≡ not (loops_over w i) → r ≡ free_by w m
-  free-var i k a r e h = rw e h
-
-  pub free-proc : (p : ℕ) → m ≡ meaning.Proc p → true ≡ free_by w m
-  free-proc p e = rw e refl
-
-  pub free-value : (k n : ℕ) → m ≡ meaning.Value k n → true ≡ free_by w m
-  free-value k n e = rw e refl
-
-pub ruleset free-by-laws = (free-unknown, free-type, free-var, free-proc, free-value)
+pub ruleset free_by_laws = (free-var, free-none)
 
 -- a variable's name means that variable
 means-var : {σ : Environment} {bs : List ℕ} {x : Meaning} {n : NameSort} (i : ℕ) → Means σ bs x n → n ≡ a_var i → (k : ℕ) × ((a : ℕ) × (x ≡ meaning.Var i k a))
@@ -176,7 +164,15 @@ module _ (s l : List ℕ) (scope : Scope) (loops : Loops) (at : ℕ) (y : Part) 
   pub free-shut : (q : ℕ) → y ≡ part.Shut q → Free s l scope loops at true
   free-shut q e = record { says = λ d σ js N v z hv hz. let C : ShutAt s at q = rw e at S.says in absurd (target-some 33 hv C.here) }
 
-pub ruleset free-laws = (free-leaf, free-form, free-shut)
+  pub free-other : ((w : Word) (p q : ℕ) → y ≡ part.Leaf w p q → ⊥) → Free s l scope loops at true
+  free-other h = go y refl
+    where
+      go : (x : Part) → y ≡ x → Free s l scope loops at true
+      go (part.Leaf w p q) e = absurd (h w p q e)
+      go (part.Form p) e = free-form p e
+      go (part.Shut q) e = free-shut q e
+
+pub ruleset free_laws = (free-leaf, free-other)
 
 -- ---- an assignment
 
@@ -207,22 +203,22 @@ module _ (s l : List ℕ) (scope : Scope) (loops : Loops) (at : ℕ) (t : Bool) 
   pub assign-free : (r : Bool) → t ≡ true → Free s l scope loops at r → KeepsAssign s l scope loops at r
   assign-free r z F = assigned r λ b d σ js N g x hg hx. F.says d σ js N g x hg hx ∙ sym (ap (λ (b : Bool). b && not (steers x.target js)) z)
 
-pub ruleset assign-laws = (assign-bad, assign-free)
+pub ruleset assign_laws = (assign-bad, assign-free)
 
 -- ---- a `for`
 
 module _ (s : List ℕ) (loops : Loops) (i at : ℕ) (t : Bool) (P : PlainTwo s at t) where
-  pub bounds-bad : t ≡ false → Bounded s loops i at start.Broken
+  pub bounds-bad : t ≡ false → Bounded s loops i at None
   bounds-bad z = record { says = inr (rw z at P) }
 
   module _ (z : t ≡ true) (o : Bool) (h : o ≡ loops_over loops i) where
-    pub bounds-over : o ≡ true → Bounded s loops i at start.Broken
+    pub bounds-over : o ≡ true → Bounded s loops i at None
     bounds-over e = record { says = inl (sym h ∙ e) }
 
-    pub bounds-on : (q : ℕ) → o ≡ false → SkipsTwo s at q → Bounded s loops i at (start.Fine i q)
+    pub bounds-on : (q : ℕ) → o ≡ false → SkipsTwo s at q → Bounded s loops i at (Some (i, q))
     bounds-on q e S = record { says = (refl, (sym h ∙ e, (rw z at P, S))) }
 
-pub ruleset bounds-laws = (bounds-bad, bounds-over, bounds-on)
+pub ruleset bounds_laws = (bounds-bad, bounds-over, bounds-on)
 
 var-one : {i j k l a b : ℕ} → meaning.Var i k a ≡ meaning.Var j l b → i ≡ j
 var-one {i} h = ap (number_or i) h
@@ -234,38 +230,14 @@ var-one {i} h = ap (number_or i) h
     number_or n (meaning.Proc p) = n
     number_or n (meaning.Value k v) = n
 
-is_var : Meaning → Bool
-is_var meaning.Unknown = false
-is_var (meaning.Type t) = false
-is_var (meaning.Var i k a) = true
-is_var (meaning.Proc p) = false
-is_var (meaning.Value k v) = false
-
-no-var : {X : Type 0} {m : Meaning} {i k a : ℕ} → is_var m ≡ false → m ≡ meaning.Var i k a → X
-unfolding is_var
-no-var h e = let g : true ≡ false = sym (ap is_var e) ∙ h in let z : ◌≡◌ {A = ℕ} 0 1 = cc in absurd (omega arith)
-
 module _ (s : List ℕ) (loops : Loops) (m : Meaning) (at : ℕ) where
-  pub start-unknown : m ≡ meaning.Unknown → StartsBy s loops m at start.Broken
-  unfolding is_var
-  start-unknown e = record { says = λ i k a f. no-var (ap is_var e) f }
+  pub start-none : ((i k a : ℕ) → m ≡ meaning.Var i k a → ⊥) → StartsBy s loops m at None
+  start-none h = record { says = λ i k a f. absurd (h i k a f) }
 
-  pub start-type : (t : ℕ) → m ≡ meaning.Type t → StartsBy s loops m at start.Broken
-  unfolding is_var
-  start-type t e = record { says = λ i k a f. no-var (ap is_var e) f }
-
-  pub start-var : (i k a : ℕ) (r : Start) → m ≡ meaning.Var i k a → Bounded s loops i at r → StartsBy s loops m at r
+  pub start-var : (i k a : ℕ) (r : Maybe (ℕ × ℕ)) → m ≡ meaning.Var i k a → Bounded s loops i at r → StartsBy s loops m at r
   start-var i k a r e B = record { says = λ j l b f. let q : i ≡ j = var-one (sym e ∙ f) in rw q at B }
 
-  pub start-proc : (p : ℕ) → m ≡ meaning.Proc p → StartsBy s loops m at start.Broken
-  unfolding is_var
-  start-proc p e = record { says = λ i k a f. no-var (ap is_var e) f }
-
-  pub start-value : (k n : ℕ) → m ≡ meaning.Value k n → StartsBy s loops m at start.Broken
-  unfolding is_var
-  start-value k n e = record { says = λ i j a f. no-var (ap is_var e) f }
-
-pub ruleset start-by-laws = (start-unknown, start-type, start-var, start-proc, start-value)
+pub ruleset start_by_laws = (start-var, start-none)
 
 name-end : name_in end ≡ none
 unfolding name_in part_of ◌>>=◌
@@ -292,9 +264,9 @@ module _ {s l : List ℕ} {scope : Scope} {loops : Loops} {d : ℕ} {σ : Enviro
       pair : {u v f g : Bool} → u ≡ f → v ≡ g → (u && v) ≡ (f && g)
       pair e h = rw (e, h) refl
 
-  for_as : (r : Start) → Bounded s loops i q r → (e : Script.Stmt) → Script.for n i x y z ≡ e → StartsAs s loops σ js d n e r
+  for_as : (r : Maybe (ℕ × ℕ)) → Bounded s loops i q r → (e : Script.Stmt) → Script.for n i x y z ≡ e → StartsAs s loops σ js d n e r
   unfolding kept_stmt
-  for_as (start.Fine j q') B e k =
+  for_as (Some (j, q')) B e k =
       let g = B.says in
       rw (← k, g.0) (record {
         form = c;
@@ -307,7 +279,7 @@ module _ {s l : List ℕ} {scope : Scope} {loops : Loops} {d : ℕ} {σ : Enviro
     where
       there : SkipsTwo s q q' → first (stack_at s q') ≡ rest (rest vs)
       there T = split vs (expr-some 33 ha) λ t ts e. split ts (λ h. expr-some 33 hb (ap rest e ∙ h)) λ u us f. T.says t u us (e ∙ ap (λ (v : Trees Run). t then v) f) ∙ sym (ap (λ (v : Trees Run). rest (rest v)) e ∙ ap rest f)
-  for_as start.Broken B e k = rw (← k) (go B.says)
+  for_as None B e k = rw (← k) (go B.says)
     where
       go : (loops_over loops i ≡ true) ⊎ PlainTwo s q false → (((plain_expr x && plain_expr y) && not (looping i js)) && kept_stmt z (i ∷ js)) ≡ false
       go (inl o) = rw (sym (N.in-force.in-force i) ∙ o) (ap (λ (b : Bool). b && kept_stmt z (i ∷ js)) (last (plain_expr x && plain_expr y)))
@@ -318,7 +290,7 @@ module _ {s l : List ℕ} {scope : Scope} {loops : Loops} {d : ℕ} {σ : Enviro
       go (inr P) = rw (bounds-are false P) refl
 
 module _ (s l : List ℕ) (scope : Scope) (loops : Loops) (at : ℕ) (y : Part) (S : Stands s at y) where
-  pub start-leaf : (w : Word) (p q : ℕ) (x : Meaning) (r : Start) → y ≡ part.Leaf w p q → x ≡ meaning_here s l scope p → StartsBy s loops x q r → Starts s l scope loops at r
+  pub start-leaf : (w : Word) (p q : ℕ) (x : Meaning) (r : Maybe (ℕ × ℕ)) → y ≡ part.Leaf w p q → x ≡ meaning_here s l scope p → StartsBy s loops x q r → Starts s l scope loops at r
   unfolding for_in stmt_of
   start-leaf w p q x r e f B = record {
     says = λ d σ js N n v z h k.
@@ -333,18 +305,26 @@ module _ (s l : List ℕ) (scope : Scope) (loops : Loops) (at : ℕ) (y : Part) 
         (B.says num M.0 M.1.0 (f ∙ ap (λ (w : Name). meaning_in s l scope w) m ∙ M.1.1)) z (some_inj fin);
   }
 
-  pub start-form : (p : ℕ) → y ≡ part.Form p → Starts s l scope loops at start.Broken
+  pub start-form : (p : ℕ) → y ≡ part.Form p → Starts s l scope loops at None
   start-form p e = record {
     says = λ d σ js N n v z h k.
         let F : FormAt s at p = rw e at S.says in
         bind-some (sym (for-shape d n (first (stack_at s at))) ∙ h) λ i hi h'. none-some (sym (name-form (first (stack_at s p)) (first (later (stack_at s p)))) ∙ ap name_in (sym F.here) ∙ hi);
   }
 
-  pub start-shut : (q : ℕ) → y ≡ part.Shut q → Starts s l scope loops at start.Broken
+  pub start-shut : (q : ℕ) → y ≡ part.Shut q → Starts s l scope loops at None
   start-shut q e = record {
     says = λ d σ js N n v z h k.
         let C : ShutAt s at q = rw e at S.says in
         bind-some (sym (for-shape d n (first (stack_at s at))) ∙ h) λ i hi h'. none-some (sym name-end ∙ ap name_in (sym C.here) ∙ hi);
   }
 
-pub ruleset start-laws = (start-leaf, start-form, start-shut)
+  pub start-other : ((w : Word) (p q : ℕ) → y ≡ part.Leaf w p q → ⊥) → Starts s l scope loops at None
+  start-other h = go y refl
+    where
+      go : (x : Part) → y ≡ x → Starts s l scope loops at None
+      go (part.Leaf w p q) e = absurd (h w p q e)
+      go (part.Form p) e = start-form p e
+      go (part.Shut q) e = start-shut q e
+
+pub ruleset start_laws = (start-leaf, start-other)

@@ -31,8 +31,7 @@ use Rattle.table_scope.specs.Loops.{with_loop}
 use Rattle.rule_statements.specs.Chains.{many}
 use Rattle.rule_statements.specs.Walks.{verb_in}
 use Rattle.rule_statements.proofs.Shapes.{form-shape, none-shape, raise-shape, while-shape, if-shape, begin-shape}
-use Rattle.rule_restrictions.specs.declared.control.Start.{Start}
-use Rattle.rule_restrictions.specs.declared.control.Start.TheVariants as start
+use Rattle.std.specs.Prelude.{Option as Maybe, Some, None}
 use Rattle.rule_restrictions.specs.Walks.{Near, KeepsStmt, KeepsInner, KeepsVerb, KeepsAssign, KeepsThen, KeepsElse, KeepsStmts}
 use Rattle.rule_restrictions.specs.Calls.{KeepsCall}
 use Rattle.rule_restrictions.specs.Control.{Steps, Starts}
@@ -64,7 +63,15 @@ module _ (s l : List ℕ) (scope : Scope) (loops : Loops) (d at : ℕ) where
           K.says σ js (rw c N) n v x (ap (λ (c : ℕ). stmt_in c n (form (first (stack_at s p)) then end)) c ∙ ap (stmt_in d n) (sym F.here) ∙ h) k;
     }
 
-pub ruleset stmt-laws = (stmt-deep, stmt-leaf, stmt-shut, stmt-form)
+    pub stmt-other : ((p : ℕ) → y ≡ part.Form p → ⊥) → KeepsStmt s l scope loops d at true
+    stmt-other h = go y refl
+      where
+        go : (x : Part) → y ≡ x → KeepsStmt s l scope loops d at true
+        go (part.Leaf w p q) e = stmt-leaf w p q e
+        go (part.Form p) e = absurd (h p e)
+        go (part.Shut q) e = stmt-shut q e
+
+pub ruleset stmt-laws = (stmt-deep, stmt-other, stmt-form)
 
 -- ---- inside its form
 
@@ -92,7 +99,15 @@ module _ (s l : List ℕ) (scope : Scope) (loops : Loops) (d at : ℕ) (y : Part
         ∙ ap (λ (us : Trees Run). stmt_in (suc d) n (form us then end)) (sym g.0.leaf.here) ∙ h) k;
   }
 
-pub ruleset inner_laws = (inner-shut, inner-form, inner-leaf)
+  pub inner-other : ((w : Word) (p q : ℕ) → y ≡ part.Leaf w p q → ⊥) → KeepsInner s l scope loops d at true
+  inner-other h = go y refl
+    where
+      go : (x : Part) → y ≡ x → KeepsInner s l scope loops d at true
+      go (part.Leaf w p q) e = absurd (h w p q e)
+      go (part.Form p) e = inner-form p e
+      go (part.Shut q) e = inner-shut q e
+
+pub ruleset inner_laws = (inner-other, inner-leaf)
 
 -- ---- by its verb
 
@@ -147,8 +162,8 @@ module _ (s l : List ℕ) (scope : Scope) (loops : Loops) (d at : ℕ) (t : Bool
         rw (← some_inj j, tested N b g e y he hy) (F σ js (near-in N) n a₀ u (expr-some 33 he) ha₀ (ap (λ (p : Syntax.Stmt × ℕ). stmt_of σ p.0) i ∙ hu));
   }
 
-  pub while-bad : t ≡ false → KeepsVerb s l scope loops VB.While d at false
-  while-bad g = whiled false false g λ σ js N n a x z ha hx. refl
+  pub while-bad : t ≡ false → KeepsVerb s l scope loops VB.While d at t
+  while-bad g = whiled t false g λ σ js N n a x z ha hx. g
 
   pub while-on : (q : ℕ) (r : Bool) → t ≡ true → Skips s at q → KeepsStmt s l scope loops d q r → KeepsVerb s l scope loops VB.While d at r
   while-on q r g S K = whiled r true g λ σ js N n a x z ha hx. K.says σ js N n a x (ap (stmt_in d n) (skip-rest S z) ∙ ha) hx
@@ -167,8 +182,8 @@ module _ (s l : List ℕ) (scope : Scope) (loops : Loops) (d at : ℕ) (t : Bool
         rw (← some_inj j, tested N b g e y he hy) (F σ js (near-in N) n a c u v (expr-some 33 he) ha hc hu hv);
   }
 
-  pub if-bad : t ≡ false → KeepsVerb s l scope loops VB.If d at false
-  if-bad g = branched false false g λ σ js N n a c x y z ha hc hx hy. refl
+  pub if-bad : t ≡ false → KeepsVerb s l scope loops VB.If d at t
+  if-bad g = branched t false g λ σ js N n a c x y z ha hc hx hy. g
 
   pub if-on : (q : ℕ) (r : Bool) → t ≡ true → Skips s at q → KeepsThen s l scope loops d q r → KeepsVerb s l scope loops VB.If d at r
   if-on q r g S K = branched r true g λ σ js N n a c x y z ha hc hx hy.
@@ -179,8 +194,8 @@ pub ruleset while-laws = (while-bad, while-on)
 pub ruleset if-laws = (if-bad, if-on)
 
 module _ (s l : List ℕ) (scope : Scope) (loops : Loops) (d at : ℕ) (t : Bool) (K : KeepsStmt s l scope loops d at t) where
-  pub then-bad : t ≡ false → KeepsThen s l scope loops d at false
-  then-bad g = record { says = λ σ js N n p q x y hp hq hx hy. sym (ap (λ (b : Bool). b && kept_stmt y js) (sym (K.says σ js N n p x hp hx) ∙ g)) }
+  pub then-bad : t ≡ false → KeepsThen s l scope loops d at t
+  then-bad g = record { says = λ σ js N n p q x y hp hq hx hy. g ∙ sym (ap (λ (b : Bool). b && kept_stmt y js) (sym (K.says σ js N n p x hp hx) ∙ g)) }
 
   pub then-on : (q : ℕ) (r : Bool) → t ≡ true → Skips s at q → KeepsElse s l scope loops d q r → KeepsThen s l scope loops d at r
   then-on q r g S E = record {
@@ -216,11 +231,11 @@ pub ruleset else-laws = (else-none, else-some)
 
 -- ---- `for`
 
-module _ (s l : List ℕ) (scope : Scope) (loops : Loops) (d at : ℕ) (x : Start) (S : Starts s l scope loops at x) where
-  pub for-broken : x ≡ start.Broken → KeepsVerb s l scope loops VB.For d at false
+module _ (s l : List ℕ) (scope : Scope) (loops : Loops) (d at : ℕ) (x : Maybe (ℕ × ℕ)) (S : Starts s l scope loops at x) where
+  pub for-broken : x ≡ None → KeepsVerb s l scope loops VB.For d at false
   for-broken e = record { says = λ σ js N n p y h k. let g = rw e at (S.says d σ js N n p y h k) in sym g }
 
-  pub for-fine : (i q : ℕ) (w : Loops) (r : Bool) → x ≡ start.Fine i q → w ≡ with_loop loops i → KeepsStmt s l scope w d q r → KeepsVerb s l scope loops VB.For d at r
+  pub for-fine : (i q : ℕ) (w : Loops) (r : Bool) → x ≡ Some (i, q) → w ≡ with_loop loops i → KeepsStmt s l scope w d q r → KeepsVerb s l scope loops VB.For d at r
   for-fine i q w r e f K = record {
     says = λ σ js N n p y h k.
         let g : Steps s loops σ js d n y i q = rw e at (S.says d σ js N n p y h k) in

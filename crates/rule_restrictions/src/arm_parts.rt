@@ -6,6 +6,7 @@ use text_parts::end_at;
 use text_skips::skip;
 
 // A part of an arm: none is left; the last one, its statement; a label (the offset after it); or a label past the integers.
+// Kept: an Option or a Result is no plainer, since each of the four answers has its own way on.
 #[derive(Clone, Copy)]
 pub enum ArmPart {
     Missing,
@@ -15,6 +16,7 @@ pub enum ArmPart {
 }
 
 // An arm's statement, after its labels; a label past the integers; or the arm is no arm.
+// Kept: a Result of an Option is no plainer, since what is no arm breaks no rule and is no arm's statement either.
 #[derive(Clone, Copy)]
 pub enum AfterArm {
     Stmt(usize),
@@ -27,9 +29,10 @@ fn label_at(text: &[u8], at: usize, q: usize) -> ArmPart
     ensures { LabelBefore text.now at q result }
 {
     if plain_part(text, at) {
-        return ArmPart::Label(q);
+        ArmPart::Label(q)
+    } else {
+        ArmPart::Bad
     }
-    ArmPart::Bad
 }
 
 // The part of an arm at an offset, where there is one.

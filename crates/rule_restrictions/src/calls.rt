@@ -15,11 +15,8 @@ fn parameters_of(work: &[u32], m: Meaning) -> u32
     ensures { result ≡ count_by work.now m }
 {
     match m {
-        Meaning::Unknown => 0,
-        Meaning::Type(_) => 0,
-        Meaning::Var(_, _, _) => 0,
         Meaning::Proc(p) => frame_of(work, p).count,
-        Meaning::Value(_, _) => 0,
+        _ => 0,
     }
 }
 
@@ -54,13 +51,11 @@ fn plain_parts(text: &[u8], n: u32, at: usize) -> bool
 pub fn call_kept(text: &[u8], work: &[u32], scope: Scope, at: usize) -> bool
     ensures { KeepsCall text.now work.now scope at result }
 {
-    let part = part_at(text, at);
-    match part {
+    match part_at(text, at) {
         Part::Leaf(_, p, q) => {
             let m = meaning_of(text, work, scope, p);
             plain_parts(text, parameters_of(work, m), q)
         }
-        Part::Form(_) => true,
-        Part::Shut(_) => true,
+        _ => true,
     }
 }

@@ -4,7 +4,7 @@ ghost use Rattle.rule_restrictions.specs.Walks.{KeepsStmt, KeepsInner, KeepsVerb
 
 use crate::arm_parts::{AfterArm, after_labels};
 use crate::calls::call_kept;
-use crate::control::{Start, assign_kept, start_at};
+use crate::control::{assign_kept, start_at};
 use rule_constants::plain_part;
 use rule_labels::loose::labels_differ;
 use rule_statements::arms::{NextArm, arm_at};
@@ -21,11 +21,9 @@ pub fn stmt(text: &[u8], work: &[u32], scope: Scope, loops: Loops, depth: usize,
     if depth == 0 {
         return true;
     }
-    let part = part_at(text, at);
-    match part {
-        Part::Leaf(_, _, _) => true,
+    match part_at(text, at) {
         Part::Form(p) => inner(text, work, scope, loops, depth - 1, p),
-        Part::Shut(_) => true,
+        _ => true,
     }
 }
 
@@ -34,14 +32,9 @@ pub fn stmt(text: &[u8], work: &[u32], scope: Scope, loops: Loops, depth: usize,
 fn inner(text: &[u8], work: &[u32], scope: Scope, loops: Loops, depth: usize, at: usize) -> bool
     ensures { KeepsInner text.now work.now scope loops depth at result }
 {
-    let part = part_at(text, at);
-    match part {
-        Part::Leaf(w, _, q) => {
-            let v = verb_of(w);
-            headed(text, work, scope, loops, v, depth, q)
-        }
-        Part::Form(_) => true,
-        Part::Shut(_) => true,
+    match part_at(text, at) {
+        Part::Leaf(w, _, q) => headed(text, work, scope, loops, verb_of(w), depth, q),
+        _ => true,
     }
 }
 
@@ -83,11 +76,7 @@ fn while_loop(
 ) -> bool
     ensures { KeepsVerb text.now work.now scope loops While depth at result }
 {
-    if plain_part(text, at) {
-        let q = skip(text, at);
-        return stmt(text, work, scope, loops, depth, q);
-    }
-    false
+    plain_part(text, at) && stmt(text, work, scope, loops, depth, skip(text, at))
 }
 
 // An `if`.
@@ -95,11 +84,7 @@ fn while_loop(
 fn if_else(text: &[u8], work: &[u32], scope: Scope, loops: Loops, depth: usize, at: usize) -> bool
     ensures { KeepsVerb text.now work.now scope loops If depth at result }
 {
-    if plain_part(text, at) {
-        let q = skip(text, at);
-        return if_then(text, work, scope, loops, depth, q);
-    }
-    false
+    plain_part(text, at) && if_then(text, work, scope, loops, depth, skip(text, at))
 }
 
 // The parts of an `if` after its test.
@@ -107,11 +92,8 @@ fn if_else(text: &[u8], work: &[u32], scope: Scope, loops: Loops, depth: usize, 
 fn if_then(text: &[u8], work: &[u32], scope: Scope, loops: Loops, depth: usize, at: usize) -> bool
     ensures { KeepsThen text.now work.now scope loops depth at result }
 {
-    if stmt(text, work, scope, loops, depth, at) {
-        let q = skip(text, at);
-        return else_part(text, work, scope, loops, depth, q);
-    }
-    false
+    stmt(text, work, scope, loops, depth, at)
+        && else_part(text, work, scope, loops, depth, skip(text, at))
 }
 
 // The third part of an `if`, which may be missing.
@@ -131,11 +113,10 @@ fn else_part(text: &[u8], work: &[u32], scope: Scope, loops: Loops, depth: usize
 fn for_loop(text: &[u8], work: &[u32], scope: Scope, loops: Loops, depth: usize, at: usize) -> bool
     ensures { KeepsVerb text.now work.now scope loops For depth at result }
 {
-    let x = start_at(text, work, scope, loops, at);
-    match x {
-        Start::Fine(i, q) => stmt(text, work, scope, with_loop(loops, i), depth, q),
-        Start::Broken => false,
-    }
+    let Some((i, q)) = start_at(text, work, scope, loops, at) else {
+        return false;
+    };
+    stmt(text, work, scope, with_loop(loops, i), depth, q)
 }
 
 // Statements up to the closing bracket, as those of a `begin`.
@@ -166,11 +147,7 @@ pub fn stmts(text: &[u8], work: &[u32], scope: Scope, loops: Loops, depth: usize
 fn case_of(text: &[u8], work: &[u32], scope: Scope, loops: Loops, depth: usize, at: usize) -> bool
     ensures { KeepsVerb text.now work.now scope loops Case depth at result }
 {
-    if plain_part(text, at) {
-        let q = skip(text, at);
-        return case_arms(text, work, scope, loops, depth, q);
-    }
-    false
+    plain_part(text, at) && case_arms(text, work, scope, loops, depth, skip(text, at))
 }
 
 // The arms of a case, whose labels differ.
@@ -178,10 +155,7 @@ fn case_of(text: &[u8], work: &[u32], scope: Scope, loops: Loops, depth: usize, 
 fn case_arms(text: &[u8], work: &[u32], scope: Scope, loops: Loops, depth: usize, at: usize) -> bool
     ensures { KeepsCases text.now work.now scope loops depth at result }
 {
-    if all_arms(text, work, scope, loops, depth, at) {
-        return labels_differ(text, work, scope, at);
-    }
-    false
+    all_arms(text, work, scope, loops, depth, at) && labels_differ(text, work, scope, at)
 }
 
 // Each arm by itself, up to the closing bracket.

@@ -1,4 +1,4 @@
-use Rattle.mark_arms.proofs.Reading.{part_falls, pass-laws, pass-start}
+use Rattle.mark_arms.proofs.Reading.{part_falls, pass-start, pass_laws}
 use Rattle.mark_arms.proofs.last_part.Goals as goal
 
 pub loop-q-init : goal.loop-q-init
@@ -8,7 +8,7 @@ pub loop-q-smaller : goal.loop-q-smaller
 loop-q-smaller c = search part_falls
 
 pub loop-q-preserved : goal.loop-q-preserved
-loop-q-preserved c = search pass-laws
+loop-q-preserved c = search pass_laws
 
-pub returns-in-Last : goal.returns-in-Last
-returns-in-Last c = search pass-laws
+pub returns : goal.returns
+returns c = search pass_laws

@@ -1,11 +1,8 @@
-use Rattle.rule_pairs.proofs.PairParts.{at-laws}
+use Rattle.rule_pairs.proofs.PairParts.{at_laws}
 use Rattle.rule_pairs.proofs.pair_at.Goals as goal
 
-pub returns-in-Leaf : goal.returns-in-Leaf
-returns-in-Leaf c = search at-laws
-
 pub returns-in-Form : goal.returns-in-Form
-returns-in-Form c = search at-laws
+returns-in-Form c = search at_laws
 
-pub returns-in-Shut : goal.returns-in-Shut
-returns-in-Shut c = search at-laws
+pub returns-in_default : goal.returns-in_default
+returns-in_default c = search at_laws

@@ -18,5 +18,5 @@ overflow_add-result-then-in_range c = search (key_laws, sfits_of, rules)
 pub returns-then-in_range : goal.returns-then-in_range
 returns-then-in_range c = search (key_laws, sfits_of, rules)
 
-pub returns : goal.returns
-returns c = search (key_laws, sfits_of, rules)
+pub returns-else-in_range : goal.returns-else-in_range
+returns-else-in_range c = search (key_laws, sfits_of, rules)

@@ -1,22 +1,12 @@
-use native.Mathlib.Omega.{arith}
 use borrow.Author.Rules.{rules}
-use Rattle.rule_repeats.proofs.BlockByBlock.{fill-laws, fill_start}
+use Rattle.rule_repeats.proofs.BlockByBlock.{fill_laws}
 use Rattle.rule_repeats.proofs.blocks.fill_block.Goals as goal
 
 pub loop-n-init : goal.loop-n-init
-loop-n-init c = fill_start _ _ _ _ (search rules)
+loop-n-init c = search (fill_laws, rules)
 
 pub returns-then-meets : goal.returns-then-meets
-returns-then-meets c = search fill-laws
-
-pub loop-n-smaller : goal.loop-n-smaller
-loop-n-smaller c = omega arith
+returns-then-meets c = search fill_laws
 
 pub loop-n-preserved : goal.loop-n-preserved
-loop-n-preserved c = search fill-laws
-
-pub returns-in-Done : goal.returns-in-Done
-returns-in-Done c = search fill-laws
-
-pub returns : goal.returns
-returns c = search fill-laws
+loop-n-preserved c = search fill_laws

@@ -1,9 +1,5 @@
-use Prim.Native.Nat.{◌-◌}
 use Rattle.rule_repeats.proofs.BlockByBlock.{Filling}
 use Rattle.rule_repeats.proofs.blocks.fill_block.Given as goal
 
 abbrev pub invariant-loop-n : goal.invariant-loop-n
 invariant-loop-n l = Filling l.text l.at l.lows l.highs l.n l.p
-
-abbrev pub decreases-loop-n : goal.decreases-loop-n
-decreases-loop-n l = 256 - l.n

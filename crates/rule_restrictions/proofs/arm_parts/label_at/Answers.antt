@@ -4,5 +4,5 @@ use Rattle.rule_restrictions.proofs.arm_parts.label_at.Goals as goal
 pub returns-then-plain_part : goal.returns-then-plain_part
 returns-then-plain_part c = search label-laws
 
-pub returns : goal.returns
-returns c = search label-laws
+pub returns-else-plain_part : goal.returns-else-plain_part
+returns-else-plain_part c = search label-laws

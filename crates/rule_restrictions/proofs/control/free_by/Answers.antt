@@ -1,5 +1,8 @@
-use Rattle.rule_restrictions.proofs.Controlling.{free-by-laws}
+use Rattle.rule_restrictions.proofs.Controlling.{free_by_laws}
 use Rattle.rule_restrictions.proofs.control.free_by.Goals as goal
 
 pub returns-in-Var : goal.returns-in-Var
-returns-in-Var c = search free-by-laws
+returns-in-Var c = search free_by_laws
+
+pub returns-in_default : goal.returns-in_default
+returns-in_default c = search free_by_laws

@@ -35,14 +35,14 @@ arm-returns-in-Nothing t c = search arm-laws
 pub case_arms-returns-then-all_arms : goal.case_arms-returns-then-all_arms
 case_arms-returns-then-all_arms t c = search cases-laws
 
-pub case_arms-returns : goal.case_arms-returns
-case_arms-returns t c = search cases-laws
+pub case_arms-returns-else-all_arms : goal.case_arms-returns-else-all_arms
+case_arms-returns-else-all_arms t c = search cases-laws
 
 pub case_of-returns-then-plain_part : goal.case_of-returns-then-plain_part
 case_of-returns-then-plain_part t c = search case-laws
 
-pub case_of-returns : goal.case_of-returns
-case_of-returns t c = search case-laws
+pub case_of-returns-else-plain_part : goal.case_of-returns-else-plain_part
+case_of-returns-else-plain_part t c = search case-laws
 
 pub else_part-returns-in-Some : goal.else_part-returns-in-Some
 else_part-returns-in-Some t c = search else-laws
@@ -50,11 +50,11 @@ else_part-returns-in-Some t c = search else-laws
 pub else_part-returns-in-None : goal.else_part-returns-in-None
 else_part-returns-in-None t c = search else-laws
 
-pub for_loop-returns-in-Fine : goal.for_loop-returns-in-Fine
-for_loop-returns-in-Fine t c = search for-laws
+pub for_loop-returns : goal.for_loop-returns
+for_loop-returns t c = search for-laws
 
-pub for_loop-returns-in-Broken : goal.for_loop-returns-in-Broken
-for_loop-returns-in-Broken t c = search for-laws
+pub for_loop-returns-in_default : goal.for_loop-returns-in_default
+for_loop-returns-in_default t c = search for-laws
 
 pub headed-returns-in-Assign : goal.headed-returns-in-Assign
 headed-returns-in-Assign t c = search verb-laws
@@ -86,35 +86,29 @@ headed-returns-in-Nothing t c = search verb-laws
 pub if_else-returns-then-plain_part : goal.if_else-returns-then-plain_part
 if_else-returns-then-plain_part t c = search if-laws
 
-pub if_else-returns : goal.if_else-returns
-if_else-returns t c = search if-laws
+pub if_else-returns-else-plain_part : goal.if_else-returns-else-plain_part
+if_else-returns-else-plain_part t c = search if-laws
 
 pub if_then-returns-then-stmt : goal.if_then-returns-then-stmt
 if_then-returns-then-stmt t c = search then-laws
 
-pub if_then-returns : goal.if_then-returns
-if_then-returns t c = search then-laws
+pub if_then-returns-else-stmt : goal.if_then-returns-else-stmt
+if_then-returns-else-stmt t c = search then-laws
 
 pub inner-returns-in-Leaf : goal.inner-returns-in-Leaf
 inner-returns-in-Leaf t c = search inner_laws
 
-pub inner-returns-in-Form : goal.inner-returns-in-Form
-inner-returns-in-Form t c = search inner_laws
-
-pub inner-returns-in-Shut : goal.inner-returns-in-Shut
-inner-returns-in-Shut t c = search inner_laws
+pub inner-returns-in_default : goal.inner-returns-in_default
+inner-returns-in_default t c = search inner_laws
 
 pub stmt-returns-then-depth-eq0 : goal.stmt-returns-then-depth-eq0
 stmt-returns-then-depth-eq0 t c = search stmt-laws
 
-pub stmt-returns-in-Leaf : goal.stmt-returns-in-Leaf
-stmt-returns-in-Leaf t c = search stmt-laws
-
 pub stmt-returns-in-Form : goal.stmt-returns-in-Form
 stmt-returns-in-Form t c = search stmt-laws
 
-pub stmt-returns-in-Shut : goal.stmt-returns-in-Shut
-stmt-returns-in-Shut t c = search stmt-laws
+pub stmt-returns-in_default : goal.stmt-returns-in_default
+stmt-returns-in_default t c = search stmt-laws
 
 pub stmts-loop-p-init : goal.stmts-loop-p-init
 stmts-loop-p-init t c = do-start _ _ _ _ _ _
@@ -134,5 +128,5 @@ stmts-returns-else-stmt t c = search do-laws
 pub while_loop-returns-then-plain_part : goal.while_loop-returns-then-plain_part
 while_loop-returns-then-plain_part t c = search while-laws
 
-pub while_loop-returns : goal.while_loop-returns
-while_loop-returns t c = search while-laws
+pub while_loop-returns-else-plain_part : goal.while_loop-returns-else-plain_part
+while_loop-returns-else-plain_part t c = search while-laws

@@ -1,8 +1,0 @@
-use Rattle.rule_labels.proofs.Comparing.{block-laws}
-use Rattle.rule_labels.proofs.loose.recurs.Goals as goal
-
-pub returns-then-repeated : goal.returns-then-repeated
-returns-then-repeated c = search block-laws
-
-pub returns : goal.returns
-returns c = search block-laws
