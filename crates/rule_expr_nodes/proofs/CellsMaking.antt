@@ -23,7 +23,7 @@ module _ (a n : ℕ) where
   unfolding span_of
   span-both h k = rw (lt-ltb a 65536 h, lt-ltb n 65536 k) refl
 
-pub ruleset span-laws = (span-base, span-size, span-both)
+pub ruleset span_laws = (span-base, span-size, span-both)
 
 module _ (n k a q t : ℕ) (l : List ℕ) (r : Got) (l' : List ℕ) where
   pub cells-one : n ≡ 1 → Makes (node_made k q (lay (2 ∷ a ∷ []) t l)) r l' → Makes (cells_made n k a q t l) r l'

@@ -10,14 +10,7 @@ use text_parts::{End, end_at};
 fn past_bracket(g: Got, next: usize) -> Got
     ensures { result ≡ past_bracket g next }
 {
-    let f = g.fault;
-    Got {
-        fault: f,
-        kind: g.kind,
-        place: g.place,
-        next: next,
-        top: g.top,
-    }
+    Got { next, ..g }
 }
 
 // The answer for a form's last part, past the closing bracket: a fault of row 6 where another part comes first.

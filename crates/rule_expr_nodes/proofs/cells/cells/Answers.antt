@@ -4,5 +4,5 @@ use Rattle.rule_expr_nodes.proofs.cells.cells.Goals as goal
 pub returns-then-size-eq1 : goal.returns-then-size-eq1
 returns-then-size-eq1 c = search cells-laws
 
-pub returns : goal.returns
-returns c = search cells-laws
+pub returns-else-size-eq1 : goal.returns-else-size-eq1
+returns-else-size-eq1 c = search cells-laws

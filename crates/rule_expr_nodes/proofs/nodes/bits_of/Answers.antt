@@ -8,5 +8,5 @@ overflow_sub-z c = search (bits-turns, rules)
 pub returns-then-z-lt0 : goal.returns-then-z-lt0
 returns-then-z-lt0 c = search bits-laws
 
-pub returns : goal.returns
-returns c = search bits-laws
+pub returns-else-z-lt0 : goal.returns-else-z-lt0
+returns-else-z-lt0 c = search bits-laws
