@@ -33,6 +33,7 @@ fn element_kind(i: Info) -> u32
 }
 
 // An element of a target whose type i describes, neither with a fault.
+#[tactic(auto, using(crate::proofs::Targeting::element_laws))]
 fn element_of(work: &mut [u32], types: &[u32], i: Info, g: Got, e: Got) -> Got
     ensures { Makes (element work.old types.now i g e) result work.new }
 {
