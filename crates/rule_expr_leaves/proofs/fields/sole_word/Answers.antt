@@ -6,6 +6,3 @@ returns-in-Past c = search sole-word-laws
 
 pub returns-in-More : goal.returns-in-More
 returns-in-More c = search sole-word-laws
-
-pub returns-else-is_named : goal.returns-else-is_named
-returns-else-is_named c = search sole-word-laws
