@@ -14,6 +14,7 @@ fn past_bracket(g: Got, next: usize) -> Got
 }
 
 // The answer for a form's last part, past the closing bracket: a fault of row 6 where another part comes first.
+#[tactic(auto, using(crate::proofs::Closing::closing_laws))]
 pub fn closing(text: &[u8], g: Got) -> Got
     ensures { Closes text.now g result }
 {

@@ -35,6 +35,7 @@ pub fn cells(work: &mut [u32], size: u32, kind: u32, base: u32, next: usize, top
 }
 
 // A type's first or last value, in 32 bits.
+#[tactic(auto, using(crate::proofs::CellsMaking::end_bits_laws))]
 pub fn end_bits(last: bool, i: Info) -> u32
     ensures { result ≡ end_bits last i }
 {

@@ -33,6 +33,7 @@ pub fn bits_of(z: i64) -> u32
 }
 
 // A constant of a kind.
+#[tactic(auto, using(crate::proofs::Making::literal_laws))]
 pub fn literal(work: &mut [u32], kind: u32, z: i64, next: usize, top: u32) -> Got
     ensures { Makes (literal_made kind z next top work.old) result work.new }
 {
