@@ -36,10 +36,7 @@ use Rattle.std.specs.Prelude.{Option, Some, None}
 use Rattle.text_parts.specs.Parts.{Shuts}
 use Rattle.rule_atoms.specs.declared.Typed.{Typed}
 use Rattle.rule_atoms.specs.Answering.{GivesType}
-use Rattle.rule_expr_leaves.specs.declared.fields.Sole.{Sole}
-use Rattle.rule_expr_leaves.specs.declared.fields.Sole.TheVariants as sole
-use Rattle.rule_expr_leaves.specs.declared.words.Alone.{Alone}
-use Rattle.rule_expr_leaves.specs.declared.words.Alone.TheVariants as alone
+use Rattle.std.specs.Prelude.{Some, None, Option as Maybe}
 use Rattle.rule_expr_leaves.specs.Fields.{SoleName}
 use Rattle.rule_expr_leaves.specs.Words.{StandsAlone}
 use Rattle.text_skips.specs.Skips.{Skips}
@@ -102,7 +99,7 @@ module _ (s l ts : List ℕ) (ws : List ℤ) (scope : Scope) (d at : ℕ) where
       unfolding fun_number
       minus_one n h F = record { marks = λ N. record { says = λ σ S. record { says = λ x y g k m H. go N σ S x y g k m H (rest us) refl } } }
         where
-          go : StandsAlone s at alone.No → (σ : Environment) → Known s l ts scope σ → (x : Syntax.Expr) (y : Expr) → form_in EH.Minus d us ≡ some x → expr_of σ x ≡ some y → (m : Store) → Holds ws m
+          go : StandsAlone s at None → (σ : Environment) → Known s l ts scope σ → (x : Syntax.Expr) (y : Expr) → form_in EH.Minus d us ≡ some x → expr_of σ x ≡ some y → (m : Store) → Holds ws m
               → (vs : Trees Run) → rest us ≡ vs → Carries σ.types m (mark_expr σ.types σ.vars y m) r
           go N σ S x y g k m H end i = minus-side d us x (N.says i) i g (λ u hu j. side 0 F σ S negate refl u hu y (rw (← j) at k) m H)
           go N σ S x y g k m H (t then vs) i = minus-sides d us x t vs i g (λ u v hu hv j. absurd (no_both (sym i ∙ past-expr Q d u hu ∙ (rw h at E.says).here)))
@@ -111,13 +108,13 @@ module _ (s l ts : List ℕ) (ws : List ℤ) (scope : Scope) (d at : ℕ) where
       unfolding op_number
       minus-two b h B F = record { marks = λ N. record { says = λ σ S. record { says = λ x y g k m H. go N σ S x y g k m H (rest us) refl } } }
         where
-          go : StandsAlone s at alone.No → (σ : Environment) → Known s l ts scope σ → (x : Syntax.Expr) (y : Expr) → form_in EH.Minus d us ≡ some x → expr_of σ x ≡ some y → (m : Store) → Holds ws m
+          go : StandsAlone s at None → (σ : Environment) → Known s l ts scope σ → (x : Syntax.Expr) (y : Expr) → form_in EH.Minus d us ≡ some x → expr_of σ x ≡ some y → (m : Store) → Holds ws m
               → (vs : Trees Run) → rest us ≡ vs → Carries σ.types m (mark_expr σ.types σ.vars y m) r
           go N σ S x y g k m H end i = minus-side d us x (N.says i) i g (λ u hu j. absurd ((rw h at E.says) (sym (past-expr Q d u hu) ∙ i)))
           go N σ S x y g k m H (t then vs) i = minus-sides d us x t vs i g (λ u v hu hv j. sides q Q b B 1 F σ S minus refl u v hu hv y (rw (← j) at k) m H)
 
-  module _ (n : Alone) (N : StandsAlone s at n) (r : Carried) where
-    pub minus-alone : (z : ℤ) (q : ℕ) → n ≡ alone.Number z q → SFits w64 z → Constants l ts 0 (neg_ℤ (wire z)) r → MarksForm s l ts ws scope EH.Minus d at r
+  module _ (n : Maybe (ℤ × ℕ)) (N : StandsAlone s at n) (r : Carried) where
+    pub minus-alone : (z : ℤ) (q : ℕ) → n ≡ Some (z, q) → SFits w64 z → Constants l ts 0 (neg_ℤ (wire z)) r → MarksForm s l ts ws scope EH.Minus d at r
     unfolding expr_of atom_meant mark_expr
     minus-alone z q h f C = record {
       says = λ σ S. record {
@@ -129,7 +126,7 @@ module _ (s l ts : List ℕ) (ws : List ℤ) (scope : Scope) (d at : ℕ) where
       };
     }
 
-    pub minus-other : n ≡ alone.No → MarksMinus s l ts ws scope d at r → MarksForm s l ts ws scope EH.Minus d at r
+    pub minus-other : n ≡ None → MarksMinus s l ts ws scope d at r → MarksForm s l ts ws scope EH.Minus d at r
     minus-other h M = M.marks (rw h at N)
 
   -- ---- `members`
@@ -182,8 +179,8 @@ module _ (s l ts : List ℕ) (ws : List ℤ) (scope : Scope) (d at : ℕ) where
       };
     }
 
-    module _ (n : Sole) (N : SoleName s q n) where
-      pub field_is : (p z : ℕ) → n ≡ sole.Name p z → Selects s l ts g p r → MarksPlace s l ts ws scope EH.Dot d at r
+    module _ (n : Maybe (ℕ × ℕ)) (N : SoleName s q n) where
+      pub field_is : (p z : ℕ) → n ≡ Some (p, z) → Selects s l ts g p r → MarksPlace s l ts ws scope EH.Dot d at r
       unfolding target_of mark_target
       field_is p z e F = record {
         says = λ σ S. record {
@@ -194,7 +191,7 @@ module _ (s l ts : List ℕ) (ws : List ℤ) (scope : Scope) (d at : ℕ) where
         };
       }
 
-      pub field-none : n ≡ sole.Nothing → MarksPlace s l ts ws scope EH.Dot d at r
+      pub field-none : n ≡ None → MarksPlace s l ts ws scope EH.Dot d at r
       field-none e = record {
         says = λ σ S. record { says = λ o k h j m H. dot-parts d us o h (λ y w hy hw i. none-some (sym (rw e at N.says) ∙ (rw (past-target Q d y hy) at hw))) };
       }

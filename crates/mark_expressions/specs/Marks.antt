@@ -1,6 +1,6 @@
 -- What the walk over an expression or a target promises: where it reads as one and its names are found, for every environment that the tables
 -- hold and every store that the words hold, what it gives is what the marking machine gives (law, Marking).
-use Rattle.std.specs.Prelude.{List, map, ◌≡◌, ℕ, suc, ℤ}
+use Rattle.std.specs.Prelude.{List, map, ◌≡◌, ℕ, suc, ℤ, None}
 use Rattle.std.proofs.Math.Option.{Option, some}
 use Rattle.leaf_words.specs.declared.words.Word.{Word}
 use Rattle.leaf_bytes.specs.Bytes.{small}
@@ -23,7 +23,6 @@ use Rattle.text_heads.specs.Parts.{expr_in, target_in, target_by, exprs_in}
 use Rattle.table_scope.specs.declared.Scope.{Scope}
 use Rattle.table_scope.specs.declared.Meaning.{Meaning}
 use Rattle.table_scope.specs.Scene.{Told}
-use Rattle.rule_expr_leaves.specs.declared.words.Alone.TheVariants.{No}
 use Rattle.rule_expr_leaves.specs.Words.{StandsAlone}
 use Rattle.rule_expressions.specs.Walks.{form_in}
 use Rattle.mark_values.specs.declared.values.Carried.{Carried}
@@ -71,7 +70,7 @@ module _ (s l ts : List ℕ) (ws : List ℤ) (scope : Scope) where
 
   -- `-` where it is no negative number
   pub record MarksMinus (d at : ℕ) (r : Carried) : Type 0 where
-    pub marks : StandsAlone s at No → MarksForm Minus d at r
+    pub marks : StandsAlone s at None → MarksForm Minus d at r
 
   -- members of a set of type t up to the closing bracket
   pub record MarksMembers (t d at : ℕ) (r : ℤ) : Type 0 where

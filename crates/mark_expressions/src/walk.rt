@@ -11,8 +11,8 @@ use mark_values::members::{is_set, member};
 use mark_values::places::{Reached, index, load, place, select};
 use mark_values::values::{Carried, STUCK, value};
 use rule_atoms::type_name;
-use rule_expr_leaves::fields::{Sole, sole_name};
-use rule_expr_leaves::words::{Alone, number_alone};
+use rule_expr_leaves::fields::sole_name;
+use rule_expr_leaves::words::number_alone;
 use table_scope::Scope;
 use text_heads::{ExprHead, expr_head};
 use text_parts::{Part, end_at, part_at};
@@ -161,8 +161,8 @@ fn minus(
 {
     let n = number_alone(text, at);
     match n {
-        Alone::Number(z, _) => negative(work, types, z),
-        Alone::No => minus_parts(text, work, types, scope, store, depth, at),
+        Some((z, _)) => negative(work, types, z),
+        None => minus_parts(text, work, types, scope, store, depth, at),
     }
 }
 
@@ -411,7 +411,7 @@ fn field(
     let g = mark_target(text, work, types, scope, store, depth, at);
     let n = sole_name(text, skip(text, at));
     match n {
-        Sole::Name(p, _) => select(text, work, types, g, p),
-        Sole::Nothing => place(0, STUCK),
+        Some((p, _)) => select(text, work, types, g, p),
+        None => place(0, STUCK),
     }
 }

@@ -59,7 +59,7 @@ pub element-fits : (l ts : List ℕ) (i : Info) (g e r : Got) (w : ℕ) (j : Inf
 unfolding element
 element-fits l ts i g e r w j l' h f n d m = rw (eq-eqb i.shape 2 h, ← f, eq-eqb w e.kind n, ← d) m
 
-pub ruleset element-laws = (element-other, element-kind, element-fits)
+pub ruleset element_laws = (element-other, element-kind, element-fits)
 
 module _ (l ts : List ℕ) (g e : Got) (i : Info) (d : i ≡ info_of l ts g.kind) (f : Fault) (t : Bool) (c : f ≡ lowest g.fault e.fault) (h : t ≡ is_clear f) where
   pub index-clear : t ≡ true → (r : Got) (l' : List ℕ) → Makes (element l ts i g e) r l' → Makes (indexed l ts g e) r l'

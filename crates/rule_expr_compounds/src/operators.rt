@@ -30,13 +30,12 @@ fn operate(work: &mut [u32], types: &[u32], op: usize, a: Got, b: Got) -> Got
 pub fn pair(work: &mut [u32], types: &[u32], op: usize, a: Got, b: Got) -> Got
     ensures { Makes (paired work.old types.now op a b) result work.new }
 {
-    let c = a.fault;
-    let d = b.fault;
-    let f = lowest(c, d);
+    let f = lowest(a.fault, b.fault);
     if is_clear(f) {
-        return operate(work, types, op, a, b);
+        operate(work, types, op, a, b)
+    } else {
+        failed(f, 0, b.next, b.top)
     }
-    failed(f, 0, b.next, b.top)
 }
 
 // A node of one part: `pred` and `succ` have their bounds.
@@ -44,19 +43,18 @@ fn node_one(work: &mut [u32], i: Info, n: u32, kind: u32, a: Got) -> Got
     ensures { Makes (ruled_node1 (fits n kind) i a.place a.next a.top work.old) result work.new }
 {
     if n < code_ops::expr::PRED {
-        let ns = [n, a.place];
-        return node(work, kind, a.next, a.top, &ns);
+        node(work, kind, a.next, a.top, &[n, a.place])
+    } else {
+        let ns = [n, a.place, i.low, i.high];
+        node(work, kind, a.next, a.top, &ns)
     }
-    let ns = [n, a.place, i.low, i.high];
-    node(work, kind, a.next, a.top, &ns)
 }
 
 // A one-sided operator or function whose side has no fault.
 fn operate_one(work: &mut [u32], types: &[u32], f: usize, a: Got) -> Got
     ensures { Makes (applied_clear work.old types.now f a) result work.new }
 {
-    let x = one_sided(f, side_of(work, types, a.kind));
-    match x {
+    match one_sided(f, side_of(work, types, a.kind)) {
         None => failed(Fault::Kind, 0, a.next, a.top),
         Some(r) => node_one(work, describe(work, types, a.kind), r.node, r.kind, a),
     }
@@ -66,9 +64,9 @@ fn operate_one(work: &mut [u32], types: &[u32], f: usize, a: Got) -> Got
 pub fn apply(work: &mut [u32], types: &[u32], f: usize, a: Got) -> Got
     ensures { Makes (applied work.old types.now f a) result work.new }
 {
-    let c = a.fault;
-    if is_clear(c) {
-        return operate_one(work, types, f, a);
+    if is_clear(a.fault) {
+        operate_one(work, types, f, a)
+    } else {
+        failed(a.fault, 0, a.next, a.top)
     }
-    failed(c, 0, a.next, a.top)
 }

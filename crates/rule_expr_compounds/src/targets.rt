@@ -15,35 +15,29 @@ use table_scope::{Info, describe, find_field, host_of};
 pub fn load(work: &mut [u32], types: &[u32], g: Got) -> Got
     ensures { Makes (loaded work.old types.now g) result work.new }
 {
-    let c = g.fault;
-    if is_clear(c) {
+    if is_clear(g.fault) {
         let i = describe(work, types, g.kind);
         let kind = host_of(work, types, g.kind);
         let ns = [code_ops::expr::LOAD_AT, g.place, i.size];
-        return node(work, kind, g.next, g.top, &ns);
+        node(work, kind, g.next, g.top, &ns)
+    } else {
+        failed(g.fault, 0, g.next, g.top)
     }
-    failed(c, 0, g.next, g.top)
 }
 
 // The type of an array's element, 0 of any other type.
 fn element_kind(i: Info) -> u32
     ensures { result ≡ element_kind i }
 {
-    if i.shape == 2 {
-        return i.element;
-    }
-    0
+    if i.shape == 2 { i.element } else { 0 }
 }
 
 // An element of a target whose type i describes, neither with a fault.
+#[tactic(auto, using(crate::proofs::Targeting::element_laws))]
 fn element_of(work: &mut [u32], types: &[u32], i: Info, g: Got, e: Got) -> Got
     ensures { Makes (element work.old types.now i g e) result work.new }
 {
-    if i.shape != 2 {
-        return failed(Fault::Kind, element_kind(i), e.next, e.top);
-    }
-    let wanted = host_of(work, types, i.index);
-    if wanted != e.kind {
+    if i.shape != 2 || host_of(work, types, i.index) != e.kind {
         return failed(Fault::Kind, element_kind(i), e.next, e.top);
     }
     let j = describe(work, types, i.element);
@@ -63,31 +57,30 @@ pub fn index(work: &mut [u32], types: &[u32], g: Got, e: Got) -> Got
     ensures { Makes (indexed work.old types.now g e) result work.new }
 {
     let i = describe(work, types, g.kind);
-    let c = g.fault;
-    let d = e.fault;
-    let f = lowest(c, d);
+    let f = lowest(g.fault, e.fault);
     if is_clear(f) {
-        return element_of(work, types, i, g, e);
+        element_of(work, types, i, g, e)
+    } else {
+        failed(f, element_kind(i), e.next, e.top)
     }
-    failed(f, element_kind(i), e.next, e.top)
 }
 
 // The field whose description stands at p.
 fn field_at(work: &mut [u32], p: u32, next: usize, g: Got) -> Got
     ensures { Makes (field_made work.old p next g) result work.new }
 {
-    let c = g.fault;
     if p == 0 {
-        return failed(lowest(c, Fault::Name), 0, next, g.top);
+        return failed(lowest(g.fault, Fault::Name), 0, next, g.top);
     }
     let q = p as usize;
     let kind = at(work, q + 1);
     let offset = at(work, q + 2);
-    if is_clear(c) {
+    if is_clear(g.fault) {
         let ns = [code_ops::place::SHIFT, g.place, offset];
-        return node(work, kind, next, g.top, &ns);
+        node(work, kind, next, g.top, &ns)
+    } else {
+        failed(g.fault, kind, next, g.top)
     }
-    failed(c, kind, next, g.top)
 }
 
 // The field of a target that the word at an offset names.
@@ -97,8 +90,8 @@ pub fn select(text: &[u8], work: &mut [u32], types: &[u32], g: Got, name: usize,
     let i = describe(work, types, g.kind);
     if i.shape == 3 {
         let p = find_field(text, work, i.place, i.fields, name);
-        return field_at(work, p, next, g);
+        field_at(work, p, next, g)
+    } else {
+        failed(lowest(g.fault, Fault::Kind), 0, next, g.top)
     }
-    let c = g.fault;
-    failed(lowest(c, Fault::Kind), 0, next, g.top)
 }

@@ -1,12 +1,10 @@
--- The laws of `links`: a member's link, and the node of the set.
+-- The laws of `links`: the kind of a set's members, and its node.
 use mathlib.Core.Path.{◌≡◌, refl, ap, ◌∙◌}
 use mathlib.Core.Bool.{Bool, true, false}
 use mathlib.Core.List.{List, [], ◌∷◌}
 use Prim.Native.Nat.{ℕ}
 use borrow.Author.Tests.{eq-eqb, ne_eqb}
-use lib.ListN.{set}
-use Rattle.code.specs.Layout.{lay, link}
-use Rattle.table_list.specs.Laid.{Laid}
+use Rattle.code.specs.Layout.{lay}
 use Rattle.rule_faults.specs.declared.Fault.{Fault}
 use Rattle.rule_faults.specs.declared.Fault.TheVariants.{Kind}
 use Rattle.table_scope.specs.declared.Info.{Info}
@@ -15,15 +13,11 @@ use Rattle.table_scope.specs.Sides.{host_in}
 use Rattle.rule_faults.specs.declared.Got.{Got}
 use Rattle.rule_faults.specs.Got.{lowest, is_clear, failed_got}
 use Rattle.rule_expr_nodes.specs.Nodes.{Makes, node_made}
-use Rattle.rule_expr_leaves.specs.Links.{linked, set_node, set_made}
+use Rattle.rule_expr_leaves.specs.Links.{set_node, set_made}
 use Rattle.rule_expr_nodes.proofs.Making.{if-clear, if-fault}
 
 pub base-is : (l ts : List ℕ) (t : ℕ) (i : Info) (r : ℕ) → i ≡ info_of l ts t → r ≡ host_in l ts i.element → r ≡ host_in l ts (info_of l ts t).element
 base-is l ts t i r h e = e ∙ ap (λ (x : Info). host_in l ts x.element) h
-
-pub linked-is : (slot place top t : ℕ) (l l₁ l' : List ℕ) → Laid (lay (place ∷ 0 ∷ []) top l) t l₁ → l' ≡ set l₁ slot top → Laid (linked slot place top l) t l'
-unfolding linked link lay
-linked-is slot place top t l l₁ l' h e = record { free = h.free; left = e ∙ ap (λ k. set k slot top) h.left }
 
 module _ (i : Info) (t chain : ℕ) (m : Got) (l : List ℕ) (r : Got) where
   pub set_is : (l' : List ℕ) → i.shape ≡ 1 → Makes (node_made t m.next (lay (6 ∷ i.low ∷ i.high ∷ chain ∷ []) m.top l)) r l' → Makes (set_node i t chain m l) r l'

@@ -21,19 +21,25 @@ use Rattle.text_parts.specs.declared.Part.{Part}
 use Rattle.text_parts.specs.declared.Part.TheVariants as part
 use Rattle.std.specs.Prelude.{Option as Maybe, Some, None}
 use Rattle.text_parts.specs.Parts.{Stands, Shuts}
-use Rattle.rule_expr_leaves.specs.declared.fields.Sole.{Sole}
-use Rattle.rule_expr_leaves.specs.declared.fields.Sole.TheVariants as sole
 use Rattle.rule_expr_leaves.specs.Fields.{is_named, SoleWord, SoleName}
 
-module _ (s : List ℕ) (w : Word) (p q : ℕ) (a : Atom) (t : Bool) (i : a ≡ atom_of w) (h : t ≡ is_named a) where
-  pub sole-past : (n : ℕ) (e : Maybe ℕ) → t ≡ true → Shuts s q e → e ≡ Some n → SoleWord s w p q (sole.Name p n)
-  sole-past n e z c f = record { says = (refl, ap is_named (sym i) ∙ sym h ∙ z, rw f at c.says) }
+only-named : (a : Atom) → is_named a ≡ true → a ≡ AT.Named
+only-named (AT.Number z) h = absurd (true≢false (sym h))
+only-named AT.Named h = refl
+only-named (AT.Truth b) h = absurd (true≢false (sym h))
+only-named AT.ErrorNumber h = absurd (true≢false (sym h))
+only-named (AT.Base k) h = absurd (true≢false (sym h))
+only-named AT.Nothing h = absurd (true≢false (sym h))
 
-  pub sole-more : (e : Maybe ℕ) → t ≡ true → Shuts s q e → e ≡ None → SoleWord s w p q sole.Nothing
+module _ (s : List ℕ) (w : Word) (p q : ℕ) (a : Atom) (i : a ≡ atom_of w) where
+  pub sole-past : (n : ℕ) (e : Maybe ℕ) → a ≡ AT.Named → Shuts s q e → e ≡ Some n → SoleWord s w p q (Some (p, n))
+  sole-past n e z c f = record { says = (refl, ap is_named (sym i ∙ z), rw f at c.says) }
+
+  pub sole-more : (e : Maybe ℕ) → a ≡ AT.Named → Shuts s q e → e ≡ None → SoleWord s w p q None
   sole-more e z c f = record { says = λ g k. (rw f at c.says) k }
 
-  pub sole-other : t ≡ false → SoleWord s w p q sole.Nothing
-  sole-other z = record { says = λ g k. true≢false (sym g ∙ ap is_named (sym i) ∙ sym h ∙ z) }
+  pub sole-other : ((a ≡ AT.Named) → ⊥) → SoleWord s w p q None
+  sole-other z = record { says = λ g k. absurd (z (only-named a (ap is_named i ∙ g))) }
 
 pub ruleset sole-word-laws = (sole-past, sole-more, sole-other)
 
@@ -65,13 +71,13 @@ unfolding ◌>>=◌
 no_name us = refl
 
 module _ (s : List ℕ) (at : ℕ) (x : Part) (c : Stands s at x) where
-  pub sole-leaf : (w : Word) (p q : ℕ) (r : Sole) → x ≡ part.Leaf w p q → SoleWord s w p q r → SoleName s at r
-  sole-leaf w p q (sole.Name p' n) e g =
+  pub sole-leaf : (w : Word) (p q : ℕ) (r : Maybe (ℕ × ℕ)) → x ≡ part.Leaf w p q → SoleWord s w p q r → SoleName s at r
+  sole-leaf w p q (Some (p', n)) e g =
       let f = rw e at c.says in
       let b = f.0.leaf in
       let y : is_named (atom_of (word_of (word_at s p))) ≡ true = rw (← f.1) g.says.1 in
       record { says = rw (b.here, g.says.0) (name-word (word_at s p) (first (stack_at s q)) ∙ named-name (atom_of (word_of (word_at s p))) (map small (word_at s p)) y, g.says.2.here, b.around ∙ g.says.2.around) }
-  sole-leaf w p q sole.Nothing e g =
+  sole-leaf w p q None e g =
       let f = rw e at c.says in
       let b = f.0.leaf in
       record { says = rw b.here (go (is_named (atom_of w)) refl f.1) }
@@ -80,11 +86,19 @@ module _ (s : List ℕ) (at : ℕ) (x : Part) (c : Stands s at x) where
       go true h k = open-name (name_in (word (word_at s p) then first (stack_at s q))) (first (stack_at s q)) (λ z. g.says h z)
       go false h k = rw (name-word (word_at s p) (first (stack_at s q)) ∙ other_name (atom_of (word_of (word_at s p))) (map small (word_at s p)) (rw (← k) h)) (no_name (first (stack_at s q)))
 
-  pub sole-form : (p : ℕ) → x ≡ part.Form p → SoleName s at sole.Nothing
+  sole-form : (p : ℕ) → x ≡ part.Form p → SoleName s at None
   sole-form p e = let f = rw e at c.says in record { says = rw (f.here, name-form (first (stack_at s p)) (first (later (stack_at s p)))) (no_name (first (later (stack_at s p)))) }
 
-  pub sole-shut : (p : ℕ) → x ≡ part.Shut p → SoleName s at sole.Nothing
+  sole-shut : (p : ℕ) → x ≡ part.Shut p → SoleName s at None
   unfolding name_in part_of ◌>>=◌
   sole-shut p e = let f = rw e at c.says in record { says = rw f.here refl }
 
-pub ruleset sole-name-laws = (sole-leaf, sole-form, sole-shut)
+  pub sole-none : ((w : Word) (p q : ℕ) → x ≡ part.Leaf w p q → ⊥) → SoleName s at None
+  sole-none n = go x refl
+    where
+      go : (y : Part) → x ≡ y → SoleName s at None
+      go (part.Leaf w p q) e = absurd (n w p q e)
+      go (part.Form p) e = sole-form p e
+      go (part.Shut p) e = sole-shut p e
+
+pub ruleset sole-name-laws = (sole-leaf, sole-none)

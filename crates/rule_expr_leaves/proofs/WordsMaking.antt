@@ -14,11 +14,11 @@ use Rattle.leaf_integers.specs.Integers.{inside, least, most, pick, ranged, exac
 use Rattle.leaf_integers.specs.declared.Fault as ArithFault
 use Rattle.leaf_integers.specs.declared.Fault.TheVariants.{Overflow}
 use Rattle.leaf_integers.specs.Integers.{Num}
-use Rattle.std.specs.Prelude.{Ok, Err}
+use Rattle.std.specs.Prelude.{Ok, Err, Option, Some, None, Option as Maybe}
 use Rattle.leaf_integers.proofs.Machine.{wire}
 use Rattle.leaf_words.specs.declared.words.Word.{Word}
 use Rattle.leaf_words.specs.Words.{word_of}
-use Rattle.code.specs.Layout.{lay, flag}
+use Rattle.code.specs.Layout.{lay}
 use Rattle.law.specs.Trees.{end, word, first, later, word_at}
 use Rattle.law_theorems.specs.Readings.{stack_at}
 use Rattle.text_heads.specs.Heads.{atom_of, atom_number}
@@ -36,29 +36,16 @@ use Rattle.table_scope.specs.declared.Meaning.TheVariants as meaning
 use Rattle.table_scope.specs.Descriptions.{info_of}
 use Rattle.table_scope.specs.Sides.{host_in}
 use Rattle.rule_faults.specs.declared.Got.{Got}
-use Rattle.std.specs.Prelude.{Option, Some, None}
 use Rattle.text_parts.specs.declared.Part.{Part}
 use Rattle.text_parts.specs.declared.Part.TheVariants as part
-use Rattle.rule_faults.specs.Got.{failed_got}
+use Rattle.rule_faults.specs.Got.{failed_got, is_clear}
 use Rattle.text_parts.specs.Parts.{Before, LeafAt, FormAt, ShutAt, Stands, Shuts}
-use Rattle.rule_expr_leaves.specs.declared.words.Alone.{Alone}
-use Rattle.rule_expr_leaves.specs.declared.words.Alone.TheVariants as alone
 use Rattle.rule_expr_nodes.specs.Nodes.{node_made, Makes, if_clear, literal_made}
+use Rattle.rule_expr_nodes.proofs.Making.{if-clear, if-fault}
 use Rattle.rule_expr_nodes.specs.Cells.{cells_made, end_bits}
 use Rattle.rule_expr_leaves.specs.Words.{AfterBy, StandsAloneBy, whole_made, named_made, place_made, end_made, bound_made, Ends, After, StandsAlone}
 
 -- ---- variables
-
-module _ (b : Bool) where
-  pub flag_true : b ≡ true → ◌≡◌ {A = ℕ} 1 (flag b)
-  unfolding flag
-  flag_true h = rw h
-
-  pub flag-false : b ≡ false → ◌≡◌ {A = ℕ} 0 (flag b)
-  unfolding flag
-  flag-false h = rw h
-
-pub ruleset flag-laws = (flag_true, flag-false)
 
 pub whole_is : (l ts : List ℕ) (k a q t : ℕ) (i : Info) (h : ℕ) (r : Got) (l' : List ℕ) → i ≡ info_of l ts k → h ≡ host_in l ts k → Makes (cells_made i.size h a q t l) r l' → Makes (whole_made l ts k a q t) r l'
 unfolding whole_made
@@ -115,67 +102,55 @@ module _ (l ts : List ℕ) (last : Bool) (k q t : ℕ) (i : Info) (e : i ≡ inf
 
 pub ruleset end-laws = (end-ordinal, end-other)
 
-module _ (l ts : List ℕ) (last : Bool) (f : Fault) (k q t : ℕ) (r : Got) where
-  pub bound-clear : (l' : List ℕ) → f ≡ Clear → Makes (end_made l ts last k q t) r l' → Makes (bound_made l ts last f k q t) r l'
-  unfolding bound_made if_clear
-  bound-clear l' e m = rw e m
+module _ (l ts : List ℕ) (last : Bool) (f : Fault) (k q t : ℕ) (r : Got) (b : Bool) (h : b ≡ is_clear f) where
+  pub bound-clear : b ≡ true → (l' : List ℕ) → Makes (end_made l ts last k q t) r l' → Makes (bound_made l ts last f k q t) r l'
+  unfolding bound_made
+  bound-clear z l' m = if-clear f 0 q t l (end_made l ts last k q t) b h z r l' m
 
-  pub bound-kind : f ≡ Kind → r ≡ failed_got Kind 0 q t → Makes (bound_made l ts last f k q t) r l
-  unfolding bound_made if_clear
-  bound-kind e m = rw e (record { given = m; left = refl })
+  pub bound-fault : b ≡ false → r ≡ failed_got f 0 q t → Makes (bound_made l ts last f k q t) r l
+  unfolding bound_made
+  bound-fault z m = if-fault f 0 q t l (end_made l ts last k q t) b h z r m
 
-  pub bound-name : f ≡ Name → r ≡ failed_got Name 0 q t → Makes (bound_made l ts last f k q t) r l
-  unfolding bound_made if_clear
-  bound-name e m = rw e (record { given = m; left = refl })
-
-  pub bound-form : f ≡ Form → r ≡ failed_got Form 0 q t → Makes (bound_made l ts last f k q t) r l
-  unfolding bound_made if_clear
-  bound-form e m = rw e (record { given = m; left = refl })
-
-pub ruleset bound-of-laws = (bound-clear, bound-kind, bound-name, bound-form)
+pub ruleset bound-of-laws = (bound-clear, bound-fault)
 
 -- ---- a number alone
 
-module _ (s : List ℕ) (z : ℤ) (at : ℕ) (e : Option ℕ) (h : Shuts s at e) where
-  pub last-past : (q : ℕ) → SFits w64 z → e ≡ Some q → Ends s z at (alone.Number (wire z) q)
+module _ (s : List ℕ) (z : ℤ) (at : ℕ) (e : Maybe ℕ) (h : Shuts s at e) where
+  pub last-past : (q : ℕ) → SFits w64 z → e ≡ Some q → Ends s z at (Some (wire z, q))
   last-past q p f = record { says = (to_z-of_z p, rw f at h.says) }
 
-  pub last_more : e ≡ None → Ends s z at alone.No
+  pub last_more : e ≡ None → Ends s z at None
   last_more f = record { says = rw f at h.says }
 
 pub ruleset last-laws = (last-past, last_more)
 
 module _ (s : List ℕ) (w : Word) (at : ℕ) (a : Atom) (e : a ≡ atom_of w) where
-  pub after-number : (z : ℤ) (r : Alone) → a ≡ AT.Number z → SFits w64 z → Ends s (wire z) at r → After s w at r
+  pub after-number : (z : ℤ) (r : Maybe (ℤ × ℕ)) → a ≡ AT.Number z → SFits w64 z → Ends s (wire z) at r → After s w at r
   after-number z r f p h = record { says = rw (← e, f) (go r (rw (to_z-of_z p) at h)) }
     where
-      go : (r : Alone) → Ends s z at r → AfterBy s (AT.Number z) at r
-      go (alone.Number y q) g = (ap some (sym g.says.0), g.says.1)
-      go alone.No g = λ k. absurd (g.says k)
+      go : (r : Maybe (ℤ × ℕ)) → Ends s z at r → AfterBy s (AT.Number z) at r
+      go (Some (y, q)) g = (ap some (sym g.says.0), g.says.1)
+      go None g = λ k. absurd (g.says k)
 
-  pub after-named : a ≡ AT.Named → After s w at alone.No
-  after-named f = record { says = rw (← e, f) (λ _. refl) }
+  pub after-other : ((z : ℤ) → a ≡ AT.Number z → ⊥) → After s w at None
+  after-other n = record { says = rw (← e) (go a refl) }
+    where
+      go : (b : Atom) → a ≡ b → AfterBy s a at None
+      go (AT.Number z) f = absurd (n z f)
+      go AT.Named f = rw f (λ _. refl)
+      go (AT.Truth b) f = rw f (λ _. refl)
+      go AT.ErrorNumber f = rw f (λ _. refl)
+      go (AT.Base k) f = rw f (λ _. refl)
+      go AT.Nothing f = rw f (λ _. refl)
 
-  pub after-truth : (b : Bool) → a ≡ AT.Truth b → After s w at alone.No
-  after-truth b f = record { says = rw (← e, f) (λ _. refl) }
-
-  pub after-error : a ≡ AT.ErrorNumber → After s w at alone.No
-  after-error f = record { says = rw (← e, f) (λ _. refl) }
-
-  pub after-base : (k : ℕ) → a ≡ AT.Base k → After s w at alone.No
-  after-base k f = record { says = rw (← e, f) (λ _. refl) }
-
-  pub after_nothing : a ≡ AT.Nothing → After s w at alone.No
-  after_nothing f = record { says = rw (← e, f) (λ _. refl) }
-
-pub ruleset after-laws = (after-number, after-named, after-truth, after-error, after-base, after_nothing)
+pub ruleset after-laws = (after-number, after-other)
 
 no_number : number_in end ≡ none
 unfolding number_in part_of ◌>>=◌
 no_number = refl
 
 module _ (s : List ℕ) (at : ℕ) (x : Part) (h : Stands s at x) where
-  pub alone-leaf : (w : Word) (p q : ℕ) (r : Alone) → x ≡ part.Leaf w p q → After s w q r → StandsAlone s at r
+  pub alone-leaf : (w : Word) (p q : ℕ) (r : Maybe (ℤ × ℕ)) → x ≡ part.Leaf w p q → After s w q r → StandsAlone s at r
   alone-leaf w p q r e A =
       let g : LeafAt s at p q × (w ≡ word_of (word_at s p)) = rw e at h.says in
       let b : Before s at (word (word_at s p)) q = g.0.leaf in
@@ -183,22 +158,30 @@ module _ (s : List ℕ) (at : ℕ) (x : Part) (h : Stands s at x) where
       let j : rest (first (stack_at s at)) ≡ first (stack_at s q) = ap rest b.here in
       record { says = go r i j b.around A.says }
     where
-      go : (r : Alone) → number_in (first (stack_at s at)) ≡ atom_number (atom_of w) → rest (first (stack_at s at)) ≡ first (stack_at s q) → later (stack_at s at) ≡ later (stack_at s q)
+      go : (r : Maybe (ℤ × ℕ)) → number_in (first (stack_at s at)) ≡ atom_number (atom_of w) → rest (first (stack_at s at)) ≡ first (stack_at s q) → later (stack_at s at) ≡ later (stack_at s q)
           → AfterBy s (atom_of w) q r → StandsAloneBy s at r
-      go (alone.Number z n) i j b a = (i ∙ a.0, j ∙ a.1.here, b ∙ a.1.around)
-      go alone.No i j b a = λ k. i ∙ a (sym j ∙ k)
+      go (Some (z, n)) i j b a = (i ∙ a.0, j ∙ a.1.here, b ∙ a.1.around)
+      go None i j b a = λ k. i ∙ a (sym j ∙ k)
 
-  pub alone-form : (p : ℕ) → x ≡ part.Form p → StandsAlone s at alone.No
+  alone-form : (p : ℕ) → x ≡ part.Form p → StandsAlone s at None
   alone-form p e =
       let g : FormAt s at p = rw e at h.says in
       record { says = λ _. ap number_in g.here ∙ number-form (first (stack_at s p)) (first (later (stack_at s p))) }
 
-  pub alone-shut : (q : ℕ) → x ≡ part.Shut q → StandsAlone s at alone.No
+  alone-shut : (q : ℕ) → x ≡ part.Shut q → StandsAlone s at None
   alone-shut q e =
       let g : ShutAt s at q = rw e at h.says in
       record { says = λ _. ap number_in g.here ∙ no_number }
 
-pub ruleset alone-laws = (alone-leaf, alone-form, alone-shut)
+  pub alone-none : ((w : Word) (p q : ℕ) → x ≡ part.Leaf w p q → ⊥) → StandsAlone s at None
+  alone-none n = go x refl
+    where
+      go : (y : Part) → x ≡ y → StandsAlone s at None
+      go (part.Leaf w p q) e = absurd (n w p q e)
+      go (part.Form p) e = alone-form p e
+      go (part.Shut p) e = alone-shut p e
+
+pub ruleset alone-laws = (alone-leaf, alone-none)
 
 -- ---- the constant `(- z)`
 

@@ -1,6 +1,6 @@
--- The members of a set: a member's link, and the node of the set.
+-- The node of a set.
 use Rattle.std.specs.Prelude.{cond, List, [], ◌∷◌, ℕ, eqb}
-use Rattle.code.specs.Layout.{Out, lay, link}
+use Rattle.code.specs.Layout.{lay}
 use Rattle.rule_faults.specs.declared.Fault.{Fault}
 use Rattle.rule_faults.specs.declared.Fault.TheVariants.{Kind}
 use Rattle.table_scope.specs.declared.Info.{Info}
@@ -8,10 +8,6 @@ use Rattle.table_scope.specs.Descriptions.{info_of}
 use Rattle.rule_faults.specs.declared.Got.{Got}
 use Rattle.rule_faults.specs.Got.{lowest}
 use Rattle.rule_expr_nodes.specs.Nodes.{Made, failed_made, node_made, if_clear}
-
--- a link to p at the free place, and the slot s before it
-unfoldable pub linked : ℕ → ℕ → ℕ → List ℕ → Out
-linked s p t l = link s (lay (p ∷ 0 ∷ []) t l)
 
 -- the set itself, of type t with a fault of its name's; i describes the type
 unfoldable pub set_node : Info → ℕ → ℕ → Got → List ℕ → Made

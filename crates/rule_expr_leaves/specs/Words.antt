@@ -1,5 +1,5 @@
 -- Words as expressions and targets, `first` and `last`, and `(- number)`, as the code makes them.
-use Rattle.std.specs.Prelude.{Bool, cond, List, [], ◌∷◌, ◌≡◌, ℕ, eqb, ℤ}
+use Rattle.std.specs.Prelude.{Bool, cond, List, [], ◌∷◌, ◌≡◌, ℕ, eqb, ℤ, Some, None, Option as Maybe}
 use Rattle.std.proofs.Math.Option.{none, some}
 use Rattle.leaf_words.specs.declared.words.Word.{Word}
 use Rattle.code.specs.Layout.{lay, flag}
@@ -16,8 +16,6 @@ use Rattle.table_scope.specs.declared.Meaning.TheVariants as meaning
 use Rattle.table_scope.specs.Descriptions.{info_of}
 use Rattle.table_scope.specs.Sides.{host_in}
 use Rattle.text_parts.specs.Parts.{ShutAt}
-use Rattle.rule_expr_leaves.specs.declared.words.Alone.{Alone}
-use Rattle.rule_expr_leaves.specs.declared.words.Alone.TheVariants as alone
 use Rattle.rule_expr_nodes.specs.Nodes.{Made, failed_made, node_made, if_clear, literal_made}
 use Rattle.rule_expr_nodes.specs.Cells.{cells_made, end_bits}
 
@@ -78,25 +76,25 @@ bound_made l ts last f k q t = if_clear f 0 q t l (end_made l ts last k q t)
 -- ---- a number as the last part of a form
 
 -- z, and the end of the form at an offset
-abbrev pub EndsBy : List ℕ → ℤ → ℕ → Alone → Type 0
-EndsBy s z at (alone.Number y q) = (y ≡ z) × ShutAt s at q
-EndsBy s z at alone.No = first (stack_at s at) ≡ end → ⊥
+abbrev pub EndsBy : List ℕ → ℤ → ℕ → Maybe (ℤ × ℕ) → Type 0
+EndsBy s z at (Some (y, q)) = (y ≡ z) × ShutAt s at q
+EndsBy s z at None = first (stack_at s at) ≡ end → ⊥
 
-pub record Ends (s : List ℕ) (z : ℤ) (at : ℕ) (r : Alone) : Type 0 where
+pub record Ends (s : List ℕ) (z : ℤ) (at : ℕ) (r : Maybe (ℤ × ℕ)) : Type 0 where
   pub says : EndsBy s z at r
 
 -- a word, and the end of the form at an offset
-abbrev pub AfterBy : List ℕ → Atom → ℕ → Alone → Type 0
-AfterBy s a at (alone.Number z q) = (atom_number a ≡ some z) × ShutAt s at q
-AfterBy s a at alone.No = first (stack_at s at) ≡ end → atom_number a ≡ none
+abbrev pub AfterBy : List ℕ → Atom → ℕ → Maybe (ℤ × ℕ) → Type 0
+AfterBy s a at (Some (z, q)) = (atom_number a ≡ some z) × ShutAt s at q
+AfterBy s a at None = first (stack_at s at) ≡ end → atom_number a ≡ none
 
-pub record After (s : List ℕ) (w : Word) (at : ℕ) (r : Alone) : Type 0 where
+pub record After (s : List ℕ) (w : Word) (at : ℕ) (r : Maybe (ℤ × ℕ)) : Type 0 where
   pub says : AfterBy s (atom_of w) at r
 
 -- the parts from an offset on: one number and no more; else no number where there is one part alone
-abbrev pub StandsAloneBy : List ℕ → ℕ → Alone → Type 0
-StandsAloneBy s at (alone.Number z q) = (number_in (first (stack_at s at)) ≡ some z) × (rest (first (stack_at s at)) ≡ end) × (later (stack_at s at) ≡ stack_at s q)
-StandsAloneBy s at alone.No = rest (first (stack_at s at)) ≡ end → number_in (first (stack_at s at)) ≡ none
+abbrev pub StandsAloneBy : List ℕ → ℕ → Maybe (ℤ × ℕ) → Type 0
+StandsAloneBy s at (Some (z, q)) = (number_in (first (stack_at s at)) ≡ some z) × (rest (first (stack_at s at)) ≡ end) × (later (stack_at s at) ≡ stack_at s q)
+StandsAloneBy s at None = rest (first (stack_at s at)) ≡ end → number_in (first (stack_at s at)) ≡ none
 
-pub record StandsAlone (s : List ℕ) (at : ℕ) (r : Alone) : Type 0 where
+pub record StandsAlone (s : List ℕ) (at : ℕ) (r : Maybe (ℤ × ℕ)) : Type 0 where
   pub says : StandsAloneBy s at r

@@ -1,14 +1,12 @@
-// The nodes of `members`: links of its chain, and the set.
-ghost use Rattle.std.specs.Prelude.{◌≡◌, ◌+◌};
-ghost use Rattle.table_list.specs.Laid.{Laid};
+// The nodes of `members`: the kind of its members, and the set.
+ghost use Rattle.std.specs.Prelude.{◌≡◌};
 ghost use Rattle.table_scope.specs.Descriptions.{info_of};
 ghost use Rattle.table_scope.specs.Sides.{host_in};
 ghost use Rattle.rule_expr_nodes.specs.Nodes.{Makes};
-ghost use Rattle.rule_expr_leaves.specs.Links.{linked, set_node, set_made};
+ghost use Rattle.rule_expr_leaves.specs.Links.{set_node, set_made};
 
 use rule_expr_nodes::nodes::node;
 use rule_faults::{Fault, Got, failed, is_clear, lowest};
-use table_list::{lay, put};
 use table_scope::{Info, describe, host_of};
 
 // The kind of the members of a set of type t.
@@ -19,42 +17,26 @@ pub fn base_of(work: &[u32], types: &[u32], t: u32) -> u32
     host_of(work, types, i.element)
 }
 
-// A link to a place, and the slot before it; the free place then.
-pub fn link_to(work: &mut [u32], slot: usize, place: u32, top: u32) -> u32
-    ensures { Laid (linked slot place top work.old) result work.new }
-{
-    let ns = [place, 0];
-    let t = lay(work, top, &ns);
-    put(work, slot, top);
-    t
-}
-
-// The slot of a link that is laid at a place.
-pub fn slot_after(place: u32) -> usize
-    ensures { result ≡ place + 1 }
-{
-    place as usize + 1
-}
-
 // A set whose members have no fault, of a type that i describes.
 fn set_node(work: &mut [u32], i: Info, t: u32, chain: u32, m: Got) -> Got
     ensures { Makes (set_node i t chain m work.old) result work.new }
 {
     if i.shape == 1 {
         let ns = [code_ops::expr::MAKE_SET, i.low, i.high, chain];
-        return node(work, t, m.next, m.top, &ns);
+        node(work, t, m.next, m.top, &ns)
+    } else {
+        failed(Fault::Kind, 0, m.next, m.top)
     }
-    failed(Fault::Kind, 0, m.next, m.top)
 }
 
 // A set of type t, whose name has the fault f.
 pub fn set_of(work: &mut [u32], types: &[u32], f: Fault, t: u32, chain: u32, m: Got) -> Got
     ensures { Makes (set_made work.old types.now f t chain m) result work.new }
 {
-    let c = m.fault;
-    let g = lowest(f, c);
+    let g = lowest(f, m.fault);
     if is_clear(g) {
-        return set_node(work, describe(work, types, t), t, chain, m);
+        set_node(work, describe(work, types, t), t, chain, m)
+    } else {
+        failed(g, 0, m.next, m.top)
     }
-    failed(g, 0, m.next, m.top)
 }

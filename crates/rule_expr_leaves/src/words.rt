@@ -8,26 +8,17 @@ use leaf_integers::neg;
 use leaf_words::words::Word;
 use rule_expr_nodes::cells::{cells, end_bits};
 use rule_expr_nodes::nodes::{literal, node};
-use rule_faults::{Fault, Got, failed};
+use rule_faults::{Fault, Got, failed, is_clear};
 use table_scope::{Meaning, describe, host_of};
 use text_heads::{Atom, atom_of};
 use text_parts::{Part, end_at, part_at};
 
-// Whether a form has, from an offset on, a number alone: the number, and the offset past the closing bracket.
-#[derive(Clone, Copy)]
-pub enum Alone {
-    Number(i64, usize),
-    No,
-}
-
 // A truth value in 32 bits.
+#[tactic(auto, unfolding(code::specs::Layout::flag))]
 pub fn flag(b: bool) -> u32
     ensures { result ≡ flag_of b }
 {
-    if b {
-        return 1;
-    }
-    0
+    u32::from(b)
 }
 
 // The cells of a variable of type k.
@@ -44,14 +35,9 @@ pub fn named(work: &mut [u32], types: &[u32], m: Meaning, next: usize, top: u32)
     ensures { Makes (named_made work.old types.now m next top) result work.new }
 {
     match m {
-        Meaning::Unknown => failed(Fault::Name, 0, next, top),
-        Meaning::Type(_) => failed(Fault::Name, 0, next, top),
         Meaning::Var(_, k, base) => whole(work, types, k, base, next, top),
-        Meaning::Proc(_) => failed(Fault::Name, 0, next, top),
-        Meaning::Value(k, n) => {
-            let ns = [code_ops::expr::LITERAL, n];
-            node(work, k, next, top, &ns)
-        }
+        Meaning::Value(k, n) => node(work, k, next, top, &[code_ops::expr::LITERAL, n]),
+        _ => failed(Fault::Name, 0, next, top),
     }
 }
 
@@ -60,14 +46,8 @@ pub fn place(work: &mut [u32], m: Meaning, next: usize, top: u32) -> Got
     ensures { Makes (place_made work.old m next top) result work.new }
 {
     match m {
-        Meaning::Unknown => failed(Fault::Name, 0, next, top),
-        Meaning::Type(_) => failed(Fault::Name, 0, next, top),
-        Meaning::Var(_, k, base) => {
-            let ns = [code_ops::place::CELL, base];
-            node(work, k, next, top, &ns)
-        }
-        Meaning::Proc(_) => failed(Fault::Name, 0, next, top),
-        Meaning::Value(_, _) => failed(Fault::Name, 0, next, top),
+        Meaning::Var(_, k, base) => node(work, k, next, top, &[code_ops::place::CELL, base]),
+        _ => failed(Fault::Name, 0, next, top),
     }
 }
 
@@ -79,9 +59,10 @@ fn end_of(work: &mut [u32], types: &[u32], last: bool, k: u32, next: usize, top:
     if i.shape == 0 {
         let kind = host_of(work, types, k);
         let ns = [code_ops::expr::LITERAL, end_bits(last, i)];
-        return node(work, kind, next, top, &ns);
+        node(work, kind, next, top, &ns)
+    } else {
+        failed(Fault::Kind, 0, next, top)
     }
-    failed(Fault::Kind, 0, next, top)
 }
 
 // `first` or `last` of type k, whose name has a fault or none.
@@ -96,49 +77,41 @@ pub fn bound_of(
 ) -> Got
     ensures { Makes (bound_made work.old types.now last fault k next top) result work.new }
 {
-    match fault {
-        Fault::Clear => end_of(work, types, last, k, next, top),
-        Fault::Kind => failed(Fault::Kind, 0, next, top),
-        Fault::Name => failed(Fault::Name, 0, next, top),
-        Fault::Form => failed(Fault::Form, 0, next, top),
+    if is_clear(fault) {
+        end_of(work, types, last, k, next, top)
+    } else {
+        failed(fault, 0, next, top)
     }
 }
 
-// A number after which the form ends at an offset, if it does.
-fn number_last(text: &[u8], z: i64, at: usize) -> Alone
+// A number after which the form ends at an offset, if it does, and the offset past the closing bracket.
+fn number_last(text: &[u8], z: i64, at: usize) -> Option<(i64, usize)>
     ensures { Ends text.now z at result }
 {
     let e = end_at(text, at);
     match e {
-        Some(q) => Alone::Number(z, q),
-        None => Alone::No,
+        Some(q) => Some((z, q)),
+        None => None,
     }
 }
 
 // A word that is a number, after which the form ends at an offset, if so.
-fn word_last(text: &[u8], w: Word, at: usize) -> Alone
+fn word_last(text: &[u8], w: Word, at: usize) -> Option<(i64, usize)>
     ensures { After text.now w at result }
 {
-    let a = atom_of(w);
-    match a {
+    match atom_of(w) {
         Atom::Number(z) => number_last(text, z, at),
-        Atom::Named => Alone::No,
-        Atom::Truth(_) => Alone::No,
-        Atom::ErrorNumber => Alone::No,
-        Atom::Base(_) => Alone::No,
-        Atom::Nothing => Alone::No,
+        _ => None,
     }
 }
 
-// Whether the form has from an offset on a number alone.
-pub fn number_alone(text: &[u8], at: usize) -> Alone
+// The number that a form has alone from an offset on, if so, and the offset past the closing bracket.
+pub fn number_alone(text: &[u8], at: usize) -> Option<(i64, usize)>
     ensures { StandsAlone text.now at result }
 {
-    let part = part_at(text, at);
-    match part {
+    match part_at(text, at) {
         Part::Leaf(w, _, q) => word_last(text, w, q),
-        Part::Form(_) => Alone::No,
-        Part::Shut(_) => Alone::No,
+        _ => None,
     }
 }
 

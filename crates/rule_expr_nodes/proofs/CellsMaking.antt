@@ -23,7 +23,7 @@ module _ (a n : ℕ) where
   unfolding span_of
   span-both h k = rw (lt-ltb a 65536 h, lt-ltb n 65536 k) refl
 
-pub ruleset span-laws = (span-base, span-size, span-both)
+pub ruleset span_laws = (span-base, span-size, span-both)
 
 module _ (n k a q t : ℕ) (l : List ℕ) (r : Got) (l' : List ℕ) where
   pub cells-one : n ≡ 1 → Makes (node_made k q (lay (2 ∷ a ∷ []) t l)) r l' → Makes (cells_made n k a q t l) r l'
@@ -34,7 +34,7 @@ module _ (n k a q t : ℕ) (l : List ℕ) (r : Got) (l' : List ℕ) where
   unfolding cells_made
   cells-more x h e m = rw (ne_eqb n 1 h, ← e) m
 
-pub ruleset cells-laws = (cells-one, cells-more)
+pub ruleset cells_laws = (cells-one, cells-more)
 
 module _ (b : Bool) (i : Info) where
   pub end-high : b ≡ true → i.high ≡ end_bits b i
@@ -45,4 +45,4 @@ module _ (b : Bool) (i : Info) where
   unfolding end_bits
   end_low h = rw h
 
-pub ruleset end-bits-laws = (end-high, end_low)
+pub ruleset end_bits_laws = (end-high, end_low)

@@ -16,4 +16,4 @@ module _ (s : List ℕ) (g : Got) (e : Option ℕ) (h : Shuts s g.next e) where
   pub closing-more : (r : Got) → e ≡ None → r ≡ failed_got Form 0 g.next g.top → Closes s g r
   closing-more r f k = rw k (more (rw f at h.says))
 
-pub ruleset closing-laws = (closing-shut, closing-more)
+pub ruleset closing_laws = (closing-shut, closing-more)

@@ -98,7 +98,7 @@ module _ (z : ℤ) (h : SFits w64 z) where
   pub bits-natural : (p : ℕ) → lt_z (wire z) (pos 0) ≡ false → p ≡ pattern_of (wire z) → IsBits z p
   bits-natural p e k = let d = rw (to_z-of_z h) at e in rw (k, to_z-of_z h) (bits_above z d)
 
-pub ruleset bits-laws = (bits-negative, bits-natural)
+pub ruleset bits_laws = (bits-negative, bits-natural)
 
 -- a constant
 module _ (k : ℕ) (z : ℤ) (q t : ℕ) (l : List ℕ) (b : Bool) (r : Got) (fit : SFits w64 z) (e : b ≡ inside least most (wire z)) where
@@ -110,4 +110,4 @@ module _ (k : ℕ) (z : ℤ) (q t : ℕ) (l : List ℕ) (b : Bool) (r : Got) (fi
   unfolding literal_made
   literal-out h g = let f = rw (to_z-of_z fit) at (sym e ∙ h) in rw f (record { given = g; left = refl })
 
-pub ruleset literal-laws = (literal-in, literal-out)
+pub ruleset literal_laws = (literal-in, literal-out)

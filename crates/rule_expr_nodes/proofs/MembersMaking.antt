@@ -1,36 +1,33 @@
 -- The laws of a member's own fault.
-use mathlib.Core.Path.{◌≡◌, refl}
+use mathlib.Core.Path.{◌≡◌, refl, sym}
+use mathlib.Core.Bool.{true, false, true≢false}
 use Prim.Native.Nat.{ℕ}
 use borrow.Author.Tests.{eq-eqb, ne_eqb}
 use Rattle.rule_faults.specs.declared.Fault.{Fault}
 use Rattle.rule_faults.specs.declared.Fault.TheVariants.{Clear, Kind, Name, Form}
+use Rattle.rule_faults.specs.Got.{is_clear}
 use Rattle.rule_expr_nodes.specs.Members.{member_fault}
 
-module _ (a b : ℕ) where
-  pub kind-same : a ≡ b → Clear ≡ member_fault Clear a b
+module _ (kind base : ℕ) where
+  pub member_same : (f : Fault) → kind ≡ base → f ≡ member_fault f kind base
   unfolding member_fault
-  kind-same h = rw (eq-eqb a b h) refl
+  member_same Clear h = rw (eq-eqb kind base h) refl
+  member_same Kind h = refl
+  member_same Name h = refl
+  member_same Form h = refl
 
-  pub kind-other : ((a ≡ b) → ⊥) → Kind ≡ member_fault Clear a b
+  pub member_other : (f : Fault) → is_clear f ≡ true → ((kind ≡ base) → ⊥) → Kind ≡ member_fault f kind base
   unfolding member_fault
-  kind-other h = rw (ne_eqb a b h) refl
+  member_other Clear c h = rw (ne_eqb kind base h) refl
+  member_other Kind c h = absurd (true≢false (sym c))
+  member_other Name c h = absurd (true≢false (sym c))
+  member_other Form c h = absurd (true≢false (sym c))
 
-pub ruleset same-kind-laws = (kind-same, kind-other)
-
-module _ (f : Fault) (kind base : ℕ) where
-  pub member-clear : (r : Fault) → f ≡ Clear → r ≡ member_fault Clear kind base → r ≡ member_fault f kind base
-  member-clear r h e = rw h e
-
-  pub member-kind : f ≡ Kind → Kind ≡ member_fault f kind base
+  pub member_faulty : (f : Fault) → is_clear f ≡ false → f ≡ member_fault f kind base
   unfolding member_fault
-  member-kind h = rw h refl
+  member_faulty Clear c = absurd (true≢false c)
+  member_faulty Kind c = refl
+  member_faulty Name c = refl
+  member_faulty Form c = refl
 
-  pub member-name : f ≡ Name → Name ≡ member_fault f kind base
-  unfolding member_fault
-  member-name h = rw h refl
-
-  pub member-form : f ≡ Form → Form ≡ member_fault f kind base
-  unfolding member_fault
-  member-form h = rw h refl
-
-pub ruleset member-fault-laws = (member-clear, member-kind, member-name, member-form)
+pub ruleset member_fault_laws = (member_same, member_other, member_faulty)

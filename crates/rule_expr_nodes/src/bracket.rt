@@ -10,17 +10,11 @@ use text_parts::end_at;
 fn past_bracket(g: Got, next: usize) -> Got
     ensures { result ≡ past_bracket g next }
 {
-    let f = g.fault;
-    Got {
-        fault: f,
-        kind: g.kind,
-        place: g.place,
-        next: next,
-        top: g.top,
-    }
+    Got { next, ..g }
 }
 
 // The answer for a form's last part, past the closing bracket: a fault of row 6 where another part comes first.
+#[tactic(auto, using(crate::proofs::Closing::closing_laws))]
 pub fn closing(text: &[u8], g: Got) -> Got
     ensures { Closes text.now g result }
 {

@@ -11,16 +11,15 @@ use table_scope::Info;
 const SPANNED: u32 = 65536;
 
 // The first cell and the number of cells in one number.
+#[tactic(auto, using(crate::proofs::CellsMaking::span_laws))]
 fn span(base: u32, size: u32) -> u32
     ensures { result ≡ span_of base size }
 {
-    if base >= SPANNED {
-        return 0;
+    if base < SPANNED && size < SPANNED {
+        base + code_ops::expr::CELLS_TIMES * size
+    } else {
+        0
     }
-    if size >= SPANNED {
-        return 0;
-    }
-    base + code_ops::expr::CELLS_TIMES * size
 }
 
 // So many cells of a kind, from a base on.
@@ -28,19 +27,17 @@ pub fn cells(work: &mut [u32], size: u32, kind: u32, base: u32, next: usize, top
     ensures { Makes (cells_made size kind base next top work.old) result work.new }
 {
     if size == 1 {
-        let ns = [code_ops::expr::LOAD_CELL, base];
-        return node(work, kind, next, top, &ns);
+        node(work, kind, next, top, &[code_ops::expr::LOAD_CELL, base])
+    } else {
+        let ns = [code_ops::expr::LOAD_CELLS, span(base, size)];
+        node(work, kind, next, top, &ns)
     }
-    let ns = [code_ops::expr::LOAD_CELLS, span(base, size)];
-    node(work, kind, next, top, &ns)
 }
 
 // A type's first or last value, in 32 bits.
+#[tactic(auto, using(crate::proofs::CellsMaking::end_bits_laws))]
 pub fn end_bits(last: bool, i: Info) -> u32
     ensures { result ≡ end_bits last i }
 {
-    if last {
-        return i.high;
-    }
-    i.low
+    if last { i.high } else { i.low }
 }

@@ -14,9 +14,9 @@ pub fn node(work: &mut [u32], kind: u32, next: usize, top: u32, ns: &[u32]) -> G
     let t = lay(work, top, ns);
     Got {
         fault: Fault::Clear,
-        kind: kind,
+        kind,
         place: top,
-        next: next,
+        next,
         top: t,
     }
 }
@@ -26,18 +26,21 @@ pub fn bits_of(z: i64) -> u32
     ensures { IsBits z result }
 {
     if z < 0 {
-        return 4294967295 - pattern(-1 - z);
+        u32::MAX - pattern(-1 - z)
+    } else {
+        pattern(z)
     }
-    pattern(z)
 }
 
 // A constant of a kind.
+#[tactic(auto, using(crate::proofs::Making::literal_laws))]
 pub fn literal(work: &mut [u32], kind: u32, z: i64, next: usize, top: u32) -> Got
     ensures { Makes (literal_made kind z next top work.old) result work.new }
 {
     if in_range(z, -2147483648, 2147483647) {
         let ns = [code_ops::expr::LITERAL, bits_of(z)];
-        return node(work, kind, next, top, &ns);
+        node(work, kind, next, top, &ns)
+    } else {
+        failed(Fault::Kind, 0, next, top)
     }
-    failed(Fault::Kind, 0, next, top)
 }

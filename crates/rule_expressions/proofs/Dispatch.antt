@@ -179,34 +179,21 @@ module _ (s l ts : List ℕ) (scope : Scope) (k : ExprHead) (d at top q : ℕ) (
   no_place : target_by k d (first (stack_at s at)) ≡ none → GivesPlace s l ts scope k d at top r l
   no_place h = rw e (record { leaves = failed-leaves s at top q l; says = λ σ bs S. target-failed σ (target_by k d (first (stack_at s at))) top l (failed_got Form 0 q top) l h refl })
 
-  pub place-members : k ≡ EH.Members → GivesPlace s l ts scope k d at top r l
+  pub place-other : (k ≡ EH.At → ⊥) → (k ≡ EH.Dot → ⊥) → GivesPlace s l ts scope k d at top r l
   unfolding target_by
-  place-members h = no_place (rw h refl)
-
-  pub place-minus : k ≡ EH.Minus → GivesPlace s l ts scope k d at top r l
-  unfolding target_by
-  place-minus h = no_place (rw h refl)
-
-  pub place-bound : (b : Bool) → k ≡ EH.Bound b → GivesPlace s l ts scope k d at top r l
-  unfolding target_by
-  place-bound b h = no_place (rw h refl)
-
-  pub place_short : (b : Bool) → k ≡ EH.Short b → GivesPlace s l ts scope k d at top r l
-  unfolding target_by
-  place_short b h = no_place (rw h refl)
-
-  pub place-two : (n : ℕ) → k ≡ EH.Two n → GivesPlace s l ts scope k d at top r l
-  unfolding target_by
-  place-two n h = no_place (rw h refl)
-
-  pub place-one : (n : ℕ) → k ≡ EH.One n → GivesPlace s l ts scope k d at top r l
-  unfolding target_by
-  place-one n h = no_place (rw h refl)
-
-  pub place-nothing : k ≡ EH.Nothing → GivesPlace s l ts scope k d at top r l
-  unfolding target_by
-  place-nothing h = no_place (rw h refl)
+  place-other n n' = no_place (go k refl)
+    where
+      go : (h : ExprHead) → k ≡ h → target_by k d (first (stack_at s at)) ≡ none
+      go EH.At f = absurd (n f)
+      go EH.Dot f = absurd (n' f)
+      go EH.Members f = rw f refl
+      go EH.Minus f = rw f refl
+      go (EH.Bound b) f = rw f refl
+      go (EH.Short b) f = rw f refl
+      go (EH.Two op) f = rw f refl
+      go (EH.One g) f = rw f refl
+      go EH.Nothing f = rw f refl
 
 pub ruleset by-laws = (by_form, by_two, by-short, by-no-row, by-nothing)
 
-pub ruleset by-place-laws = (by_place, place-members, place-minus, place-bound, place_short, place-two, place-one, place-nothing)
+pub ruleset by-place-laws = (by_place, place-other)

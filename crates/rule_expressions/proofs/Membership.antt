@@ -48,7 +48,8 @@ use Rattle.rule_expr_nodes.specs.Nodes.{Made, Makes, failed_made, node_made, if_
 use Rattle.rule_expressions.specs.Walks.{ExprTold, GivesExpr, form_in, GivesForm}
 use Rattle.rule_expressions.specs.Members.{many, GivesMembers}
 use Rattle.rule_expr_nodes.specs.Members.{member_fault}
-use Rattle.rule_expr_leaves.specs.Links.{linked, set_node, set_made}
+use Rattle.rule_expr_nodes.specs.Links.{linked}
+use Rattle.rule_expr_leaves.specs.Links.{set_node, set_made}
 use Rattle.rule_expressions.proofs.Joining.{fits-inj, told-wrong, told-unnamed, told-or, told-one}
 use Rattle.rule_expressions.proofs.Closing.{form-true, same_refl, same-trans, right-lowest, clear-form, rest-is, Stays, stays-clear, stays-cond, stays-node, stays-failed}
 use Rattle.rule_expressions.proofs.Operators.{expr-missing, expr-failed}

@@ -26,8 +26,7 @@ use Rattle.std.specs.Prelude.{Option as Maybe, Some, None}
 use Rattle.rule_faults.specs.Got.{is_form}
 use Rattle.text_parts.specs.Parts.{Shuts}
 use Rattle.rule_expr_nodes.specs.Bracket.{Closes}
-use Rattle.rule_expr_leaves.specs.declared.words.Alone.{Alone}
-use Rattle.rule_expr_leaves.specs.declared.words.Alone.TheVariants as alone
+use Rattle.std.specs.Prelude.{Some, None, Option as Maybe}
 use Rattle.rule_expr_nodes.specs.Nodes.{Makes, literal_made}
 use Rattle.rule_expr_compounds.specs.Operators.{applied}
 use Rattle.rule_expressions.specs.Sides.{GivesSecond}
@@ -87,7 +86,7 @@ module _ (s l ts : List ℕ) (scope : Scope) (d at top : ℕ) where
       };
     }
       where
-        missing : StandsAlone s at alone.No → expr_in d us ≡ none → form_in EH.Minus d us ≡ none
+        missing : StandsAlone s at None → expr_in d us ≡ none → form_in EH.Minus d us ≡ none
         missing N n = go (rest us) refl
           where
             go : (v : Trees Run) → rest us ≡ v → form_in EH.Minus d us ≡ none
@@ -108,11 +107,11 @@ module _ (s l ts : List ℕ) (scope : Scope) (d at top : ℕ) where
             as-minus (EH.Two 1) r l' (as-two d us (λ k. (rw h at E.says) (sym (rest-is (A.moves.goes (sym e ∙ z)).1) ∙ k))) (two-gives s l ts scope 1 d at top r l' (two-second s l ts scope d at top a l₁ A t e 1 z r l' G) (lit< tt));
       }
 
-  module _ (x : Alone) (N : StandsAlone s at x) (r : Got) (l' : List ℕ) where
-    pub minus-alone : (v : ℤ) (q : ℕ) → x ≡ alone.Number v q → SFits w64 v → Makes (literal_made 0 (neg_ℤ (to_z w64 (of_z w64 v))) q top l) r l' → GivesForm s l ts scope EH.Minus d at top r l'
+  module _ (x : Maybe (ℤ × ℕ)) (N : StandsAlone s at x) (r : Got) (l' : List ℕ) where
+    pub minus-alone : (v : ℤ) (q : ℕ) → x ≡ Some (v, q) → SFits w64 v → Makes (literal_made 0 (neg_ℤ (to_z w64 (of_z w64 v))) q top l) r l' → GivesForm s l ts scope EH.Minus d at top r l'
     minus-alone v q h f m = negative-gives s l ts scope d at top v q r l' (rw h at N) (rw (to_z-of_z f) at m)
 
-    pub minus-other : x ≡ alone.No → GivesMinus s l ts scope d at top r l' → GivesForm s l ts scope EH.Minus d at top r l'
+    pub minus-other : x ≡ None → GivesMinus s l ts scope d at top r l' → GivesForm s l ts scope EH.Minus d at top r l'
     minus-other h G = G.gives (rw h at N)
 
 pub ruleset minus-parts-laws = (minus-left, minus-side, minus-sides)

@@ -43,8 +43,7 @@ use Rattle.rule_faults.specs.Got.{lowest, is_form, fault_of, failed_got, Told}
 use Rattle.rule_expr_nodes.specs.Bracket.{Closes}
 use Rattle.rule_expr_nodes.specs.Nodes.{Made, Makes, failed_made, node_made, if_clear}
 use Rattle.rule_expr_compounds.specs.Targets.{loaded, element_kind, element, indexed, field_made, selected_made, Selects}
-use Rattle.rule_expr_leaves.specs.declared.fields.Sole.{Sole}
-use Rattle.rule_expr_leaves.specs.declared.fields.Sole.TheVariants as sole
+use Rattle.std.specs.Prelude.{Some, None, Option as Maybe}
 use Rattle.rule_expr_leaves.specs.Fields.{SoleName}
 use Rattle.rule_expressions.specs.Walks.{ExprTold, TypeIs, a-type, no-type, TargetTold, GivesExpr, GivesTarget, form_in, GivesForm, GivesPlace}
 use Rattle.rule_expressions.proofs.Joining.{wrong-fits, unnamed-fits, unfit-fits, fits-inj, told-wrong, told-unnamed, told-unfit, told-fits, told-join, told-one, told-or}
@@ -347,8 +346,8 @@ module _ (s l ts : List ℕ) (scope : Scope) (d at top : ℕ) (g : Got) (l₁ : 
           };
     }
 
-    module _ (n : Sole) (N : SoleName s g.next n) (r : Got) (l' : List ℕ) where
-      pub dot-none : n ≡ sole.Nothing → r ≡ failed_got Form 0 g.next g.top → GivesPlace s l ts scope EH.Dot d at top r l₁
+    module _ (n : Maybe (ℕ × ℕ)) (N : SoleName s g.next n) (r : Got) (l' : List ℕ) where
+      pub dot-none : n ≡ None → r ≡ failed_got Form 0 g.next g.top → GivesPlace s l ts scope EH.Dot d at top r l₁
       dot-none h m = rw m (record {
         leaves = record { goes = λ i. absurd (true≢false i); keeps = G.moves.keeps; grows = G.moves.grows };
         says = λ σ bs S. target-failed σ (target_by EH.Dot d us) top l (failed_got Form 0 g.next g.top) l₁
@@ -356,7 +355,7 @@ module _ (s l ts : List ℕ) (scope : Scope) (d at top : ℕ) (g : Got) (l₁ : 
             (rw (rest-is (G.moves.goes (sym e ∙ z)).1) (rw h at N.says))) refl;
       })
 
-      pub dot-field : (p q : ℕ) → n ≡ sole.Name p q → Selects s l₁ (info_of l₁ ts g.kind) (map small (word_at s p)) q g r l' → GivesPlace s l ts scope EH.Dot d at top r l'
+      pub dot-field : (p q : ℕ) → n ≡ Some (p, q) → Selects s l₁ (info_of l₁ ts g.kind) (map small (word_at s p)) q g r l' → GivesPlace s l ts scope EH.Dot d at top r l'
       dot-field p q h m =
           let f = (G.moves.goes (sym e ∙ z)).1 in
           let w = map small (word_at s p) in

@@ -58,7 +58,7 @@ use Rattle.rule_atoms.specs.Answering.{TypeTold, GivesType}
 use Rattle.rule_faults.specs.declared.Got.{Got}
 use Rattle.rule_faults.specs.Got.{is_form, failed_got, Told}
 use Rattle.rule_expr_nodes.specs.Bracket.{Closes}
-use Rattle.rule_expr_leaves.specs.declared.words.Alone.TheVariants as alone
+use Rattle.std.specs.Prelude.{Some}
 use Rattle.rule_expr_nodes.specs.Nodes.{Made, Makes, failed_made, node_made, if_clear, literal_made}
 use Rattle.rule_expressions.specs.Walks.{ExprTold, TypeIs, TargetTold, GivesForm, GivesWord, GivesVar, form_in}
 use Rattle.rule_expressions.specs.Walks as Walks
@@ -305,34 +305,41 @@ module _ (s l ts : List ℕ) (scope : Scope) (w : Word) (p q top : ℕ) (a : Ato
   pub word-error : (l' : List ℕ) → a ≡ AT.ErrorNumber → Makes (node_made 0 q (lay (5 ∷ []) top l)) r l' → GivesWord s l ts scope w p q top r l'
   word-error l' f m = gives-word s l ts scope w p q top r l' (rw (← e, f) m)
 
-  pub word-base : (k : ℕ) → a ≡ AT.Base k → r ≡ failed_got Form 0 q top → GivesWord s l ts scope w p q top r l
-  word-base k f g = gives-word s l ts scope w p q top r l (rw (← e, f) (record { given = g; left = refl }))
+  pub word-other : ((z : ℤ) → a ≡ AT.Number z → ⊥) → (a ≡ AT.Named → ⊥) → ((b : Bool) → a ≡ AT.Truth b → ⊥) → (a ≡ AT.ErrorNumber → ⊥) → r ≡ failed_got Form 0 q top → GivesWord s l ts scope w p q top r l
+  word-other n n' n'' n₃ g = gives-word s l ts scope w p q top r l (rw (← e) (go a refl))
+    where
+      none : Makes (failed_made Form 0 q top l) r l
+      none = record { given = g; left = refl }
 
-  pub word-nothing : a ≡ AT.Nothing → r ≡ failed_got Form 0 q top → GivesWord s l ts scope w p q top r l
-  word-nothing f g = gives-word s l ts scope w p q top r l (rw (← e, f) (record { given = g; left = refl }))
-
-  pub var-number : (z : ℤ) → a ≡ AT.Number z → r ≡ failed_got Form 0 q top → GivesVar s l ts scope w p q top r l
-  var-number z f g = gives-var s l ts scope w p q top r l (rw (← e, f) (record { given = g; left = refl }))
+      go : (b : Atom) → a ≡ b → Makes (word_made l ts a (meaning_here s l scope p) q top) r l
+      go (AT.Number z) f = absurd (n z f)
+      go AT.Named f = absurd (n' f)
+      go (AT.Truth b) f = absurd (n'' b f)
+      go AT.ErrorNumber f = absurd (n₃ f)
+      go (AT.Base k) f = rw f none
+      go AT.Nothing f = rw f none
 
   pub var-named : (m : Meaning) (l' : List ℕ) → a ≡ AT.Named → m ≡ meaning_here s l scope p
       → Makes (place_made l m q top) r l' → GivesVar s l ts scope w p q top r l'
   var-named m l' f g h = gives-var s l ts scope w p q top r l' (rw (← e, f, ← g) h)
 
-  pub var-truth : (b : Bool) → a ≡ AT.Truth b → r ≡ failed_got Form 0 q top → GivesVar s l ts scope w p q top r l
-  var-truth b f g = gives-var s l ts scope w p q top r l (rw (← e, f) (record { given = g; left = refl }))
+  pub var-other : (a ≡ AT.Named → ⊥) → r ≡ failed_got Form 0 q top → GivesVar s l ts scope w p q top r l
+  var-other n g = gives-var s l ts scope w p q top r l (rw (← e) (go a refl))
+    where
+      none : Makes (failed_made Form 0 q top l) r l
+      none = record { given = g; left = refl }
 
-  pub var-error : a ≡ AT.ErrorNumber → r ≡ failed_got Form 0 q top → GivesVar s l ts scope w p q top r l
-  var-error f g = gives-var s l ts scope w p q top r l (rw (← e, f) (record { given = g; left = refl }))
+      go : (b : Atom) → a ≡ b → Makes (variable_made l a (meaning_here s l scope p) q top) r l
+      go (AT.Number z) f = rw f none
+      go AT.Named f = absurd (n f)
+      go (AT.Truth b) f = rw f none
+      go AT.ErrorNumber f = rw f none
+      go (AT.Base k) f = rw f none
+      go AT.Nothing f = rw f none
 
-  pub var-base : (k : ℕ) → a ≡ AT.Base k → r ≡ failed_got Form 0 q top → GivesVar s l ts scope w p q top r l
-  var-base k f g = gives-var s l ts scope w p q top r l (rw (← e, f) (record { given = g; left = refl }))
+pub ruleset word_laws = (word_number, word-named, word-truth, word-error, word-other)
 
-  pub var-nothing : a ≡ AT.Nothing → r ≡ failed_got Form 0 q top → GivesVar s l ts scope w p q top r l
-  var-nothing f g = gives-var s l ts scope w p q top r l (rw (← e, f) (record { given = g; left = refl }))
-
-pub ruleset word_laws = (word_number, word-named, word-truth, word-error, word-base, word-nothing)
-
-pub ruleset var-laws = (var-number, var-named, var-truth, var-error, var-base, var-nothing)
+pub ruleset var-laws = (var-named, var-other)
 
 -- ---- the parts of `first`, `last` and `-`
 
@@ -365,7 +372,7 @@ bound-is s l ts scope last d at top t g r l' T m c =
     }
 
 -- `(- z)` where a number stands alone
-pub negative-gives : (s l ts : List ℕ) (scope : Scope) (d at top : ℕ) (z : ℤ) (q : ℕ) (r : Got) (l' : List ℕ) → StandsAlone s at (alone.Number z q)
+pub negative-gives : (s l ts : List ℕ) (scope : Scope) (d at top : ℕ) (z : ℤ) (q : ℕ) (r : Got) (l' : List ℕ) → StandsAlone s at (Some (z, q))
     → Makes (literal_made 0 (neg_ℤ z) q top l) r l' → GivesForm s l ts scope Minus d at top r l'
 unfolding form_in expr_staged staged expr_of Names.atom_of ◌>>=◌
 negative-gives s l ts scope d at top z q r l' A m =

@@ -9,10 +9,11 @@ use crate::words::{bound, variable, word};
 use rule_atoms::type_name;
 use rule_expr_compounds::operators::{apply, pair};
 use rule_expr_compounds::targets::{index, load, select};
-use rule_expr_leaves::fields::{Sole, sole_name};
-use rule_expr_leaves::links::{base_of, link_to, set_of, slot_after};
-use rule_expr_leaves::words::{Alone, negative, number_alone};
+use rule_expr_leaves::fields::sole_name;
+use rule_expr_leaves::links::{base_of, set_of};
+use rule_expr_leaves::words::{negative, number_alone};
 use rule_expr_nodes::bracket::closing;
+use rule_expr_nodes::links::link_to;
 use rule_expr_nodes::members::member_fault;
 use rule_faults::{Fault, Got, failed, is_form, lowest};
 use table_kinds::short_row;
@@ -37,8 +38,7 @@ pub fn expr(
     if depth == 0 {
         return failed(Fault::Form, 0, at, top);
     }
-    let p = part_at(text, at);
-    match p {
+    match part_at(text, at) {
         Part::Leaf(w, p, q) => word(text, work, types, scope, w, p, q, top),
         Part::Form(p) => inner(text, work, types, scope, depth - 1, p, top),
         Part::Shut(q) => failed(Fault::Form, 0, q, top),
@@ -58,8 +58,7 @@ fn inner(
 ) -> Got
     ensures { GivesInner text.now work.old types.now scope depth at top result work.new }
 {
-    let p = part_at(text, at);
-    match p {
+    match part_at(text, at) {
         Part::Leaf(w, _, q) => headed(text, work, types, scope, expr_head(w), depth, q, top),
         Part::Form(p) => failed(Fault::Form, 0, p, top),
         Part::Shut(q) => failed(Fault::Form, 0, q, top),
@@ -87,13 +86,9 @@ fn headed(
         ExprHead::Minus => minus(text, work, types, scope, depth, at, top),
         ExprHead::Bound(last) => bound(text, work, types, scope, last, depth, at, top),
         ExprHead::Short(every) => two(text, work, types, scope, short_row(every), depth, at, top),
-        ExprHead::Two(op) => {
-            if op >= 15 {
-                return failed(Fault::Form, 0, at, top);
-            }
-            two(text, work, types, scope, op, depth, at, top)
-        }
+        ExprHead::Two(op) if op < 15 => two(text, work, types, scope, op, depth, at, top),
         ExprHead::One(f) => one(text, work, types, scope, f, depth, at, top),
+        ExprHead::Two(_) => failed(Fault::Form, 0, at, top),
         ExprHead::Nothing => failed(Fault::Form, 0, at, top),
     }
 }
@@ -113,8 +108,7 @@ fn two(
     ensures { GivesTwo text.now work.old types.now scope op depth at top result work.new }
 {
     let a = expr(text, work, types, scope, depth, at, top);
-    let f = a.fault;
-    if is_form(f) {
+    if is_form(a.fault) {
         return a;
     }
     second(text, work, types, scope, op, depth, a)
@@ -171,10 +165,9 @@ fn minus(
 ) -> Got
     ensures { GivesForm text.now work.old types.now scope Minus depth at top result work.new }
 {
-    let n = number_alone(text, at);
-    match n {
-        Alone::Number(z, q) => negative(work, z, q, top),
-        Alone::No => minus_parts(text, work, types, scope, depth, at, top),
+    match number_alone(text, at) {
+        Some((z, q)) => negative(work, z, q, top),
+        None => minus_parts(text, work, types, scope, depth, at, top),
     }
 }
 
@@ -192,8 +185,7 @@ fn minus_parts(
     ensures { GivesMinus text.now work.old types.now scope depth at top result work.new }
 {
     let a = expr(text, work, types, scope, depth, at, top);
-    let f = a.fault;
-    if is_form(f) {
+    if is_form(a.fault) {
         return a;
     }
     let e = end_at(text, a.next);
@@ -217,15 +209,13 @@ fn set_form(
     ensures { GivesForm text.now work.old types.now scope Members depth at top result work.new }
 {
     let t = type_name(text, work, scope, at);
-    let f = t.fault;
-    if is_form(f) {
+    if is_form(t.fault) {
         return failed(Fault::Form, 0, t.next, top);
     }
     let base = base_of(work, types, t.kind);
     let first = slot(work, top);
     let m = member_list(text, work, types, scope, base, depth, t.next, top, first);
-    let g = t.fault;
-    set_of(work, types, g, t.kind, top, m)
+    set_of(work, types, t.fault, t.kind, top, m)
 }
 
 // The members up to the closing bracket, in a chain from a slot on.
@@ -256,13 +246,12 @@ fn member_list(
             None => {}
         }
         let x = expr(text, work, types, scope, depth, next, free);
-        let f = x.fault;
-        if is_form(f) {
+        if is_form(x.fault) {
             return x;
         }
-        fault = lowest(fault, member_fault(f, x.kind, base));
+        fault = lowest(fault, member_fault(x.fault, x.kind, base));
         free = link_to(work, link, x.place, x.top);
-        link = slot_after(x.top);
+        link = x.top as usize + 1;
         next = x.next;
     }
 }
@@ -317,8 +306,7 @@ pub fn target(
     if depth == 0 {
         return failed(Fault::Form, 0, at, top);
     }
-    let p = part_at(text, at);
-    match p {
+    match part_at(text, at) {
         Part::Leaf(w, p, q) => variable(text, work, types, scope, w, p, q, top),
         Part::Form(p) => place(text, work, types, scope, depth - 1, p, top),
         Part::Shut(q) => failed(Fault::Form, 0, q, top),
@@ -338,8 +326,7 @@ fn place(
 ) -> Got
     ensures { GivesInnerPlace text.now work.old types.now scope depth at top result work.new }
 {
-    let p = part_at(text, at);
-    match p {
+    match part_at(text, at) {
         Part::Leaf(w, _, q) => place_headed(text, work, types, scope, expr_head(w), depth, q, top),
         Part::Form(p) => failed(Fault::Form, 0, p, top),
         Part::Shut(q) => failed(Fault::Form, 0, q, top),
@@ -363,13 +350,7 @@ fn place_headed(
     match head {
         ExprHead::At => element(text, work, types, scope, depth, at, top),
         ExprHead::Dot => field(text, work, types, scope, depth, at, top),
-        ExprHead::Members => failed(Fault::Form, 0, at, top),
-        ExprHead::Minus => failed(Fault::Form, 0, at, top),
-        ExprHead::Bound(_) => failed(Fault::Form, 0, at, top),
-        ExprHead::Short(_) => failed(Fault::Form, 0, at, top),
-        ExprHead::Two(_) => failed(Fault::Form, 0, at, top),
-        ExprHead::One(_) => failed(Fault::Form, 0, at, top),
-        ExprHead::Nothing => failed(Fault::Form, 0, at, top),
+        _ => failed(Fault::Form, 0, at, top),
     }
 }
 
@@ -387,8 +368,7 @@ fn element(
     ensures { GivesPlace text.now work.old types.now scope At depth at top result work.new }
 {
     let g = target(text, work, types, scope, depth, at, top);
-    let f = g.fault;
-    if is_form(f) {
+    if is_form(g.fault) {
         return g;
     }
     let e = expr(text, work, types, scope, depth, g.next, g.top);
@@ -409,13 +389,11 @@ fn field(
     ensures { GivesPlace text.now work.old types.now scope Dot depth at top result work.new }
 {
     let g = target(text, work, types, scope, depth, at, top);
-    let f = g.fault;
-    if is_form(f) {
+    if is_form(g.fault) {
         return g;
     }
-    let n = sole_name(text, g.next);
-    match n {
-        Sole::Name(p, q) => select(text, work, types, g, p, q),
-        Sole::Nothing => failed(Fault::Form, 0, g.next, g.top),
+    match sole_name(text, g.next) {
+        Some((p, q)) => select(text, work, types, g, p, q),
+        None => failed(Fault::Form, 0, g.next, g.top),
     }
 }

@@ -24,23 +24,15 @@ pub fn word(
 ) -> Got
     ensures { GivesWord text.now work.old types.now scope w p next top result work.new }
 {
-    let a = atom_of(w);
-    match a {
+    match atom_of(w) {
         Atom::Number(z) => literal(work, 0, z, next, top),
-        Atom::Named => {
-            let m = meaning_of(text, work, scope, p);
-            named(work, types, m, next, top)
-        }
+        Atom::Named => named(work, types, meaning_of(text, work, scope, p), next, top),
         Atom::Truth(b) => {
             let ns = [code_ops::expr::LITERAL, flag(b)];
             node(work, 1, next, top, &ns)
         }
-        Atom::ErrorNumber => {
-            let ns = [code_ops::expr::LAST_NUMBER];
-            node(work, 0, next, top, &ns)
-        }
-        Atom::Base(_) => failed(Fault::Form, 0, next, top),
-        Atom::Nothing => failed(Fault::Form, 0, next, top),
+        Atom::ErrorNumber => node(work, 0, next, top, &[code_ops::expr::LAST_NUMBER]),
+        _ => failed(Fault::Form, 0, next, top),
     }
 }
 
@@ -57,17 +49,9 @@ pub fn variable(
 ) -> Got
     ensures { GivesVar text.now work.old types.now scope w p next top result work.new }
 {
-    let a = atom_of(w);
-    match a {
-        Atom::Number(_) => failed(Fault::Form, 0, next, top),
-        Atom::Named => {
-            let m = meaning_of(text, work, scope, p);
-            place(work, m, next, top)
-        }
-        Atom::Truth(_) => failed(Fault::Form, 0, next, top),
-        Atom::ErrorNumber => failed(Fault::Form, 0, next, top),
-        Atom::Base(_) => failed(Fault::Form, 0, next, top),
-        Atom::Nothing => failed(Fault::Form, 0, next, top),
+    match atom_of(w) {
+        Atom::Named => place(work, meaning_of(text, work, scope, p), next, top),
+        _ => failed(Fault::Form, 0, next, top),
     }
 }
 
@@ -85,7 +69,6 @@ pub fn bound(
     ensures { GivesForm text.now work.old types.now scope (Bound last) depth at top result work.new }
 {
     let t = type_name(text, work, scope, at);
-    let fault = t.fault;
-    let g = bound_of(work, types, last, fault, t.kind, t.next, top);
+    let g = bound_of(work, types, last, t.fault, t.kind, t.next, top);
     closing(text, g)
 }

@@ -43,7 +43,8 @@ use Rattle.rule_expressions.proofs.Joining.{wrong-fits, unfit-fits, fits-inj}
 use Rattle.rule_expressions.proofs.Membership.{one_more, more-fault}
 use Rattle.rule_expressions.proofs.Operators.{expr-missing}
 use Rattle.rule_stmt_nodes.specs.Calls.{Takes, argument_fault, argument_got, few_fault}
-use Rattle.rule_stmt_nodes.specs.Nodes.{next_number, linked, skip_got, finished_got}
+use Rattle.rule_expr_nodes.specs.Links.{linked}
+use Rattle.rule_stmt_nodes.specs.Nodes.{next_number, skip_got, finished_got}
 use Rattle.rule_statements.specs.Arguments.{GivesArguments, ArgumentsLeft, Passing}
 use Rattle.rule_statements.specs.Chains.{many}
 use Rattle.rule_statements.proofs.Faults.{lowest-form, Both, tested-fits, form-is, same_refl}

@@ -69,13 +69,21 @@ module _ (s : List ℕ) (at : ℕ) (x : Part) (S : Stands s at x) where
     pub inside-other : m ≡ AH.Nothing → ArmInside s at next-arm.Nothing
     inside-other i = record { says = λ d n ts. rw head-here.0.leaf.here (no-head d n (word_at s p) (first (stack_at s q)) ts (head-meant ∙ ap arm_head_meant i)) }
 
-  pub inside-form : (p : ℕ) → x ≡ part.Form p → ArmInside s at next-arm.Nothing
+  inside-form : (p : ℕ) → x ≡ part.Form p → ArmInside s at next-arm.Nothing
   unfolding arms_in
   inside-form p h = let F : FormAt s at p = rw h at S.says in record { says = λ d n ts. rw F.here refl }
 
-  pub inside-shut : (q : ℕ) → x ≡ part.Shut q → ArmInside s at next-arm.Nothing
+  inside-shut : (q : ℕ) → x ≡ part.Shut q → ArmInside s at next-arm.Nothing
   unfolding arms_in
   inside-shut q h = let Z : ShutAt s at q = rw h at S.says in record { says = λ d n ts. rw Z.here refl }
+
+  pub inside-none : ((w : Word) (p q : ℕ) → x ≡ part.Leaf w p q → ⊥) → ArmInside s at next-arm.Nothing
+  inside-none n = go x refl
+    where
+      go : (y : Part) → x ≡ y → ArmInside s at next-arm.Nothing
+      go (part.Leaf w p q) e = absurd (n w p q e)
+      go (part.Form p) e = inside-form p e
+      go (part.Shut q) e = inside-shut q e
 
   pub comes-word : (w : Word) (p q : ℕ) → x ≡ part.Leaf w p q → ArmComes s at next-arm.Nothing
   unfolding arms_in
@@ -104,16 +112,16 @@ module _ (s : List ℕ) (at : ℕ) (x : Part) (S : Stands s at x) where
       go (next-arm.Else q) I = record { says = of is_else q I.says }
       go next-arm.Nothing I = record { says = λ d n. rw F.here (I.says d n (first (later (stack_at s p)))) }
 
-pub ruleset inside-laws = (inside-arm, inside-else, inside-other, inside-form, inside-shut)
+pub ruleset inside-laws = (inside-arm, inside-else, inside-other, inside-none)
 
 pub ruleset comes-laws = (comes-word, comes-past, comes-form)
 
 -- ---- leaves
 
-pub link-arm-is : (l : List ℕ) (slot head : ℕ) (g b : Got) (t : ℕ) (f : Fault) (l₁ l' : List ℕ) → Laid (lay (head ∷ b.place ∷ 0 ∷ []) b.top l) t l₁ → l' ≡ set l₁ slot b.top → f ≡ lowest g.fault b.fault
+pub link-arm-is : (l : List ℕ) (slot head : ℕ) (g b : Got) (t : ℕ) (f : Fault) (l' : List ℕ) → Laid (link slot (lay (head ∷ b.place ∷ 0 ∷ []) b.top l)) t l' → f ≡ lowest g.fault b.fault
     → Makes (arm_made l slot head g b) (record { fault = f; kind = b.kind; place = b.top; next = b.next; top = t }) l'
 unfolding arm_made link lay
-link-arm-is l slot head g b t f l₁ l' K e ef = record { given = rw (ef, K.free) refl; left = e ∙ ap (λ (k : List ℕ). set k slot b.top) K.left }
+link-arm-is l slot head g b t f l' K ef = record { given = rw (ef, K.free) refl; left = K.left }
 
 module _ (x : Got) (t : Bool) (e : t ≡ is_clear x.fault) where
   pub kind-clear : t ≡ true → x.kind ≡ selected_kind x
@@ -176,21 +184,30 @@ module _ (s : List ℕ) (at : ℕ) (e : NextArm) (E : ArmComes s at e) where
       let A : ArmFormAt is_arm s at q = rw h at E.says in
       an-arm (λ d n. rw (A.here, arms-head d n A.head (first (stack_at s q)) (first (later (stack_at s q))) A.headed) (arm-kept d (arm_in d n (first (stack_at s q))) (first (later (stack_at s q)))))
 
-  pub first_else : (q : ℕ) → e ≡ next-arm.Else q → FirstArm s at Form
+  first_else : (q : ℕ) → e ≡ next-arm.Else q → FirstArm s at Form
   first_else q h =
       let A : ArmFormAt is_else s at q = rw h at E.says in
       no_arm (λ d n. rw (A.here, arms-else d n A.head (first (stack_at s q)) (first (later (stack_at s q))) A.headed) (else-none d n (first (stack_at s q)) (first (later (stack_at s q)))))
 
-  pub first_past : (q : ℕ) → e ≡ next-arm.Past q → FirstArm s at Form
+  first_past : (q : ℕ) → e ≡ next-arm.Past q → FirstArm s at Form
   unfolding arms_in arms_first ◌>>=◌
   first_past q h = let Z : ShutAt s at q = rw h at E.says in no_arm (λ d n. rw Z.here refl)
 
-  pub first-nothing : e ≡ next-arm.Nothing → FirstArm s at Form
+  first-nothing : e ≡ next-arm.Nothing → FirstArm s at Form
   first-nothing h =
       let Z : (d n : ℕ) → arms_in d n (first (stack_at s at)) ≡ none = rw h at E.says in
       no_arm (λ d n. none-cased (arms_in d n (first (stack_at s at))) (Z d n))
 
-pub ruleset first-laws = (first-arm, first_else, first_past, first-nothing)
+  pub first-other : ((q : ℕ) → e ≡ next-arm.Arm q → ⊥) → FirstArm s at Form
+  first-other n = go e refl
+    where
+      go : (r : NextArm) → e ≡ r → FirstArm s at Form
+      go (next-arm.Past q) h = first_past q h
+      go (next-arm.Arm q) h = absurd (n q h)
+      go (next-arm.Else q) h = first_else q h
+      go next-arm.Nothing h = first-nothing h
+
+pub ruleset first-laws = (first-arm, first-other)
 
 pub case-is : (l : List ℕ) (i : Info) (n : ℕ) (x m : Got) (f w a b c d e : Fault) (r : Got) (l' : List ℕ) → a ≡ lowest f m.fault → b ≡ lowest a w → c ≡ lowest x.fault b → d ≡ cond (eqb i.shape 0) Clear Kind → e ≡ lowest c d
     → Makes (node_if e m.kind m.next (49 ∷ n ∷ x.place ∷ x.top ∷ []) m.top l) r l' → Makes (case_made l i n x m f w) r l'

@@ -39,7 +39,8 @@ use Rattle.text_parts.specs.Parts.{ShutAt}
 use Rattle.rule_expr_nodes.specs.Bracket.{Closes, shut, more}
 use Rattle.rule_expr_nodes.specs.Nodes.{Makes}
 use Rattle.rule_expressions.proofs.Joining.{wrong-fits, fits-inj}
-use Rattle.rule_stmt_nodes.specs.Nodes.{plain_made, handled_made, linked, skip_got, joined_got}
+use Rattle.rule_expr_nodes.specs.Links.{linked}
+use Rattle.rule_stmt_nodes.specs.Nodes.{plain_made, handled_made, skip_got, joined_got}
 use Rattle.rule_statements.specs.Chains.{many}
 use Rattle.rule_stmt_nodes.specs.declared.last.Head.{Head}
 use Rattle.rule_stmt_nodes.specs.declared.last.Next.{Next}

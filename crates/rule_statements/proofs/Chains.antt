@@ -34,7 +34,8 @@ use Rattle.rule_faults.specs.Got.{lowest, is_form, fault_of}
 use Rattle.rule_faults.proofs.Order.{lowest-assoc, lowest-clear}
 use Rattle.text_parts.specs.Parts.{Shuts, ShutAt}
 use Rattle.rule_expressions.proofs.Joining.{wrong-fits, fits-inj}
-use Rattle.rule_stmt_nodes.specs.Nodes.{linked, skip_got}
+use Rattle.rule_expr_nodes.specs.Links.{linked}
+use Rattle.rule_stmt_nodes.specs.Nodes.{skip_got}
 use Rattle.rule_statements.specs.Walks.{bare, ActTold, ActsTold, Around, GivesStmt, GivesActs}
 use Rattle.rule_statements.specs.Chains.{many, LeftTold, Doing}
 use Rattle.rule_statements.proofs.Faults.{lowest-form, join-fault, join-fits, form-is, form-none, same_refl}

@@ -30,7 +30,8 @@ use Rattle.table_list.specs.Laid.{Laid}
 use Rattle.rule_faults.specs.declared.Got.{Got}
 use Rattle.rule_faults.specs.Got.{lowest, is_form, fault_of}
 use Rattle.rule_faults.proofs.Order.{lowest-assoc}
-use Rattle.rule_stmt_nodes.specs.Nodes.{linked, skip_got, joined_got}
+use Rattle.rule_expr_nodes.specs.Links.{linked}
+use Rattle.rule_stmt_nodes.specs.Nodes.{skip_got, joined_got}
 use Rattle.rule_statements.specs.Walks.{bare, ActTold, Around, GivesStmt}
 use Rattle.rule_statements.specs.Chains.{many}
 use Rattle.rule_stmt_nodes.specs.Handlers.{PlainAt}

@@ -46,7 +46,8 @@ use Rattle.rule_atoms.specs.Answering.{ValueTold, GivesConstant}
 use Rattle.rule_expr_nodes.specs.Nodes.{IsBits}
 use Rattle.rule_expr_nodes.specs.Members.{member_fault}
 use Rattle.rule_expressions.proofs.Joining.{wrong-fits, unnamed-fits, unfit-fits, fits-inj}
-use Rattle.rule_stmt_nodes.specs.Nodes.{linked, skip_got}
+use Rattle.rule_expr_nodes.specs.Links.{linked}
+use Rattle.rule_stmt_nodes.specs.Nodes.{skip_got}
 use Rattle.rule_statements.specs.Chains.{many}
 use Rattle.rule_statements.specs.Cases.{arm_from, prefixed, some_labels, counts, labelled_got, counted_got, LinksLabel, LabelsLeft, Labelling, LabelsTold, GivesLabels}
 use Rattle.rule_statements.proofs.Faults.{join-fault, join-fits, form-is, form-none, same_refl}

@@ -47,7 +47,8 @@ use Rattle.text_parts.specs.Parts.{FormAt, ShutAt, Stands, Shuts}
 use Rattle.rule_expr_nodes.specs.Bracket.{Closes}
 use Rattle.rule_expr_nodes.specs.Nodes.{Makes}
 use Rattle.rule_stmt_nodes.specs.declared.nodes.Control.{Control}
-use Rattle.rule_stmt_nodes.specs.Nodes.{control_by, control_fault, repeated, repeated_by, linked, sequenced, skip_got, joined_got, finished_got, is_named}
+use Rattle.rule_expr_nodes.specs.Links.{linked}
+use Rattle.rule_stmt_nodes.specs.Nodes.{control_by, control_fault, repeated, repeated_by, sequenced, skip_got, joined_got, finished_got, is_named}
 use Rattle.rule_statements.specs.Walks.{bare, WantTold, ActTold, ControlTold, known, unknown, Around, GivesStmt, GivesVerb, GivesWanted, for_in, GivesFor, to_in, GivesTo, do_in, GivesDo, GivesActs}
 use Rattle.rule_statements.specs.Chains.{many, Doing}
 use Rattle.rule_statements.proofs.Faults.{form-left, form-right, closes-leaves, then-leaves, Node, node_of, node-leaves, act-closed, on-fault, on-fits}

@@ -31,7 +31,7 @@ use Rattle.rule_labels.specs.Repeating.{Repeating}
 use Rattle.rule_expr_nodes.specs.Nodes.{IsBits, Made, Makes}
 use Rattle.rule_expr_nodes.specs.Members.{member_fault}
 use Rattle.rule_stmt_nodes.specs.BaseNodes.{node_if}
-use Rattle.rule_stmt_nodes.specs.Nodes.{linked}
+use Rattle.rule_expr_nodes.specs.Links.{linked}
 use Rattle.rule_statements.specs.Walks.{bare, Around, GivesStmt}
 use Rattle.rule_statements.specs.declared.arms.NextArm.{NextArm}
 use Rattle.rule_statements.specs.declared.arms.NextArm.TheVariants as next-arm

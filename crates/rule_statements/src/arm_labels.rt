@@ -3,10 +3,11 @@ ghost use Rattle.std.specs.Prelude.{◌≡◌};
 ghost use Rattle.rule_statements.specs.Cases.{labelled_got, counted_got, LinksLabel, GivesLabels};
 
 use rule_atoms::{Valued, constant};
+use rule_expr_nodes::links::link_to;
 use rule_expr_nodes::members::member_fault;
 use rule_expr_nodes::nodes::bits_of;
 use rule_faults::{Fault, Got, failed, is_form, lowest};
-use rule_stmt_nodes::nodes::{after, chain, no_act};
+use rule_stmt_nodes::nodes::no_act;
 use table_scope::Scope;
 use text_parts::end_at;
 
@@ -14,10 +15,8 @@ use text_parts::end_at;
 fn labelled(g: Got, v: Valued, k: u32, t: u32) -> Got
     ensures { result ≡ labelled_got g v k t }
 {
-    let f = g.fault;
-    let h = v.fault;
     Got {
-        fault: lowest(f, member_fault(h, v.kind, k)),
+        fault: lowest(g.fault, member_fault(v.fault, v.kind, k)),
         kind: 1,
         place: 0,
         next: v.next,
@@ -30,17 +29,17 @@ fn counted(g: Got) -> Got
     ensures { result ≡ counted_got g }
 {
     if g.kind == 0 {
-        return failed(Fault::Form, 0, g.next, g.top);
+        failed(Fault::Form, 0, g.next, g.top)
+    } else {
+        g
     }
-    g
 }
 
 // A label's link, and the slot before it; the free place then.
 fn link_label(work: &mut [u32], slot: usize, v: Valued, top: u32) -> u32
     ensures { LinksLabel v.value slot top work.old result work.new }
 {
-    let n = bits_of(v.value);
-    chain(work, slot, n, top)
+    link_to(work, slot, bits_of(v.value), top)
 }
 
 // The labels of an arm, of kind k, up to its statement, chained from a slot on. A part is a label if it is a constant and another part
@@ -60,8 +59,7 @@ pub fn labels(
     let mut p = first;
     loop {
         let v = constant(text, work, scope, g.next);
-        let f = v.fault;
-        if is_form(f) {
+        if is_form(v.fault) {
             return counted(g);
         }
         let e = end_at(text, v.next);
@@ -71,7 +69,7 @@ pub fn labels(
             }
             None => {
                 let t = link_label(work, p, v, g.top);
-                p = after(g.top);
+                p = g.top as usize + 1;
                 g = labelled(g, v, k, t);
             }
         }

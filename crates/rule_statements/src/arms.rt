@@ -1,13 +1,13 @@
 // The arms of a `case`: what comes next, their links, and the node of a case.
-ghost use Rattle.std.specs.Prelude.{◌≡◌, cond, eqb, ◌+◌};
+ghost use Rattle.std.specs.Prelude.{◌≡◌, cond, eqb};
 ghost use Rattle.rule_faults.specs.declared.Fault.TheVariants.{Clear, Kind};
 ghost use Rattle.rule_expr_nodes.specs.Nodes.{Makes};
 ghost use Rattle.rule_statements.specs.Cases.{ArmComes, ArmInside, arm_made, selected_kind, FirstArm, case_made, CaseEnds};
 
+use rule_expr_nodes::links::link;
 use rule_faults::{Fault, Got, is_clear, lowest};
 use rule_labels::repeat_fault;
 use rule_stmt_nodes::base::node_if;
-use table_list::{lay, put};
 use table_scope::{Info, Scope, describe};
 use text_heads::{ArmHead, arm_head};
 use text_parts::{Part, part_at};
@@ -25,18 +25,13 @@ pub enum NextArm {
 fn arm_in(text: &[u8], at: usize) -> NextArm
     ensures { ArmInside text.now at result }
 {
-    let part = part_at(text, at);
-    match part {
-        Part::Leaf(w, _, q) => {
-            let h = arm_head(w);
-            match h {
-                ArmHead::Arm => NextArm::Arm(q),
-                ArmHead::Else => NextArm::Else(q),
-                ArmHead::Nothing => NextArm::Nothing,
-            }
-        }
-        Part::Form(_) => NextArm::Nothing,
-        Part::Shut(_) => NextArm::Nothing,
+    match part_at(text, at) {
+        Part::Leaf(w, _, q) => match arm_head(w) {
+            ArmHead::Arm => NextArm::Arm(q),
+            ArmHead::Else => NextArm::Else(q),
+            ArmHead::Nothing => NextArm::Nothing,
+        },
+        _ => NextArm::Nothing,
     }
 }
 
@@ -44,8 +39,7 @@ fn arm_in(text: &[u8], at: usize) -> NextArm
 pub fn arm_at(text: &[u8], at: usize) -> NextArm
     ensures { ArmComes text.now at result }
 {
-    let part = part_at(text, at);
-    match part {
+    match part_at(text, at) {
         Part::Leaf(_, _, _) => NextArm::Nothing,
         Part::Form(p) => arm_in(text, p),
         Part::Shut(q) => NextArm::Past(q),
@@ -56,13 +50,9 @@ pub fn arm_at(text: &[u8], at: usize) -> NextArm
 pub fn link_arm(work: &mut [u32], slot: usize, head: u32, g: Got, b: Got) -> Got
     ensures { Makes (arm_made work.old slot head g b) result work.new }
 {
-    let ns = [head, b.place, 0];
-    let t = lay(work, b.top, &ns);
-    put(work, slot, b.top);
-    let f = g.fault;
-    let h = b.fault;
+    let t = link(work, slot, &[head, b.place, 0], b.top);
     Got {
-        fault: lowest(f, h),
+        fault: lowest(g.fault, b.fault),
         kind: b.kind,
         place: b.top,
         next: b.next,
@@ -70,34 +60,20 @@ pub fn link_arm(work: &mut [u32], slot: usize, head: u32, g: Got, b: Got) -> Got
     }
 }
 
-// The slot of an arm's link that is laid at a place.
-pub fn arm_slot(p: u32) -> usize
-    ensures { result ≡ p + 2 }
-{
-    p as usize + 2
-}
-
 // The kind of a selector, 0 where it has a fault.
 pub fn selector_kind(x: Got) -> u32
     ensures { result ≡ selected_kind x }
 {
-    let f = x.fault;
-    if is_clear(f) {
-        return x.kind;
-    }
-    0
+    if is_clear(x.fault) { x.kind } else { 0 }
 }
 
 // A fault of row 6 where the first part is no arm.
 fn first_fault(text: &[u8], at: usize) -> Fault
     ensures { FirstArm text.now at result }
 {
-    let e = arm_at(text, at);
-    match e {
-        NextArm::Past(_) => Fault::Form,
+    match arm_at(text, at) {
         NextArm::Arm(_) => Fault::Clear,
-        NextArm::Else(_) => Fault::Form,
-        NextArm::Nothing => Fault::Form,
+        _ => Fault::Form,
     }
 }
 
@@ -106,18 +82,18 @@ fn ordinal_fault(i: Info) -> Fault
     ensures { result ≡ cond (eqb i.shape 0) Clear Kind }
 {
     if i.shape == 0 {
-        return Fault::Clear;
+        Fault::Clear
+    } else {
+        Fault::Kind
     }
-    Fault::Kind
 }
 
 // The node of a case, where i describes the selector's kind, f is the fault of the first arm and w that of the labels.
 fn case_node(work: &mut [u32], i: Info, n: u32, x: Got, m: Got, f: Fault, w: Fault) -> Got
     ensures { Makes (case_made work.old i n x m f w) result work.new }
 {
-    let a = x.fault;
-    let b = m.fault;
-    let e = lowest(lowest(a, lowest(lowest(f, b), w)), ordinal_fault(i));
+    let parts = lowest(lowest(f, m.fault), w);
+    let e = lowest(lowest(x.fault, parts), ordinal_fault(i));
     let ns = [code_ops::stmt::CASE, n, x.place, x.top];
     node_if(work, e, m.kind, m.next, m.top, &ns)
 }
@@ -135,8 +111,7 @@ pub fn case_end(
     ensures { CaseEnds text.now work.old types.now scope n x m result work.new }
 {
     let f = first_fault(text, x.next);
-    let g = m.fault;
-    let w = repeat_fault(text, work, scope, g, x.next);
+    let w = repeat_fault(text, work, scope, m.fault, x.next);
     let i = describe(work, types, x.kind);
     case_node(work, i, n, x, m, f, w)
 }

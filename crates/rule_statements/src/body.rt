@@ -4,9 +4,10 @@ ghost use Rattle.rule_statements.specs.Fronts.{HandledBy, GivesRest};
 
 use crate::walk::{acts, stmt};
 use rule_expr_nodes::bracket::closing;
+use rule_expr_nodes::links::link_to;
 use rule_faults::{Got, is_form};
 use rule_stmt_nodes::last::{Head, Next, handled_node, next_at, plain_node};
-use rule_stmt_nodes::nodes::{after, chain, joined, no_act, wide};
+use rule_stmt_nodes::nodes::{joined, no_act};
 use table_list::slot;
 use table_scope::{Scope, no_loops};
 use text_heads::DEPTH;
@@ -43,10 +44,9 @@ fn body_from(
     ensures { GivesRest text.now work.old types.now scope head number start at top result work.new }
 {
     let mut g = no_act(number, at, top);
-    let mut p = wide(start);
+    let mut p = start as usize;
     loop {
-        let e = next_at(text, g.next);
-        match e {
+        match next_at(text, g.next) {
             Next::Past(q) => {
                 return plain_node(work, head, start, g, q);
             }
@@ -56,12 +56,11 @@ fn body_from(
             Next::Stmt => {
                 let w = no_loops();
                 let a = stmt(text, work, types, scope, w, DEPTH, g.kind, g.next, g.top);
-                let f = a.fault;
-                if is_form(f) {
+                if is_form(a.fault) {
                     return a;
                 }
-                let t = chain(work, p, a.place, a.top);
-                p = after(a.top);
+                let t = link_to(work, p, a.place, a.top);
+                p = a.top as usize + 1;
                 g = joined(g, a, t);
             }
         }
@@ -82,7 +81,7 @@ fn handled(
     ensures { HandledBy text.now work.old types.now scope head start g q result work.new }
 {
     let t = slot(work, g.top);
-    let p = wide(g.top);
+    let p = g.top as usize;
     let w = no_loops();
     let a = acts(text, work, types, scope, w, DEPTH, g.kind, p, q, t);
     let b = closing(text, a);

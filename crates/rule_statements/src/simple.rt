@@ -3,13 +3,12 @@ ghost use Rattle.rule_statements.specs.Arguments.{GivesArguments, GivesCallNamed
 ghost use Rattle.rule_statements.specs.Walks.{GivesAssign, GivesStore, GivesRaise, GivesCall, GivesWanted};
 
 use rule_expr_nodes::bracket::closing;
+use rule_expr_nodes::links::link_to;
 use rule_expressions::walk::{expr, target};
 use rule_faults::{Fault, Got, failed, is_form};
 use rule_stmt_nodes::base::steer;
 use rule_stmt_nodes::calls::{call_node, callee_of, with_argument};
-use rule_stmt_nodes::nodes::{
-    after, assign_node, chain, finished, is_named, no_act, raise_node, wanted, wide,
-};
+use rule_stmt_nodes::nodes::{assign_node, finished, is_named, no_act, raise_node, wanted};
 use table_list::slot;
 use table_scope::frames::Frame;
 use table_scope::{Loops, Scope, meaning_of};
@@ -28,8 +27,7 @@ fn store_at(
 ) -> Got
     ensures { GivesStore text.now work.old types.now scope loops at top result work.new }
 {
-    let part = part_at(text, at);
-    match part {
+    match part_at(text, at) {
         Part::Leaf(_, p, _) => {
             let m = meaning_of(text, work, scope, p);
             let g = target(text, work, types, scope, DEPTH, at, top);
@@ -54,8 +52,7 @@ pub fn assign(
     ensures { GivesAssign text.now work.old types.now scope loops number at top result work.new }
 {
     let g = store_at(text, work, types, scope, loops, at, top);
-    let f = g.fault;
-    if is_form(f) {
+    if is_form(g.fault) {
         return g;
     }
     let a = expr(text, work, types, scope, DEPTH, g.next, g.top);
@@ -120,12 +117,11 @@ fn arguments(
             }
             None => {
                 let x = expr(text, work, types, scope, DEPTH, g.next, g.top);
-                let f = x.fault;
-                if is_form(f) {
+                if is_form(x.fault) {
                     return x;
                 }
-                let t = chain(work, p, x.place, x.top);
-                p = after(x.top);
+                let t = link_to(work, p, x.place, x.top);
+                p = x.top as usize + 1;
                 g = with_argument(work, types, frame, g, x, t);
             }
         }
@@ -148,7 +144,7 @@ fn call_named(
     let m = meaning_of(text, work, scope, p);
     let c = callee_of(work, m);
     let t = slot(work, top);
-    let h = wide(top);
+    let h = top as usize;
     let a = arguments(text, work, types, scope, c.frame, h, at, t);
     call_node(work, number, c, top, a)
 }
@@ -165,13 +161,13 @@ pub fn call(
 ) -> Got
     ensures { GivesCall text.now work.old types.now scope number at top result work.new }
 {
-    let part = part_at(text, at);
-    match part {
+    match part_at(text, at) {
         Part::Leaf(w, p, q) => {
             if is_named(w) {
-                return call_named(text, work, types, scope, number, p, q, top);
+                call_named(text, work, types, scope, number, p, q, top)
+            } else {
+                failed(Fault::Form, 0, q, top)
             }
-            failed(Fault::Form, 0, q, top)
         }
         Part::Form(p) => failed(Fault::Form, 0, p, top),
         Part::Shut(q) => failed(Fault::Form, 0, q, top),

@@ -5,14 +5,15 @@ ghost use Rattle.rule_statements.specs.Cases.{ArmStmtBy, ArmBy, ElseBy, GivesArm
 ghost use Rattle.rule_statements.specs.Walks.{GivesStmt, GivesInner, GivesVerb, GivesThen, GivesElse, GivesFor, GivesTo, GivesDo, GivesActs};
 
 use crate::arm_labels::labels;
-use crate::arms::{NextArm, arm_at, arm_slot, case_end, link_arm, selector_kind};
+use crate::arms::{NextArm, arm_at, case_end, link_arm, selector_kind};
 use crate::simple::{assign, call, raise, wanted_expr};
 use rule_expr_nodes::bracket::closing;
+use rule_expr_nodes::links::link_to;
 use rule_expressions::walk::expr;
 use rule_faults::{Fault, Got, failed, is_form};
 use rule_stmt_nodes::nodes::{
-    Control, after, begin_node, chain, finished, for_node, if_node, is_named, joined, next_number,
-    no_act, stepped, while_node, wide,
+    Control, begin_node, finished, for_node, if_node, is_named, joined, next_number, no_act,
+    stepped, while_node,
 };
 use table_list::slot;
 use table_scope::{Loops, Scope, host_of, meaning_of, with_loop};
@@ -37,8 +38,7 @@ pub fn stmt(
     if depth == 0 {
         return failed(Fault::Form, 0, at, top);
     }
-    let part = part_at(text, at);
-    match part {
+    match part_at(text, at) {
         Part::Leaf(_, _, q) => failed(Fault::Form, 0, q, top),
         Part::Form(p) => inner(text, work, types, scope, loops, depth - 1, number, p, top),
         Part::Shut(q) => failed(Fault::Form, 0, q, top),
@@ -60,8 +60,7 @@ fn inner(
 ) -> Got
     ensures { GivesInner text.now work.old types.now scope loops depth number at top result work.new }
 {
-    let part = part_at(text, at);
-    match part {
+    match part_at(text, at) {
         Part::Leaf(w, _, q) => {
             let v = verb_of(w);
             let n = next_number(number);
@@ -117,8 +116,7 @@ fn while_loop(
     ensures { GivesVerb text.now work.old types.now scope loops While depth number at top result work.new }
 {
     let c = wanted_expr(text, work, types, scope, 1, at, top);
-    let f = c.fault;
-    if is_form(f) {
+    if is_form(c.fault) {
         return c;
     }
     let a = stmt(
@@ -144,8 +142,7 @@ fn if_else(
     ensures { GivesVerb text.now work.old types.now scope loops If depth number at top result work.new }
 {
     let c = wanted_expr(text, work, types, scope, 1, at, top);
-    let f = c.fault;
-    if is_form(f) {
+    if is_form(c.fault) {
         return c;
     }
     if_then(text, work, types, scope, loops, c, depth, number)
@@ -168,8 +165,7 @@ fn if_then(
     let a = stmt(
         text, work, types, scope, loops, depth, number, c.next, c.top,
     );
-    let h = a.fault;
-    if is_form(h) {
+    if is_form(a.fault) {
         return a;
     }
     let b = else_part(
@@ -218,15 +214,15 @@ fn for_loop(
 ) -> Got
     ensures { GivesVerb text.now work.old types.now scope loops For depth number at top result work.new }
 {
-    let part = part_at(text, at);
-    match part {
+    match part_at(text, at) {
         Part::Leaf(w, p, q) => {
             if is_named(w) {
                 let m = meaning_of(text, work, scope, p);
                 let v = stepped(m);
-                return for_from(text, work, types, scope, loops, v, depth, number, q, top);
+                for_from(text, work, types, scope, loops, v, depth, number, q, top)
+            } else {
+                failed(Fault::Form, 0, q, top)
             }
-            failed(Fault::Form, 0, q, top)
         }
         Part::Form(p) => failed(Fault::Form, 0, p, top),
         Part::Shut(q) => failed(Fault::Form, 0, q, top),
@@ -251,8 +247,7 @@ fn for_from(
 {
     let k = host_of(work, types, v.kind);
     let x = wanted_expr(text, work, types, scope, k, at, top);
-    let f = x.fault;
-    if is_form(f) {
+    if is_form(x.fault) {
         return x;
     }
     for_to(text, work, types, scope, loops, k, v, x, depth, number)
@@ -275,8 +270,7 @@ fn for_to(
     ensures { GivesTo text.now work.old types.now scope loops k v x depth number result work.new }
 {
     let y = wanted_expr(text, work, types, scope, k, x.next, x.top);
-    let f = y.fault;
-    if is_form(f) {
+    if is_form(y.fault) {
         return y;
     }
     for_do(text, work, types, scope, loops, v, x, y, depth, number)
@@ -320,7 +314,7 @@ fn begin(
     ensures { GivesVerb text.now work.old types.now scope loops Begin depth number at top result work.new }
 {
     let t = slot(work, top);
-    let p = wide(top);
+    let p = top as usize;
     let m = acts(text, work, types, scope, loops, depth, number, p, at, t);
     begin_node(work, number, top, m)
 }
@@ -353,12 +347,11 @@ pub fn acts(
                 let a = stmt(
                     text, work, types, scope, loops, depth, g.kind, g.next, g.top,
                 );
-                let f = a.fault;
-                if is_form(f) {
+                if is_form(a.fault) {
                     return a;
                 }
-                let t = chain(work, p, a.place, a.top);
-                p = after(a.top);
+                let t = link_to(work, p, a.place, a.top);
+                p = a.top as usize + 1;
                 g = joined(g, a, t);
             }
         }
@@ -381,8 +374,7 @@ fn case_of(
     ensures { GivesVerb text.now work.old types.now scope loops Case depth number at top result work.new }
 {
     let x = expr(text, work, types, scope, DEPTH, at, top);
-    let f = x.fault;
-    if is_form(f) {
+    if is_form(x.fault) {
         return x;
     }
     case_arms(text, work, types, scope, loops, x, depth, number)
@@ -403,7 +395,7 @@ fn case_arms(
     ensures { CaseBy text.now work.old types.now scope loops x depth number result work.new }
 {
     let t = slot(work, x.top);
-    let p = wide(x.top);
+    let p = x.top as usize;
     let k = selector_kind(x);
     let m = all_arms(
         text, work, types, scope, loops, k, depth, number, p, x.next, t,
@@ -431,8 +423,7 @@ fn all_arms(
     let mut g = no_act(number, at, top);
     let mut p = first;
     loop {
-        let e = arm_at(text, g.next);
-        match e {
+        match arm_at(text, g.next) {
             NextArm::Past(q) => {
                 return finished(g, q);
             }
@@ -446,11 +437,10 @@ fn all_arms(
                 let a = arm(
                     text, work, types, scope, loops, k, depth, g.kind, p, q, g.top,
                 );
-                let f = a.fault;
-                if is_form(f) {
+                if is_form(a.fault) {
                     return a;
                 }
-                p = arm_slot(a.place);
+                p = a.place as usize + 2;
                 g = joined(g, a, a.top);
             }
         }
@@ -475,7 +465,7 @@ fn arm(
     ensures { ArmBy text.now work.old types.now scope loops k depth number before at top result work.new }
 {
     let t = slot(work, top);
-    let p = wide(top);
+    let p = top as usize;
     let g = labels(text, work, scope, k, p, at, t);
     arm_stmt(
         text, work, types, scope, loops, depth, number, before, top, g,

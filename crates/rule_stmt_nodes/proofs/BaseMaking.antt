@@ -27,29 +27,22 @@ module _ (f : Fault) (k q : ℕ) (ns : List ℕ) (t : ℕ) (l : List ℕ) (b : B
 
 pub ruleset node_laws = (node-clear, node-fault)
 
-module _ (w : Loops) (i k a : ℕ) (g : Got) (b : Bool) (e : b ≡ loops_over w i) where
-  pub steer-over : (f : Fault) (r : Got) → b ≡ true → f ≡ lowest g.fault Kind → r ≡ with_fault g f → r ≡ steered w (meaning.Var i k a) g
-  steer-over f r h m d = rw (sym e ∙ h) (d ∙ ap (with_fault g) m)
-
-  pub steer-free : b ≡ false → g ≡ steered w (meaning.Var i k a) g
-  steer-free h = rw (sym e ∙ h) refl
-
-pub ruleset steer-var-laws = (steer-over, steer-free)
-
 module _ (w : Loops) (m : Meaning) (g : Got) where
-  pub steer-unknown : m ≡ meaning.Unknown → g ≡ steered w m g
-  steer-unknown h = rw h refl
+  module _ (i k a : ℕ) (b : Bool) (h : m ≡ meaning.Var i k a) (e : b ≡ loops_over w i) where
+    pub steer-over : (f : Fault) (r : Got) → b ≡ true → f ≡ lowest g.fault Kind → r ≡ with_fault g f → r ≡ steered w m g
+    steer-over f r t l d = rw (h, sym e ∙ t) (d ∙ ap (with_fault g) l)
 
-  pub steer-type : (k : ℕ) → m ≡ meaning.Type k → g ≡ steered w m g
-  steer-type k h = rw h refl
+    pub steer-free : b ≡ false → g ≡ steered w m g
+    steer-free t = rw (h, sym e ∙ t) refl
 
-  pub steer-meant : (i k a : ℕ) (r : Got) → m ≡ meaning.Var i k a → r ≡ steered w (meaning.Var i k a) g → r ≡ steered w m g
-  steer-meant i k a r h e = rw h e
+  pub steer-other : ((i k a : ℕ) → m ≡ meaning.Var i k a → ⊥) → g ≡ steered w m g
+  steer-other n = go m refl
+    where
+      go : (k : Meaning) → m ≡ k → g ≡ steered w m g
+      go meaning.Unknown h = rw h refl
+      go (meaning.Type k) h = rw h refl
+      go (meaning.Var i k a) h = absurd (n i k a h)
+      go (meaning.Proc p) h = rw h refl
+      go (meaning.Value k v) h = rw h refl
 
-  pub steer-proc : (p : ℕ) → m ≡ meaning.Proc p → g ≡ steered w m g
-  steer-proc p h = rw h refl
-
-  pub steer-value : (k v : ℕ) → m ≡ meaning.Value k v → g ≡ steered w m g
-  steer-value k v h = rw h refl
-
-pub ruleset steer-laws = (steer-unknown, steer-type, steer-meant, steer-proc, steer-value)
+pub ruleset steer_laws = (steer-over, steer-free, steer-other)

@@ -57,13 +57,21 @@ module _ (s : List ℕ) (at : ℕ) (x : Part) (S : Stands s at x) where
       let L : LeafAt s at p q = X.0 in
       record { says = rw L.leaf.here (headed (word_at s p) (first (stack_at s q)) b (ap is_exception (sym X.1) ∙ sym e) t) }
 
-  pub in-form : (p : ℕ) → x ≡ part.Form p → HandlerIn s at following.Stmt
+  in-form : (p : ℕ) → x ≡ part.Form p → HandlerIn s at following.Stmt
   unfolding handler_in
   in-form p h = let F : FormAt s at p = rw h at S.says in record { says = rw F.here refl }
 
-  pub in-shut : (q : ℕ) → x ≡ part.Shut q → HandlerIn s at following.Stmt
+  in-shut : (q : ℕ) → x ≡ part.Shut q → HandlerIn s at following.Stmt
   unfolding handler_in
   in-shut q h = let L : ShutAt s at q = rw h at S.says in record { says = rw L.here refl }
+
+  pub in-none : ((w : Word) (p q : ℕ) → x ≡ part.Leaf w p q → ⊥) → HandlerIn s at following.Stmt
+  in-none n = go x refl
+    where
+      go : (y : Part) → x ≡ y → HandlerIn s at following.Stmt
+      go (part.Leaf w p q) e = absurd (n w p q e)
+      go (part.Form p) e = in-form p e
+      go (part.Shut q) e = in-shut q e
 
   pub next-leaf : (w : Word) (p q : ℕ) → x ≡ part.Leaf w p q → Comes s at following.Stmt
   unfolding handler_in
@@ -91,7 +99,7 @@ module _ (s : List ℕ) (at : ℕ) (x : Part) (S : Stands s at x) where
           }
       go following.Stmt F G = record { says = record { more = λ z. no_end (sym F.here ∙ z); plain = λ t ts e. rw (← then-inj (sym F.here ∙ e)) G.says } }
 
-pub ruleset in-laws = (in_leaf, in-other, in-form, in-shut)
+pub ruleset in-laws = (in_leaf, in-other, in-none)
 
 pub ruleset next-laws = (next-leaf, next-shut, next-form)
 

@@ -1,11 +1,12 @@
 -- The laws of the nodes' code: each way through a function gives the answer that `Nodes` defines.
 use mathlib.Core.Path.{◌≡◌, refl, ap, ◌∙◌}
-use mathlib.Core.Bool.{Bool, true, false}
+use mathlib.Core.Bool.{Bool, true, false, cond}
 use mathlib.Core.List.{List, [], ◌∷◌}
 use Prim.Native.Nat.{ℕ, ◌+◌, ◌<◌, ◌≤◌}
-use borrow.Author.Tests.{eq-eqb, ne_eqb, lt-ltb, le-ltb}
+use borrow.Author.Tests.{eq-eqb, ne_eqb, ltb-true, ltb-false}
+use lib.Dec.{eqb, ltb}
 use lib.ListN.{set}
-use Rattle.code.specs.Layout.{lay, link}
+use Rattle.code.specs.Layout.{lay}
 use Rattle.rule_faults.specs.declared.Fault.{Fault}
 use Rattle.rule_faults.specs.declared.Fault.TheVariants.{Clear, Kind, Name}
 use Rattle.table_scope.specs.declared.Info.{Info}
@@ -22,18 +23,15 @@ use Rattle.rule_expr_nodes.specs.Nodes.{Makes, node_made}
 use Rattle.rule_expr_nodes.proofs.Making.{if-clear, if-fault}
 use Rattle.rule_stmt_nodes.specs.BaseNodes.{with_fault, node_if}
 use Rattle.rule_stmt_nodes.specs.declared.nodes.Control.{Control}
-use Rattle.rule_stmt_nodes.specs.Nodes.{next_number, wanted_got, raised, looped, branched, stored, assigned, control_is, control_by, control_fault, repeated, repeated_by, linked, sequenced, joined_got}
+use Rattle.rule_stmt_nodes.specs.Nodes.{next_number, wanted_got, raised, looped, branched, stored, assigned, control_fault, repeated, repeated_by, sequenced, joined_got}
 
-module _ (n : ℕ) where
-  pub number-next : n < 4294967295 → n + 1 ≡ next_number n
-  unfolding next_number
-  number-next h = rw (lt-ltb n 4294967295 h) refl
-
-  pub number-last : 4294967295 ≤ n → n ≡ next_number n
-  unfolding next_number
-  number-last h = rw (le-ltb n 4294967295 h) refl
-
-pub ruleset number-laws = (number-next, number-last)
+pub number_is : (n r : ℕ) → (n < 4294967295 → r ≡ n + 1) → (4294967295 ≤ n → r ≡ n) → r ≡ next_number n
+unfolding next_number
+number_is n r h k = go (ltb n 4294967295) refl
+  where
+    go : (t : Bool) → ltb n 4294967295 ≡ t → r ≡ cond t (n + 1) n
+    go true e = h (ltb-true n 4294967295 e)
+    go false e = k (ltb-false n 4294967295 e)
 
 module _ (k : ℕ) (g : Got) where
   pub wanted-is : k ≡ g.kind → g ≡ wanted_got k g
@@ -90,27 +88,7 @@ module _ (over : Bool) (i : Info) where
   unfolding control_fault
   control-other h e = rw (h, ne_eqb i.shape 0 e) refl
 
-pub ruleset control-laws = (control-over, control-fits, control-other)
-
--- ---- by what a name means
-
-module _ (m : Meaning) (r : Control) where
-  pub stepped-unknown : m ≡ meaning.Unknown → r ≡ control_is Name 0 0 0 → r ≡ control_by m
-  stepped-unknown h e = rw h e
-
-  pub stepped-type : (k : ℕ) → m ≡ meaning.Type k → r ≡ control_is Name 0 0 0 → r ≡ control_by m
-  stepped-type k h e = rw h e
-
-  pub stepped-var : (i k a : ℕ) → m ≡ meaning.Var i k a → r ≡ control_is Clear i k a → r ≡ control_by m
-  stepped-var i k a h e = rw h e
-
-  pub stepped-proc : (p : ℕ) → m ≡ meaning.Proc p → r ≡ control_is Name 0 0 0 → r ≡ control_by m
-  stepped-proc p h e = rw h e
-
-  pub stepped-value : (k v : ℕ) → m ≡ meaning.Value k v → r ≡ control_is Name 0 0 0 → r ≡ control_by m
-  stepped-value k v h e = rw h e
-
-pub ruleset stepped-laws = (stepped-unknown, stepped-type, stepped-var, stepped-proc, stepped-value)
+pub ruleset control_laws = (control-over, control-fits, control-other)
 
 -- ---- an assignment
 
@@ -123,15 +101,21 @@ module _ (l : List ℕ) (i : Info) (k n : ℕ) (g e r : Got) where
   unfolding stored
   store-ordinal l' h z m = rw (eq-eqb k e.kind h, eq-eqb i.shape 0 z) m
 
-  pub store-set : (l' : List ℕ) → k ≡ e.kind → ((i.shape ≡ 0) → ⊥) → i.shape ≡ 1 → Makes (node_made n e.next (lay (44 ∷ n ∷ g.place ∷ e.place ∷ []) e.top l)) r l' → Makes (stored l i k n g e) r l'
+  pub store-cells : (x : ℕ) (l' : List ℕ) → k ≡ e.kind → ((i.shape ≡ 0) → ⊥) → x ≡ cond (eqb i.shape 1) 44 52 → Makes (node_made n e.next (lay (x ∷ n ∷ g.place ∷ e.place ∷ []) e.top l)) r l' → Makes (stored l i k n g e) r l'
   unfolding stored
-  store-set l' h z y m = rw (eq-eqb k e.kind h, ne_eqb i.shape 0 z, eq-eqb i.shape 1 y) m
+  store-cells x l' h z y m = rw (eq-eqb k e.kind h, ne_eqb i.shape 0 z) (go (eqb i.shape 1) y)
+    where
+      go : (t : Bool) → x ≡ cond t 44 52 → Makes (node_made n e.next (lay (cond t (44 ∷ n ∷ g.place ∷ e.place ∷ []) (52 ∷ n ∷ g.place ∷ e.place ∷ [])) e.top l)) r l'
+      go true y = rw (← y) m
+      go false y = rw (← y) m
 
-  pub store-copy : (l' : List ℕ) → k ≡ e.kind → ((i.shape ≡ 0) → ⊥) → ((i.shape ≡ 1) → ⊥) → Makes (node_made n e.next (lay (52 ∷ n ∷ g.place ∷ e.place ∷ []) e.top l)) r l' → Makes (stored l i k n g e) r l'
-  unfolding stored
-  store-copy l' h z y m = rw (eq-eqb k e.kind h, ne_eqb i.shape 0 z, ne_eqb i.shape 1 y) m
+pub ruleset store-laws = (store-kind, store-ordinal, store-cells)
 
-pub ruleset store-laws = (store-kind, store-ordinal, store-set, store-copy)
+pub cells_one : (n : ℕ) → n ≡ 1 → ◌≡◌ {A = ℕ} 44 (cond (eqb n 1) 44 52)
+cells_one n h = rw (eq-eqb n 1 h) refl
+
+pub cells_more : (n : ℕ) → ((n ≡ 1) → ⊥) → ◌≡◌ {A = ℕ} 52 (cond (eqb n 1) 44 52)
+cells_more n h = rw (ne_eqb n 1 h) refl
 
 module _ (l ts : List ℕ) (n : ℕ) (g e : Got) (f : Fault) (b : Bool) (h : f ≡ lowest g.fault e.fault) (z : b ≡ is_clear f) (r : Got) where
   pub assign-clear : (k : ℕ) (i : Info) (l' : List ℕ) → b ≡ true → k ≡ host_in l ts g.kind → i ≡ info_of l ts g.kind → Makes (stored l i k n g e) r l' → Makes (assigned l ts n g e) r l'
@@ -143,12 +127,6 @@ module _ (l ts : List ℕ) (n : ℕ) (g e : Got) (f : Fault) (b : Bool) (h : f �
   assign-fault y m = rw (← h) (if-fault f n e.next e.top l _ b z y r m)
 
 pub ruleset assign-laws = (assign-clear, assign-fault)
-
--- ---- a link
-
-pub chain-is : (slot p top t : ℕ) (l l' l'' : List ℕ) → Laid (lay (p ∷ 0 ∷ []) top l) t l' → l'' ≡ set l' slot top → Laid (linked slot p top l) t l''
-unfolding linked link lay
-chain-is slot p top t l l' l'' h e = record { free = h.free; left = e ∙ ap (λ x. set x slot top) h.left }
 
 pub joined_is : (g a : Got) (t : ℕ) (f : Fault) → f ≡ lowest g.fault a.fault → record { fault = f; kind = a.kind; place = 0; next = a.next; top = t } ≡ joined_got g a t
 joined_is g a t f e = rw e refl

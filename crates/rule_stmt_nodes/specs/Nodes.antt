@@ -1,6 +1,6 @@
 -- The nodes of statements, as the code makes them from the answers for their parts.
 use Rattle.std.specs.Prelude.{Bool, true, false, cond, List, [], ◌∷◌, ℕ, ◌+◌, eqb, ltb}
-use Rattle.code.specs.Layout.{Out, lay, link}
+use Rattle.code.specs.Layout.{lay}
 use Rattle.rule_faults.specs.declared.Fault.{Fault}
 use Rattle.rule_faults.specs.declared.Fault.TheVariants.{Clear, Kind, Name}
 use Rattle.table_scope.specs.declared.Info.{Info}
@@ -76,10 +76,6 @@ unfoldable pub repeated_by : List ℕ → Info → Loops → ℕ → Control →
 repeated_by l i m n v x y z = repeated l i (control_fault (loops_over m v.number) i) n v x y z
 
 -- ---- chains of statements
-
--- a link [place, 0] at the free place, and the slot before it set
-unfoldable pub linked : ℕ → ℕ → ℕ → List ℕ → Out
-linked slot p t l = link slot (lay (p ∷ 0 ∷ []) t l)
 
 unfoldable pub sequenced : List ℕ → ℕ → ℕ → Got → Made
 sequenced l n slot m = node_if m.fault m.kind m.next (45 ∷ n ∷ slot ∷ []) m.top l

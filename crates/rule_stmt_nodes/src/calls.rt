@@ -1,7 +1,7 @@
 // A call: the procedure that it names, its arguments' faults, and its node.
 ghost use Rattle.std.specs.Prelude.{◌≡◌};
 ghost use Rattle.rule_expr_nodes.specs.Nodes.{Makes};
-ghost use Rattle.rule_stmt_nodes.specs.Calls.{callee_is, no_callee, callee_by, argument_fault, argument_got, few_fault, called};
+ghost use Rattle.rule_stmt_nodes.specs.Calls.{callee_by, argument_fault, argument_got, few_fault, called};
 
 use crate::base::node_if;
 use crate::nodes::next_number;
@@ -18,39 +18,25 @@ pub struct Callee {
     pub frame: Frame,
 }
 
-// A callee from its parts.
-fn callee_from(fault: Fault, place: u32, frame: Frame) -> Callee
-    ensures { result ≡ callee_is fault place frame }
-{
-    Callee {
-        fault,
-        place,
-        frame,
-    }
-}
-
-// What stands for a name that means no procedure.
-fn no_callee() -> Callee
-    ensures { result ≡ no_callee }
-{
-    let frame = Frame {
-        count: 0,
-        types: 0,
-        base: 0,
-    };
-    callee_from(Fault::Name, 0, frame)
-}
-
 // The procedure that a name means.
 pub fn callee_of(work: &[u32], m: Meaning) -> Callee
     ensures { result ≡ callee_by work.now m }
 {
     match m {
-        Meaning::Unknown => no_callee(),
-        Meaning::Type(_) => no_callee(),
-        Meaning::Var(_, _, _) => no_callee(),
-        Meaning::Proc(p) => callee_from(Fault::Clear, p, frame_of(work, p)),
-        Meaning::Value(_, _) => no_callee(),
+        Meaning::Proc(place) => Callee {
+            fault: Fault::Clear,
+            place,
+            frame: frame_of(work, place),
+        },
+        _ => Callee {
+            fault: Fault::Name,
+            place: 0,
+            frame: Frame {
+                count: 0,
+                types: 0,
+                base: 0,
+            },
+        },
     }
 }
 
@@ -58,21 +44,20 @@ pub fn callee_of(work: &[u32], m: Meaning) -> Callee
 fn argument_fault(work: &[u32], types: &[u32], x: Frame, j: u32, a: Got) -> Fault
     ensures { result ≡ argument_fault work.now types.now x j a }
 {
-    let f = a.fault;
     if j < x.count {
         let k = host_of(work, types, parameter_type(work, x, j));
-        return member_fault(f, a.kind, k);
+        member_fault(a.fault, a.kind, k)
+    } else {
+        lowest(a.fault, Fault::Kind)
     }
-    lowest(f, Fault::Kind)
 }
 
 // The answer for a call's arguments with one more, laid up to t; its kind is their count.
 pub fn with_argument(work: &[u32], types: &[u32], x: Frame, g: Got, a: Got, t: u32) -> Got
     ensures { result ≡ argument_got work.now types.now x g a t }
 {
-    let f = g.fault;
     Got {
-        fault: lowest(f, argument_fault(work, types, x, g.kind, a)),
+        fault: lowest(g.fault, argument_fault(work, types, x, g.kind, a)),
         kind: next_number(g.kind),
         place: 0,
         next: a.next,
@@ -85,18 +70,17 @@ fn few_fault(x: Frame, n: u32) -> Fault
     ensures { result ≡ few_fault x n }
 {
     if n < x.count {
-        return Fault::Kind;
+        Fault::Kind
+    } else {
+        Fault::Clear
     }
-    Fault::Clear
 }
 
 // `call` with the chain of its arguments, whose answer is a.
 pub fn call_node(work: &mut [u32], n: u32, c: Callee, slot: u32, a: Got) -> Got
     ensures { Makes (called work.old n c slot a) result work.new }
 {
-    let f = c.fault;
-    let g = a.fault;
-    let e = lowest(f, lowest(g, few_fault(c.frame, a.kind)));
+    let e = lowest(c.fault, lowest(a.fault, few_fault(c.frame, a.kind)));
     let ns = [code_ops::stmt::CALL, n, c.place, slot];
     node_if(work, e, n, a.next, a.top, &ns)
 }

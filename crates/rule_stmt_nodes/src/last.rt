@@ -21,16 +21,15 @@ pub enum Next {
 fn handler_in(text: &[u8], at: usize) -> Next
     ensures { HandlerIn text.now at result }
 {
-    let part = part_at(text, at);
-    match part {
+    match part_at(text, at) {
         Part::Leaf(w, _, q) => {
             if is_exception(w) {
-                return Next::Handler(q);
+                Next::Handler(q)
+            } else {
+                Next::Stmt
             }
-            Next::Stmt
         }
-        Part::Form(_) => Next::Stmt,
-        Part::Shut(_) => Next::Stmt,
+        _ => Next::Stmt,
     }
 }
 
@@ -38,8 +37,7 @@ fn handler_in(text: &[u8], at: usize) -> Next
 pub fn next_at(text: &[u8], at: usize) -> Next
     ensures { Comes text.now at result }
 {
-    let part = part_at(text, at);
-    match part {
+    match part_at(text, at) {
         Part::Leaf(_, _, _) => Next::Stmt,
         Part::Form(p) => handler_in(text, p),
         Part::Shut(q) => Next::Past(q),
@@ -58,17 +56,15 @@ pub fn plain_node(work: &mut [u32], h: Head, start: u32, g: Got, q: usize) -> Go
     ensures { Makes (plain_made work.old h start g q) result work.new }
 {
     let t = slot(work, g.top);
-    let f = g.fault;
     let ns = [h.number, start, 0, g.top, h.frame];
-    node_if(work, f, g.kind, q, t, &ns)
+    node_if(work, g.fault, g.kind, q, t, &ns)
 }
 
 // A body with a handler, whose answer is b.
 pub fn handled_node(work: &mut [u32], h: Head, start: u32, g: Got, b: Got) -> Got
     ensures { Makes (handled_made work.old h start g b) result work.new }
 {
-    let f = g.fault;
-    let e = b.fault;
+    let f = lowest(g.fault, b.fault);
     let ns = [h.number, start, 1, g.top, h.frame];
-    node_if(work, lowest(f, e), b.kind, b.next, b.top, &ns)
+    node_if(work, f, b.kind, b.next, b.top, &ns)
 }

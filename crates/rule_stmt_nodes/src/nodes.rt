@@ -1,16 +1,14 @@
 // The nodes of statements, from the answers for their parts.
-ghost use Rattle.std.specs.Prelude.{◌≡◌, ◌+◌};
+ghost use Rattle.std.specs.Prelude.{◌≡◌};
 ghost use Rattle.rule_expr_nodes.specs.Nodes.{Makes};
-ghost use Rattle.table_list.specs.Laid.{Laid};
 ghost use Rattle.table_scope.specs.Descriptions.{info_of};
-ghost use Rattle.rule_stmt_nodes.specs.Nodes.{next_number, wanted_got, raised, looped, branched, skip_got, stored, assigned, control_is, control_by, control_fault, repeated, repeated_by, linked, sequenced, joined_got, finished_got, is_named};
+ghost use Rattle.rule_stmt_nodes.specs.Nodes.{next_number, wanted_got, raised, looped, branched, skip_got, stored, assigned, control_by, control_fault, repeated, repeated_by, sequenced, joined_got, finished_got, is_named};
 ghost use Rattle.text_heads.specs.Heads.{atom_of};
 
 use crate::base::{node_if, with_fault};
 use leaf_words::words::Word;
 use rule_expr_nodes::nodes::node;
 use rule_faults::{Fault, Got, failed, is_clear, lowest};
-use table_list::{lay, put};
 use table_scope::{Info, Loops, Meaning, describe, host_of, loops_over};
 use text_heads::{Atom, atom_of};
 
@@ -27,24 +25,7 @@ pub struct Control {
 pub fn next_number(n: u32) -> u32
     ensures { result ≡ next_number n }
 {
-    if n < 4294967295 {
-        return n + 1;
-    }
-    n
-}
-
-// The place after p.
-pub fn after(p: u32) -> usize
-    ensures { result ≡ p + 1 }
-{
-    p as usize + 1
-}
-
-// A place as an offset in the list.
-pub fn wide(p: u32) -> usize
-    ensures { result ≡ p }
-{
-    p as usize
+    n.saturating_add(1)
 }
 
 // An expression's answer where kind k is wanted.
@@ -52,40 +33,36 @@ pub fn wanted(k: u32, g: Got) -> Got
     ensures { result ≡ wanted_got k g }
 {
     if k == g.kind {
-        return g;
+        g
+    } else {
+        with_fault(g, lowest(g.fault, Fault::Kind))
     }
-    let f = g.fault;
-    with_fault(g, lowest(f, Fault::Kind))
 }
 
 // `raise` with the number c.
 pub fn raise_node(work: &mut [u32], n: u32, c: Got) -> Got
     ensures { Makes (raised work.old n c) result work.new }
 {
-    let f = c.fault;
     let ns = [code_ops::stmt::RAISE, n, c.place];
-    node_if(work, f, n, c.next, c.top, &ns)
+    node_if(work, c.fault, n, c.next, c.top, &ns)
 }
 
 // `while` with the test c and the body b.
 pub fn while_node(work: &mut [u32], n: u32, c: Got, b: Got) -> Got
     ensures { Makes (looped work.old n c b) result work.new }
 {
-    let f = c.fault;
-    let h = b.fault;
+    let f = lowest(c.fault, b.fault);
     let ns = [code_ops::stmt::WHILE, n, c.place, b.place];
-    node_if(work, lowest(f, h), b.kind, b.next, b.top, &ns)
+    node_if(work, f, b.kind, b.next, b.top, &ns)
 }
 
 // `if` with the test c and two branches.
 pub fn if_node(work: &mut [u32], n: u32, c: Got, a: Got, b: Got) -> Got
     ensures { Makes (branched work.old n c a b) result work.new }
 {
-    let f = c.fault;
-    let h = a.fault;
-    let i = b.fault;
+    let f = lowest(lowest(c.fault, a.fault), b.fault);
     let ns = [code_ops::stmt::BRANCH, n, c.place, a.place, b.place];
-    node_if(work, lowest(lowest(f, h), i), b.kind, b.next, b.top, &ns)
+    node_if(work, f, b.kind, b.next, b.top, &ns)
 }
 
 // The missing third part of an `if`.
@@ -96,8 +73,8 @@ pub fn no_act(n: u32, next: usize, top: u32) -> Got
         fault: Fault::Clear,
         kind: n,
         place: 0,
-        next: next,
-        top: top,
+        next,
+        top,
     }
 }
 
@@ -112,37 +89,24 @@ fn store_node(work: &mut [u32], i: Info, k: u32, n: u32, g: Got, e: Got) -> Got
         let ns = [code_ops::stmt::ASSIGN, n, g.place, e.place, i.low, i.high];
         return node(work, n, e.next, e.top, &ns);
     }
-    if i.shape == 1 {
-        let ns = [code_ops::stmt::ASSIGN_CELL, n, g.place, e.place];
-        return node(work, n, e.next, e.top, &ns);
-    }
-    let ns = [code_ops::stmt::COPY_CELLS, n, g.place, e.place];
-    node(work, n, e.next, e.top, &ns)
+    let code = if i.shape == 1 {
+        code_ops::stmt::ASSIGN_CELL
+    } else {
+        code_ops::stmt::COPY_CELLS
+    };
+    node(work, n, e.next, e.top, &[code, n, g.place, e.place])
 }
 
 // An assignment.
 pub fn assign_node(work: &mut [u32], types: &[u32], n: u32, g: Got, e: Got) -> Got
     ensures { Makes (assigned work.old types.now n g e) result work.new }
 {
-    let c = g.fault;
-    let d = e.fault;
-    let f = lowest(c, d);
+    let f = lowest(g.fault, e.fault);
     if is_clear(f) {
         let k = host_of(work, types, g.kind);
-        return store_node(work, describe(work, types, g.kind), k, n, g, e);
-    }
-    failed(f, n, e.next, e.top)
-}
-
-// A control variable from its parts.
-fn control_of(fault: Fault, number: u32, kind: u32, base: u32) -> Control
-    ensures { result ≡ control_is fault number kind base }
-{
-    Control {
-        fault: fault,
-        number: number,
-        kind: kind,
-        base: base,
+        store_node(work, describe(work, types, g.kind), k, n, g, e)
+    } else {
+        failed(f, n, e.next, e.top)
     }
 }
 
@@ -151,36 +115,39 @@ pub fn stepped(m: Meaning) -> Control
     ensures { result ≡ control_by m }
 {
     match m {
-        Meaning::Unknown => control_of(Fault::Name, 0, 0, 0),
-        Meaning::Type(_) => control_of(Fault::Name, 0, 0, 0),
-        Meaning::Var(i, k, a) => control_of(Fault::Clear, i, k, a),
-        Meaning::Proc(_) => control_of(Fault::Name, 0, 0, 0),
-        Meaning::Value(_, _) => control_of(Fault::Name, 0, 0, 0),
+        Meaning::Var(number, kind, base) => Control {
+            fault: Fault::Clear,
+            number,
+            kind,
+            base,
+        },
+        _ => Control {
+            fault: Fault::Name,
+            number: 0,
+            kind: 0,
+            base: 0,
+        },
     }
 }
 
 // The fault of a control variable whose type i describes: a loop around steps it, or it is no ordinal.
+#[tactic(auto, using(crate::proofs::Making::control_laws))]
 fn control_fault(over: bool, i: Info) -> Fault
     ensures { result ≡ control_fault over i }
 {
-    if over {
-        return Fault::Kind;
+    if !over && i.shape == 0 {
+        Fault::Clear
+    } else {
+        Fault::Kind
     }
-    if i.shape == 0 {
-        return Fault::Clear;
-    }
-    Fault::Kind
 }
 
 // `for` with a fault of its own.
 fn for_parts(work: &mut [u32], i: Info, f: Fault, n: u32, v: Control, x: Got, y: Got, z: Got) -> Got
     ensures { Makes (repeated work.old i f n v x y z) result work.new }
 {
-    let a = v.fault;
-    let b = x.fault;
-    let c = y.fault;
-    let d = z.fault;
-    let e = lowest(lowest(a, lowest(lowest(b, c), d)), f);
+    let parts = lowest(lowest(x.fault, y.fault), z.fault);
+    let e = lowest(lowest(v.fault, parts), f);
     let ns = [
         code_ops::stmt::FOR,
         n,
@@ -212,33 +179,20 @@ pub fn for_node(
     for_parts(work, i, f, n, v, x, y, z)
 }
 
-// A link of the chain from a slot on, for a statement laid at a place; the free place then.
-pub fn chain(work: &mut [u32], slot: usize, place: u32, top: u32) -> u32
-    ensures { Laid (linked slot place top work.old) result work.new }
-{
-    let ns = [place, 0];
-    let t = lay(work, top, &ns);
-    put(work, slot, top);
-    t
-}
-
 // `begin` with the chain of its statements.
 pub fn begin_node(work: &mut [u32], n: u32, slot: u32, m: Got) -> Got
     ensures { Makes (sequenced work.old n slot m) result work.new }
 {
-    let f = m.fault;
     let ns = [code_ops::stmt::SEQUENCE, n, slot];
-    node_if(work, f, m.kind, m.next, m.top, &ns)
+    node_if(work, m.fault, m.kind, m.next, m.top, &ns)
 }
 
 // The answer for a chain with one statement more, laid up to t.
 pub fn joined(g: Got, a: Got, t: u32) -> Got
     ensures { result ≡ joined_got g a t }
 {
-    let f = g.fault;
-    let h = a.fault;
     Got {
-        fault: lowest(f, h),
+        fault: lowest(g.fault, a.fault),
         kind: a.kind,
         place: 0,
         next: a.next,
@@ -250,13 +204,10 @@ pub fn joined(g: Got, a: Got, t: u32) -> Got
 pub fn finished(g: Got, q: usize) -> Got
     ensures { result ≡ finished_got g q }
 {
-    let f = g.fault;
     Got {
-        fault: f,
-        kind: g.kind,
         place: 0,
         next: q,
-        top: g.top,
+        ..g
     }
 }
 
@@ -264,13 +215,5 @@ pub fn finished(g: Got, q: usize) -> Got
 pub fn is_named(w: Word) -> bool
     ensures { result ≡ is_named (atom_of w) }
 {
-    let a = atom_of(w);
-    match a {
-        Atom::Number(_) => false,
-        Atom::Named => true,
-        Atom::Truth(_) => false,
-        Atom::ErrorNumber => false,
-        Atom::Base(_) => false,
-        Atom::Nothing => false,
-    }
+    matches!(atom_of(w), Atom::Named)
 }

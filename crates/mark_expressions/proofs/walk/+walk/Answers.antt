@@ -6,11 +6,11 @@ use Rattle.mark_expressions.proofs.walk.+walk.Goals as goal
 pub element-returns : goal.element-returns
 element-returns t c = search element-is
 
-pub field-returns-in-Name : goal.field-returns-in-Name
-field-returns-in-Name t c = search field_laws
+pub field-returns-in-Some : goal.field-returns-in-Some
+field-returns-in-Some t c = search field_laws
 
-pub field-returns-in-Nothing : goal.field-returns-in-Nothing
-field-returns-in-Nothing t c = search field_laws
+pub field-returns-in-None : goal.field-returns-in-None
+field-returns-in-None t c = search field_laws
 
 pub headed-returns-in-At : goal.headed-returns-in-At
 headed-returns-in-At t c = search by-laws
@@ -102,11 +102,11 @@ member_list-loop-z-smaller t c = search members-falls
 pub member_list-loop-z-preserved : goal.member_list-loop-z-preserved
 member_list-loop-z-preserved t c = search members-again
 
-pub minus-returns-in-Number : goal.minus-returns-in-Number
-minus-returns-in-Number t c = search minus-laws
+pub minus-returns-in-Some : goal.minus-returns-in-Some
+minus-returns-in-Some t c = search minus-laws
 
-pub minus-returns-in-No : goal.minus-returns-in-No
-minus-returns-in-No t c = search minus-laws
+pub minus-returns-in-None : goal.minus-returns-in-None
+minus-returns-in-None t c = search minus-laws
 
 pub minus_parts-returns-in-Some : goal.minus_parts-returns-in-Some
 minus_parts-returns-in-Some t c = search minus-parts-laws

@@ -7,5 +7,5 @@ returns-then-p-eq0 c = search field_laws
 pub returns-then-is_clear : goal.returns-then-is_clear
 returns-then-is_clear c = search field_laws
 
-pub returns : goal.returns
-returns c = search field_laws
+pub returns-else-is_clear : goal.returns-else-is_clear
+returns-else-is_clear c = search field_laws

@@ -6,6 +6,3 @@ returns-in-Some c = search sole-word-laws
 
 pub returns-in-None : goal.returns-in-None
 returns-in-None c = search sole-word-laws
-
-pub returns-else-is_named : goal.returns-else-is_named
-returns-else-is_named c = search sole-word-laws

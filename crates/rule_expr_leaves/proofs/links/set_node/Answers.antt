@@ -4,5 +4,5 @@ use Rattle.rule_expr_leaves.proofs.links.set_node.Goals as goal
 pub returns-then-i-eq1 : goal.returns-then-i-eq1
 returns-then-i-eq1 c = search set-node-laws
 
-pub returns : goal.returns
-returns c = search set-node-laws
+pub returns-else-i-eq1 : goal.returns-else-i-eq1
+returns-else-i-eq1 c = search set-node-laws

@@ -4,5 +4,5 @@ use Rattle.rule_expr_leaves.proofs.words.end_of.Goals as goal
 pub returns-then-i-eq0 : goal.returns-then-i-eq0
 returns-then-i-eq0 c = search end-laws
 
-pub returns : goal.returns
-returns c = search end-laws
+pub returns-else-i-eq0 : goal.returns-else-i-eq0
+returns-else-i-eq0 c = search end-laws

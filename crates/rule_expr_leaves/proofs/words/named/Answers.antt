@@ -1,17 +1,8 @@
 use Rattle.rule_expr_leaves.proofs.WordsMaking.{named-laws}
 use Rattle.rule_expr_leaves.proofs.words.named.Goals as goal
 
-pub returns-in-Unknown : goal.returns-in-Unknown
-returns-in-Unknown c = search named-laws
-
-pub returns-in-Type : goal.returns-in-Type
-returns-in-Type c = search named-laws
-
 pub returns-in-Var : goal.returns-in-Var
 returns-in-Var c = search named-laws
-
-pub returns-in-Proc : goal.returns-in-Proc
-returns-in-Proc c = search named-laws
 
 pub returns-in-Value : goal.returns-in-Value
 returns-in-Value c = search named-laws

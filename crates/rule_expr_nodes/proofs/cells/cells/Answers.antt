@@ -1,8 +1,8 @@
-use Rattle.rule_expr_nodes.proofs.CellsMaking.{cells-laws}
+use Rattle.rule_expr_nodes.proofs.CellsMaking.{cells_laws}
 use Rattle.rule_expr_nodes.proofs.cells.cells.Goals as goal
 
 pub returns-then-size-eq1 : goal.returns-then-size-eq1
-returns-then-size-eq1 c = search cells-laws
+returns-then-size-eq1 c = search cells_laws
 
-pub returns : goal.returns
-returns c = search cells-laws
+pub returns-else-size-eq1 : goal.returns-else-size-eq1
+returns-else-size-eq1 c = search cells_laws

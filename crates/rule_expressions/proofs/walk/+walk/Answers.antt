@@ -29,14 +29,11 @@ expr-returns-in-Shut t c = search expr-laws
 pub field-returns-then-is_form : goal.field-returns-then-is_form
 field-returns-then-is_form t c = search dot-laws
 
-pub field-returns-in-Name : goal.field-returns-in-Name
-field-returns-in-Name t c = search dot-laws
+pub field-returns-in-Some : goal.field-returns-in-Some
+field-returns-in-Some t c = search dot-laws
 
-pub field-returns-in-Nothing : goal.field-returns-in-Nothing
-field-returns-in-Nothing t c = search dot-laws
-
-pub headed-returns-then-op-ge15 : goal.headed-returns-then-op-ge15
-headed-returns-then-op-ge15 t c = search by-laws
+pub field-returns-in-None : goal.field-returns-in-None
+field-returns-in-None t c = search dot-laws
 
 pub headed-returns-in-At : goal.headed-returns-in-At
 headed-returns-in-At t c = search by-laws
@@ -56,14 +53,8 @@ headed-returns-in-Bound t c = search by-laws
 pub headed-returns-in-Short : goal.headed-returns-in-Short
 headed-returns-in-Short t c = search by-laws
 
-pub headed-returns-else-op-ge15 : goal.headed-returns-else-op-ge15
-headed-returns-else-op-ge15 t c = search by-laws
-
 pub headed-returns-in-One : goal.headed-returns-in-One
 headed-returns-in-One t c = search by-laws
-
-pub headed-returns-in-Nothing : goal.headed-returns-in-Nothing
-headed-returns-in-Nothing t c = search by-laws
 
 pub inner-returns-in-Leaf : goal.inner-returns-in-Leaf
 inner-returns-in-Leaf t c = search inner_laws
@@ -95,11 +86,11 @@ member_list-loop-q-smaller t c = search members-falls
 pub member_list-loop-q-preserved : goal.member_list-loop-q-preserved
 member_list-loop-q-preserved t c = (search rules, search members-again)
 
-pub minus-returns-in-Number : goal.minus-returns-in-Number
-minus-returns-in-Number t c = search (minus-laws, sfits_of)
+pub minus-returns-in-Some : goal.minus-returns-in-Some
+minus-returns-in-Some t c = search (minus-laws, sfits_of)
 
-pub minus-returns-in-No : goal.minus-returns-in-No
-minus-returns-in-No t c = search (minus-laws, sfits_of)
+pub minus-returns-in-None : goal.minus-returns-in-None
+minus-returns-in-None t c = search (minus-laws, sfits_of)
 
 pub minus_parts-returns-then-is_form : goal.minus_parts-returns-then-is_form
 minus_parts-returns-then-is_form t c = search minus-parts-laws
@@ -131,27 +122,6 @@ place_headed-returns-in-At t c = search by-place-laws
 pub place_headed-returns-in-Dot : goal.place_headed-returns-in-Dot
 place_headed-returns-in-Dot t c = search by-place-laws
 
-pub place_headed-returns-in-Members : goal.place_headed-returns-in-Members
-place_headed-returns-in-Members t c = search by-place-laws
-
-pub place_headed-returns-in-Minus : goal.place_headed-returns-in-Minus
-place_headed-returns-in-Minus t c = search by-place-laws
-
-pub place_headed-returns-in-Bound : goal.place_headed-returns-in-Bound
-place_headed-returns-in-Bound t c = search by-place-laws
-
-pub place_headed-returns-in-Short : goal.place_headed-returns-in-Short
-place_headed-returns-in-Short t c = search by-place-laws
-
-pub place_headed-returns-in-Two : goal.place_headed-returns-in-Two
-place_headed-returns-in-Two t c = search by-place-laws
-
-pub place_headed-returns-in-One : goal.place_headed-returns-in-One
-place_headed-returns-in-One t c = search by-place-laws
-
-pub place_headed-returns-in-Nothing : goal.place_headed-returns-in-Nothing
-place_headed-returns-in-Nothing t c = search by-place-laws
-
 pub second-returns : goal.second-returns
 second-returns t c = search second_is
 
@@ -178,3 +148,15 @@ two-returns-then-is_form t c = search two-laws
 
 pub two-returns : goal.two-returns
 two-returns t c = search two-laws
+
+pub place_headed-returns-in_default : goal.place_headed-returns-in_default
+place_headed-returns-in_default t c = search by-place-laws
+
+pub headed-returns-in-Two : goal.headed-returns-in-Two
+headed-returns-in-Two t c = search by-laws
+
+pub headed-returns-in-Two-2 : goal.headed-returns-in-Two-2
+headed-returns-in-Two-2 t c = search by-laws
+
+pub headed-returns-in-Nothing : goal.headed-returns-in-Nothing
+headed-returns-in-Nothing t c = search by-laws

@@ -14,8 +14,5 @@ returns-in-Truth c = search (word_laws, sfits_of)
 pub returns-in-ErrorNumber : goal.returns-in-ErrorNumber
 returns-in-ErrorNumber c = search (word_laws, sfits_of)
 
-pub returns-in-Base : goal.returns-in-Base
-returns-in-Base c = search (word_laws, sfits_of)
-
-pub returns-in-Nothing : goal.returns-in-Nothing
-returns-in-Nothing c = search (word_laws, sfits_of)
+pub returns-in_default : goal.returns-in_default
+returns-in_default c = search word_laws

@@ -10,8 +10,5 @@ returns-in-Else c = search inside-laws
 pub returns-in-Nothing : goal.returns-in-Nothing
 returns-in-Nothing c = search inside-laws
 
-pub returns-in-Form : goal.returns-in-Form
-returns-in-Form c = search inside-laws
-
-pub returns-in-Shut : goal.returns-in-Shut
-returns-in-Shut c = search inside-laws
+pub returns-in_default : goal.returns-in_default
+returns-in_default c = search inside-laws

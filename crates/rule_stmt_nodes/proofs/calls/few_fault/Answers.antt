@@ -4,5 +4,5 @@ use Rattle.rule_stmt_nodes.proofs.calls.few_fault.Goals as goal
 pub returns-then-n-x : goal.returns-then-n-x
 returns-then-n-x c = search few-laws
 
-pub returns : goal.returns
-returns c = search few-laws
+pub returns-else-n-x : goal.returns-else-n-x
+returns-else-n-x c = search few-laws

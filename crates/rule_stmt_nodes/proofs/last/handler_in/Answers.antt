@@ -7,8 +7,5 @@ returns-then-is_exception c = search in-laws
 pub returns-else-is_exception : goal.returns-else-is_exception
 returns-else-is_exception c = search in-laws
 
-pub returns-in-Form : goal.returns-in-Form
-returns-in-Form c = search in-laws
-
-pub returns-in-Shut : goal.returns-in-Shut
-returns-in-Shut c = search in-laws
+pub returns-in_default : goal.returns-in_default
+returns-in_default c = search in-laws

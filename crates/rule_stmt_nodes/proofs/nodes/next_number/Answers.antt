@@ -1,8 +1,6 @@
-use Rattle.rule_stmt_nodes.proofs.Making.{number-laws}
+use native.Mathlib.Omega.{arith}
+use Rattle.rule_stmt_nodes.proofs.Making.{number_is}
 use Rattle.rule_stmt_nodes.proofs.nodes.next_number.Goals as goal
 
-pub returns-then-n-lt4294967295 : goal.returns-then-n-lt4294967295
-returns-then-n-lt4294967295 c = search number-laws
-
 pub returns : goal.returns
-returns c = search number-laws
+returns c = number_is c.args.n c.saturating_add.result (λ h. omega arith) (λ h. omega arith)
