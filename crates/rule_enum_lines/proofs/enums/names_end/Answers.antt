@@ -1,8 +1,8 @@
-use Rattle.rule_enum_lines.proofs.EnumNames.{end-laws}
+use Rattle.rule_enum_lines.proofs.EnumNames.{end_laws}
 use Rattle.rule_enum_lines.proofs.enums.names_end.Goals as goal
 
 pub returns-in-Past : goal.returns-in-Past
-returns-in-Past c = search end-laws
+returns-in-Past c = search end_laws
 
 pub returns-in-More : goal.returns-in-More
-returns-in-More c = search end-laws
+returns-in-More c = search end_laws
