@@ -6,7 +6,7 @@ use mathlib.Core.Option.{Option, none, some}
 use Prim.Native.Nat.{ℕ, ◌<◌}
 use native.Mathlib.Omega.{arith}
 use lib.IntN.{ℤ, pos, neg_ℤ}
-use mir.Val.{SFits, to_z}
+use mir.Val.{SFits, to_z, bool_byte as from_bool}
 use mir.Facts.{to_z-of_z}
 use mir.Syntax.{w64}
 use Rattle.leaf_integers.specs.Integers.{exact}
@@ -52,44 +52,6 @@ use Rattle.rule_atoms.specs.Answers.{typed, type_meant, type_by, valued, num_val
 use Rattle.rule_atoms.specs.Answering.{TypeTold, GivesType, GivesConstant, GivesMinus, minus_form, minus_number, minus_end, minus_by}
 use Rattle.rule_atoms.proofs.Telling.{base-two, type-told, value-told, num-told, wrong-told, wrong-fits}
 
--- ---- by meaning
-
-module _ (m : Meaning) (q : ℕ) (r : Typed) where
-  pub type-unknown : m ≡ meaning.Unknown → r ≡ typed Name 0 q → r ≡ type_meant m q
-  type-unknown e f = rw e f
-
-  pub type-type : (t : ℕ) → m ≡ meaning.Type t → r ≡ typed Clear t q → r ≡ type_meant m q
-  type-type t e f = rw e f
-
-  pub type-var : (i t a : ℕ) → m ≡ meaning.Var i t a → r ≡ typed Name 0 q → r ≡ type_meant m q
-  type-var i t a e f = rw e f
-
-  pub type-proc : (p : ℕ) → m ≡ meaning.Proc p → r ≡ typed Name 0 q → r ≡ type_meant m q
-  type-proc p e f = rw e f
-
-  pub type-value : (k n : ℕ) → m ≡ meaning.Value k n → r ≡ typed Name 0 q → r ≡ type_meant m q
-  type-value k n e f = rw e f
-
-pub ruleset type-meant-laws = (type-unknown, type-type, type-var, type-proc, type-value)
-
-module _ (m : Meaning) (q : ℕ) (r : Valued) where
-  pub value-unknown : m ≡ meaning.Unknown → r ≡ valued Name 0 (pos 0) q → r ≡ value_meant m q
-  value-unknown e f = rw e f
-
-  pub value-type : (t : ℕ) → m ≡ meaning.Type t → r ≡ valued Name 0 (pos 0) q → r ≡ value_meant m q
-  value-type t e f = rw e f
-
-  pub value-var : (i t a : ℕ) → m ≡ meaning.Var i t a → r ≡ valued Name 0 (pos 0) q → r ≡ value_meant m q
-  value-var i t a e f = rw e f
-
-  pub value-proc : (p : ℕ) → m ≡ meaning.Proc p → r ≡ valued Name 0 (pos 0) q → r ≡ value_meant m q
-  value-proc p e f = rw e f
-
-  pub value-value : (k n : ℕ) (z : ℤ) (x : Num) → m ≡ meaning.Value k n → SFits w64 z → z ≡ pos n → x ≡ exact (wire z) → r ≡ num_valued k x q → r ≡ value_meant m q
-  value-value k n z x e p f g h = let i : wire z ≡ pos n = to_z-of_z p ∙ f in rw e (h ∙ rw (g, i) refl)
-
-pub ruleset value-meant-laws = (value-unknown, value-type, value-var, value-proc, value-value)
-
 -- ---- by a number
 
 module _ (k q : ℕ) (x : Num) (r : Valued) where
@@ -101,66 +63,17 @@ module _ (k q : ℕ) (x : Num) (r : Valued) where
 
 pub ruleset num_laws = (num-value, num-failed)
 
-pub truth-true : (b : Bool) → b ≡ true → pos 1 ≡ truth b
-unfolding truth
-truth-true b e = rw e refl
-
-pub truth-false : (b : Bool) → b ≡ false → pos 0 ≡ truth b
-unfolding truth
-truth-false b e = rw e refl
-
-pub ruleset truth-laws = (truth-true, truth-false)
-
 pub wide_is : (n : ℕ) → n < 4294967296 → to_z w64 n ≡ pos n
 wide_is n h = to_z-of_z {w = w64} {z = pos n} (record { sfits = omega arith })
 
 -- ---- a word alone
 
-module _ (w : Word) (M : Meaning) (q : ℕ) (a : Atom) (e : a ≡ atom_of w) (r : Typed) where
-  pub word_number : (z : ℤ) → a ≡ AT.Number z → r ≡ typed Form 0 q → r ≡ type_by (atom_of w) M q
-  word_number z f g = rw (← e, f) g
-
-  pub word-truth : (b : Bool) → a ≡ AT.Truth b → r ≡ typed Form 0 q → r ≡ type_by (atom_of w) M q
-  word-truth b f g = rw (← e, f) g
-
-  pub word-error : a ≡ AT.ErrorNumber → r ≡ typed Form 0 q → r ≡ type_by (atom_of w) M q
-  word-error f g = rw (← e, f) g
-
-  pub word-nothing : a ≡ AT.Nothing → r ≡ typed Form 0 q → r ≡ type_by (atom_of w) M q
-  word-nothing f g = rw (← e, f) g
-
-  pub word-base : (k : ℕ) → a ≡ AT.Base k → r ≡ typed Clear k q → r ≡ type_by (atom_of w) M q
-  word-base k f g = rw (← e, f) g
-
-pub type-named : (s l : List ℕ) (scope : Scope) (p : ℕ) (w : Word) (q : ℕ) (a : Atom) (r : Typed) (m : Meaning) → a ≡ atom_of w
-    → m ≡ meaning_here s l scope p → a ≡ AT.Named → r ≡ type_meant m q
-    → r ≡ type_by (atom_of w) (meaning_here s l scope p) q
-type-named s l scope p w q a r m e g f h = rw (← e, f) (h ∙ rw g refl)
-
-pub ruleset type-word-laws = (word_number, word-truth, word-error, word-nothing, word-base, type-named)
-
-module _ (w : Word) (M : Meaning) (q : ℕ) (a : Atom) (e : a ≡ atom_of w) (r : Valued) where
-  pub value-number : (z : ℤ) (x : Num) → a ≡ AT.Number z → SFits w64 z → x ≡ exact (wire z) → r ≡ num_valued 0 x q → r ≡ value_by (atom_of w) M q
-  value-number z x f p g h = rw (← e, f) (h ∙ rw (g, to_z-of_z p) refl)
-
-  pub value-truth : (b : Bool) (z : ℤ) → a ≡ AT.Truth b → SFits w64 z → z ≡ truth b → r ≡ valued Clear 1 (wire z) q → r ≡ value_by (atom_of w) M q
-  value-truth b z f p g h = rw (← e, f) (h ∙ rw (to_z-of_z p, g) refl)
-
-  pub value-error : a ≡ AT.ErrorNumber → r ≡ valued Form 0 (pos 0) q → r ≡ value_by (atom_of w) M q
-  value-error f g = rw (← e, f) g
-
-  pub value-nothing : a ≡ AT.Nothing → r ≡ valued Form 0 (pos 0) q → r ≡ value_by (atom_of w) M q
-  value-nothing f g = rw (← e, f) g
-
-  pub value-base : (k : ℕ) → a ≡ AT.Base k → r ≡ valued Form 0 (pos 0) q → r ≡ value_by (atom_of w) M q
-  value-base k f g = rw (← e, f) g
-
-pub value-named : (s l : List ℕ) (scope : Scope) (p : ℕ) (w : Word) (q : ℕ) (a : Atom) (r : Valued) (m : Meaning) → a ≡ atom_of w
-    → m ≡ meaning_here s l scope p → a ≡ AT.Named → r ≡ value_meant m q
-    → r ≡ value_by (atom_of w) (meaning_here s l scope p) q
-value-named s l scope p w q a r m e g f h = rw (← e, f) (h ∙ rw g refl)
-
-pub ruleset value-word-laws = (value-number, value-truth, value-error, value-nothing, value-base, value-named)
+-- `true` and `false` as integers
+pub truth_from : (w : Word) (M : Meaning) (q : ℕ) (a : Atom) (b : Bool) (z : ℤ) (r : Valued) → a ≡ atom_of w → a ≡ AT.Truth b → SFits w64 z → z ≡ pos (from_bool b)
+    → r ≡ valued Clear 1 (wire z) q → r ≡ value_by (atom_of w) M q
+unfolding truth
+truth_from w M q a true z r e f p g h = rw (← e, f) (h ∙ rw (to_z-of_z p, g) refl)
+truth_from w M q a false z r e f p g h = rw (← e, f) (h ∙ rw (to_z-of_z p, g) refl)
 
 -- ---- a type's name
 
@@ -211,7 +124,13 @@ module _ (s l : List ℕ) (scope : Scope) (at : ℕ) (x : Part) (h : Stands s at
       let g : ShutAt s at q = rw e at h.says in
       rw f (record { goes = λ k. absurd (false≢true (sym k)); says = λ ts top σ bs S. no-type (first (stack_at s at)) σ at (ap type_name_in g.here ∙ refl) })
 
-pub ruleset type-name-laws = (type-leaf, type-form, type-shut)
+-- another part than a word
+pub type-other : (s l : List ℕ) (scope : Scope) (at : ℕ) (x : Part) → Stands s at x → (r : Typed) → ((w : Word) (p q : ℕ) → x ≡ part.Leaf w p q → ⊥) → r ≡ typed Form 0 at → GivesType s l scope at r
+type-other s l scope at (part.Leaf w p q) h r k f = absurd (k w p q refl)
+type-other s l scope at (part.Form p) h r k f = type-form s l scope at (part.Form p) h r p refl f
+type-other s l scope at (part.Shut q) h r k f = type-shut s l scope at (part.Shut q) h r q refl f
+
+pub ruleset type_name_laws = (type-leaf, type-other)
 
 -- ---- `(- number)`
 
@@ -247,29 +166,24 @@ module _ (s : List ℕ) (at : ℕ) (z : ℤ) (e : Maybe ℕ) (h : Shuts s at e) 
       let d : first (stack_at s at) ≡ end → ⊥ = rw f at h.says in
       no_minus s at at (closed (first (stack_at s at)) (minus z)) r (more-closed (first (stack_at s at)) (minus z) d) k
 
-pub ruleset minus-end-laws = (minus-past, minus-more)
+pub ruleset minus_end_laws = (minus-past, minus-more)
 
 module _ (s : List ℕ) (next at : ℕ) (w : Word) (a : Atom) (e : a ≡ atom_of w) (r : Valued) where
   pub minus-number : (z : ℤ) → a ≡ AT.Number z → SFits w64 z → GivesMinus s next (minus_end (wire z) (first (stack_at s next))) r
       → GivesMinus s next (minus_by (atom_of w) (first (stack_at s next))) r
   minus-number z f p g = rw (← e, f) (rw (to_z-of_z p) at g)
 
-  pub minus-named : a ≡ AT.Named → r ≡ valued Form 0 (pos 0) at → GivesMinus s next (minus_by (atom_of w) (first (stack_at s next))) r
-  minus-named f g = rw (← e, f) (no_minus s next at none r refl g)
+-- another word than a number
+pub minus-other : (s : List ℕ) (next at : ℕ) (w : Word) (a : Atom) → a ≡ atom_of w → (r : Valued) → ((z : ℤ) → a ≡ AT.Number z → ⊥) → r ≡ valued Form 0 (pos 0) at
+    → GivesMinus s next (minus_by (atom_of w) (first (stack_at s next))) r
+minus-other s next at w (AT.Number z) e r k f = absurd (k z refl)
+minus-other s next at w AT.Named e r k f = rw (← e) (no_minus s next at none r refl f)
+minus-other s next at w (AT.Truth b) e r k f = rw (← e) (no_minus s next at none r refl f)
+minus-other s next at w AT.ErrorNumber e r k f = rw (← e) (no_minus s next at none r refl f)
+minus-other s next at w (AT.Base b) e r k f = rw (← e) (no_minus s next at none r refl f)
+minus-other s next at w AT.Nothing e r k f = rw (← e) (no_minus s next at none r refl f)
 
-  pub minus-truth : (b : Bool) → a ≡ AT.Truth b → r ≡ valued Form 0 (pos 0) at → GivesMinus s next (minus_by (atom_of w) (first (stack_at s next))) r
-  minus-truth b f g = rw (← e, f) (no_minus s next at none r refl g)
-
-  pub minus-error : a ≡ AT.ErrorNumber → r ≡ valued Form 0 (pos 0) at → GivesMinus s next (minus_by (atom_of w) (first (stack_at s next))) r
-  minus-error f g = rw (← e, f) (no_minus s next at none r refl g)
-
-  pub minus-base : (k : ℕ) → a ≡ AT.Base k → r ≡ valued Form 0 (pos 0) at → GivesMinus s next (minus_by (atom_of w) (first (stack_at s next))) r
-  minus-base k f g = rw (← e, f) (no_minus s next at none r refl g)
-
-  pub minus-nothing : a ≡ AT.Nothing → r ≡ valued Form 0 (pos 0) at → GivesMinus s next (minus_by (atom_of w) (first (stack_at s next))) r
-  minus-nothing f g = rw (← e, f) (no_minus s next at none r refl g)
-
-pub ruleset minus-word-laws = (minus-number, minus-named, minus-truth, minus-error, minus-base, minus-nothing)
+pub ruleset minus_word_laws = (minus-number, minus-other)
 
 form-number : (us ts : Trees Run) → minus_number (form us then ts) ≡ none
 unfolding minus_number number_in part_of is_number worded ◌>>=◌
@@ -320,7 +234,13 @@ module _ (s : List ℕ) (at : ℕ) (x : Part) (h : Stands s at x) (r : Valued) w
       let g : ShutAt s at q = rw e at h.says in
       no_minus s at at (minus_number (first (stack_at s at))) r (ap minus_number g.here ∙ end-number) f
 
-pub ruleset minus-number-laws = (number-leaf, number-form, number-shut)
+pub number-other : (s : List ℕ) (at : ℕ) (x : Part) → Stands s at x → (r : Valued) → ((w : Word) (p q : ℕ) → x ≡ part.Leaf w p q → ⊥) → r ≡ valued Form 0 (pos 0) at
+    → GivesMinus s at (minus_number (first (stack_at s at))) r
+number-other s at (part.Leaf w p q) h r k f = absurd (k w p q refl)
+number-other s at (part.Form p) h r k f = number-form s at (part.Form p) h r p refl f
+number-other s at (part.Shut q) h r k f = number-shut s at (part.Shut q) h r q refl f
+
+pub ruleset minus_number_laws = (number-leaf, number-other)
 
 -- ---- the head
 
@@ -367,7 +287,13 @@ module _ (s : List ℕ) (at : ℕ) (x : Part) (h : Stands s at x) (r : Valued) w
       let g : ShutAt s at q = rw e at h.says in
       no_minus s at at (minus_form (first (stack_at s at))) r (ap minus_form g.here ∙ constant-empty end) f
 
-pub ruleset minus-form-laws = (form-minus, form-other, form-form, form-shut)
+pub form-none : (s : List ℕ) (at : ℕ) (x : Part) → Stands s at x → (r : Valued) → ((w : Word) (p q : ℕ) → x ≡ part.Leaf w p q → ⊥) → r ≡ valued Form 0 (pos 0) at
+    → GivesMinus s at (minus_form (first (stack_at s at))) r
+form-none s at (part.Leaf w p q) h r k f = absurd (k w p q refl)
+form-none s at (part.Form p) h r k f = form-form s at (part.Form p) h r p refl f
+form-none s at (part.Shut q) h r k f = form-shut s at (part.Shut q) h r q refl f
+
+pub ruleset minus_form_laws = (form-minus, form-other, form-none)
 
 -- ---- a constant
 
@@ -413,4 +339,4 @@ module _ (s l : List ℕ) (scope : Scope) (at : ℕ) (x : Part) (h : Stands s at
       let g : ShutAt s at q = rw e at h.says in
       rw f (record { goes = λ k. absurd (false≢true (sym k)); says = λ ts top σ bs S. rw g.here wrong-told })
 
-pub ruleset constant-laws = (constant-leaf, constant-minus, constant-shut)
+pub ruleset constant_laws = (constant-leaf, constant-minus, constant-shut)

@@ -45,13 +45,10 @@ use Rattle.rule_atoms.specs.Answers.{typed}
 use Rattle.rule_atoms.specs.Answering.{GivesType}
 use Rattle.rule_atoms.proofs.Telling.{wrong-fits}
 use Rattle.rule_declarations.specs.Names.{named_by, GivesName, new_fault, last_type, GivesLastType}
-use Rattle.rule_declarations.specs.declared.Naming.{Naming}
-use Rattle.rule_declarations.specs.declared.Naming.TheVariants as naming
+use Rattle.std.specs.Prelude.{Option as Maybe, Some, None}
+use Rattle.rule_declarations.specs.declared.FreeName.{FreeName}
 
 -- ---- a free name
-
-pub word-called : (w : Word) (p q : ℕ) (a : Atom) → a ≡ atom_of w → a ≡ AT.Named → naming.Called p q ≡ named_by (atom_of w) p q
-word-called w p q a e f = rw (← e, f) refl
 
 -- no name stands past the text's end
 no-atom : atom_of (word_of []) ≡ AT.Nothing
@@ -77,7 +74,7 @@ form-name us ts = go (worded_all us)
     go (some vs) = refl
 
 module _ (s : List ℕ) (at : ℕ) (x : Part) (h : Stands s at x) where
-  pub name-leaf : (r : Naming) (w : Word) (p q : ℕ) → x ≡ part.Leaf w p q → r ≡ named_by (atom_of w) p q → GivesName s at r
+  pub name-leaf : (r : Maybe FreeName) (w : Word) (p q : ℕ) → x ≡ part.Leaf w p q → r ≡ named_by (atom_of w) p q → GivesName s at r
   name-leaf r w p q e f =
       let g : LeafAt s at p q × (w ≡ word_of (word_at s p)) = rw e at h.says in
       let n : name_in (first (stack_at s at)) ≡ atom_name (atom_of w) (map small (word_at s p)) =
@@ -92,37 +89,24 @@ module _ (s : List ℕ) (at : ℕ) (x : Part) (h : Stands s at x) where
       go (AT.Base k) i l n = record { says = n }
       go AT.Nothing i l n = record { says = n }
 
-  pub name-form : (p : ℕ) → x ≡ part.Form p → GivesName s at naming.Nothing
+  pub name-form : (p : ℕ) → x ≡ part.Form p → GivesName s at None
   name-form p e = let g : FormAt s at p = rw e at h.says in record { says = ap name_in g.here ∙ form-name (first (stack_at s p)) (first (later (stack_at s p))) }
 
-  pub name-shut : (q : ℕ) → x ≡ part.Shut q → GivesName s at naming.Nothing
+  pub name-shut : (q : ℕ) → x ≡ part.Shut q → GivesName s at None
   unfolding name_in part_of ◌>>=◌
   name-shut q e = let g : ShutAt s at q = rw e at h.says in record { says = ap name_in g.here }
 
-pub ruleset name-laws = (name-leaf, name-form, name-shut)
+-- another part than a word
+pub name-other : (s : List ℕ) (at : ℕ) (x : Part) → Stands s at x → ((w : Word) (p q : ℕ) → x ≡ part.Leaf w p q → ⊥) → GivesName s at None
+name-other s at (part.Leaf w p q) h k = absurd (k w p q refl)
+name-other s at (part.Form p) h k = name-form s at (part.Form p) h p refl
+name-other s at (part.Shut q) h k = name-shut s at (part.Shut q) h q refl
 
-module _ (f : Fault) (m : Meaning) where
-  pub new-unknown : m ≡ meaning.Unknown → f ≡ new_fault f m
-  new-unknown e = rw e refl
+pub ruleset name_laws = (name-leaf, name-other)
 
-  module _ (r : Fault) (g : r ≡ lowest f Name) where
-    pub new-type : (t : ℕ) → m ≡ meaning.Type t → r ≡ new_fault f m
-    new-type t e = rw e g
-
-    pub new-var : (i t a : ℕ) → m ≡ meaning.Var i t a → r ≡ new_fault f m
-    new-var i t a e = rw e g
-
-    pub new-proc : (p : ℕ) → m ≡ meaning.Proc p → r ≡ new_fault f m
-    new-proc p e = rw e g
-
-    pub new-value : (k n : ℕ) → m ≡ meaning.Value k n → r ≡ new_fault f m
-    new-value k n e = rw e g
-
-pub ruleset new-laws = (new-unknown, new-type, new-var, new-proc, new-value)
-
-pub named-is : (s l : List ℕ) (scope : Scope) (p : ℕ) (f r : Fault) (m : Meaning) → m ≡ meaning_here s l scope p
+pub named_is : (s l : List ℕ) (scope : Scope) (p : ℕ) (f r : Fault) (m : Meaning) → m ≡ meaning_here s l scope p
     → r ≡ new_fault f m → r ≡ new_fault f (meaning_here s l scope p)
-named-is s l scope p f r m e g = g ∙ rw e refl
+named_is s l scope p f r m e g = g ∙ rw e refl
 
 -- ---- a type's name that is the last part
 
@@ -217,4 +201,4 @@ module _ (s l : List ℕ) (scope : Scope) (at : ℕ) (t : Typed) (G : GivesType 
           });
         })
 
-pub ruleset last-laws = (last-form, last_more, last-past)
+pub ruleset last_laws = (last-form, last_more, last-past)

@@ -58,8 +58,8 @@ use Rattle.rule_declarations.specs.Lines.{line_of, entry_staged, newly, lined_by
 use Rattle.rule_declarations.specs.Vars.{var_after, vars_held, cells_held, vars_fit, var_entry, var_state, AddsVar, var-fits, var-past, GivesVar}
 use Rattle.rule_declarations.specs.declared.State.{State}
 use Rattle.rule_declarations.specs.declared.Lined.{Lined}
-use Rattle.rule_declarations.specs.declared.Naming.{Naming}
-use Rattle.rule_declarations.specs.declared.Naming.TheVariants as naming
+use Rattle.rule_declarations.specs.declared.FreeName.{FreeName}
+use Rattle.std.specs.Prelude.{Option as Maybe, Some, None}
 use Rattle.rule_declarations.proofs.Growing.{Chained, holds-chained, chained-env, chained_more, laid_same}
 
 -- ---- the parts
@@ -402,19 +402,19 @@ module _ (st : State) (n size : ℕ) where
           go true e = let x = leb-true c (2048 - size) e in sym (le-leb (c + size) 2048 (omega arith))
           go false e = let x = leb-false c (2048 - size) e in sym (lt-leb (c + size) 2048 (omega arith))
 
-pub ruleset fits-laws = (fits_more, fits-many, fits-large, fits-is)
+pub ruleset fits_laws = (fits_more, fits-many, fits-large, fits-is)
 
 -- `var_state`
-pub state-is : (st a b : State) (size top : ℕ) → a ≡ with_names st 1 st.top top → b ≡ with_var a size → b ≡ var_state st size top
+pub state_is : (st a b : State) (size top : ℕ) → a ≡ with_names st 1 st.top top → b ≡ with_var a size → b ≡ var_state st size top
 unfolding var_state
-state-is st a b size top e f = f ∙ ap (λ (x : State). with_var x size) e
+state_is st a b size top e f = f ∙ ap (λ (x : State). with_var x size) e
 
 -- `lay_var`
-pub var-laid : (st : State) (name kind : ℕ) (l : List ℕ) (r : ℕ) (l' : List ℕ)
+pub var_laid : (st : State) (name kind : ℕ) (l : List ℕ) (r : ℕ) (l' : List ℕ)
     → Laid (lay (name ∷ (1 + 4 * (st.vars % 128)) ∷ (kind % 128 + 128 * (st.cells % 4096)) ∷ st.scope.newest ∷ []) st.top l) r l'
     → Laid (lay (var_entry st name kind) st.top l) r l'
 unfolding var_entry
-var-laid st name kind l r l' L = L
+var_laid st name kind l r l' L = L
 
 -- `add_var`
 module _ (l ts : List ℕ) (st : State) (name kind : ℕ) (x : Info) (e : x ≡ info_of l ts kind) (b : Bool) (g : b ≡ vars_fit st 1 x.size) where
@@ -429,7 +429,7 @@ module _ (l ts : List ℕ) (st : State) (name kind : ℕ) (x : Info) (e : x ≡ 
       let a : vars_fit st 1 (info_of l ts kind).size ≡ false = ap (λ (y : Info). vars_fit st 1 y.size) (sym e) ∙ sym g ∙ h in
       rw j (var-past a)
 
-pub ruleset adds-laws = (adds-fits, adds-past)
+pub ruleset adds_laws = (adds-fits, adds-past)
 
 -- a variable with no fault: row 9 decides
 added-told : (s l ts : List ℕ) (st : State) (p kind : ℕ) (r : Lined) (l' : List ℕ) → p < length s → AddsVar l ts st (keyed s p) kind r l'
@@ -503,25 +503,25 @@ module _ (s l ts : List ℕ) (st : State) (p at : ℕ) (t : Typed) (G : GivesLas
     };
   }
 
-pub ruleset after-laws = (after-fault, after-clear)
+pub ruleset after_laws = (after-fault, after-clear)
 
 -- `var_line`
-module _ (s l ts : List ℕ) (st : State) (at : ℕ) (n : Naming) (N : GivesName s at n) where
-  pub line-called : (p q : ℕ) → n ≡ naming.Called p q → (r : Lined) (l' : List ℕ) → GivesVar s l ts st p q r l'
+module _ (s l ts : List ℕ) (st : State) (at : ℕ) (n : Maybe FreeName) (N : GivesName s at n) where
+  pub line-called : (m : FreeName) → n ≡ Some m → (r : Lined) (l' : List ℕ) → GivesVar s l ts st m.at m.next r l'
       → GivesLine s l ts st (line_of is_var 0 (first (stack_at s at))) r l' ts
   unfolding ◌>>=◌
-  line-called p q e r l' G =
+  line-called m e r l' G =
       let g = rw e at N.says in
-      let z : line_of is_var 0 (first (stack_at s at)) ≡ var_after (map small (word_at s p)) (first (stack_at s q)) =
+      let z : line_of is_var 0 (first (stack_at s at)) ≡ var_after (map small (word_at s m.at)) (first (stack_at s m.next)) =
       var-parts 0 (first (stack_at s at)) ∙ ap (λ (o : Option Name). o >>= λ (w : Name). var_after w (rest (first (stack_at s at)))) g.2
-      ∙ ap (λ (us : Trees Run). var_after (map small (word_at s p)) (rest us)) g.0.leaf.here in
+      ∙ ap (λ (us : Trees Run). var_after (map small (word_at s m.at)) (rest us)) g.0.leaf.here in
       rw z (G.gives g.1)
 
-  pub line-nothing : n ≡ naming.Nothing → (r : Lined) → r ≡ lined_by Form false st → GivesLine s l ts st (line_of is_var 0 (first (stack_at s at))) r l ts
+  pub line-nothing : n ≡ None → (r : Lined) → r ≡ lined_by Form false st → GivesLine s l ts st (line_of is_var 0 (first (stack_at s at))) r l ts
   unfolding ◌>>=◌ entry_staged staged
   line-nothing e r f =
       let g : name_in (first (stack_at s at)) ≡ none = rw e at N.says in
       let z : line_of is_var 0 (first (stack_at s at)) ≡ none = var-parts 0 (first (stack_at s at)) ∙ ap (λ (o : Option Name). o >>= λ (w : Name). var_after w (rest (first (stack_at s at)))) g in
       rw (f, z) (record { below = record { at = λ _ _ _. refl }; told = λ k bs H. failed-told s l ts st k bs wrong Form refl refl })
 
-pub ruleset var-line-laws = (line-called, line-nothing)
+pub ruleset var_line_laws = (line-called, line-nothing)

@@ -1,5 +1,5 @@
 -- A line's parts that are read alike in several forms: a free name, and a type's name or constant that is the last part.
-use Rattle.std.specs.Prelude.{true, false, List, map, ◌≡◌, ℕ, ◌<◌, length}
+use Rattle.std.specs.Prelude.{Option as Maybe, Some, None, true, false, List, map, ◌≡◌, ℕ, ◌<◌, length}
 use Rattle.std.proofs.Math.Option.{Option, none, some}
 use Rattle.leaf_bytes.specs.Bytes.{small}
 use Rattle.law.specs.Base.{◌>>=◌}
@@ -24,25 +24,24 @@ use Rattle.text_heads.specs.declared.Atom.TheVariants as AT
 use Rattle.rule_atoms.specs.declared.Typed.{Typed}
 use Rattle.rule_atoms.specs.declared.Valued.{Valued}
 use Rattle.rule_atoms.specs.Answering.{TypeTold, ValueTold}
-use Rattle.rule_declarations.specs.declared.Naming as naming
-use Rattle.rule_declarations.specs.declared.Naming.{Naming}
+use Rattle.rule_declarations.specs.declared.FreeName.{FreeName}
 
 -- ---- a free name
 
 -- a word at p that ends at q
-abbrev pub named_by : Atom → ℕ → ℕ → Naming
-named_by (AT.Number z) p q = naming.TheVariants.Nothing
-named_by AT.Named p q = naming.TheVariants.Called p q
-named_by (AT.Truth b) p q = naming.TheVariants.Nothing
-named_by AT.ErrorNumber p q = naming.TheVariants.Nothing
-named_by (AT.Base k) p q = naming.TheVariants.Nothing
-named_by AT.Nothing p q = naming.TheVariants.Nothing
+abbrev pub named_by : Atom → ℕ → ℕ → Maybe FreeName
+named_by (AT.Number z) p q = None
+named_by AT.Named p q = Some (record { at = p; next = q })
+named_by (AT.Truth b) p q = None
+named_by AT.ErrorNumber p q = None
+named_by (AT.Base k) p q = None
+named_by AT.Nothing p q = None
 
-abbrev pub NamesBy : List ℕ → ℕ → Naming → Type 0
-NamesBy s at (naming.TheVariants.Called p q) = LeafAt s at p q × (p < length s) × (name_in (first (stack_at s at)) ≡ some (map small (word_at s p)))
-NamesBy s at naming.TheVariants.Nothing = name_in (first (stack_at s at)) ≡ none
+abbrev pub NamesBy : List ℕ → ℕ → Maybe FreeName → Type 0
+NamesBy s at (Some n) = LeafAt s at n.at n.next × (n.at < length s) × (name_in (first (stack_at s at)) ≡ some (map small (word_at s n.at)))
+NamesBy s at None = name_in (first (stack_at s at)) ≡ none
 
-pub record GivesName (s : List ℕ) (at : ℕ) (r : Naming) : Type 0 where
+pub record GivesName (s : List ℕ) (at : ℕ) (r : Maybe FreeName) : Type 0 where
   pub says : NamesBy s at r
 
 -- row 7 where a new name has a meaning already

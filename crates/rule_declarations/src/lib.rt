@@ -2,14 +2,14 @@
 
 #![tactic(auto)]
 
-ghost use Rattle.std.specs.Prelude.{◌≡◌, ◌+◌, ◌*◌, ◌%◌};
+ghost use Rattle.std.specs.Prelude.{true, false, ◌≡◌, ◌+◌, ◌*◌, ◌%◌};
 ghost use Rattle.table_scope.specs.Scene.{meaning_here};
 ghost use Rattle.law.specs.Forms.{is_var};
 ghost use Rattle.code.specs.Layout.{lay as laid};
 ghost use Rattle.law.specs.Trees.{first};
 ghost use Rattle.law_theorems.specs.Readings.{stack_at};
 ghost use Rattle.text_heads.specs.Heads.{atom_of};
-ghost use Rattle.rule_atoms.specs.Answers.{typed as typed_by};
+ghost use Rattle.rule_faults.specs.declared.Fault.TheVariants.{Clear};
 ghost use Rattle.rule_declarations.specs.Names.{named_by, GivesName, new_fault, GivesLastType};
 ghost use Rattle.rule_declarations.specs.State.{start_state, with_names, with_type_line, with_var, body_state, with_parameters};
 ghost use Rattle.rule_declarations.specs.Lines.{lined_by, line_of, GivesLine};
@@ -77,6 +77,122 @@ pub struct State {
     pub parameters: u32,
 }
 
+impl State {
+    // What is held before any line.
+    #[tactic(auto, unfolding(crate::specs::State::start_state))]
+    pub fn start() -> State
+        ensures { result ≡ start_state }
+    {
+        let scope = Scope {
+            count: 0,
+            newest: 0,
+            pairs: 0,
+            vars: 0,
+            parameters: 0,
+        };
+        State {
+            scope,
+            top: 1,
+            types: 2,
+            lines: 0,
+            vars: 0,
+            cells: 0,
+            procs: 0,
+            parameters: 0,
+        }
+    }
+
+    // How many variables there are, with the parameters, which "count among the 128 variables and 2,048 cells".
+    fn vars_held(self) -> u32
+        ensures { result ≡ vars_held self }
+    {
+        self.vars % PARAMETER_NUMBERS + self.parameters % PARAMETER_NUMBERS
+    }
+
+    // And how many cells.
+    fn cells_held(self) -> u32
+        ensures { result ≡ cells_held self }
+    {
+        self.cells % CELL_NUMBERS + self.parameters % PARAMETER_NUMBERS
+    }
+
+    // Whether n variables more, of so many cells together, are within the ceilings of row 9.
+    #[tactic(auto, using(crate::proofs::VarLines::fits_laws), unfolding(crate::specs::Vars::vars_fit))]
+    pub fn vars_fit(self, n: u32, size: u32) -> bool
+        ensures { result ≡ vars_fit self n size }
+    {
+        n <= MOST_VARS
+            && size <= MOST_CELLS
+            && self.vars_held() <= MOST_VARS - n
+            && self.cells_held() <= MOST_CELLS - size
+    }
+
+    // What is held after so many names more, the newest at a place, with the free place then.
+    pub fn with_names(self, names: u32, newest: u32, top: u32) -> State
+        ensures { result ≡ with_names self names newest top }
+    {
+        let scope = Scope {
+            count: self.scope.count % NAME_NUMBERS + names % NAME_NUMBERS,
+            newest,
+            pairs: 0,
+            vars: 0,
+            parameters: 0,
+        };
+        State { scope, top, ..self }
+    }
+
+    // What is held after a `type` line more that makes so many types.
+    pub fn with_type_line(self, made: u32) -> State
+        ensures { result ≡ with_type_line self made }
+    {
+        State {
+            types: self.types % TYPE_NUMBERS + made % 2,
+            lines: self.lines % TYPE_NUMBERS + 1,
+            ..self
+        }
+    }
+
+    // What is held after a variable more of so many cells.
+    fn with_var(self, size: u32) -> State
+        ensures { result ≡ with_var self size }
+    {
+        State {
+            vars: self.vars % MOST_VARS + 1,
+            cells: self.cells % CELL_NUMBERS + size % CELL_NUMBERS,
+            ..self
+        }
+    }
+
+    // What is held after a body more, with the free place then.
+    pub fn with_body(self, top: u32) -> State
+        ensures { result ≡ body_state self top }
+    {
+        State {
+            top,
+            procs: self.procs % BODY_NUMBERS + 1,
+            ..self
+        }
+    }
+
+    // What is held after n parameters more.
+    pub fn with_parameters(self, n: u32) -> State
+        ensures { result ≡ with_parameters self n }
+    {
+        State {
+            parameters: self.parameters % PARAMETER_NUMBERS + n % PARAMETER_NUMBERS,
+            ..self
+        }
+    }
+
+    // What is held after a variable of so many cells and its name, with the free place then.
+    #[tactic(auto, using(crate::proofs::VarLines::state_is))]
+    fn with_named_var(self, size: u32, top: u32) -> State
+        ensures { result ≡ var_state self size top }
+    {
+        self.with_names(1, self.top, top).with_var(size)
+    }
+}
+
 // The answer for a line: its fault of rows 6 to 8; with no fault whether it is within the ceilings of row 9, and then what is held after it.
 #[derive(Clone, Copy)]
 pub struct Lined {
@@ -85,37 +201,62 @@ pub struct Lined {
     pub state: State,
 }
 
-// A free name, with its offset and its end, or another part or none.
-#[derive(Clone, Copy)]
-pub enum Naming {
-    Called(usize, usize),
-    Nothing,
-}
+impl Lined {
+    // A line that is accepted, with what is held after it.
+    pub fn held(state: State) -> Lined
+        ensures { result ≡ lined_by Clear true state }
+    {
+        Lined {
+            fault: Fault::Clear,
+            within: true,
+            state,
+        }
+    }
 
-// The word at p that ends at q, if it is a free name.
-fn name_word(w: Word, p: usize, q: usize) -> Naming
-    ensures { result ≡ named_by (atom_of w) p q }
-{
-    let a = atom_of(w);
-    match a {
-        Atom::Number(_) => Naming::Nothing,
-        Atom::Named => Naming::Called(p, q),
-        Atom::Truth(_) => Naming::Nothing,
-        Atom::ErrorNumber => Naming::Nothing,
-        Atom::Base(_) => Naming::Nothing,
-        Atom::Nothing => Naming::Nothing,
+    // A line past a ceiling of row 9, with what was held before it.
+    pub fn past(state: State) -> Lined
+        ensures { result ≡ lined_by Clear false state }
+    {
+        Lined::failed(Fault::Clear, state)
+    }
+
+    // A line with a fault, and what was held before it.
+    pub fn failed(fault: Fault, state: State) -> Lined
+        ensures { result ≡ lined_by fault false state }
+    {
+        Lined {
+            fault,
+            within: false,
+            state,
+        }
     }
 }
 
-// The free name at an offset.
-pub fn name_at(text: &[u8], at: usize) -> Naming
+// A free name: its offset, and where it ends.
+#[derive(Clone, Copy)]
+pub struct FreeName {
+    pub at: usize,
+    pub next: usize,
+}
+
+// The word at p that ends at q, if it is a free name.
+fn name_word(w: Word, p: usize, q: usize) -> Option<FreeName>
+    ensures { result ≡ named_by (atom_of w) p q }
+{
+    match atom_of(w) {
+        Atom::Named => Some(FreeName { at: p, next: q }),
+        _ => None,
+    }
+}
+
+// The free name at an offset, if one stands there.
+#[tactic(auto, using(crate::proofs::FreeNames::name_laws))]
+pub fn name_at(text: &[u8], at: usize) -> Option<FreeName>
     ensures { GivesName text.now at result }
 {
-    let part = part_at(text, at);
-    match part {
+    match part_at(text, at) {
         Part::Leaf(w, p, q) => name_word(w, p, q),
-        Part::Form(_) => Naming::Nothing,
-        Part::Shut(_) => Naming::Nothing,
+        _ => None,
     }
 }
 
@@ -125,30 +266,16 @@ fn new_fault(f: Fault, m: Meaning) -> Fault
 {
     match m {
         Meaning::Unknown => f,
-        Meaning::Type(_) => lowest(f, Fault::Name),
-        Meaning::Var(_, _, _) => lowest(f, Fault::Name),
-        Meaning::Proc(_) => lowest(f, Fault::Name),
-        Meaning::Value(_, _) => lowest(f, Fault::Name),
+        _ => lowest(f, Fault::Name),
     }
 }
 
 // The fault of a line that declares the name at p, f being that of its other parts.
+#[tactic(auto, using(crate::proofs::FreeNames::named_is))]
 pub fn named_fault(text: &[u8], work: &[u32], scope: Scope, p: usize, f: Fault) -> Fault
     ensures { result ≡ new_fault f (meaning_here text.now work.now scope p) }
 {
-    let m = meaning_of(text, work, scope, p);
-    new_fault(f, m)
-}
-
-// An answer for a type's name from its parts.
-fn type_answer(fault: Fault, kind: u32, next: usize) -> Typed
-    ensures { result ≡ typed_by fault kind next }
-{
-    Typed {
-        fault: fault,
-        kind: kind,
-        next: next,
-    }
+    new_fault(f, meaning_of(text, work, scope, p))
 }
 
 // The type that the last part of a form names; the next part stands past the form.
@@ -156,56 +283,13 @@ pub fn last_type(text: &[u8], work: &[u32], scope: Scope, at: usize) -> Typed
     ensures { GivesLastType text.now work.now scope at result }
 {
     let t = type_name(text, work, scope, at);
-    let f = t.fault;
-    if is_form(f) {
-        return type_answer(Fault::Form, 0, at);
+    if is_form(t.fault) {
+        return Typed::failed(Fault::Form, at);
     }
-    let e = end_at(text, t.next);
-    match e {
-        Some(q) => type_answer(f, t.kind, q),
-        None => type_answer(Fault::Form, 0, at),
+    match end_at(text, t.next) {
+        Some(q) => Typed { next: q, ..t },
+        None => Typed::failed(Fault::Form, at),
     }
-}
-
-// An answer for a line from its parts.
-pub fn answered(fault: Fault, within: bool, state: State) -> Lined
-    ensures { result ≡ lined_by fault within state }
-{
-    Lined {
-        fault: fault,
-        within: within,
-        state: state,
-    }
-}
-
-// How many variables there are, with the parameters, which "count among the 128 variables and 2,048 cells".
-fn vars_held(st: State) -> u32
-    ensures { result ≡ vars_held st }
-{
-    st.vars % PARAMETER_NUMBERS + st.parameters % PARAMETER_NUMBERS
-}
-
-// And how many cells.
-fn cells_held(st: State) -> u32
-    ensures { result ≡ cells_held st }
-{
-    st.cells % CELL_NUMBERS + st.parameters % PARAMETER_NUMBERS
-}
-
-// Whether n variables more, of so many cells together, are within the ceilings of row 9.
-pub fn vars_fit(st: State, n: u32, size: u32) -> bool
-    ensures { result ≡ vars_fit st n size }
-{
-    if n > MOST_VARS {
-        return false;
-    }
-    if vars_held(st) > MOST_VARS - n {
-        return false;
-    }
-    if size > MOST_CELLS {
-        return false;
-    }
-    cells_held(st) <= MOST_CELLS - size
 }
 
 // An offset in 32 bits.
@@ -213,102 +297,6 @@ pub fn narrow(p: usize) -> u32
     ensures { result ≡ p % 32768 }
 {
     (p % TEXT_LENGTH) as u32
-}
-
-// What is held after so many names more, the newest at a place, with the free place then.
-pub fn with_names(st: State, names: u32, newest: u32, top: u32) -> State
-    ensures { result ≡ with_names st names newest top }
-{
-    let scope = Scope {
-        count: st.scope.count % NAME_NUMBERS + names % NAME_NUMBERS,
-        newest,
-        pairs: 0,
-        vars: 0,
-        parameters: 0,
-    };
-    State { scope, top, ..st }
-}
-
-// What is held after a `type` line more that makes so many types.
-pub fn with_type_line(st: State, made: u32) -> State
-    ensures { result ≡ with_type_line st made }
-{
-    let scope = st.scope;
-    State {
-        scope,
-        types: st.types % TYPE_NUMBERS + made % 2,
-        lines: st.lines % TYPE_NUMBERS + 1,
-        ..st
-    }
-}
-
-// What is held after a variable more of so many cells.
-fn with_var(st: State, size: u32) -> State
-    ensures { result ≡ with_var st size }
-{
-    let scope = st.scope;
-    State {
-        scope,
-        vars: st.vars % MOST_VARS + 1,
-        cells: st.cells % CELL_NUMBERS + size % CELL_NUMBERS,
-        ..st
-    }
-}
-
-// What is held after a body more, with the free place then.
-pub fn with_body(st: State, top: u32) -> State
-    ensures { result ≡ body_state st top }
-{
-    let scope = st.scope;
-    State {
-        scope,
-        top,
-        procs: st.procs % BODY_NUMBERS + 1,
-        ..st
-    }
-}
-
-// What is held after n parameters more.
-pub fn with_parameters(st: State, n: u32) -> State
-    ensures { result ≡ with_parameters st n }
-{
-    let scope = st.scope;
-    State {
-        scope,
-        parameters: st.parameters % PARAMETER_NUMBERS + n % PARAMETER_NUMBERS,
-        ..st
-    }
-}
-
-// What is held before any line.
-pub fn start_state() -> State
-    ensures { result ≡ start_state }
-{
-    let scope = Scope {
-        count: 0,
-        newest: 0,
-        pairs: 0,
-        vars: 0,
-        parameters: 0,
-    };
-    State {
-        scope,
-        top: 1,
-        types: 2,
-        lines: 0,
-        vars: 0,
-        cells: 0,
-        procs: 0,
-        parameters: 0,
-    }
-}
-
-// What is held after a variable of so many cells and its name, with the free place then.
-fn var_state(st: State, size: u32, top: u32) -> State
-    ensures { result ≡ var_state st size top }
-{
-    let named = with_names(st, 1, st.top, top);
-    with_var(named, size)
 }
 
 // Lays the entry of a variable, by its name's number; the free place then.
@@ -325,12 +313,12 @@ fn add_var(work: &mut [u32], types: &[u32], st: State, name: u32, kind: u32) -> 
     ensures { AddsVar work.old types.now st name kind result work.new }
 {
     let x = describe(work, types, kind);
-    if vars_fit(st, 1, x.size) {
+    if st.vars_fit(1, x.size) {
         let top = lay_var(work, st, name, kind);
-        let after = var_state(st, x.size, top);
-        return answered(Fault::Clear, true, after);
+        Lined::held(st.with_named_var(x.size, top))
+    } else {
+        Lined::past(st)
     }
-    answered(Fault::Clear, false, st)
 }
 
 // A `var` line from its type's name on; its name is at p.
@@ -338,22 +326,20 @@ fn var_after(text: &[u8], work: &mut [u32], types: &[u32], st: State, p: usize, 
     ensures { GivesVar text.now work.old types.now st p at result work.new }
 {
     let t = last_type(text, work, st.scope, at);
-    let g = t.fault;
-    let f = named_fault(text, work, st.scope, p, g);
+    let f = named_fault(text, work, st.scope, p, t.fault);
     if is_clear(f) {
-        let name = name_number(text, p);
-        return add_var(work, types, st, name, t.kind);
+        add_var(work, types, st, name_number(text, p), t.kind)
+    } else {
+        Lined::failed(f, st)
     }
-    answered(f, false, st)
 }
 
 // A `var` line, past its head word.
 pub fn var_line(text: &[u8], work: &mut [u32], types: &[u32], st: State, at: usize) -> Lined
     ensures { GivesLine text.now work.old types.now st (line_of is_var 0 (first (stack_at text.now at))) result work.new types.now }
 {
-    let n = name_at(text, at);
-    match n {
-        Naming::Called(p, q) => var_after(text, work, types, st, p, q),
-        Naming::Nothing => answered(Fault::Form, false, st),
+    match name_at(text, at) {
+        Some(n) => var_after(text, work, types, st, n.at, n.next),
+        None => Lined::failed(Fault::Form, st),
     }
 }

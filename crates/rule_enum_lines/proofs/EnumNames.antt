@@ -38,8 +38,8 @@ use Rattle.rule_repeats.proofs.LeadParts.{lead-free}
 use Rattle.rule_repeats.proofs.NamesApart.{distinct_apart}
 use Rattle.rule_enum_lines.specs.Enums.{enum_in, names_in, many, Listed, fresh_one, fresh, GivesNew, GivesFresh, counted, counted_by, is_unknown, NamesTold, names-wrong, names-read, EndsNames, ends-wrong, ends_read}
 use Rattle.rule_enum_lines.specs.declared.enums.Counted.{Counted}
-use Rattle.rule_declarations.specs.declared.Naming.{Naming}
-use Rattle.rule_declarations.specs.declared.Naming.TheVariants as naming
+use Rattle.rule_declarations.specs.declared.FreeName.{FreeName}
+use Rattle.std.specs.Prelude.{Option as Maybe, Some, None}
 
 -- ---- all names
 
@@ -61,20 +61,20 @@ enum-parts us =
 
 -- ---- one name, then the others
 
-module _ (s : List ℕ) (p : ℕ) (n : Naming) (N : GivesName s p n) where
-  pub names-called : (y q : ℕ) → n ≡ naming.Called y q → names_in (first (stack_at s p)) ≡ (names_in (first (stack_at s q)) >>= λ (ns : List Name). some (map small (word_at s y) ∷ ns))
+module _ (s : List ℕ) (p : ℕ) (n : Maybe FreeName) (N : GivesName s p n) where
+  pub names-called : (m : FreeName) → n ≡ Some m → names_in (first (stack_at s p)) ≡ (names_in (first (stack_at s m.next)) >>= λ (ns : List Name). some (map small (word_at s m.at) ∷ ns))
   unfolding names_in name_in part_of ◌>>=◌
-  names-called y q e =
+  names-called m e =
       let g = rw e at N.says in
       let h = g.0.leaf.here in
       let z = rw h at g.2 in
       rw (h, z) refl
 
-  pub names-fewer : (y q : ℕ) → n ≡ naming.Called y q → many (first (stack_at s q)) < many (first (stack_at s p))
+  pub names-fewer : (m : FreeName) → n ≡ Some m → many (first (stack_at s m.next)) < many (first (stack_at s p))
   unfolding many
-  names-fewer y q e = let g = rw e at N.says in rw g.0.leaf.here (omega arith)
+  names-fewer m e = let g = rw e at N.says in rw g.0.leaf.here (omega arith)
 
-  pub names-nothing : n ≡ naming.Nothing → (ns : List Name) → names_in (first (stack_at s p)) ≡ some ns → ns ≡ []
+  pub names-nothing : n ≡ None → (ns : List Name) → names_in (first (stack_at s p)) ≡ some ns → ns ≡ []
   unfolding names_in name_in part_of ◌>>=◌
   names-nothing e ns h = go (first (stack_at s p)) (rw e at N.says) h
     where
@@ -100,27 +100,27 @@ module _ (s : List ℕ) (x at : ℕ) where
   pub scan-start : Scanning s x at at
   scan-start = record { left = λ σ ns h. (ns, h, refl) }
 
-  module _ (p : ℕ) (S : Scanning s x at p) (n : Naming) (N : GivesName s p n) where
-    pub scan-none : n ≡ naming.Nothing → Listed s x at false
+  module _ (p : ℕ) (S : Scanning s x at p) (n : Maybe FreeName) (N : GivesName s p n) where
+    pub scan-none : n ≡ None → Listed s x at false
     unfolding listed_in
     scan-none e = record { says = λ σ ns h. let m = S.left σ ns h in let z : m.0 ≡ [] = names-nothing s p n N e m.0 m.1 in sym (m.2 ∙ rw z refl) }
 
-    module _ (y q : ℕ) (e : n ≡ naming.Called y q) (b : Bool) (t : b ≡ same (map small (word_at s y)) (map small (word_at s x))) where
+    module _ (f : FreeName) (e : n ≡ Some f) (b : Bool) (t : b ≡ same (map small (word_at s f.at)) (map small (word_at s x))) where
       pub scan-found : b ≡ true → Listed s x at true
       scan-found i = record {
         says = λ σ ns h.
             let m = S.left σ ns h in
-            bind-some (sym (names-called s p n N y q e) ∙ m.1) (λ ms _ g. let z : map small (word_at s y) ∷ ms ≡ m.0 = some_inj g in sym (m.2 ∙ ap (listed_in σ (map small (word_at s x))) (sym z) ∙ listed_more σ (map small (word_at s x)) (map small (word_at s y)) ms ∙ ap (λ (c : Bool). cond c true (listed_in σ (map small (word_at s x)) ms)) (sym t ∙ i)));
+            bind-some (sym (names-called s p n N f e) ∙ m.1) (λ ms _ g. let z : map small (word_at s f.at) ∷ ms ≡ m.0 = some_inj g in sym (m.2 ∙ ap (listed_in σ (map small (word_at s x))) (sym z) ∙ listed_more σ (map small (word_at s x)) (map small (word_at s f.at)) ms ∙ ap (λ (c : Bool). cond c true (listed_in σ (map small (word_at s x)) ms)) (sym t ∙ i)));
       }
 
-      pub scan-on : b ≡ false → Scanning s x at q
+      pub scan-on : b ≡ false → Scanning s x at f.next
       scan-on i = record {
         left = λ σ ns h.
             let m = S.left σ ns h in
-            bind-some (sym (names-called s p n N y q e) ∙ m.1) (λ ms u g. let z : map small (word_at s y) ∷ ms ≡ m.0 = some_inj g in (ms, u, m.2 ∙ ap (listed_in σ (map small (word_at s x))) (sym z) ∙ listed_more σ (map small (word_at s x)) (map small (word_at s y)) ms ∙ ap (λ (c : Bool). cond c true (listed_in σ (map small (word_at s x)) ms)) (sym t ∙ i)));
+            bind-some (sym (names-called s p n N f e) ∙ m.1) (λ ms u g. let z : map small (word_at s f.at) ∷ ms ≡ m.0 = some_inj g in (ms, u, m.2 ∙ ap (listed_in σ (map small (word_at s x))) (sym z) ∙ listed_more σ (map small (word_at s x)) (map small (word_at s f.at)) ms ∙ ap (λ (c : Bool). cond c true (listed_in σ (map small (word_at s x)) ms)) (sym t ∙ i)));
       }
 
-pub ruleset scan-laws = (scan-none, scan-found, scan-on)
+pub ruleset scan_laws = (scan-none, scan-found, scan-on)
 
 -- ---- new names
 
@@ -152,7 +152,7 @@ module _ (s l : List ℕ) (scope : Scope) (y : ℕ) where
     unfolding fresh_one
     fresh-other i r N = record { says = λ ts top σ bs S ms h. rw (sym (L.says σ ms h) ∙ i) (N.says ts top σ bs S) }
 
-pub ruleset fresh-laws = (fresh-listed, fresh-other)
+pub ruleset fresh_laws = (fresh-listed, fresh-other)
 
 pub counted-more : (n : ℕ) → n < 1000 → n + 1 ≡ counted n
 unfolding counted
@@ -162,7 +162,7 @@ pub counted-full : (n : ℕ) → 1000 ≤ n → n ≡ counted n
 unfolding counted
 counted-full n h = rw (le-ltb n 1000 h) refl
 
-pub ruleset counted-laws = (counted-more, counted-full)
+pub ruleset counted_laws = (counted-more, counted-full)
 
 pub fault-fresh : (b : Bool) → b ≡ true → fault.Clear ≡ cond b fault.Clear fault.Name
 fault-fresh b e = rw e refl
@@ -170,7 +170,7 @@ fault-fresh b e = rw e refl
 pub fault-stale : (b : Bool) → b ≡ false → fault.Name ≡ cond b fault.Clear fault.Name
 fault-stale b e = rw e refl
 
-pub ruleset fault-laws = (fault-fresh, fault-stale)
+pub ruleset fault_laws = (fault-fresh, fault-stale)
 
 pub both_first : (a b : Bool) → a ≡ true → b ≡ (a && b)
 both_first a b e = rw e refl
@@ -178,7 +178,7 @@ both_first a b e = rw e refl
 pub both-none : (a b : Bool) → a ≡ false → false ≡ (a && b)
 both-none a b e = rw e refl
 
-pub ruleset both-laws = (both_first, both-none)
+pub ruleset both_laws = (both_first, both-none)
 
 module _ (s : List ℕ) (p n : ℕ) (ok : Bool) (e : Maybe ℕ) (E : Shuts s p e) (r : Counted) where
   pub end-past : (q : ℕ) → e ≡ Some q → (o : Bool) → o ≡ ok → (f : Fault) → f ≡ cond o fault.Clear fault.Name → r ≡ counted_by f n q → EndsNames s p n ok r
@@ -187,7 +187,7 @@ module _ (s : List ℕ) (p n : ℕ) (ok : Bool) (e : Maybe ℕ) (E : Shuts s p e
   pub end_more : e ≡ None → r ≡ counted_by fault.Form 0 p → EndsNames s p n ok r
   end_more g i = rw i (ends-wrong (rw g at E.says))
 
-pub ruleset end-laws = (end-past, end_more)
+pub ruleset end_laws = (end-past, end_more)
 
 -- ---- names that differ
 
@@ -272,19 +272,19 @@ module _ (s l : List ℕ) (scope : Scope) (at : ℕ) where
     pub count_small : Fits w32 n
     count_small = S.small
 
-    module _ (x : Naming) (N : GivesName s p x) where
-      pub count-on : (y q : ℕ) → x ≡ naming.Called y q → (b : Bool) → GivesNew s l scope y b → (ok' : Bool) → ok' ≡ (ok && b) → (n' : ℕ) → Fits w32 n' → n' ≡ counted n
-          → Counting s l scope at q n' ok'
+    module _ (x : Maybe FreeName) (N : GivesName s p x) where
+      pub count-on : (f : FreeName) → x ≡ Some f → (b : Bool) → GivesNew s l scope f.at b → (ok' : Bool) → ok' ≡ (ok && b) → (n' : ℕ) → Fits w32 n' → n' ≡ counted n
+          → Counting s l scope at f.next n' ok'
       unfolding none_known ◌>>=◌
-      count-on y q e b G ok' ho n' hf hn = record {
+      count-on f e b G ok' ho n' hf hn = record {
         c = suc S.c;
         few = λ h. hn ∙ (counted-few n S.c S.few S.full).0 h;
         full = λ h. hn ∙ (counted-few n S.c S.few S.full).1 h;
         small = hf;
-        back = λ h. S.back (names-called s p x N y q e ∙ rw h refl);
+        back = λ h. S.back (names-called s p x N f e ∙ rw h refl);
         around = S.around ∙ (rw e at N.says).0.leaf.around;
         left = λ ms h.
-            let m = S.left (map small (word_at s y) ∷ ms) (names-called s p x N y q e ∙ rw h refl) in (
+            let m = S.left (map small (word_at s f.at) ∷ ms) (names-called s p x N f e ∙ rw h refl) in (
               m.0,
               m.1,
               m.2 ∙ omega arith,
@@ -302,7 +302,7 @@ module _ (s l : List ℕ) (scope : Scope) (at : ℕ) where
       unfolding names_in
       end-names us h = rw h refl
 
-      pub count-end : x ≡ naming.Nothing → (r : Counted) → EndsNames s p n (ok && apart (leads_at s at)) r → NamesTold s l scope at r
+      pub count-end : x ≡ None → (r : Counted) → EndsNames s p n (ok && apart (leads_at s at)) r → NamesTold s l scope at r
       unfolding none_known
       count-end e r (ends-wrong h) = names-wrong (S.back (none-names (first (stack_at s p)) (rw e at N.says) h))
       count-end e r (ends_read q h a) =
@@ -313,4 +313,4 @@ module _ (s l : List ℕ) (scope : Scope) (at : ℕ) where
           ap (λ (b : Bool). cond b fault.Clear fault.Name)
           (ap (λ (b : Bool). b && apart (leads_at s at)) (sym (m.3 ts top σ bs C ∙ and-true-right ok)) ∙ fresh-apart σ (first (stack_at s at)) m.0 m.1))
 
-pub ruleset count-laws = (count-on, count-end)
+pub ruleset count_laws = (count-on, count-end)

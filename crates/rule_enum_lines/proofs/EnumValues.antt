@@ -48,8 +48,8 @@ use Rattle.rule_enum_lines.specs.Values.{start_of, Values, no_value, one_value, 
 use Rattle.rule_declarations.specs.declared.State.{State}
 use Rattle.rule_declarations.specs.declared.Lined.{Lined}
 use Rattle.rule_type_lines.specs.declared.Placed.{Placed}
-use Rattle.rule_declarations.specs.declared.Naming.{Naming}
-use Rattle.rule_declarations.specs.declared.Naming.TheVariants as naming
+use Rattle.rule_declarations.specs.declared.FreeName.{FreeName}
+use Rattle.std.specs.Prelude.{Option as Maybe, Some, None}
 use Rattle.rule_enum_lines.proofs.EnumNames.{names-called, names-nothing}
 use Rattle.rule_declarations.proofs.Growing.{Chained, laid_same}
 
@@ -63,7 +63,7 @@ pub link-last : (i n place newest m : ℕ) → m ≡ n - 1 → m ≤ i → newes
 unfolding link_of
 link-last i n place newest m e h = rw (le-ltb i (n - 1) (omega arith)) refl
 
-pub ruleset link-laws = (link-next, link-last)
+pub ruleset link_laws = (link-next, link-last)
 
 pub value-laid : (kind newest n name i place link : ℕ) → link ≡ link_of i n place newest → (l : List ℕ) (r : ℕ) (l' : List ℕ)
     → Laid (lay (name ∷ (3 + 4 * (kind % 128)) ∷ i ∷ link ∷ []) place l) r l' → Laid (lay (value_entry kind newest n name i place) place l) r l'
@@ -97,7 +97,7 @@ module _ (f : Fault) (n : ℕ) (own b : Bool) (i : b ≡ is_form f) where
     unfolding enum_fault
     enum-fault-old e o = rw (sym i ∙ j, ne_eqb n 0 e, o) refl
 
-pub ruleset enum-fault-laws = (enum-fault-form, enum-fault-none, enum-fault-own, enum-fault-old)
+pub ruleset enum_fault_laws = (enum-fault-form, enum-fault-none, enum-fault-own, enum-fault-old)
 
 -- ---- `lay_values`
 
@@ -150,8 +150,8 @@ module _ (s l₀ : List ℕ) (kind newest n top at : ℕ) where
           (x.4 l (record { at = λ _ _ _. refl }) (rw z no_value), rw (← j) x.3);
     }
 
-    module _ (x : Naming) (N : GivesName s p x) where
-      pub values-short : i < n → x ≡ naming.Nothing → LaysValues s l₀ kind newest n top at place l
+    module _ (x : Maybe FreeName) (N : GivesName s p x) where
+      values-short : i < n → x ≡ None → LaysValues s l₀ kind newest n top at place l
       values-short h e = record {
         below = G.below;
         long = G.long;
@@ -162,7 +162,14 @@ module _ (s l₀ : List ℕ) (kind newest n top at : ℕ) where
             absurd (omega (arith, y.2));
       }
 
-      module _ (h : i < n) (y q : ℕ) (e : x ≡ naming.Called y q) (name : ℕ) (keyed-is : name ≡ keyed s y) (r : ℕ) (l' : List ℕ) (L : Laid (lay (value_entry kind newest n name i place) place l) r l') (small_r : Fits w32 r) where
+      pub values-lost : i < n → ((v : FreeName) → x ≡ Some v → ⊥) → LaysValues s l₀ kind newest n top at place l
+      values-lost h k = go x refl
+        where
+          go : (y : Maybe FreeName) → x ≡ y → LaysValues s l₀ kind newest n top at place l
+          go None e = values-short h e
+          go (Some v) e = absurd (k v e)
+
+      module _ (h : i < n) (v : FreeName) (e : x ≡ Some v) (name : ℕ) (keyed-is : name ≡ keyed s v.at) (r : ℕ) (l' : List ℕ) (L : Laid (lay (value_entry kind newest n name i place) place l) r l') (small_r : Fits w32 r) where
         abbrev entry : List ℕ
         entry = value_entry kind newest n name i place
 
@@ -182,20 +189,20 @@ module _ (s l₀ : List ℕ) (kind newest n top at : ℕ) where
 
         -- one value more, in a list that agrees up to its end
         value-held : (ms : List Name) → i + suc (length ms) ≡ n → kind < 128 → length s ≤ 32768 → Room 4 place l → (m : List ℕ) → Same 0 (place + 4) m l'
-            → Values s m kind newest (place + 4) (i + 1) ms → Values s m kind newest place i (map small (word_at s y) ∷ ms)
+            → Values s m kind newest (place + 4) (i + 1) ms → Values s m kind newest place i (map small (word_at s v.at) ∷ ms)
         unfolding value_entry
         value-held ms c k hs R m E W =
             let g = rw e at N.says in
             let H : Has entry place l' = (lay-l entry place l).held R l' (record { at = λ j _ _. ap (λ (z : List ℕ). get_or z j 0) L.left }) in
             let z : place + 0 ≡ place = omega arith in
             let b : kind % 128 ≡ kind = mod-eq_of_lt k in
-            let v : get_or m place 0 ≡ keyed s y = E.at place (omega arith) (omega arith) ∙ ap (λ (j : ℕ). get_or l' j 0) (sym z) ∙ H.at 0 (omega arith) ∙ keyed-is in
-            one_value (called-keyed s m place y (omega (arith, g.1)) v)
+            let key : get_or m place 0 ≡ keyed s v.at = E.at place (omega arith) (omega arith) ∙ ap (λ (j : ℕ). get_or l' j 0) (sym z) ∙ H.at 0 (omega arith) ∙ keyed-is in
+            one_value (called-keyed s m place v.at (omega (arith, g.1)) key)
             (let x : get_or m (place + 1) 0 ≡ 3 + 4 * kind = E.at (place + 1) (omega arith) (omega arith) ∙ H.at 1 (omega arith) ∙ ap (λ (j : ℕ). 3 + 4 * j) b in ap (λ (j : ℕ). j % 512) x ∙ mod-eq_of_lt (omega arith))
             (E.at (place + 2) (omega arith) (omega arith) ∙ H.at 2 (omega arith))
             (E.at (place + 3) (omega arith) (omega arith) ∙ H.at 3 (omega arith) ∙ link-is ms c (omega (arith, R.fits))) W
 
-        pub values-on : LayingValues s l₀ kind newest n top at q (i + 1) r l'
+        pub values-on : LayingValues s l₀ kind newest n top at v.next (i + 1) r l'
         unfolding value_entry
         values-on = record {
           below = record { at = λ j a b. value_same.at j a (omega (arith, G.up)) ∙ G.below.at j a b };
@@ -206,8 +213,8 @@ module _ (s l₀ : List ℕ) (kind newest n top at : ℕ) where
           small-place = small_r;
           left = λ ns g m k hs R.
               let u = G.left ns g m k hs R in
-              bind-some (sym (names-called s p x N y q e) ∙ u.1) (λ ms a b.
-              let c : map small (word_at s y) ∷ ms ≡ u.0 = some_inj b in
+              bind-some (sym (names-called s p x N v e) ∙ u.1) (λ ms a b.
+              let c : map small (word_at s v.at) ∷ ms ≡ u.0 = some_inj b in
               let d : i + suc (length ms) ≡ n = ap (λ (zs : List Name). i + length zs) c ∙ u.2 in
               let R' : Room 4 place l = record { start = omega (arith, G.up, R.start); fits = omega (arith, u.3, R.fits); long = rw G.long R.long } in
               let t : r ≡ place + 4 = L.free ∙ top-more place l R'.fits in (
@@ -226,7 +233,7 @@ module _ (s l₀ : List ℕ) (kind newest n top at : ℕ) where
             top-more : (place : ℕ) (l : List ℕ) → place + 4 ≤ 16384 → (lay (value_entry kind newest n name i place) place l).top ≡ place + 4
             top-more place l f = (lay-l (value_entry kind newest n name i place) place l).top-is f
 
-pub ruleset values-laws = (values-done, values-short, values-on)
+pub ruleset values_laws = (values-done, values-lost, values-on)
 
 -- ---- `add_enum`
 

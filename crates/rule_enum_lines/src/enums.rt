@@ -5,7 +5,7 @@ ghost use Rattle.rule_faults.specs.declared.Fault.TheVariants.{Clear, Name};
 ghost use Rattle.rule_repeats.specs.Leads.{leads_at};
 ghost use Rattle.rule_repeats.specs.Blocks.{apart};
 
-use rule_declarations::{Naming, name_at};
+use rule_declarations::name_at;
 use rule_faults::Fault;
 use rule_repeats::blocks::differ_too;
 use table_names::same_word;
@@ -17,23 +17,17 @@ pub fn listed(text: &[u8], x: usize, at: usize) -> bool
     ensures { Listed text.now x at result }
 {
     let mut p = at;
-    loop {
-        let n = name_at(text, p);
-        match n {
-            Naming::Called(y, q) => {
-                if same_word(text, y, x) {
-                    return true;
-                }
-                p = q;
-            }
-            Naming::Nothing => {
-                return false;
-            }
+    while let Some(name) = name_at(text, p) {
+        if same_word(text, name.at, x) {
+            return true;
         }
+        p = name.next;
     }
+    false
 }
 
 // The answer for the names of an enumeration: the fault; with none of row 6 how many names, up to 1,000, and where the next part stands.
+// Kept: the new form is no plainer, since behind a fault of row 7 the walk goes on at `next`, as of rule_atoms' `Typed`.
 #[derive(Clone, Copy)]
 pub struct Counted {
     pub fault: Fault,
@@ -45,72 +39,51 @@ pub struct Counted {
 fn is_unknown(m: Meaning) -> bool
     ensures { result ≡ is_unknown m }
 {
-    match m {
-        Meaning::Unknown => true,
-        Meaning::Type(_) => false,
-        Meaning::Var(_, _, _) => false,
-        Meaning::Proc(_) => false,
-        Meaning::Value(_, _) => false,
-    }
+    matches!(m, Meaning::Unknown)
 }
 
 // Whether the name at y has no meaning yet.
 fn is_new(text: &[u8], work: &[u32], scope: Scope, y: usize) -> bool
     ensures { GivesNew text.now work.now scope y result }
 {
-    let m = meaning_of(text, work, scope, y);
-    is_unknown(m)
+    is_unknown(meaning_of(text, work, scope, y))
 }
 
 // Whether the name at y is new, and none of those from q on.
+#[tactic(auto, using(crate::proofs::EnumNames::fresh_laws))]
 pub fn is_fresh(text: &[u8], work: &[u32], scope: Scope, y: usize, q: usize) -> bool
     ensures { GivesFresh text.now work.now scope y q result }
 {
-    if listed(text, y, q) {
-        return false;
-    }
-    is_new(text, work, scope, y)
+    !listed(text, y, q) && is_new(text, work, scope, y)
 }
 
 // One more, up to 1,000.
+#[tactic(auto, using(crate::proofs::EnumNames::counted_laws))]
 pub fn one_more(n: u32) -> u32
     ensures { result ≡ counted n }
 {
-    if n < 1000 {
-        return n + 1;
-    }
-    n
+    if n < 1000 { n + 1 } else { n }
 }
 
 // Row 7 where a name is not new.
 pub fn fresh_fault(ok: bool) -> Fault
     ensures { result ≡ cond ok Clear Name }
 {
-    if ok {
-        return Fault::Clear;
-    }
-    Fault::Name
+    if ok { Fault::Clear } else { Fault::Name }
 }
 
 // Whether both hold.
 pub fn both(a: bool, b: bool) -> bool
     ensures { result ≡ (a && b) }
 {
-    if a {
-        return b;
-    }
-    false
+    a && b
 }
 
 // An answer for names from its parts.
 fn names_answer(fault: Fault, names: u32, next: usize) -> Counted
     ensures { result ≡ counted_by fault names next }
 {
-    Counted {
-        fault: fault,
-        names: names,
-        next: next,
-    }
+    Counted { fault, names, next }
 }
 
 // The answer for the names from an offset on, which end at p: row 6 where another part comes.
@@ -131,17 +104,10 @@ pub fn enum_names(text: &[u8], work: &[u32], scope: Scope, at: usize) -> Counted
     let mut p = at;
     let mut n = 0;
     let mut ok = true;
-    loop {
-        let name = name_at(text, p);
-        match name {
-            Naming::Called(y, q) => {
-                ok = both(ok, is_new(text, work, scope, y));
-                n = one_more(n);
-                p = q;
-            }
-            Naming::Nothing => {
-                return names_end(text, at, p, n, ok);
-            }
-        }
+    while let Some(name) = name_at(text, p) {
+        ok = both(ok, is_new(text, work, scope, name.at));
+        n = one_more(n);
+        p = name.next;
     }
+    names_end(text, at, p, n, ok)
 }

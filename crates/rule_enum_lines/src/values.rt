@@ -9,7 +9,7 @@ ghost use Rattle.rule_type_lines.specs.TypeLines.{GivesMade};
 ghost use Rattle.rule_enum_lines.specs.Values.{link_of, value_entry, LaysValues, enum_entry, enum_info, LaysDescribed, LaysEnum, AddsEnum, enum_fault};
 
 use crate::enums::{enum_names, is_fresh, one_more};
-use rule_declarations::{Lined, MOST_ENUM_NAMES, Naming, State, answered, name_at};
+use rule_declarations::{Lined, MOST_ENUM_NAMES, State, name_at};
 use rule_faults::{Fault, is_clear, is_form};
 use rule_type_lines::{Placed, end_fault, lay_info, lines_fit, type_state};
 use table_list::put;
@@ -18,27 +18,19 @@ use table_names::keys::name_number;
 use table_order::put_in_order;
 use table_scope::{Info, TYPE_NUMBERS, ordinal_info};
 
-// One less, 0 of 0.
-fn one_less(n: u32) -> u32
-    ensures { result ≡ n - 1 }
-{
-    if n > 0 {
-        return n - 1;
-    }
-    0
-}
-
 // More than the places of a working list: a place is taken modulo it, so that a sum is not too large.
 const PLACES: u32 = 32768;
 
 // The link of value i of n, whose entry is at `place`: the next value's entry, or the newest entry before the line.
+#[tactic(auto, using(crate::proofs::EnumValues::link_laws))]
 fn link_of(i: u32, n: u32, place: u32, newest: u32) -> u32
     ensures { result ≡ link_of i n place newest }
 {
-    if i < one_less(n) {
-        return place % PLACES + 4;
+    if i < n.saturating_sub(1) {
+        place % PLACES + 4
+    } else {
+        newest
     }
-    newest
 }
 
 // Lays the entry of value i of n, by its name's number; the free place then.
@@ -63,21 +55,14 @@ fn lay_values(
     ensures { LaysValues text.now work.old kind newest n top at result work.new }
 {
     let mut p = at;
-    let mut i = 0;
     let mut place = top;
-    while i < n {
-        let name = name_at(text, p);
-        match name {
-            Naming::Called(y, q) => {
-                let number = name_number(text, y);
-                place = lay_value(work, kind, newest, n, number, i, place);
-                p = q;
-                i += 1;
-            }
-            Naming::Nothing => {
-                return place;
-            }
-        }
+    for i in 0..n {
+        let Some(name) = name_at(text, p) else {
+            return place;
+        };
+        let number = name_number(text, name.at);
+        place = lay_value(work, kind, newest, n, number, i, place);
+        p = name.next;
     }
     place
 }
@@ -95,7 +80,7 @@ fn lay_enum_name(work: &mut [u32], st: State, name: u32) -> u32
 fn enum_info(kind: u32, n: u32) -> Info
     ensures { result ≡ enum_info kind n }
 {
-    ordinal_info(kind, 0, one_less(n))
+    ordinal_info(kind, 0, n.saturating_sub(1))
 }
 
 // Lays the entry of the type, by its name's number, and the description of an enumeration of n values.
@@ -105,10 +90,7 @@ fn lay_described(work: &mut [u32], st: State, name: u32, n: u32) -> Placed
     let place = lay_enum_name(work, st, name);
     let x = enum_info(st.types, n);
     let top = lay_info(work, place, x);
-    Placed {
-        place: place,
-        top: top,
-    }
+    Placed { place, top }
 }
 
 // Lays the same for the type's name at p, and then the entries of the n names from an offset on.
@@ -139,24 +121,21 @@ fn add_enum(
 {
     let laid = lay_enum(text, work, st, p, at, n);
     put(types, st.types as usize, laid.place);
-    let after = type_state(st, one_more(n), st.top, 1, laid.top);
-    answered(Fault::Clear, true, after)
+    Lined::held(type_state(st, one_more(n), st.top, 1, laid.top))
 }
 
 // The fault of an enumeration, from that of its names, how many they are, and whether the type's own name is new.
+#[tactic(auto, using(crate::proofs::EnumValues::enum_fault_laws), unfolding(crate::specs::Values::enum_fault))]
 fn enum_fault(f: Fault, n: u32, own: bool) -> Fault
     ensures { result ≡ enum_fault f n own }
 {
-    if is_form(f) {
-        return Fault::Form;
+    if is_form(f) || n == 0 {
+        Fault::Form
+    } else if own {
+        f
+    } else {
+        Fault::Name
     }
-    if n == 0 {
-        return Fault::Form;
-    }
-    if own {
-        return f;
-    }
-    Fault::Name
 }
 
 // A line that makes an enumeration, past its head word; its name is at p.
@@ -171,15 +150,16 @@ pub fn enum_line(
     ensures { GivesMade text.now work.old types.old st p at (enum_in (first (stack_at text.now at))) result work.new types.new }
 {
     let c = enum_names(text, work, st.scope, at);
-    let g = c.fault;
     let own = is_fresh(text, work, st.scope, p, at);
-    let e = enum_fault(g, c.names, own);
+    let e = enum_fault(c.fault, c.names, own);
     let f = end_fault(text, e, c.next);
     if is_clear(f) {
         if lines_fit(st.lines, c.names <= MOST_ENUM_NAMES) {
-            return add_enum(text, work, types, st, p, at, c.names);
+            add_enum(text, work, types, st, p, at, c.names)
+        } else {
+            Lined::past(st)
         }
-        return answered(Fault::Clear, false, st);
+    } else {
+        Lined::failed(f, st)
     }
-    answered(f, false, st)
 }

@@ -32,8 +32,8 @@ use Rattle.text_heads.specs.Heads.{line_head_of, line_head_meant}
 use Rattle.rule_statements.specs.Walks.{GivesBody}
 use Rattle.rule_declarations.specs.declared.Lined.{Lined}
 use Rattle.rule_declarations.specs.Lines.{line_of, GivesLine}
-use Rattle.rule_declarations.specs.declared.Naming.{Naming}
-use Rattle.rule_declarations.specs.declared.Naming.TheVariants as naming
+use Rattle.rule_declarations.specs.declared.FreeName.{FreeName}
+use Rattle.std.specs.Prelude.{Option as Maybe, Some, None}
 use Rattle.rule_declarations.specs.Names.{GivesName, new_fault}
 use Rattle.rule_known.specs.declared.Known.{Known}
 use Rattle.rule_known.specs.declared.Judgement.{Judgement}
@@ -81,19 +81,19 @@ module _ (s l ts : List ℕ) (kn : Known) (at : ℕ) (g : Entered) where
   pub enters-main : (k : LineHead) (b : Got) (l' : List ℕ) → k ≡ LH.Main → GivesOpened s l ts kn (opened_main kn.state at) b l' → g ≡ main_entry kn b → Enters s l ts kn k at g l' ts
   enters-main k b l' h B e = rw (h, e) (record { says = λ r bs S n. rw (some_first is_main (λ k. head_in k r.known.stmts (first (stack_at s at)))) (main-told s l ts kn r bs S at (omega (arith, n, S.measured.stmts, S.measured.nodes)) b l' B) })
 
-  module _ (n : Naming) (N : GivesName s at n) where
-    pub enters-nameless : n ≡ naming.Nothing → g.fault ≡ Form → Enters s l ts kn LH.Proc at g l ts
+  module _ (n : Maybe FreeName) (N : GivesName s at n) where
+    pub enters-nameless : n ≡ None → g.fault ≡ Form → Enters s l ts kn LH.Proc at g l ts
     enters-nameless h e = record {
       says = λ r bs S i. wrong-told s l ts kn.state.top r _ g
           (some_first is_proc (λ k. head_in k r.known.stmts (first (stack_at s at))) ∙ proc-shape r.known.stmts (first (stack_at s at)) ∙ rw (rw h at N.says) (none_first _)) e;
     }
 
-    pub enters-proc : (p q : ℕ) (l' : List ℕ) → n ≡ naming.Called p q → ProcNamed s l ts kn p q g l' → Enters s l ts kn LH.Proc at g l' ts
-    enters-proc p q l' h P = record {
+    pub enters-proc : (m : FreeName) (l' : List ℕ) → n ≡ Some m → ProcNamed s l ts kn m.at m.next g l' → Enters s l ts kn LH.Proc at g l' ts
+    enters-proc m l' h P = record {
       says = λ r bs S i.
           let Z = rw h at N.says in
           rw (some_first is_proc (λ k. head_in k r.known.stmts (first (stack_at s at))))
-          (proc-told s l ts kn r bs S at p q Z.0 Z.1 Z.2 (less-nodes (first (stack_at s at)) (first (stack_at s q)) (word_at s p) Z.0.leaf.here 32768 i) g l' P);
+          (proc-told s l ts kn r bs S at m.at m.next Z.0 Z.1 Z.2 (less-nodes (first (stack_at s at)) (first (stack_at s m.next)) (word_at s m.at) Z.0.leaf.here 32768 i) g l' P);
     }
 
 -- by the head word
@@ -175,11 +175,11 @@ walked-so s l ts kn o h H g l' B = record { gives = rw (← H) B }
 pub main-line-is : (s l ts : List ℕ) (kn : Known) (at : ℕ) (o : Opened) → o ≡ opened_main kn.state at → (b : Got) (l' : List ℕ) (g : Entered) → GivesOpened s l ts kn o b l' → g ≡ main_entry kn b → Enters s l ts kn LH.Main at g l' ts
 main-line-is s l ts kn at o h b l' g B e = enters-main s l ts kn at g LH.Main b l' refl (rw (← h) B) e
 
-module _ (s l ts : List ℕ) (kn : Known) (at : ℕ) (n : Naming) (N : GivesName s at n) (g : Entered) where
-  pub proc-called : (p q : ℕ) (l' : List ℕ) → n ≡ naming.Called p q → ProcNamed s l ts kn p q g l' → Enters s l ts kn LH.Proc at g l' ts
-  proc-called p q l' h P = enters-proc s l ts kn at g n N p q l' h P
+module _ (s l ts : List ℕ) (kn : Known) (at : ℕ) (n : Maybe FreeName) (N : GivesName s at n) (g : Entered) where
+  pub proc-called : (m : FreeName) (l' : List ℕ) → n ≡ Some m → ProcNamed s l ts kn m.at m.next g l' → Enters s l ts kn LH.Proc at g l' ts
+  proc-called m l' h P = enters-proc s l ts kn at g n N m l' h P
 
-  pub proc-nameless : n ≡ naming.Nothing → g ≡ failed_entry kn Form → Enters s l ts kn LH.Proc at g l ts
+  pub proc-nameless : n ≡ None → g ≡ failed_entry kn Form → Enters s l ts kn LH.Proc at g l ts
   proc-nameless h e = enters-nameless s l ts kn at g n N h (ap (λ (x : Entered). x.fault) e)
 
 pub no-head-word : (s l ts : List ℕ) (kn : Known) (at : ℕ) (g : Entered) (k : LineHead) → k ≡ LH.Nothing → g ≡ failed_entry kn Form → Enters s l ts kn k at g l ts

@@ -4,7 +4,7 @@ ghost use Rattle.text_heads.specs.declared.LineHead.TheVariants.{Main, Proc};
 ghost use Rattle.rule_judge.specs.Answers.{main_entry, proc_entry, failed_entry};
 ghost use Rattle.rule_judge.specs.Entering.{Enters, GivesOpened, ProcEnds, ProcListed, ProcNamed};
 
-use rule_declarations::{BODY_NUMBERS, Naming, name_at, named_fault, var_line, with_body};
+use rule_declarations::{BODY_NUMBERS, name_at, named_fault, var_line};
 use rule_faults::{Fault, Got, is_clear, is_form, lowest};
 use rule_known::judging::declared;
 use rule_known::{Entered, Known};
@@ -38,7 +38,7 @@ fn main_entry(kn: Known, g: Got) -> Entered
 {
     let st = kn.state;
     let fault = g.fault;
-    let state = with_body(st, g.top);
+    let state = st.with_body(g.top);
     Entered {
         fault: fault,
         within: true,
@@ -150,10 +150,9 @@ fn proc_named(
 fn proc_line(text: &[u8], work: &mut [u32], types: &[u32], kn: Known, at: usize) -> Entered
     ensures { Enters text.now work.old types.now kn Proc at result work.new types.now }
 {
-    let n = name_at(text, at);
-    match n {
-        Naming::Called(p, q) => proc_named(text, work, types, kn, p, q),
-        Naming::Nothing => faulty(kn, Fault::Form),
+    match name_at(text, at) {
+        Some(n) => proc_named(text, work, types, kn, n.at, n.next),
+        None => faulty(kn, Fault::Form),
     }
 }
 

@@ -36,8 +36,8 @@ use Rattle.text_heads.specs.declared.LineHead.{LineHead}
 use Rattle.text_heads.specs.declared.LineHead.TheVariants as LH
 use Rattle.text_heads.specs.Heads.{line_head_of, line_head_meant}
 use Rattle.rule_declarations.specs.declared.Lined.{Lined}
-use Rattle.rule_declarations.specs.declared.Naming.{Naming}
-use Rattle.rule_declarations.specs.declared.Naming.TheVariants as naming
+use Rattle.rule_declarations.specs.declared.FreeName.{FreeName}
+use Rattle.std.specs.Prelude.{Option as Maybe, Some, None}
 use Rattle.rule_declarations.specs.Lines.{line_of, entry_staged, GivesLine}
 use Rattle.rule_declarations.specs.Names.{GivesName, new_fault}
 use Rattle.rule_known.specs.declared.Known.{Known}
@@ -109,17 +109,17 @@ none_first : {A B : Type 0} (f : A → Option B) → (none >>= f) ≡ none
 unfolding ◌>>=◌
 none_first f = refl
 
-module _ (s l ts tb : List ℕ) (kn : Known) (at : ℕ) (n : Naming) (N : GivesName s at n) (g : Entered) where
-  pub proc-called : (p q : ℕ) (l' tb' : List ℕ) → n ≡ naming.Called p q → length tb' ≡ length tb → ProcLoosely s l ts tb kn p q g l' tb' → LooseEnters s l ts tb kn LH.Proc at g l' ts tb'
-  proc-called p q l' tb' h i P = record {
+module _ (s l ts tb : List ℕ) (kn : Known) (at : ℕ) (n : Maybe FreeName) (N : GivesName s at n) (g : Entered) where
+  pub proc-called : (m : FreeName) (l' tb' : List ℕ) → n ≡ Some m → length tb' ≡ length tb → ProcLoosely s l ts tb kn m.at m.next g l' tb' → LooseEnters s l ts tb kn LH.Proc at g l' ts tb'
+  proc-called m l' tb' h i P = record {
     long = i;
     says = λ k S r c.
         let Z = rw h at N.says in
-        rw (some_first is_proc (λ x. head_in x k.stmts (first (stack_at s at)))) (proc-told S r at p q Z.0 Z.1 Z.2
-        (less-nodes (first (stack_at s at)) (first (stack_at s q)) (word_at s p) Z.0.leaf.here 32768 c) g l' tb' P);
+        rw (some_first is_proc (λ x. head_in x k.stmts (first (stack_at s at)))) (proc-told S r at m.at m.next Z.0 Z.1 Z.2
+        (less-nodes (first (stack_at s at)) (first (stack_at s m.next)) (word_at s m.at) Z.0.leaf.here 32768 c) g l' tb' P);
   }
 
-  pub proc-nameless : n ≡ naming.Nothing → g ≡ failed_entry kn Form → LooseEnters s l ts tb kn LH.Proc at g l ts tb
+  pub proc-nameless : n ≡ None → g ≡ failed_entry kn Form → LooseEnters s l ts tb kn LH.Proc at g l ts tb
   proc-nameless h e = record {
     long = refl;
     says = λ k S i c. wrong-told s l ts tb kn.state.top k _ g

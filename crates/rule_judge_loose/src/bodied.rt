@@ -7,7 +7,7 @@ ghost use Rattle.rule_judge_loose.specs.Entering.{NotesEased, loose_main, loose_
 
 use crate::easing::{Eased, loose_body, with_fault};
 use rule_body_notes::note_body;
-use rule_declarations::{BODY_NUMBERS, Naming, name_at, named_fault, with_body};
+use rule_declarations::{BODY_NUMBERS, name_at, named_fault};
 use rule_faults::{Fault, is_form, lowest};
 use rule_judge::entering::faulty;
 use rule_known::{Entered, Known};
@@ -23,7 +23,7 @@ fn main_entry(kn: Known, b: Eased) -> Entered
 {
     let st = kn.state;
     let fault = b.fault;
-    let state = with_body(st, st.top);
+    let state = st.with_body(st.top);
     Entered {
         fault: fault,
         within: true,
@@ -164,9 +164,8 @@ pub fn proc_line(
 ) -> Entered
     ensures { LooseEnters text.now work.old types.now bodies.old kn Proc at result work.new types.now bodies.new }
 {
-    let n = name_at(text, at);
-    match n {
-        Naming::Called(p, q) => proc_named(text, work, types, bodies, kn, p, q),
-        Naming::Nothing => faulty(kn, Fault::Form),
+    match name_at(text, at) {
+        Some(n) => proc_named(text, work, types, bodies, kn, n.at, n.next),
+        None => faulty(kn, Fault::Form),
     }
 }

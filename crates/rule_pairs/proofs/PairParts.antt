@@ -48,8 +48,8 @@ use Rattle.rule_declarations.specs.Names.{GivesName, last_type, GivesLastType}
 use Rattle.rule_pairs.specs.Pairs.{pair_parts, pair_by, pair_first, pairs_in, firsts, resolve, known_type, types_known, pairs_good, pair_given, PairTold, pair-wrong, pair_read, GivesParts, GivesPair, add_size, Tracks, pairs_given, EndsPairs, ends-wrong, ends_read, PairsTold, pairs-wrong, pairs-empty, pairs-read, GivesPairs}
 use Rattle.rule_pairs.specs.declared.Pair.{Pair}
 use Rattle.rule_pairs.specs.declared.Pairs.{Pairs}
-use Rattle.rule_declarations.specs.declared.Naming.{Naming}
-use Rattle.rule_declarations.specs.declared.Naming.TheVariants as naming
+use Rattle.rule_declarations.specs.declared.FreeName.{FreeName}
+use Rattle.std.specs.Prelude.{Option as Maybe, Some, None}
 use Rattle.rule_repeats.specs.Leads.{lead_in, lead_of, leads, leads_at}
 use Rattle.rule_repeats.specs.Blocks.{apart}
 use Rattle.rule_repeats.proofs.LeadParts.{form-free, lead-free}
@@ -122,19 +122,19 @@ typed-pair {σ} s y hy (some z) t T = go (type_of σ z) refl T
     go none e U = pair_read z refl hy (ap is_form U.fault-is) (ap is_clear U.fault-is ∙ sym (ap known_type e)) (λ k h. none-some (sym e ∙ h))
     go (some m) e U = pair_read z refl hy (ap is_form U.fault-is) (ap is_clear U.fault-is ∙ sym (ap known_type e)) (λ k h. U.kind-is m refl ∙ some_inj (sym e ∙ h))
 
-module _ (s l : List ℕ) (scope : Scope) (at : ℕ) (n : Naming) (N : GivesName s at n) (r : Pair) where
-  pub parts-named : (y q : ℕ) → n ≡ naming.Called y q → (t : Typed) → GivesLastType s l scope q t → r ≡ pair_given t.fault y t.kind t.next → GivesParts s l scope at r
+module _ (s l : List ℕ) (scope : Scope) (at : ℕ) (n : Maybe FreeName) (N : GivesName s at n) (r : Pair) where
+  pub parts-named : (m : FreeName) → n ≡ Some m → (t : Typed) → GivesLastType s l scope m.next t → r ≡ pair_given t.fault m.at t.kind t.next → GivesParts s l scope at r
   unfolding pair_parts ◌>>=◌
-  parts-named y q e t G h =
+  parts-named m e t G h =
       let g = rw e at N.says in
       let b = g.0.leaf in
       rw h (record {
         goes = λ i. b.around ∙ G.goes i;
         says = λ ts top σ bs S.
-            rw (g.2, b.here) (typed-pair s y g.1 (last_type (first (stack_at s q))) t (G.says ts top σ bs S));
+            rw (g.2, b.here) (typed-pair s m.at g.1 (last_type (first (stack_at s m.next))) t (G.says ts top σ bs S));
       })
 
-  pub parts-unnamed : n ≡ naming.Nothing → r ≡ pair_given fault.Form 0 0 at → GivesParts s l scope at r
+  pub parts-unnamed : n ≡ None → r ≡ pair_given fault.Form 0 0 at → GivesParts s l scope at r
   unfolding pair_parts
   parts-unnamed e h = rw h (record {
     goes = λ i. absurd (false≢true (sym i));

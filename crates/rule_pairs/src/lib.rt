@@ -10,7 +10,7 @@ ghost use Rattle.rule_repeats.specs.Blocks.{apart};
 ghost use Rattle.rule_pairs.specs.Pairs.{pair_given, GivesParts, GivesPair, add_size, pairs_given, EndsPairs, GivesPairs};
 
 use rule_atoms::Typed;
-use rule_declarations::{MOST_CELLS, Naming, last_type, name_at};
+use rule_declarations::{MOST_CELLS, last_type, name_at};
 use rule_enum_lines::enums::{both, fresh_fault, one_more};
 use rule_faults::{Fault, is_clear, is_form};
 use rule_repeats::blocks::differ_too;
@@ -63,8 +63,8 @@ fn pair_parts(text: &[u8], work: &[u32], scope: Scope, at: usize) -> Pair
     ensures { GivesParts text.now work.now scope at result }
 {
     match name_at(text, at) {
-        Naming::Called(y, q) => pair_typed(last_type(text, work, scope, q), y),
-        Naming::Nothing => pair_answer(Fault::Form, 0, 0, at),
+        Some(n) => pair_typed(last_type(text, work, scope, n.next), n.at),
+        None => pair_answer(Fault::Form, 0, 0, at),
     }
 }
 

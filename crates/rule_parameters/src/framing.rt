@@ -6,7 +6,7 @@ ghost use Rattle.table_scope.specs.Scene.{with_pairs};
 ghost use Rattle.rule_parameters.specs.Framing.{lets_in, scope_after, want_by, LaysTypes, LaysWants, base_of, LaysFrame, parameters_fit, proc_fits, FramesList, nothing_framed, proc_state, Opens, opened_main};
 
 use crate::listing::Listed;
-use rule_declarations::{MOST_PROCS, State, vars_fit, with_body, with_names, with_parameters};
+use rule_declarations::{MOST_PROCS, State};
 use rule_faults::{Fault, is_clear};
 use rule_pairs::pair_at;
 use table_list::lay;
@@ -157,7 +157,7 @@ fn frame_after(text: &[u8], work: &mut [u32], types: &[u32], st: State, c: Liste
 fn parameters_fit(st: State, n: u32) -> bool
     ensures { result ≡ parameters_fit st n }
 {
-    n <= MOST_PARAMETERS && vars_fit(st, n, n)
+    n <= MOST_PARAMETERS && st.vars_fit(n, n)
 }
 
 // Whether a procedure of n parameters is within the ceilings of row 9.
@@ -172,9 +172,7 @@ pub fn proc_fits(st: State, n: u32) -> bool
 pub fn proc_state(st: State, n: u32, entry: u32, u: u32) -> State
     ensures { result ≡ proc_state st n entry u }
 {
-    let named = with_names(st, 1, entry, u);
-    let bodied = with_body(named, u);
-    with_parameters(bodied, n)
+    st.with_names(1, entry, u).with_body(u).with_parameters(n)
 }
 
 // The body after a list of parameters.

@@ -64,7 +64,7 @@ pub fits-many : (n size : ℕ) → 16 < n → false ≡ record_fits n size
 unfolding record_fits
 fits-many n size h = rw (lt-leb n 16 h) refl
 
-pub ruleset record-fits-laws = (fits-few, fits-many)
+pub ruleset record_fits_laws = (fits-few, fits-many)
 
 pub lays-record : (s l ts : List ℕ) (st : State) (p at n size : ℕ) (x : Info) → x ≡ record_info n size → (name : ℕ) → name ≡ keyed s p → (q : Placed) (m : List ℕ) → LaysType l st name x q m → (free : ℕ) (l' : List ℕ)
     → LaysFields s m ts st.scope n q.top at free l' → LaysRecord s l ts st p at n size (record { place = q.place; top = free }) l'
@@ -225,4 +225,4 @@ module _ (s l₀ ts : List ℕ) (scope : Scope) (n top at : ℕ) where
             ));
       }
 
-pub ruleset laying-laws = (fields-done, fields-on)
+pub ruleset laying_laws = (fields-done, fields-on)

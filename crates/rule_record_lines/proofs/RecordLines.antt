@@ -463,4 +463,4 @@ module _ (s l ts : List ℕ) (st : State) (p at : ℕ) (c : Pairs) (N : GivesPai
       };
     }
 
-pub ruleset record-laws = (record-failed, record-past, record-fits)
+pub ruleset record_laws = (record-failed, record-past, record-fits)

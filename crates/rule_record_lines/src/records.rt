@@ -7,7 +7,7 @@ ghost use Rattle.table_list.specs.Laid.{Laid};
 ghost use Rattle.rule_type_lines.specs.TypeLines.{GivesMade};
 ghost use Rattle.rule_record_lines.specs.Records.{record_in, field_entry, LaysFields, record_info, LaysRecord, AddsRecord, record_fits};
 
-use rule_declarations::{Lined, MOST_CELLS, MOST_FIELDS, State, answered, named_fault, narrow};
+use rule_declarations::{Lined, MOST_CELLS, MOST_FIELDS, State, named_fault, narrow};
 use rule_faults::{Fault, is_clear};
 use rule_pairs::{add_type_size, pair_at, pairs_from};
 use rule_type_lines::{Placed, end_fault, lay_type, lines_fit, type_state};
@@ -37,16 +37,14 @@ fn lay_fields(
     ensures { LaysFields text.now work.old types.now scope n top at result work.new }
 {
     let mut p = at;
-    let mut i = 0;
     let mut place = top;
     let mut offset = 0;
-    while i < n {
+    for _i in 0..n {
         let f = pair_at(text, work, scope, p);
         let after = add_type_size(work, types, offset, f.kind);
         place = lay_field(work, f.name, f.kind, offset, place);
         offset = after;
         p = f.next;
-        i += 1;
     }
     place
 }
@@ -60,7 +58,7 @@ fn record_info(n: u32, size: u32) -> Info
         host: 0,
         low: 0,
         high: 0,
-        size: size,
+        size,
         index: 0,
         element: 0,
         fields: n,
@@ -106,18 +104,15 @@ fn add_record(
 {
     let laid = lay_record(text, work, types, st, p, at, n, size);
     put(types, st.types as usize, laid.place);
-    let after = type_state(st, 1, st.top, 1, laid.top);
-    answered(Fault::Clear, true, after)
+    Lined::held(type_state(st, 1, st.top, 1, laid.top))
 }
 
 // Whether a record of n fields is within the ceilings of row 9.
+#[tactic(auto, using(crate::proofs::FieldLaying::record_fits_laws), unfolding(crate::specs::Records::record_fits))]
 fn record_fits(n: u32, size: u32) -> bool
     ensures { result ≡ record_fits n size }
 {
-    if n <= MOST_FIELDS {
-        return size <= MOST_CELLS;
-    }
-    false
+    n <= MOST_FIELDS && size <= MOST_CELLS
 }
 
 // A line that makes a record, past its head word; its name is at p.
@@ -132,14 +127,15 @@ pub fn record_line(
     ensures { GivesMade text.now work.old types.old st p at (record_in (first (stack_at text.now at))) result work.new types.new }
 {
     let c = pairs_from(text, work, types, st.scope, at);
-    let g = c.fault;
-    let e = end_fault(text, g, c.next);
+    let e = end_fault(text, c.fault, c.next);
     let f = named_fault(text, work, st.scope, p, e);
     if is_clear(f) {
         if lines_fit(st.lines, record_fits(c.names, c.size)) {
-            return add_record(text, work, types, st, p, at, c.names, c.size);
+            add_record(text, work, types, st, p, at, c.names, c.size)
+        } else {
+            Lined::past(st)
         }
-        return answered(Fault::Clear, false, st);
+    } else {
+        Lined::failed(f, st)
     }
-    answered(f, false, st)
 }

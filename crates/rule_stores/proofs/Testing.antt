@@ -139,14 +139,13 @@ unfolding row_number fault_of
 no_length true b = refl
 no_length false b = refl
 
--- all cells but the last so many have passed
-pub record Passed (l ts : List ℕ) (st : State) (vs : List ℤ) (ms : List ℕ) (left : ℕ) : Type 0 where
-  pub few : left ≤ st.cells
-  pub before : (i : ℕ) → i < st.cells - left → cell_passes l ts st.scope.count st.scope.newest i (get_or vs i (pos 0)) (get_or ms i 0) ≡ true
+-- the first n cells have passed
+pub record Passed (l ts : List ℕ) (st : State) (vs : List ℤ) (ms : List ℕ) (n : ℕ) : Type 0 where
+  pub before : (i : ℕ) → i < n → cell_passes l ts st.scope.count st.scope.newest i (get_or vs i (pos 0)) (get_or ms i 0) ≡ true
 
 module _ (l ts : List ℕ) (st : State) (vs : List ℤ) (ms : List ℕ) where
-  pub passed_start : Passed l ts st vs ms st.cells
-  passed_start = record { few = omega arith; before = λ i h. absurd (omega arith) }
+  pub passed_start : Passed l ts st vs ms 0
+  passed_start = record { before = λ i h. absurd (omega arith) }
 
   pub wrong-values : ((length vs ≡ st.cells) → ⊥) → StoreFault l ts st vs ms 10
   unfolding store_fault fault_of row_number
@@ -156,11 +155,8 @@ module _ (l ts : List ℕ) (st : State) (vs : List ℤ) (ms : List ℕ) where
   unfolding store_fault fault_of row_number
   wrong-marks h = record { says = λ s k bs H C. rw (ne_eqb (length ms) (length k.cells) (λ e. h (e ∙ sym H.cells_are))) (no_length (eqb (length vs) (length k.cells)) (cells_ok k.env.types k.cells vs ms)) }
 
-  module _ (left : ℕ) (P : Passed l ts st vs ms left) where
-    pub passed-few : left ≤ st.cells
-    passed-few = P.few
-
-    pub all-passed : length vs ≡ st.cells → length ms ≡ st.cells → left ≤ 0 → StoreFault l ts st vs ms 0
+  module _ (c : ℕ) (P : Passed l ts st vs ms c) where
+    pub all-passed : length vs ≡ st.cells → length ms ≡ st.cells → st.cells ≤ c → StoreFault l ts st vs ms 0
     unfolding store_fault fault_of row_number
     all-passed e f h = record {
       says = λ s k bs H C.
@@ -169,35 +165,35 @@ module _ (l ts : List ℕ) (st : State) (vs : List ℤ) (ms : List ℕ) where
           rw (eq-eqb (length vs) (length k.cells) (e ∙ H.cells_are), eq-eqb (length ms) (length k.cells) (f ∙ H.cells_are), a) refl;
     }
 
-    module _ (n : 0 < left) (c : ℕ) (d : c ≡ st.cells - left) where
+    module _ (d : c < st.cells) where
       pub here-values : length vs ≡ st.cells → c < length vs
-      here-values e = omega (arith, P.few)
+      here-values e = omega arith
 
       pub here-marks : length ms ≡ st.cells → c < length ms
-      here-marks e = omega (arith, P.few)
+      here-marks e = omega arith
 
       module _ (b : Bool) (q : SFits w64 (get_or vs c (pos 0))) (g : b ≡ cell_passes l ts st.scope.count st.scope.newest c (wire (get_or vs c (pos 0))) (get_or ms c 0)) where
         as_read : cell_passes l ts st.scope.count st.scope.newest c (get_or vs c (pos 0)) (get_or ms c 0) ≡ b
         as_read = sym (g ∙ ap (λ (v : ℤ). cell_passes l ts st.scope.count st.scope.newest c v (get_or ms c 0)) (to_z-of_z q))
 
-        pub passed_on : b ≡ true → Passed l ts st vs ms (left - 1)
-        passed_on h = record { few = omega (arith, P.few); before = λ i m. go i m (dec_lt i c) }
+        pub passed_on : b ≡ true → Passed l ts st vs ms (c + 1)
+        passed_on h = record { before = λ i m. go i m (dec_lt i c) }
           where
-            go : (i : ℕ) → i < st.cells - (left - 1) → Dec (i < c) → cell_passes l ts st.scope.count st.scope.newest i (get_or vs i (pos 0)) (get_or ms i 0) ≡ true
-            go i m (yes r) = P.before i (omega arith)
-            go i m (no r) = let z : i ≡ c = omega (arith, P.few) in rw z (as_read ∙ h)
+            go : (i : ℕ) → i < c + 1 → Dec (i < c) → cell_passes l ts st.scope.count st.scope.newest i (get_or vs i (pos 0)) (get_or ms i 0) ≡ true
+            go i m (yes r) = P.before i r
+            go i m (no r) = let z : i ≡ c = omega arith in rw z (as_read ∙ h)
 
         pub failed : b ≡ false → length vs ≡ st.cells → length ms ≡ st.cells → StoreFault l ts st vs ms 11
         unfolding store_fault fault_of row_number
         failed h e f = record {
           says = λ s k bs H C.
-              let m : c < length k.cells = omega (arith, H.cells_are, P.few) in
+              let m : c < length k.cells = omega (arith, H.cells_are) in
               let a : cells_ok k.env.types k.cells vs ms ≡ false = one-fails k.env.types k.cells vs ms (e ∙ H.cells_are) (f ∙ H.cells_are) c m
               (sym (passes-is-ok H C c m (get_or vs c (pos 0)) (get_or ms c 0)) ∙ as_read ∙ h) in
               rw (eq-eqb (length vs) (length k.cells) (e ∙ H.cells_are), eq-eqb (length ms) (length k.cells) (f ∙ H.cells_are), a) refl;
         }
 
-pub ruleset store-laws = (wrong-values, wrong-marks, all-passed, passed_on, failed)
+pub ruleset store_laws = (wrong-values, wrong-marks, all-passed, passed_on, failed)
 
 -- ---- `owner`
 

@@ -5,8 +5,8 @@ use mathlib.Core.List.{List}
 use Prim.Native.Nat.{ℕ, zero, suc, ◌+◌, ◌*◌, ◌-◌, ◌/◌, ◌%◌, ◌<◌, ◌≤◌}
 use native.Mathlib.Nat.{mod-zero}
 use native.Mathlib.Omega.{arith}
-use borrow.Author.Tests.{eq-eqb, ne_eqb, lt-ltb, le-ltb}
-use lib.Dec.{leb, ltb}
+use borrow.Author.Tests.{eq-eqb, eqb-false, eqb-true, ne_eqb, lt-ltb, le-ltb}
+use lib.Dec.{eqb, leb, ltb}
 use lib.IntN.{ℤ, pos, negsuc, ◌-ℤ◌}
 use lib.ListN.{get_or}
 use mir.Syntax.{w32, w64}
@@ -34,34 +34,37 @@ unfolding field_cell
 field-asked l ts q zero i h = absurd (omega arith)
 field-asked l ts q (suc n) i h = let z : suc n - 1 ≡ n = omega arith in rw z refl
 
-pub record Finding (l ts : List ℕ) (place fields cell n p i : ℕ) : Type 0 where
-  pub same-cell : field_cell l ts (place + 8) fields cell ≡ field_cell l ts p n i
-  pub early : p + 4 * n < 42949672960
+-- k fields are passed
+pub record Finding (l ts : List ℕ) (place fields cell k p i : ℕ) : Type 0 where
+  pub same-cell : field_cell l ts (place + 8) fields cell ≡ field_cell l ts p (fields - k) i
+  pub early : p + 4 * (fields - k) < 42949672960
 
 module _ (l ts : List ℕ) (place fields cell : ℕ) where
-  pub find-start : Fits w32 place → Fits w32 fields → Finding l ts place fields cell fields (place + 8) cell
-  find-start h g = record { same-cell = refl; early = omega arith }
+  pub find-start : Fits w32 place → Fits w32 fields → Finding l ts place fields cell 0 (place + 8) cell
+  find-start h g = record { same-cell = (let z : fields - 0 ≡ fields = omega arith in rw z refl); early = omega arith }
 
-  module _ (n p i : ℕ) (F : Finding l ts place fields cell n p i) where
-    pub find_none : n ≤ 0 → (r : Cell) → r ≡ cell_by 0 0 → r ≡ field_cell l ts (place + 8) fields cell
+  module _ (k p i : ℕ) (F : Finding l ts place fields cell k p i) where
+    pub find_none : fields ≤ k → (r : Cell) → r ≡ cell_by 0 0 → r ≡ field_cell l ts (place + 8) fields cell
     unfolding field_cell
-    find_none h r e = let z : n ≡ 0 = omega arith in e ∙ sym (F.same-cell ∙ rw z)
+    find_none h r e = let z : fields - k ≡ 0 = omega arith in e ∙ sym (F.same-cell ∙ rw z)
 
-    module _ (h : 0 < n) where
+    module _ (h : k < fields) where
       pub find-early : p + 4 < 42949672960
       find-early = omega (arith, F.early)
 
       module _ (t : ℕ) (e : t ≡ get_or l (p + 1) 0) (x : Info) (g : x ≡ info_of l ts t) where
         pub find-here : i < x.size → (r : Cell) → r ≡ cell_by t i → r ≡ field_cell l ts (place + 8) fields cell
-        find-here k r f = f ∙ sym (F.same-cell ∙ field-asked l ts p n i h ∙ rw (← e, ← g, lt-ltb i x.size k))
+        find-here m r f = f ∙ sym (F.same-cell ∙ field-asked l ts p (fields - k) i (omega arith) ∙ rw (← e, ← g, lt-ltb i x.size m))
 
-        pub find-on : x.size ≤ i → Finding l ts place fields cell (n - 1) (p + 4) (i - x.size)
-        find-on k = record {
-          same-cell = F.same-cell ∙ field-asked l ts p n i h ∙ rw (← e, ← g, le-ltb i x.size k);
+        pub find-on : x.size ≤ i → Finding l ts place fields cell (k + 1) (p + 4) (i - x.size)
+        find-on m = record {
+          same-cell =
+              let z : fields - k - 1 ≡ fields - (k + 1) = omega arith in
+              F.same-cell ∙ field-asked l ts p (fields - k) i (omega arith) ∙ rw (← e, ← g, le-ltb i x.size m, z);
           early = omega (arith, F.early);
         }
 
-pub ruleset find-laws = (find_none, find-here, find-on)
+pub ruleset find_laws = (find_none, find-here, find-on)
 
 -- ---- `element_cell`, `inner_cell`
 
@@ -74,7 +77,7 @@ module _ (t i n : ℕ) (r : Cell) where
   unfolding element_cell
   element-some e = e
 
-pub ruleset element-laws = (element-none, element-some)
+pub ruleset element_laws = (element-none, element-some)
 
 module _ (l ts : List ℕ) (x : Info) (i : ℕ) (r : Cell) where
   pub inner-array : x.shape ≡ 2 → (y : Info) → y ≡ info_of l ts x.element → r ≡ element_cell x.element i y.size → r ≡ inner_cell l ts x i
@@ -108,7 +111,7 @@ module _ (d : ℕ) (l ts : List ℕ) (t i : ℕ) where
     pub leaf-inside : 2 ≤ x.shape → (c : Cell) → c ≡ inner_cell l ts x i → (r : ℕ) → r ≡ leaf_type (d - 1) l ts c.kind c.place → r ≡ leaf_type d l ts t i
     leaf-inside k c f r g = g ∙ sym (leaf-step d l ts t i h ∙ rw (← e, le-ltb x.shape 2 k, ← f))
 
-pub ruleset leaf-laws = (leaf-none, leaf-here, leaf-inside)
+pub ruleset leaf_laws = (leaf-none, leaf-here, leaf-inside)
 
 -- ---- `begins_by`
 
@@ -121,7 +124,7 @@ module _ (sort more c : ℕ) where
   unfolding begins_by
   begins-other h = rw (ne_eqb (sort % 4) 1 h)
 
-pub ruleset begins-laws = (begins-var, begins-other)
+pub ruleset begins_laws = (begins-var, begins-other)
 
 pub begins-is : (l : List ℕ) (p c sort more : ℕ) → sort ≡ get_or l (p + 1) 0 → more ≡ get_or l (p + 2) 0 → (b : Bool) → b ≡ begins_by sort more c → b ≡ begins_at l p c
 unfolding begins_at
@@ -135,35 +138,38 @@ unfolding entries holder
 asked l c zero p h = absurd (omega arith)
 asked l c (suc n) p h = let z : suc n - 1 ≡ n = omega arith in rw z refl
 
-pub record Seeking (l : List ℕ) (count newest c n p : ℕ) : Type 0 where
-  pub same_place : holder l (entries count l newest) c ≡ holder l (entries n l p) c
+-- k entries are asked
+pub record Seeking (l : List ℕ) (count newest c k p : ℕ) : Type 0 where
+  pub same_place : holder l (entries count l newest) c ≡ holder l (entries (count - k) l p) c
   pub small-place : Fits w32 p
 
 module _ (l : List ℕ) (count newest c : ℕ) where
-  pub seek-start : Fits w32 newest → Seeking l count newest c count newest
-  seek-start h = record { same_place = refl; small-place = h }
+  pub seek-start : Fits w32 newest → Seeking l count newest c 0 newest
+  seek-start h = record { same_place = (let z : count - 0 ≡ count = omega arith in rw z refl); small-place = h }
 
-  module _ (n p : ℕ) (S : Seeking l count newest c n p) where
+  module _ (k p : ℕ) (S : Seeking l count newest c k p) where
     pub seek-small : Fits w32 p
     seek-small = S.small-place
 
-    pub seek-none : n ≤ 0 → 0 ≡ holder l (entries count l newest) c
+    pub seek-none : count ≤ k → 0 ≡ holder l (entries count l newest) c
     unfolding entries holder
-    seek-none h = let z : n ≡ 0 = omega arith in sym (S.same_place ∙ rw z)
+    seek-none h = let z : count - k ≡ 0 = omega arith in sym (S.same_place ∙ rw z)
 
-    module _ (h : 0 < n) (b : Bool) (t : b ≡ begins_at l p c) where
+    module _ (h : k < count) (b : Bool) (t : b ≡ begins_at l p c) where
       pub seek_found : b ≡ true → p ≡ holder l (entries count l newest) c
-      seek_found g = sym (S.same_place ∙ asked l c n p h ∙ rw (← t, g))
+      seek_found g = sym (S.same_place ∙ asked l c (count - k) p (omega arith) ∙ rw (← t, g))
 
-      pub seek-on : b ≡ false → (q : ℕ) → Fits w32 q → q ≡ get_or l (p + 3) 0 → Seeking l count newest c (n - 1) q
-      seek-on g q k i = record { same_place = S.same_place ∙ asked l c n p h ∙ rw (← t, g, i); small-place = k }
+      pub seek-on : b ≡ false → (q : ℕ) → Fits w32 q → q ≡ get_or l (p + 3) 0 → Seeking l count newest c (k + 1) q
+      seek-on g q f i = record {
+        same_place =
+            let z : count - k - 1 ≡ count - (k + 1) = omega arith in
+            S.same_place ∙ asked l c (count - k) p (omega arith) ∙ rw (← t, g, i, z);
+        small-place = f;
+      }
 
-pub ruleset seek-laws = (seek-none, seek_found, seek-on)
+pub ruleset seek_laws = (seek-none, seek_found, seek-on)
 
 -- ---- `past_base`, `cell_type`
-
-pub past-before : (c b : ℕ) → c < b → 0 ≡ (c - b) % 4096
-past-before c b h = let z : c - b ≡ 0 = omega arith in rw z refl
 
 pub type-is : (l ts : List ℕ) (count newest c p more : ℕ) → p ≡ holder l (entries count l newest) c → more ≡ get_or l (p + 2) 0
     → (i : ℕ) → i ≡ (c - more / 128) % 4096 → (r : ℕ) → r ≡ leaf_type 66 l ts (more % 128) i → r ≡ cell_type l ts count newest c
@@ -179,7 +185,7 @@ module _ (n : ℕ) (f : Fits w32 n) (h : 2147483647 < n) where
   pub bound-high : to_z w64 (of_z w64 (to_z w64 n -ℤ pos 4294967296)) ≡ signed n
   bound-high = signed_high n (omega arith) h
 
-pub ruleset bound-laws = (signed_low, bound-fits, bound-high)
+pub ruleset bound_laws = (signed_low, bound-fits, bound-high)
 
 -- ---- `value_fits`, `mark_fits`, `cell_passes`
 
@@ -192,7 +198,7 @@ module _ (x : Info) (v lo hi : ℤ) (p : SFits w64 v) (e : lo ≡ signed x.low) 
   unfolding value_fits
   value_set h g = g ∙ rw (to_z-of_z p, to_z-of_z ql, to_z-of_z qh, e, f, ne_eqb x.shape 0 h)
 
-pub ruleset value-laws = (value-ordinal, value_set)
+pub ruleset value_laws = (value-ordinal, value_set)
 
 zero-only : (v : ℤ) → ((of_z w64 v ≡ 0) → ⊥) → is_zero v ≡ false
 unfolding is_zero
@@ -204,19 +210,19 @@ module _ (x : Info) (v : ℤ) (m : ℕ) (p : SFits w64 v) where
   unfolding mark_fits
   mark-defined h b g = g ∙ rw (to_z-of_z p, h)
 
-  pub mark-undefined : m ≡ 0 → of_z w64 v ≡ 0 → true ≡ mark_fits x v m
+  pub mark-undefined : m ≡ 0 → eqb (of_z w64 v) 0 ≡ mark_fits x v m
   unfolding mark_fits is_zero
-  mark-undefined h z = rw (h, zero_bits v p z)
-
-  pub mark-left : m ≡ 0 → ((of_z w64 v ≡ 0) → ⊥) → false ≡ mark_fits x v m
-  unfolding mark_fits
-  mark-left h z = rw (h, zero-only v z)
+  mark-undefined h = go (eqb (of_z w64 v) 0) refl
+    where
+      go : (b : Bool) → eqb (of_z w64 v) 0 ≡ b → b ≡ mark_fits x v m
+      go true e = let z : of_z w64 v ≡ 0 = eqb-true _ _ e in rw (h, zero_bits v p z) refl
+      go false e = sym (rw h (zero-only v (eqb-false _ _ e)))
 
   pub mark-other : ((m ≡ 1) → ⊥) → ((m ≡ 0) → ⊥) → false ≡ mark_fits x v m
   unfolding mark_fits
   mark-other h g = rw (ne_eqb m 0 g, ne_eqb m 1 h)
 
-pub ruleset mark-laws = (mark-defined, mark-undefined, mark-left, mark-other)
+pub ruleset mark_laws = (mark-defined, mark-undefined, mark-other)
 
 pub passes-is : (l ts : List ℕ) (count newest c : ℕ) (v : ℤ) (m : ℕ) → SFits w64 v → (t : ℕ) → t ≡ cell_type l ts count newest c → (x : Info) → x ≡ info_of l ts t
     → (b : Bool) → b ≡ mark_fits x (wire v) m → b ≡ cell_passes l ts count newest c v m

@@ -22,44 +22,31 @@ pub struct Cell {
     pub place: u32,
 }
 
-// A cell from its parts.
-fn cell_by(kind: u32, place: u32) -> Cell
-    ensures { result ≡ cell_by kind place }
-{
-    Cell {
-        kind: kind,
-        place: place,
-    }
-}
-
 // A cell of the fields that stand after a description, as one of the field that has it.
 fn field_cell(work: &[u32], types: &[u32], place: u32, fields: u32, cell: u32) -> Cell
     ensures { result ≡ field_cell work.now types.now (place + 8) fields cell }
 {
-    let mut n = fields;
     let mut p = place as usize + 8;
     let mut i = cell;
-    while n > 0 {
-        let t = at(work, p + 1);
-        let x = describe(work, types, t);
+    for _k in 0..fields {
+        let kind = at(work, p + 1);
+        let x = describe(work, types, kind);
         if i < x.size {
-            return cell_by(t, i);
+            return Cell { kind, place: i };
         }
         i -= x.size;
         p += 4;
-        n -= 1;
     }
-    cell_by(0, 0)
+    Cell { kind: 0, place: 0 }
 }
 
 // A cell of an array, as one of its elements', which have so many cells.
+#[tactic(auto, using(crate::proofs::Ways::element_laws), unfolding(crate::specs::Cells::element_cell))]
 fn element_cell(kind: u32, cell: u32, size: u32) -> Cell
     ensures { result ≡ element_cell kind cell size }
 {
-    if size == 0 {
-        return cell_by(kind, cell);
-    }
-    cell_by(kind, cell % size)
+    let place = if size == 0 { cell } else { cell % size };
+    Cell { kind, place }
 }
 
 // A cell of an array or a record that x describes, as one of its element's or a field's.
@@ -68,9 +55,10 @@ fn inner_cell(work: &[u32], types: &[u32], x: Info, cell: u32) -> Cell
 {
     if x.shape == 2 {
         let e = describe(work, types, x.element);
-        return element_cell(x.element, cell, e.size);
+        element_cell(x.element, cell, e.size)
+    } else {
+        field_cell(work, types, x.place, x.fields, cell)
     }
-    field_cell(work, types, x.place, x.fields, cell)
 }
 
 // The ordinal or set type of a cell of a type, at most so many types inside it.
@@ -89,14 +77,11 @@ fn leaf_type(work: &[u32], types: &[u32], kind: u32, cell: u32, depth: u32) -> u
 }
 
 // Whether an entry's second and third numbers are a variable's that begins at a cell or before it.
+#[tactic(auto, using(crate::proofs::Ways::begins_laws), unfolding(crate::specs::Cells::begins_by))]
 fn begins_by(sort: u32, more: u32, cell: usize) -> bool
     ensures { result ≡ begins_by sort more cell }
 {
-    if sort % 4 == 1 {
-        let base = (more / TYPE_NUMBERS) as usize;
-        return base <= cell;
-    }
-    false
+    sort % 4 == 1 && (more / TYPE_NUMBERS) as usize <= cell
 }
 
 // Whether the entry at a place is such a variable's.
@@ -111,14 +96,12 @@ fn begins_at(work: &[u32], place: u32, cell: usize) -> bool
 fn holder_of(work: &[u32], count: u32, newest: u32, cell: usize) -> u32
     ensures { result ≡ holder work.now (entries count work.now newest) cell }
 {
-    let mut n = count;
     let mut p = newest;
-    while n > 0 {
+    for _k in 0..count {
         if begins_at(work, p, cell) {
             return p;
         }
         p = at(work, p as usize + 3);
-        n -= 1;
     }
     0
 }
@@ -130,11 +113,7 @@ const PLACES_IN: usize = CELL_NUMBERS as usize;
 fn past_base(cell: usize, base: u32) -> u32
     ensures { result ≡ (cell - base) % 4096 }
 {
-    let b = base as usize;
-    if cell < b {
-        return 0;
-    }
-    ((cell - b) % PLACES_IN) as u32
+    (cell.saturating_sub(base as usize) % PLACES_IN) as u32
 }
 
 // How deep types stand in each other at most.
@@ -155,9 +134,10 @@ fn bound_of(n: u32) -> i64
     ensures { result ≡ signed n }
 {
     if n <= 2147483647 {
-        return n as i64;
+        n as i64
+    } else {
+        n as i64 - 4294967296
     }
-    n as i64 - 4294967296
 }
 
 // Whether a value is one of the ordinal or set type that x describes.
@@ -167,25 +147,22 @@ fn value_fits(x: Info, v: i64) -> bool
     let lo = bound_of(x.low);
     let hi = bound_of(x.high);
     if x.shape == 0 {
-        return in_range(v, lo, hi);
+        in_range(v, lo, hi)
+    } else {
+        lies_in(v, lo, hi)
     }
-    lies_in(v, lo, hi)
 }
 
 // Whether a cell is defined with a value of its type, or undefined with value 0.
+#[tactic(auto, using(crate::proofs::Ways::mark_laws), unfolding(crate::specs::Stores::mark_fits))]
 fn mark_fits(x: Info, v: i64, m: u8) -> bool
     ensures { result ≡ mark_fits x v m }
 {
-    if m == 1 {
-        return value_fits(x, v);
+    match m {
+        1 => value_fits(x, v),
+        0 => v == 0,
+        _ => false,
     }
-    if m == 0 {
-        if v == 0 {
-            return true;
-        }
-        return false;
-    }
-    false
 }
 
 // Whether row 11 finds no fault in a cell of the store.
@@ -202,18 +179,11 @@ pub fn store_fault(work: &[u32], types: &[u32], st: State, values: &[i64], marks
     ensures { StoreFault work.now types.now st values.now marks.now result }
 {
     let cells = st.cells as usize;
-    if values.len() != cells {
+    if values.len() != cells || marks.len() != cells {
         return 10;
     }
-    if marks.len() != cells {
-        return 10;
-    }
-    let mut left = cells;
-    while left > 0 {
-        let c = cells - left;
-        if cell_passes(work, types, st, c, values[c], marks[c]) {
-            left -= 1;
-        } else {
+    for c in 0..cells {
+        if !cell_passes(work, types, st, c, values[c], marks[c]) {
             return 11;
         }
     }

@@ -9,7 +9,7 @@ ghost use Rattle.rule_texts.specs.Answers.{ChecksLines, Checks, ends_by, refused
 
 use law_answers::Verdict;
 pub use rule_declarations::MOST_CELLS;
-use rule_declarations::{NOTES, start_state};
+use rule_declarations::{NOTES, State};
 use rule_judge::whole::line;
 use rule_known::Known;
 use table_list::clear;
@@ -28,7 +28,7 @@ pub struct Checked {
 pub fn nothing_known() -> Known
     ensures { result ≡ start_known }
 {
-    let state = start_state();
+    let state = State::start();
     Known {
         state: state,
         stmts: 0,

@@ -36,8 +36,8 @@ use Rattle.rule_record_lines.specs.Records.{record_in}
 use Rattle.rule_type_forms.specs.Shapes.{maker_by, GivesAfter, GivesForm}
 use Rattle.rule_declarations.specs.declared.State.{State}
 use Rattle.rule_declarations.specs.declared.Lined.{Lined}
-use Rattle.rule_declarations.specs.declared.Naming.{Naming}
-use Rattle.rule_declarations.specs.declared.Naming.TheVariants as naming
+use Rattle.rule_declarations.specs.declared.FreeName.{FreeName}
+use Rattle.std.specs.Prelude.{Option as Maybe, Some, None}
 use Rattle.rule_declarations.proofs.VarLines.{closed-map, failed-told}
 
 -- ---- a line
@@ -154,7 +154,7 @@ module _ (s l ts : List ℕ) (st : State) (p at : ℕ) (m : Maker) (r : Lined) w
   unfolding made_after ◌>>=◌
   by-nothing e f = record { gives = λ hp. no_line s l ts st (made_after (map small (word_at s p)) (maker_by m (first (stack_at s at))) (first (later (stack_at s at)))) (rw e refl) r f }
 
-pub ruleset made-laws = (by-enum, by-range, by-array, by-record, by-set, by-nothing)
+pub ruleset made_laws = (by-enum, by-range, by-array, by-record, by-set, by-nothing)
 
 -- `form_line`: u is past the bracket
 module _ (s l ts : List ℕ) (st : State) (p u : ℕ) (y : Part) (h : Stands s u y) (r : Lined) where
@@ -180,7 +180,12 @@ module _ (s l ts : List ℕ) (st : State) (p u : ℕ) (y : Part) (h : Stands s u
         no_line s l ts st (type_after (map small (word_at s p)) (first (stack_at s at))) (rw z refl) r f;
   }
 
-pub ruleset form-laws = (form-headed, form-headless, form-empty)
+pub form-other : (s l ts : List ℕ) (st : State) (p u : ℕ) (y : Part) → Stands s u y → (r : Lined) → ((w : Kind.Word) (a v : ℕ) → y ≡ part.Leaf w a v → ⊥) → r ≡ lined_by Form false st → GivesForm s l ts st p u r l ts
+form-other s l ts st p u (part.Leaf w a v) h r k f = absurd (k w a v refl)
+form-other s l ts st p u (part.Form q) h r k f = form-headless s l ts st p u (part.Form q) h r q refl f
+form-other s l ts st p u (part.Shut q) h r k f = form-empty s l ts st p u (part.Shut q) h r q refl f
+
+pub ruleset form_laws = (form-headed, form-other)
 
 -- `type_after`
 module _ (s l ts : List ℕ) (st : State) (p at : ℕ) (x : Part) (h : Stands s at x) (r : Lined) where
@@ -199,23 +204,23 @@ module _ (s l ts : List ℕ) (st : State) (p at : ℕ) (x : Part) (h : Stands s 
         no_line s l ts st (type_after (map small (word_at s p)) (first (stack_at s at))) (rw z refl) r f;
   }
 
-pub ruleset after-laws = (after-alias, after-made, after-end)
+pub ruleset after_laws = (after-alias, after-made, after-end)
 
 -- `type_line`
-module _ (s l ts : List ℕ) (st : State) (at : ℕ) (n : Naming) (N : GivesName s at n) (r : Lined) where
-  pub type-called : (p q : ℕ) → n ≡ naming.Called p q → (l' ts' : List ℕ) → GivesAfter s l ts st p q r l' ts' → GivesLine s l ts st (line_of is_type 0 (first (stack_at s at))) r l' ts'
+module _ (s l ts : List ℕ) (st : State) (at : ℕ) (n : Maybe FreeName) (N : GivesName s at n) (r : Lined) where
+  pub type-called : (m : FreeName) → n ≡ Some m → (l' ts' : List ℕ) → GivesAfter s l ts st m.at m.next r l' ts' → GivesLine s l ts st (line_of is_type 0 (first (stack_at s at))) r l' ts'
   unfolding ◌>>=◌
-  type-called p q e l' ts' G =
+  type-called m e l' ts' G =
       let g = rw e at N.says in
-      let z : line_of is_type 0 (first (stack_at s at)) ≡ type_after (map small (word_at s p)) (first (stack_at s q)) =
+      let z : line_of is_type 0 (first (stack_at s at)) ≡ type_after (map small (word_at s m.at)) (first (stack_at s m.next)) =
       type-parts 0 (first (stack_at s at)) ∙ ap (λ (o : Option Name). o >>= λ (w : Name). type_after w (rest (first (stack_at s at)))) g.2
-      ∙ ap (λ (us : Trees Run). type_after (map small (word_at s p)) (rest us)) g.0.leaf.here in
+      ∙ ap (λ (us : Trees Run). type_after (map small (word_at s m.at)) (rest us)) g.0.leaf.here in
       rw z (G.gives g.1)
 
-  pub type-nothing : n ≡ naming.Nothing → r ≡ lined_by Form false st → GivesLine s l ts st (line_of is_type 0 (first (stack_at s at))) r l ts
+  pub type-nothing : n ≡ None → r ≡ lined_by Form false st → GivesLine s l ts st (line_of is_type 0 (first (stack_at s at))) r l ts
   unfolding ◌>>=◌
   type-nothing e f =
       let g : name_in (first (stack_at s at)) ≡ none = rw e at N.says in
       no_line s l ts st (line_of is_type 0 (first (stack_at s at))) (type-parts 0 (first (stack_at s at)) ∙ ap (λ (o : Option Name). o >>= λ (w : Name). type_after w (rest (first (stack_at s at)))) g) r f
 
-pub ruleset type-line-laws = (type-called, type-nothing)
+pub ruleset type_line_laws = (type-called, type-nothing)

@@ -9,7 +9,7 @@ ghost use Rattle.rule_declarations.specs.Lines.{line_of, GivesLine};
 ghost use Rattle.rule_type_forms.specs.Shapes.{maker_by, GivesForm, GivesAfter};
 ghost use Rattle.rule_type_lines.specs.TypeLines.{GivesMade};
 
-use rule_declarations::{Lined, Naming, State, answered, name_at};
+use rule_declarations::{Lined, State, name_at};
 use rule_enum_lines::values::enum_line;
 use rule_faults::Fault;
 use rule_record_lines::records::record_line;
@@ -36,7 +36,7 @@ fn made_line(
         Maker::Array => array_line(text, work, types, st, p, at),
         Maker::Record => record_line(text, work, types, st, p, at),
         Maker::Set => set_line(text, work, types, st, p, at),
-        Maker::Nothing => answered(Fault::Form, false, st),
+        Maker::Nothing => Lined::failed(Fault::Form, st),
     }
 }
 
@@ -51,11 +51,9 @@ fn form_line(
 ) -> Lined
     ensures { GivesForm text.now work.old types.old st p at result work.new types.new }
 {
-    let part = part_at(text, at);
-    match part {
+    match part_at(text, at) {
         Part::Leaf(w, _, q) => made_line(text, work, types, st, p, q, maker_of(w)),
-        Part::Form(_) => answered(Fault::Form, false, st),
-        Part::Shut(_) => answered(Fault::Form, false, st),
+        _ => Lined::failed(Fault::Form, st),
     }
 }
 
@@ -70,11 +68,10 @@ fn type_after(
 ) -> Lined
     ensures { GivesAfter text.now work.old types.old st p at result work.new types.new }
 {
-    let part = part_at(text, at);
-    match part {
+    match part_at(text, at) {
         Part::Leaf(_, _, _) => alias_line(text, work, st, p, at),
         Part::Form(q) => form_line(text, work, types, st, p, q),
-        Part::Shut(_) => answered(Fault::Form, false, st),
+        Part::Shut(_) => Lined::failed(Fault::Form, st),
     }
 }
 
@@ -82,9 +79,8 @@ fn type_after(
 pub fn type_line(text: &[u8], work: &mut [u32], types: &mut [u32], st: State, at: usize) -> Lined
     ensures { GivesLine text.now work.old types.old st (line_of is_type 0 (first (stack_at text.now at))) result work.new types.new }
 {
-    let n = name_at(text, at);
-    match n {
-        Naming::Called(p, q) => type_after(text, work, types, st, p, q),
-        Naming::Nothing => answered(Fault::Form, false, st),
+    match name_at(text, at) {
+        Some(n) => type_after(text, work, types, st, n.at, n.next),
+        None => Lined::failed(Fault::Form, st),
     }
 }

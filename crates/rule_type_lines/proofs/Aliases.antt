@@ -61,11 +61,11 @@ pub lines-many : (n : ℕ) (b : Bool) → 64 ≤ n → false ≡ lines_fit n b
 unfolding lines_fit
 lines-many n b h = rw (lt-leb (n + 1) 64 (omega arith)) refl
 
-pub ruleset lines-laws = (lines-few, lines-many)
+pub ruleset lines_laws = (lines-few, lines-many)
 
-pub type-state-is : (st a b : State) (names newest made top : ℕ) → a ≡ with_names st names newest top → b ≡ with_type_line a made → b ≡ type_state st names newest made top
+pub type_state_is : (st a b : State) (names newest made top : ℕ) → a ≡ with_names st names newest top → b ≡ with_type_line a made → b ≡ type_state st names newest made top
 unfolding type_state
-type-state-is st a b names newest made top e f = f ∙ ap (λ (x : State). with_type_line x made) e
+type_state_is st a b names newest made top e f = f ∙ ap (λ (x : State). with_type_line x made) e
 
 pub name-laid : (st : State) (m number : ℕ) (l : List ℕ) (r : ℕ) (l' : List ℕ)
     → Laid (lay (m ∷ (4 * (number % 128)) ∷ 0 ∷ st.scope.newest ∷ []) st.top l) r l' → Laid (lay (type_entry st m number) st.top l) r l'
@@ -157,7 +157,7 @@ module _ (l : List ℕ) (st : State) (m kind : ℕ) (b : Bool) (g : b ≡ lines_
   pub past-alias : b ≡ false → (r : Lined) → r ≡ lined_by Clear false st → AddsAlias l st m kind r l
   past-alias h r j = rw j (alias-past (sym g ∙ h))
 
-pub ruleset add-alias-laws = (adds-alias, past-alias)
+pub ruleset add_alias_laws = (adds-alias, past-alias)
 
 alias-told : (s l ts : List ℕ) (st : State) (p kind : ℕ) (r : Lined) (l' : List ℕ) → p < length s → AddsAlias l st (keyed s p) kind r l'
     → (k : Declared) (bs : List ℕ) → Holds s l ts st k bs → (f : LineForm) → entry_of k.env f ≡ some (new_type (map small (word_at s p)) (alias kind))
@@ -244,4 +244,4 @@ module _ (s l : List ℕ) (st : State) (p at : ℕ) (t : Typed) (G : GivesLastTy
     };
   }
 
-pub ruleset alias-laws = (alias-fault, alias-clear)
+pub ruleset alias_laws = (alias-fault, alias-clear)

@@ -64,7 +64,7 @@ pub span-round : (a b : ℕ) → b < a → 4294967295 - a + b + 1 ≡ span_of a 
 unfolding span_of
 span-round a b h = rw (lt-leb a b h) refl
 
-pub ruleset span-laws = (span-up, span-round)
+pub ruleset span_laws = (span-up, span-round)
 
 pub cells_fit : (a b : ℕ) → Fits w32 ((a % 256 + 1) * (b % 4096))
 cells_fit a b =
@@ -81,7 +81,7 @@ pub fits-many : (a b : ℕ) → 256 ≤ a → false ≡ array_fits a b
 unfolding array_fits
 fits-many a b h = rw (le-ltb a 256 h) refl
 
-pub ruleset fits-laws = (fits-few, fits-many)
+pub ruleset fits_laws = (fits-few, fits-many)
 
 pub no-shape-is : (q : ℕ) (x : Info) → x ≡ no_info → record { fault = Form; info = x; within = false; next = q } ≡ no_shape q
 unfolding no_shape

@@ -107,7 +107,7 @@ module _ (s l : List ℕ) (scope : Scope) (at : ℕ) (t : Valued) (G : GivesCons
           });
         })
 
-pub ruleset last-laws = (last-form, last_more, last-past)
+pub ruleset last_laws = (last-form, last_more, last-past)
 
 -- ---- bits
 
@@ -117,7 +117,7 @@ flip-value m v p e f g = rw (e, g, to_z-of_z f) refl
 pub flip-failed : (m : Num) (f : ArithFault.Fault) → m ≡ Err f → 0 ≡ flipped_of m
 flip-failed m f e = rw e refl
 
-pub ruleset flip-laws = (flip-value, flip-failed)
+pub ruleset flip_laws = (flip-value, flip-failed)
 
 negative-bits : (z : ℤ) → lt_z z (pos 0) ≡ true → inside least most z ≡ true → flipped_of (exact (negsuc 0 -ℤ z)) ≡ bits z
 unfolding exact ranged pick inside bits pattern_of
@@ -140,7 +140,7 @@ module _ (z : ℤ) (p : SFits w64 z) (r : ℕ) where
   pub bits_positive : lt_z (wire z) (pos 0) ≡ false → r ≡ pattern_of (wire z) → IsBits z r
   bits_positive h g = record { is-bits = λ i. g ∙ ap pattern_of (to_z-of_z p) ∙ positive-bits z (rw (to_z-of_z p) at h) i }
 
-pub ruleset bits-laws = (bits-negative, bits_positive)
+pub ruleset bits_laws = (bits-negative, bits_positive)
 
 -- ---- row 8
 
@@ -158,7 +158,7 @@ module _ (a : ℕ) (y : ℤ) (b : ℕ) (z : ℤ) where
     unfolding range_fault
     fault-reversed h = let g : le_z y z ≡ false = rw (to_z-of_z p, to_z-of_z q) at h in rw (eq-eqb a b e, g) refl
 
-pub ruleset fault-laws = (fault-kinds, fault-none, fault-reversed)
+pub ruleset fault_laws = (fault-kinds, fault-none, fault-reversed)
 
 pub shape_is : (f g : Fault) (a : ℕ) (y : ℤ) (b : ℕ) (z : ℤ) (q : ℕ) → SFits w64 y → SFits w64 z → (u : Fault) → u ≡ lowest f g → (o : Fault) → o ≡ range_fault a (wire y) b (wire z)
     → (v : Fault) → v ≡ lowest u o → (m : ℕ) → IsBits (wire y) m → (n : ℕ) → IsBits (wire z) n → (x : Info) → x ≡ ordinal_info a m n
@@ -301,4 +301,4 @@ module _ (s l ts : List ℕ) (st : State) (at : ℕ) (a : Valued) (G : GivesCons
           says = λ k bs H. range-told R.m R.n la lb k bs H;
         })
 
-pub ruleset range-laws = (range-form, range-is)
+pub ruleset range_laws = (range-form, range-is)

@@ -53,7 +53,7 @@ pub no-ordinal : (n : ℕ) → ((n ≡ 0) → ⊥) → Kind ≡ ordinal_fault n
 unfolding ordinal_fault
 no-ordinal n e = rw (ne_eqb n 0 e) refl
 
-pub ruleset ordinal-laws = (is-ordinal, no-ordinal)
+pub ruleset ordinal_laws = (is-ordinal, no-ordinal)
 
 pub base-low : (a b : ℕ) → a < 2147483648 → leb b 31 ≡ base_fits a b
 unfolding base_fits
@@ -63,7 +63,7 @@ pub base-high : (a b : ℕ) → 2147483648 ≤ a → false ≡ base_fits a b
 unfolding base_fits
 base-high a b h = rw (le-ltb a 2147483648 h) refl
 
-pub ruleset base-laws = (base-low, base-high)
+pub ruleset base_laws = (base-low, base-high)
 
 -- bounds in 32 bits, of a type whose bounds are integers in their order
 pub base-is : (a b : ℤ) → le_z least a ≡ true → le_z b most ≡ true → le_z a b ≡ true → base_fits (bits a) (bits b) ≡ (le_z (pos 0) a && le_z b (pos 31))

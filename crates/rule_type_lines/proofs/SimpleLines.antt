@@ -268,7 +268,7 @@ module _ (s : List ℕ) (f : Fault) (at : ℕ) (b : Bool) (i : b ≡ is_form f) 
     pub end_more : e ≡ None → EndFault s f at Form
     end_more g = before-end (sym i ∙ j) (rw g at E.says)
 
-pub ruleset end-laws = (end-form, end-past, end_more)
+pub ruleset end_laws = (end-form, end-past, end_more)
 
 -- a line with a new name beside its type
 module _ {σ : Environment} {bs : List ℕ} (w : Name) (m : Meaning) (T : Told σ bs m (find σ.names w)) (S : Staged Decl) where
@@ -424,4 +424,4 @@ module _ (s l ts : List ℕ) (st : State) (p : ℕ) (g : Shaped) (h : Fault) (c 
       };
     }
 
-pub ruleset shaped-laws = (shaped-fault, shaped-past, shaped-fits)
+pub ruleset shaped_laws = (shaped-fault, shaped-past, shaped-fits)

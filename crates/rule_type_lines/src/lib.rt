@@ -11,9 +11,7 @@ ghost use Rattle.code.specs.Layout.{lay as laid};
 ghost use Rattle.table_list.specs.Laid.{Laid};
 ghost use Rattle.rule_type_lines.specs.TypeLines.{lines_fit, type_entry, info_numbers, type_state, AddsAlias, GivesAlias, LaysType, AddsType, EndFault, GivesShaped};
 
-use rule_declarations::{
-    Lined, MOST_TYPE_LINES, State, answered, last_type, named_fault, with_names, with_type_line,
-};
+use rule_declarations::{Lined, MOST_TYPE_LINES, State, last_type, named_fault};
 use rule_faults::{Fault, is_clear, is_form};
 use table_list::{lay, put};
 use table_names::declare;
@@ -23,6 +21,7 @@ use text_parts::end_at;
 
 // The answer for the form of a type: its fault; with no fault its description, and whether it is within the ceilings of row 9; where the
 // next part of the line stands.
+// Kept: the new form is no plainer, since behind a fault of row 7 or 8 the walk goes on at `next`, as of rule_atoms' `Typed`.
 #[derive(Clone, Copy)]
 pub struct Shaped {
     pub fault: Fault,
@@ -32,21 +31,19 @@ pub struct Shaped {
 }
 
 // Whether a line is within the ceilings of row 9, where its type is or is not; so many `type` lines came before.
+#[tactic(auto, using(crate::proofs::Aliases::lines_laws), unfolding(crate::specs::TypeLines::lines_fit))]
 pub fn lines_fit(lines: u32, within: bool) -> bool
     ensures { result ≡ lines_fit lines within }
 {
-    if lines < MOST_TYPE_LINES {
-        return within;
-    }
-    false
+    lines < MOST_TYPE_LINES && within
 }
 
 // What is held after a line with so many names, the last at `newest`, and so many new types.
+#[tactic(auto, using(crate::proofs::Aliases::type_state_is))]
 pub fn type_state(st: State, names: u32, newest: u32, made: u32, top: u32) -> State
     ensures { result ≡ type_state st names newest made top }
 {
-    let named = with_names(st, names, newest, top);
-    with_type_line(named, made)
+    st.with_names(names, newest, top).with_type_line(made)
 }
 
 // Lays the entry of a type, by its name's number; the free place then.
@@ -73,10 +70,10 @@ fn add_alias(work: &mut [u32], st: State, name: u32, kind: u32) -> Lined
 {
     if lines_fit(st.lines, true) {
         let top = lay_name(work, st, name, kind);
-        let after = type_state(st, 1, st.top, 0, top);
-        return answered(Fault::Clear, true, after);
+        Lined::held(type_state(st, 1, st.top, 0, top))
+    } else {
+        Lined::past(st)
     }
-    answered(Fault::Clear, false, st)
 }
 
 // A `type` line from its type on, which is a name; the line's name is at p.
@@ -84,13 +81,12 @@ pub fn alias_line(text: &[u8], work: &mut [u32], st: State, p: usize, at: usize)
     ensures { GivesAlias text.now work.old st p at result work.new }
 {
     let t = last_type(text, work, st.scope, at);
-    let g = t.fault;
-    let f = named_fault(text, work, st.scope, p, g);
+    let f = named_fault(text, work, st.scope, p, t.fault);
     if is_clear(f) {
-        let name = name_number(text, p);
-        return add_alias(work, st, name, t.kind);
+        add_alias(work, st, name_number(text, p), t.kind)
+    } else {
+        Lined::failed(f, st)
     }
-    answered(f, false, st)
 }
 
 // Where a description stands, and the free place then.
@@ -106,10 +102,7 @@ pub fn lay_type(work: &mut [u32], st: State, name: u32, x: Info) -> Placed
 {
     let place = lay_name(work, st, name, st.types);
     let top = lay_info(work, place, x);
-    Placed {
-        place: place,
-        top: top,
-    }
+    Placed { place, top }
 }
 
 // A line that makes a type of one name and one description, within the ceilings, by its name's number.
@@ -118,8 +111,7 @@ fn add_type(work: &mut [u32], types: &mut [u32], st: State, name: u32, x: Info) 
 {
     let at = lay_type(work, st, name, x);
     put(types, st.types as usize, at.place);
-    let after = type_state(st, 1, st.top, 1, at.top);
-    answered(Fault::Clear, true, after)
+    Lined::held(type_state(st, 1, st.top, 1, at.top))
 }
 
 // A fault, or row 6 where a form does not end at an offset.
@@ -147,16 +139,15 @@ pub fn shaped_line(
 ) -> Lined
     ensures { GivesShaped text.now work.old types.old st p g result work.new types.new }
 {
-    let h = g.fault;
-    let e = end_fault(text, h, g.next);
+    let e = end_fault(text, g.fault, g.next);
     let f = named_fault(text, work, st.scope, p, e);
     if is_clear(f) {
         if lines_fit(st.lines, g.within) {
-            let x = g.info;
-            let name = name_number(text, p);
-            return add_type(work, types, st, name, x);
+            add_type(work, types, st, name_number(text, p), g.info)
+        } else {
+            Lined::past(st)
         }
-        return answered(Fault::Clear, false, st);
+    } else {
+        Lined::failed(f, st)
     }
-    answered(f, false, st)
 }

@@ -2,7 +2,6 @@
 ghost use Rattle.std.specs.Prelude.{◌≡◌};
 ghost use Rattle.law.specs.Trees.{first};
 ghost use Rattle.law_theorems.specs.Readings.{stack_at};
-ghost use Rattle.rule_atoms.specs.Answers.{valued as valued_by};
 ghost use Rattle.rule_declarations.specs.Names.{GivesLastConstant};
 ghost use Rattle.rule_type_lines.specs.TypeLines.{GivesShape};
 ghost use Rattle.rule_type_lines.specs.Simple.{range_in};
@@ -18,31 +17,17 @@ use rule_faults::{Fault, is_form, lowest};
 use table_scope::{Scope, ordinal_info};
 use text_parts::end_at;
 
-// An answer for a constant from its parts.
-fn value_answer(fault: Fault, kind: u32, value: i64, next: usize) -> Valued
-    ensures { result ≡ valued_by fault kind value next }
-{
-    Valued {
-        fault: fault,
-        kind: kind,
-        value: value,
-        next: next,
-    }
-}
-
 // The constant that is the last part of a form; the next part stands past the form.
 pub fn last_constant(text: &[u8], work: &[u32], scope: Scope, at: usize) -> Valued
     ensures { GivesLastConstant text.now work.now scope at result }
 {
     let t = constant(text, work, scope, at);
-    let f = t.fault;
-    if is_form(f) {
-        return value_answer(Fault::Form, 0, 0, at);
+    if is_form(t.fault) {
+        return Valued::failed(Fault::Form, at);
     }
-    let e = end_at(text, t.next);
-    match e {
-        Some(q) => value_answer(f, t.kind, t.value, q),
-        None => value_answer(Fault::Form, 0, 0, at),
+    match end_at(text, t.next) {
+        Some(q) => Valued { next: q, ..t },
+        None => Valued::failed(Fault::Form, at),
     }
 }
 
@@ -61,22 +46,21 @@ fn bits_of(z: i64) -> u32
     ensures { IsBits z result }
 {
     if z < 0 {
-        return flipped(sub(-1, z));
+        flipped(sub(-1, z))
+    } else {
+        pattern(z)
     }
-    pattern(z)
 }
 
 // Row 8 where two constants are no bounds of a range.
 fn range_fault(a: u32, y: i64, b: u32, z: i64) -> Fault
     ensures { result ≡ range_fault a y b z }
 {
-    if a == b {
-        if y <= z {
-            return Fault::Clear;
-        }
-        return Fault::Kind;
+    if a == b && y <= z {
+        Fault::Clear
+    } else {
+        Fault::Kind
     }
-    Fault::Kind
 }
 
 // A range from the faults, types and values of its bounds.
@@ -88,10 +72,10 @@ fn range_shape(f: Fault, g: Fault, a: u32, y: i64, b: u32, z: i64, next: usize) 
     let high = bits_of(z);
     let info = ordinal_info(a, low, high);
     Shaped {
-        fault: fault,
-        info: info,
+        fault,
+        info,
         within: true,
-        next: next,
+        next,
     }
 }
 
@@ -100,11 +84,9 @@ pub fn range_of(text: &[u8], work: &[u32], types: &[u32], st: State, at: usize) 
     ensures { GivesShape text.now work.now types.now st at (range_in (first (stack_at text.now at))) result }
 {
     let a = constant(text, work, st.scope, at);
-    let f = a.fault;
-    if is_form(f) {
+    if is_form(a.fault) {
         return no_shape(at);
     }
     let b = last_constant(text, work, st.scope, a.next);
-    let g = b.fault;
-    range_shape(f, g, a.kind, a.value, b.kind, b.value, b.next)
+    range_shape(a.fault, b.fault, a.kind, a.value, b.kind, b.value, b.next)
 }

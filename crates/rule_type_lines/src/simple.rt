@@ -12,26 +12,26 @@ use rule_faults::{Fault, is_form, lowest};
 use table_scope::{Info, describe, no_info};
 
 // Row 8 where a type is no ordinal, by the number of its shape.
+#[tactic(auto, using(crate::proofs::SetTypes::ordinal_laws))]
 fn ordinal_fault(shape: u32) -> Fault
     ensures { result ≡ ordinal_fault shape }
 {
     if shape == 0 {
-        return Fault::Clear;
+        Fault::Clear
+    } else {
+        Fault::Kind
     }
-    Fault::Kind
 }
 
 // The greatest ordinal in a set's base.
 const LAST_MEMBER: u32 = 31;
 
 // Whether a set's base lies in 0 to 31, by its bounds in 32 bits.
+#[tactic(auto, using(crate::proofs::SetTypes::base_laws), unfolding(crate::specs::Simple::base_fits))]
 fn base_fits(low: u32, high: u32) -> bool
     ensures { result ≡ base_fits low high }
 {
-    if low < 2147483648 {
-        return high <= LAST_MEMBER;
-    }
-    false
+    low < 2147483648 && high <= LAST_MEMBER
 }
 
 // The form of a set, past its head word.
@@ -39,9 +39,8 @@ pub fn set_of(text: &[u8], work: &[u32], types: &[u32], st: State, at: usize) ->
     ensures { GivesShape text.now work.now types.now st at (set_in (first (stack_at text.now at))) result }
 {
     let t = last_type(text, work, st.scope, at);
-    let f = t.fault;
     let x = describe(work, types, t.kind);
-    let fault = lowest(f, ordinal_fault(x.shape));
+    let fault = lowest(t.fault, ordinal_fault(x.shape));
     let within = base_fits(x.low, x.high);
     let info = Info {
         shape: 1,
@@ -55,21 +54,23 @@ pub fn set_of(text: &[u8], work: &[u32], types: &[u32], st: State, at: usize) ->
         place: 0,
     };
     Shaped {
-        fault: fault,
-        info: info,
-        within: within,
+        fault,
+        info,
+        within,
         next: t.next,
     }
 }
 
 // How many values an ordinal type has after its first, by its bounds in 32 bits.
+#[tactic(auto, using(crate::proofs::ArrayTypes::span_laws))]
 fn span_of(low: u32, high: u32) -> u32
     ensures { result ≡ span_of low high }
 {
     if low <= high {
-        return high - low;
+        high - low
+    } else {
+        4294967295 - low + high + 1
     }
-    4294967295 - low + high + 1
 }
 
 // The cells of an array with so many indices after its first, fewer than 256, and elements of so many cells, fewer than 4,096.
@@ -82,25 +83,22 @@ fn cells_in(span: u32, size: u32) -> u32
 }
 
 // Whether an array with so many indices after its first, and elements of so many cells, is within the ceilings of row 9.
+#[tactic(auto, using(crate::proofs::ArrayTypes::fits_laws), unfolding(crate::specs::Simple::array_fits))]
 fn array_fits(span: u32, size: u32) -> bool
     ensures { result ≡ array_fits span size }
 {
-    if span < MOST_INDICES {
-        return cells_in(span, size) <= MOST_CELLS;
-    }
-    false
+    span < MOST_INDICES && cells_in(span, size) <= MOST_CELLS
 }
 
 // The answer where row 6 ends the walk.
 pub fn no_shape(next: usize) -> Shaped
     ensures { result ≡ no_shape next }
 {
-    let info = no_info();
     Shaped {
         fault: Fault::Form,
-        info: info,
+        info: no_info(),
         within: false,
-        next: next,
+        next,
     }
 }
 
@@ -124,10 +122,10 @@ fn array_shape(f: Fault, g: Fault, x: Info, y: Info, i: u32, e: u32, next: usize
         place: 0,
     };
     Shaped {
-        fault: fault,
-        info: info,
-        within: within,
-        next: next,
+        fault,
+        info,
+        within,
+        next,
     }
 }
 
@@ -136,13 +134,11 @@ pub fn array_of(text: &[u8], work: &[u32], types: &[u32], st: State, at: usize) 
     ensures { GivesShape text.now work.now types.now st at (array_in (first (stack_at text.now at))) result }
 {
     let i = type_name(text, work, st.scope, at);
-    let f = i.fault;
-    if is_form(f) {
+    if is_form(i.fault) {
         return no_shape(at);
     }
     let e = last_type(text, work, st.scope, i.next);
-    let g = e.fault;
     let x = describe(work, types, i.kind);
     let y = describe(work, types, e.kind);
-    array_shape(f, g, x, y, i.kind, e.kind, e.next)
+    array_shape(i.fault, e.fault, x, y, i.kind, e.kind, e.next)
 }

@@ -1,11 +1,11 @@
-use Rattle.rule_atoms.proofs.Ways.{constant-laws}
+use Rattle.rule_atoms.proofs.Ways.{constant_laws}
 use Rattle.rule_atoms.proofs.constant.Goals as goal
 
 pub returns-in-Leaf : goal.returns-in-Leaf
-returns-in-Leaf c = search constant-laws
+returns-in-Leaf c = search constant_laws
 
 pub returns-in-Form : goal.returns-in-Form
-returns-in-Form c = search constant-laws
+returns-in-Form c = search constant_laws
 
 pub returns-in-Shut : goal.returns-in-Shut
-returns-in-Shut c = search constant-laws
+returns-in-Shut c = search constant_laws

@@ -1,14 +1,9 @@
-use Rattle.rule_atoms.proofs.Ways.{minus-form-laws}
+use Rattle.rule_atoms.proofs.Ways.{minus_form_laws}
+use Rattle.rule_atoms.proofs.minus_form.Goals.{in_default-via-in-Leaf+else-is_minus, in_default-via-in_default}
 use Rattle.rule_atoms.proofs.minus_form.Goals as goal
 
-pub returns-then-is_minus : goal.returns-then-is_minus
-returns-then-is_minus c = search minus-form-laws
+pub returns-in-Leaf : goal.returns-in-Leaf
+returns-in-Leaf c = search minus_form_laws
 
-pub returns-else-is_minus : goal.returns-else-is_minus
-returns-else-is_minus c = search minus-form-laws
-
-pub returns-in-Form : goal.returns-in-Form
-returns-in-Form c = search minus-form-laws
-
-pub returns-in-Shut : goal.returns-in-Shut
-returns-in-Shut c = search minus-form-laws
+pub returns-in_default : goal.returns-in_default
+returns-in_default c = elim c.in_default.branch [ in_default-via-in-Leaf+else-is_minus w ↦ search minus_form_laws | in_default-via-in_default w ↦ search minus_form_laws ]

@@ -1,8 +1,5 @@
 use Rattle.rule_stores.proofs.Ways.{Seeking}
 use Rattle.rule_stores.proofs.holder_of.Given as goal
 
-abbrev pub invariant-loop-n : goal.invariant-loop-n
-invariant-loop-n l = Seeking l.work l.count l.newest l.cell l.n l.p
-
-abbrev pub decreases-loop-n : goal.decreases-loop-n
-decreases-loop-n l = l.n
+abbrev pub invariant-loop-k : goal.invariant-loop-k
+invariant-loop-k l = Seeking l.work l.count l.newest l.cell l._k l.p

@@ -1,11 +1,8 @@
-use Rattle.rule_type_forms.proofs.TypeShapes.{form-laws}
+use Rattle.rule_type_forms.proofs.TypeShapes.{form_laws}
 use Rattle.rule_type_forms.proofs.form_line.Goals as goal
 
 pub returns-in-Leaf : goal.returns-in-Leaf
-returns-in-Leaf c = search form-laws
+returns-in-Leaf c = search form_laws
 
-pub returns-in-Form : goal.returns-in-Form
-returns-in-Form c = search form-laws
-
-pub returns-in-Shut : goal.returns-in-Shut
-returns-in-Shut c = search form-laws
+pub returns-in_default : goal.returns-in_default
+returns-in_default c = search form_laws

@@ -1,11 +1,11 @@
-use Rattle.rule_type_lines.proofs.SimpleLines.{shaped-laws}
+use Rattle.rule_type_lines.proofs.SimpleLines.{shaped_laws}
 use Rattle.rule_type_lines.proofs.shaped_line.Goals as goal
 
 pub returns-then-lines_fit : goal.returns-then-lines_fit
-returns-then-lines_fit c = search shaped-laws
+returns-then-lines_fit c = search shaped_laws
 
-pub returns-then-is_clear : goal.returns-then-is_clear
-returns-then-is_clear c = search shaped-laws
+pub returns-else-lines_fit : goal.returns-else-lines_fit
+returns-else-lines_fit c = search shaped_laws
 
-pub returns : goal.returns
-returns c = search shaped-laws
+pub returns-else-is_clear : goal.returns-else-is_clear
+returns-else-is_clear c = search shaped_laws

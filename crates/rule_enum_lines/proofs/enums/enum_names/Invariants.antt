@@ -4,8 +4,8 @@ use Rattle.rule_enum_lines.specs.Enums.{many}
 use Rattle.rule_enum_lines.proofs.EnumNames.{Counting}
 use Rattle.rule_enum_lines.proofs.enums.enum_names.Given as goal
 
-abbrev pub invariant-loop-y : goal.invariant-loop-y
-invariant-loop-y l = Counting l.text l.work l.scope l.at l.p l.n l.ok
+abbrev pub invariant-loop-name : goal.invariant-loop-name
+invariant-loop-name l = Counting l.text l.work l.scope l.at l.p l.n l.ok
 
-abbrev pub decreases-loop-y : goal.decreases-loop-y
-decreases-loop-y l = many (first (stack_at l.text l.p))
+abbrev pub decreases-loop-name : goal.decreases-loop-name
+decreases-loop-name l = many (first (stack_at l.text l.p))

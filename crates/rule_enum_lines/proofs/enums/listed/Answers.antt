@@ -1,17 +1,17 @@
-use Rattle.rule_enum_lines.proofs.EnumNames.{names-fewer, scan-laws, scan-start}
+use Rattle.rule_enum_lines.proofs.EnumNames.{names-fewer, scan_laws, scan-start}
 use Rattle.rule_enum_lines.proofs.enums.listed.Goals as goal
 
-pub loop-y-init : goal.loop-y-init
-loop-y-init c = scan-start _ _ _
+pub loop-name-init : goal.loop-name-init
+loop-name-init c = scan-start _ _ _
 
 pub returns-then-same_word : goal.returns-then-same_word
-returns-then-same_word c = search scan-laws
+returns-then-same_word c = search scan_laws
 
-pub loop-y-smaller : goal.loop-y-smaller
-loop-y-smaller c = search names-fewer
+pub loop-name-smaller : goal.loop-name-smaller
+loop-name-smaller c = search names-fewer
 
-pub loop-y-preserved : goal.loop-y-preserved
-loop-y-preserved c = search scan-laws
+pub loop-name-preserved : goal.loop-name-preserved
+loop-name-preserved c = search scan_laws
 
-pub returns-in-Nothing : goal.returns-in-Nothing
-returns-in-Nothing c = search scan-laws
+pub returns : goal.returns
+returns c = search scan_laws

@@ -4,8 +4,8 @@ use Rattle.rule_enum_lines.specs.Enums.{many}
 use Rattle.rule_enum_lines.proofs.EnumNames.{Scanning}
 use Rattle.rule_enum_lines.proofs.enums.listed.Given as goal
 
-abbrev pub invariant-loop-y : goal.invariant-loop-y
-invariant-loop-y l = Scanning l.text l.x l.at l.p
+abbrev pub invariant-loop-name : goal.invariant-loop-name
+invariant-loop-name l = Scanning l.text l.x l.at l.p
 
-abbrev pub decreases-loop-y : goal.decreases-loop-y
-decreases-loop-y l = many (first (stack_at l.text l.p))
+abbrev pub decreases-loop-name : goal.decreases-loop-name
+decreases-loop-name l = many (first (stack_at l.text l.p))

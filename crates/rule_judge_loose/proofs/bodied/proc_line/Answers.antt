@@ -1,8 +1,8 @@
 use Rattle.rule_judge_loose.proofs.Dispatch.{proc-line-laws}
 use Rattle.rule_judge_loose.proofs.bodied.proc_line.Goals as goal
 
-pub returns-in-Called : goal.returns-in-Called
-returns-in-Called c = search proc-line-laws
+pub returns-in-Some : goal.returns-in-Some
+returns-in-Some c = search proc-line-laws
 
-pub returns-in-Nothing : goal.returns-in-Nothing
-returns-in-Nothing c = search proc-line-laws
+pub returns-in-None : goal.returns-in-None
+returns-in-None c = search proc-line-laws

@@ -1,6 +1,5 @@
-use native.Mathlib.Omega.{arith}
 use borrow.Author.Rules.{rules}
-use Rattle.rule_record_lines.proofs.FieldLaying.{fields-start, laying-laws, laying-offset, laying-place}
+use Rattle.rule_record_lines.proofs.FieldLaying.{fields-start, laying_laws, laying-offset, laying-place}
 use Rattle.rule_record_lines.proofs.records.lay_fields.Goals as goal
 
 pub loop-i-init : goal.loop-i-init
@@ -15,11 +14,8 @@ add_type_size-after-requires c = search (laying-place, laying-offset, rules)
 pub lay_field-place-requires : goal.lay_field-place-requires
 lay_field-place-requires c = search (laying-place, laying-offset, rules)
 
-pub loop-i-smaller : goal.loop-i-smaller
-loop-i-smaller c = omega arith
-
 pub loop-i-preserved : goal.loop-i-preserved
-loop-i-preserved c = search (laying-laws, rules)
+loop-i-preserved c = search (laying_laws, rules)
 
 pub returns : goal.returns
-returns c = search (laying-laws, rules)
+returns c = search (laying_laws, rules)

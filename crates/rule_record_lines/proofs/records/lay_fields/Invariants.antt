@@ -1,9 +1,5 @@
-use Prim.Native.Nat.{◌-◌}
 use Rattle.rule_record_lines.proofs.FieldLaying.{LayingFields}
 use Rattle.rule_record_lines.proofs.records.lay_fields.Given as goal
 
 abbrev pub invariant-loop-i : goal.invariant-loop-i
-invariant-loop-i l = LayingFields l.text l.initial.work l.types l.scope l.n l.top l.at l.p l.i l.place l.offset l.work
-
-abbrev pub decreases-loop-i : goal.decreases-loop-i
-decreases-loop-i l = l.n - l.i
+invariant-loop-i l = LayingFields l.text l.initial.work l.types l.scope l.n l.top l.at l.p l._i l.place l.offset l.work
