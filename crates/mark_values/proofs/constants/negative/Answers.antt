@@ -1,8 +1,5 @@
-use Rattle.mark_values.proofs.Settling.{negative-laws}
+use Rattle.mark_values.proofs.Settling.{negative_laws}
 use Rattle.mark_values.proofs.constants.negative.Goals as goal
 
-pub returns-in-Value : goal.returns-in-Value
-returns-in-Value c = search negative-laws
-
 pub returns-in-Failed : goal.returns-in-Failed
-returns-in-Failed c = search negative-laws
+returns-in-Failed c = search negative_laws
