@@ -109,7 +109,7 @@ module _ (s l ts : List ℕ) (scope : Scope) (n at : ℕ) (ws : List ℤ) (left 
         goes_on n (state m left) u w (λ w. with_result n (state m left) (wanted (host_of σ.types w.type) v) λ zs. mark_store σ.types σ.vars n w zs (state m left)) ws' r e
         (O.says s scope σ S m v w C (subst (λ (y : Result TypedPlace). Reaches y g) e R) T)))
 
-pub ruleset assign-laws = (assign-unvalued, assign-unplaced, assign-stores, sfits_of)
+pub ruleset assign_laws = (assign-unvalued, assign-unplaced, assign-stores, sfits_of)
 
 -- ---- `raise`
 
@@ -137,7 +137,7 @@ module _ (s l ts : List ℕ) (scope : Scope) (n at : ℕ) (ws : List ℤ) (left 
       (subst (λ (us : List ℤ). MarkEnds (raise_number n (sole u) (state m left)) us r) (sym o)
       (mark-ends (raise_number n (sole u) (state m left)) (number_in (sole u) n ws) r (raised-low left r R.word) (raise-ends ws left m (sole u) n T i r R.word R.small)))))
 
-pub ruleset raise-laws = (raise-unvalued, raise-number, sfits_of)
+pub ruleset raise_laws = (raise-unvalued, raise-number, sfits_of)
 
 -- ---- `condition`
 
@@ -147,7 +147,7 @@ condition-is s l ts ws scope at x r X W f = record {
       (W.says σ.types m (mark_expr σ.types σ.vars y m) ((X.says σ S).says e y he hy m H));
 }
 
-pub ruleset condition-laws = (condition-is, sfits_of)
+pub ruleset condition_laws = (condition-is, sfits_of)
 
 -- ---- `selector`
 
@@ -174,4 +174,4 @@ module _ (s l ts : List ℕ) (ws : List ℤ) (scope : Scope) (at : ℕ) (x : Car
         let o : ordinal? σ.types a.kind ≡ false = ap (ordinal? σ.types) (sym k) ∙ ordinal-no S x.kind (λ p. j (ap (λ (y : Info). y.shape) I ∙ p)) in
         rw (e, q, o) (carries-stuck σ.types m)))
 
-pub ruleset select-laws = (select-fault, select-ordinal, select-other, sfits_of)
+pub ruleset select_laws = (select-fault, select-ordinal, select-other, sfits_of)

@@ -4,6 +4,7 @@ use mathlib.Core.Bool.{Bool, true, false, true≢false}
 use mathlib.Core.List.{List, [], ◌∷◌, ◌++◌, append-nil}
 use mathlib.Core.Logic.{◌⊎◌, inl, inr}
 use mathlib.Core.Option.{some}
+use Rattle.std.specs.Prelude.{Ok, Err, Result as Held}
 use Prim.Native.Nat.{ℕ, suc, ◌+◌, ◌<◌, ◌≤◌, min}
 use native.Mathlib.Omega.{arith}
 use borrow.Author.Rules.{sfits_of}
@@ -48,8 +49,6 @@ use Rattle.mark_values.proofs.Carrying.{broken-bind, view-value}
 use Rattle.mark_expressions.specs.Marks.{MarksExpr}
 use Rattle.mark_expressions.proofs.Inverting.{past-expr}
 use Rattle.mark_expressions.proofs.Gathering.{exprs-parts, exprs-end, value_there, broken-there, through, broken-through}
-use Rattle.mark_acts.specs.declared.arguments.Gathered.{Gathered}
-use Rattle.mark_acts.specs.declared.arguments.Gathered.TheVariants as gathered
 use Rattle.mark_acts.specs.Arguments.{Lists, arguments_of, InWords, returns, TakesBack, Argues, Gathers, Passes}
 
 -- ---- `argued`
@@ -59,7 +58,7 @@ argued-is s l ts ws scope t at x r X T f = rw (to_z-of_z f) (record {
   says = λ σ S e y he hy m H. T.says s scope σ S m (mark_expr σ.types σ.vars y m) ((X.says σ S).says e y he hy m H);
 })
 
-pub ruleset argued-laws = (argued-is, sfits_of)
+pub ruleset argued_laws = (argued-is, sfits_of)
 
 -- ---- values of a list, one after another
 
@@ -129,7 +128,7 @@ module _ (s l ts : List ℕ) (ws : List ℤ) (scope : Scope) (x : Frame) (at : �
   no-parameter σ us (y and ys) m e = rw e refl
 
   module _ (next : ℕ) (vs : List ℤ) (j n : ℕ) (N : n ≡ min x.count 8) (F : Sofar s l ts ws scope x at next vs₀ vs j) where
-    pub all-given : j ≤ n → n ≤ j → Gathers s l ts ws scope x at vs₀ vs (gathered.All n)
+    pub all-given : j ≤ n → n ≤ j → Gathers s l ts ws scope x at vs₀ vs (Ok n)
     all-given h g = record {
       long = F.long;
       says = λ eight σ S us U xs es i k m H.
@@ -137,8 +136,8 @@ module _ (s l ts : List ℕ) (ws : List ℤ) (scope : Scope) (x : Frame) (at : �
           subst (λ (y : ℕ). InWords vs y (arguments_of σ us es m)) (omega (arith, h, g)) (words_are (F.left eight σ S us U xs es i k m H) (no-parameter σ (drop j us) _ m (drop_of_length-le us b)));
     }
 
-    module _ (e : Option ℕ) (E : Shuts s next e) where
-      pub no_more : (q : ℕ) → e ≡ Some q → Gathers s l ts ws scope x at vs₀ vs (gathered.All j)
+    module _ (e : Maybe ℕ) (E : Shuts s next e) where
+      pub no_more : (q : ℕ) → e ≡ Some q → Gathers s l ts ws scope x at vs₀ vs (Ok j)
       unfolding exprs_of mark_arguments
       no_more q h = record {
         long = F.long;
@@ -190,7 +189,7 @@ module _ (s l ts : List ℕ) (ws : List ℤ) (scope : Scope) (x : Frame) (at : �
               whole = L.whole ∙ ap (λ (v : Result (List ℤ)). v >>= λ zs. is (L.values ++ zs)) (ap (λ (ys : Exprs). arguments_of σ (drop j us) ys m) (sym (some_inj p)) ∙ shape σ us U v ws m);
             })))
 
-        pub halted-there : lt_z greatest (wire z) ≡ true → Gathers s l ts ws scope x at vs₀ vs (gathered.Halted (wire z))
+        pub halted-there : lt_z greatest (wire z) ≡ true → Gathers s l ts ws scope x at vs₀ vs (Err (wire z))
         halted-there i = rw (to_z-of_z fz) (record {
           long = F.long;
           says = λ eight σ S us U xs es a k m H.
@@ -248,31 +247,28 @@ module _ (s l ts : List ℕ) (ws : List ℤ) (scope : Scope) (x : Frame) (at : �
                 };
           })
 
-pub ruleset gathered-laws = (all-given, no_more, halted-there, sfits_of)
+pub ruleset gathered_laws = (all-given, no_more, halted-there, sfits_of)
 
 pub ruleset gathered-again = (one_more, sfits_of)
 
 -- ---- `pass`
 
-module _ (s l ts : List ℕ) (scope : Scope) (x : Frame) (at : ℕ) (ws vs₀ vs : List ℤ) (g : Gathered) (G : Gathers s l ts ws scope x at vs₀ vs g) (eight : length vs₀ ≡ 8) where
-  pub pass_all : (k : ℕ) (ws' : List ℤ) → g ≡ gathered.All k → Gives ws x.base k vs ws' → Passes s l ts scope x at ws ws' (pos 0)
+module _ (s l ts : List ℕ) (scope : Scope) (x : Frame) (at : ℕ) (ws vs₀ vs : List ℤ) (g : Held ℕ ℤ) (G : Gathers s l ts ws scope x at vs₀ vs g) (eight : length vs₀ ≡ 8) where
+  pub pass_all : (k : ℕ) (ws' : List ℤ) → g ≡ Ok k → Gives ws x.base k vs ws' → Passes s l ts scope x at ws ws' (Ok tt)
   pass_all k ws' e W = record {
     says = λ σ S us U xs es i j m left T.
         let Y : InWords vs k (arguments_of σ us es m) = rw e at (G.says eight σ S us U xs es i j m T.holds) in
-        record {
-          given = λ h. record { values = Y.values; gives = Y.gives; stands = given-stands ws left m x.base k vs Y.values ws' T Y.ranged Y.count Y.same W };
-          halted = λ h. absurd (true≢false (sym h));
-        };
+        record { values = Y.values; gives = Y.gives; stands = given-stands ws left m x.base k vs Y.values ws' T Y.ranged Y.count Y.same W };
   }
 
-  pub pass-halted : (w : ℤ) → g ≡ gathered.Halted w → SFits w64 w → Passes s l ts scope x at ws ws (wire w)
+  pub pass-halted : (w : ℤ) → g ≡ Err w → SFits w64 w → Passes s l ts scope x at ws ws (Err (wire w))
   pass-halted w e f = rw (to_z-of_z f) (record {
     says = λ σ S us U xs es i j m left T.
         let Y : Broken w (arguments_of σ us es m) × (lt_z greatest w ≡ true) = rw e at (G.says eight σ S us U xs es i j m T.holds) in
-        record { given = λ h. absurd (true≢false (sym Y.1 ∙ h)); halted = λ h. (Y.0, refl) };
+        (Y.0, (Y.1, refl));
   })
 
-pub ruleset pass-laws = (pass_all, pass-halted, sfits_of)
+pub ruleset pass_laws = (pass_all, pass-halted, sfits_of)
 
 -- ---- `listed`, `returning`, `take_back`
 
@@ -282,7 +278,7 @@ listed-few n h = omega (arith, h)
 pub listed-all : (n : ℕ) → 8 ≤ n → 8 ≡ min n 8
 listed-all n h = omega (arith, h)
 
-pub ruleset listed-laws = (listed-few, listed-all)
+pub ruleset listed_laws = (listed-few, listed-all)
 
 module _ (o : ℕ) where
   pub returns-normal : o < 4294967296 → true ≡ returns o
@@ -297,7 +293,7 @@ module _ (o : ℕ) where
   unfolding returns pick
   returns-raised h = sym (ap (λ (b : Bool). pick b true (pick (ltb o 8589934592) false (ltb o 12884901888))) (le-ltb o 4294967296 (omega (arith, h))) ∙ ap (λ (b : Bool). pick b false (ltb o 12884901888)) (le-ltb o 8589934592 h))
 
-pub ruleset returns-laws = (returns-normal, returns-spent, returns-raised)
+pub ruleset returns_laws = (returns-normal, returns-spent, returns-raised)
 
 module _ (x : Frame) (o : ℕ) (ws : List ℤ) (b : Bool) (e : b ≡ returns o) where
   pub takes_back : (ws' : List ℤ) → b ≡ true → Forgets ws x.base x.count ws' → TakesBack x o ws ws'
@@ -306,4 +302,4 @@ module _ (x : Frame) (o : ℕ) (ws : List ℤ) (b : Bool) (e : b ≡ returns o) 
   pub leaves : b ≡ false → TakesBack x o ws ws
   leaves h = record { gone = λ g. absurd (true≢false (sym g ∙ sym e ∙ h)); kept = λ g. refl }
 
-pub ruleset back-laws = (takes_back, leaves)
+pub ruleset back_laws = (takes_back, leaves)

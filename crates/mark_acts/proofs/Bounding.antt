@@ -55,7 +55,7 @@ use Rattle.mark_values.specs.Carrying.{Broken, by-stuck}
 use Rattle.mark_values.proofs.Settling.{low_signed, high-signed, ordinal-yes, ordinal-no}
 use Rattle.mark_expressions.specs.Marks.{MarksExpr, MarksTarget}
 use Rattle.mark_acts.specs.declared.bounds.Span.{Span}
-use Rattle.mark_acts.specs.declared.bounds.Span.TheVariants as span
+use Rattle.std.specs.Prelude.{Ok, Err, Result as Held}
 use Rattle.mark_acts.specs.Bounds.{Counted, joined, SpanIs, Joins, Bounding}
 use Rattle.mark_acts.proofs.Placing.{value-word}
 use Rattle.mark_acts.proofs.Acting.{skip-rest, expr-there}
@@ -81,24 +81,24 @@ module _ (l ts : List ℕ) (g : Reached) (x y : Carried) (k : ℕ) (K : k ≡ ho
 
   -- it sticks where the bounds do
   sticks-so : (σ : Environment) (c : Var) (u v : TypedValue) → mark_bounds σ.types σ.vars c u v ≡ stuck
-      → SpanIs σ.types (joined σ.types σ.vars c (is u) (is v)) (span.Halted no_result)
+      → SpanIs σ.types (joined σ.types σ.vars c (is u) (is v)) (Err no_result)
   sticks-so σ c u v e = record { says = subst (λ (o : Result (ℤ × ℤ)). Broken {A = Counted} no_result (o >>= λ p. is (c, p))) (sym e) (by-stuck refl) }
 
-  pub join-left : ((k ≡ x.kind) → ⊥) → Joins l ts g x y (span.Halted no_result)
+  pub join-left : ((k ≡ x.kind) → ⊥) → Joins l ts g x y (Err no_result)
   join-left h = record {
     says = λ s scope σ S m i c hc R u v C D.
         sticks-so σ c u v (bounds-by σ.types σ.vars c u v false (eqb (host_of σ.types c.type) v.kind) (ordinal? σ.types c.type) (other-kind S m c R x u C h) refl refl);
   }
 
   module _ (h : k ≡ x.kind) where
-    pub join-right : ((k ≡ y.kind) → ⊥) → Joins l ts g x y (span.Halted no_result)
+    pub join-right : ((k ≡ y.kind) → ⊥) → Joins l ts g x y (Err no_result)
     join-right j = record {
       says = λ s scope σ S m i c hc R u v C D.
           sticks-so σ c u v (bounds-by σ.types σ.vars c u v true false (ordinal? σ.types c.type) (fits-kind S m c R x u C h) (other-kind S m c R y v D j) refl);
     }
 
     module _ (j : k ≡ y.kind) (i : Info) (I : i ≡ info_of l ts g.typed) where
-      pub join-shape : ((i.shape ≡ 0) → ⊥) → Joins l ts g x y (span.Halted no_result)
+      pub join-shape : ((i.shape ≡ 0) → ⊥) → Joins l ts g x y (Err no_result)
       join-shape t = record {
         says = λ s scope σ S m n c hc R u v C D.
             let o : ordinal? σ.types c.type ≡ false = ap (ordinal? σ.types) (sym (R.type-is (typed_place c.type c.base) refl)) ∙ ordinal-no S g.typed (λ p. t (ap (λ (z : Info). z.shape) I ∙ p)) in
@@ -107,7 +107,7 @@ module _ (l ts : List ℕ) (g : Reached) (x y : Carried) (k : ℕ) (K : k ≡ ho
 
       pub join-over : i.shape ≡ 0 → (a : ℕ) (lo hi : ℤ) → Addresses (wire g.word) a → lo ≡ signed i.low → hi ≡ signed i.high
           → SFits w64 g.word → SFits w64 x.word → SFits w64 y.word → SFits w64 lo → SFits w64 hi
-          → Joins l ts g x y (span.Over a (wire lo) (wire hi) (wire x.word) (wire y.word))
+          → Joins l ts g x y (Ok (record { cell = a; low = wire lo; high = wire hi; from = wire x.word; to = wire y.word }))
       join-over t a lo hi A L U fg fx fy fl fh = record {
         says = λ s scope σ S m n c hc R u v C D.
             let e : g.typed ≡ c.type = R.type-is (typed_place c.type c.base) refl in
@@ -130,7 +130,7 @@ module _ (l ts : List ℕ) (g : Reached) (x y : Carried) (k : ℕ) (K : k ≡ ho
             };
       }
 
-pub ruleset join-laws = (join-left, join-right, join-shape, join-over, sfits_of)
+pub ruleset join_laws = (join-left, join-right, join-shape, join-over, sfits_of)
 
 -- ---- `bounds`
 
@@ -172,7 +172,7 @@ var-meant {P} {σ = σ} S w i h k = bind-some h λ o ho e. go (meant S.scene w) 
     go unknown f e = none-some f
     go {o = o} (known {m = n} M) f e = by M (ap as_var (some_inj f) ∙ e)
 
-module _ (s l ts : List ℕ) (ws : List ℤ) (scope : Scope) (at : ℕ) (g : Reached) (G : MarksTarget s l ts ws scope 1 at g) (p : ℕ) (P : Skips s at p) (x : Carried) (X : MarksExpr s l ts ws scope 33 p x) (fx : SFits w64 x.word) (r : Span) where
+module _ (s l ts : List ℕ) (ws : List ℤ) (scope : Scope) (at : ℕ) (g : Reached) (G : MarksTarget s l ts ws scope 1 at g) (p : ℕ) (P : Skips s at p) (x : Carried) (X : MarksExpr s l ts ws scope 33 p x) (fx : SFits w64 x.word) (r : Held Span ℤ) where
   -- by the variable and the first bound
   bounded : ((σ : Environment) → Known s l ts scope σ → (m : Store) → Holds ws m → (i : ℕ) (c : Var) → variable σ.vars i ≡ some c → Reaches (is (typed_place c.type c.base)) g
       → (u v : Result TypedValue) → Carries σ.types m u x → ((y : Carried) (q : ℕ) → Skips s p q → MarksExpr s l ts ws scope 33 q y → Carries σ.types m v y)
@@ -190,12 +190,12 @@ module _ (s l ts : List ℕ) (ws : List ℤ) (scope : Scope) (at : ℕ) (g : Rea
         (λ e q Q E. (E.says σ S).says b z (ap (expr_in 33) (skip-rest s p q Q (expr-there 33 (first (stack_at s p)) a ha') ∙ ap rest n) ∙ hb) hz m H));
   }
 
-  pub bounds-from : lt_z greatest (wire x.word) ≡ true → r ≡ span.Halted (wire x.word) → Bounding s l ts ws scope at r
+  pub bounds-from : lt_z greatest (wire x.word) ≡ true → r ≡ Err (wire x.word) → Bounding s l ts ws scope at r
   bounds-from h e = bounded (λ σ S m H i c hc R u v C D. rw (e, to_z-of_z fx)
       (record { says = broken-bind (λ a. v >>= λ b. mark_bounds σ.types σ.vars c a b >>= λ q. is (c, q)) (carried-broken C (rw (to_z-of_z fx) at h)) }))
 
   module _ (h : lt_z greatest (wire x.word) ≡ false) (q : ℕ) (Q : Skips s p q) (y : Carried) (Y : MarksExpr s l ts ws scope 33 q y) (fy : SFits w64 y.word) where
-    pub bounds-to : lt_z greatest (wire y.word) ≡ true → r ≡ span.Halted (wire y.word) → Bounding s l ts ws scope at r
+    pub bounds-to : lt_z greatest (wire y.word) ≡ true → r ≡ Err (wire y.word) → Bounding s l ts ws scope at r
     bounds-to j e = bounded (λ σ S m H i c hc R u v C D. carried-value C (rw (to_z-of_z fx) at h) (λ a ha w t k. rw (e, to_z-of_z fy, ha)
         (record { says = broken-bind (λ b. mark_bounds σ.types σ.vars c a b >>= λ q. is (c, q)) (carried-broken (D y q Q Y) (rw (to_z-of_z fy) at j)) })))
 
@@ -205,4 +205,4 @@ module _ (s l ts : List ℕ) (ws : List ℤ) (scope : Scope) (at : ℕ) (g : Rea
         (subst (λ (o : Result TypedValue). SpanIs σ.types (joined σ.types σ.vars c (is a) o) r) (sym hb)
         (J.says s scope σ S m i c hc R a b (subst (λ (o : Result TypedValue). Carries σ.types m o x) ha C) (subst (λ (o : Result TypedValue). Carries σ.types m o y) hb (D y q Q Y)))))))
 
-pub ruleset bounds-laws = (bounds-from, bounds-to, bounds-join, sfits_of)
+pub ruleset bounds_laws = (bounds-from, bounds-to, bounds-join, sfits_of)

@@ -111,4 +111,4 @@ module _ (w : ℤ) (n : ℕ) (ws : List ℤ) (left : ℕ) (r : ℕ) (f : SFits w
     fewer = raised-fewer (fault_in (wire w)) n ws left ws' r R;
   }
 
-pub ruleset halting-laws = (halting-stuck, halting-fault, sfits_of)
+pub ruleset halting_laws = (halting-stuck, halting-fault, sfits_of)

@@ -102,7 +102,7 @@ module _ (l ts : List ℕ) (n : ℕ) (x : Carried) (w : ℤ) (ws : List ℤ) (s 
     fewer = O.fewer;
   }
 
-pub ruleset whole-laws = (whole-one, whole_cells, sfits_of)
+pub ruleset whole_laws = (whole-one, whole_cells, sfits_of)
 
 -- ---- `store_value`
 
@@ -165,4 +165,4 @@ module _ (l ts : List ℕ) (n : ℕ) (x : Carried) (g : Reached) (ws : List ℤ)
       fewer = W.fewer;
     }
 
-pub ruleset value-laws = (value-misfit, value-ordinal, value-whole, sfits_of)
+pub ruleset value_laws = (value-misfit, value-ordinal, value-whole, sfits_of)

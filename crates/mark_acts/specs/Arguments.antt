@@ -1,5 +1,5 @@
 -- The arguments of a call in the marking machine (law, Marking), and the parameters' cells.
-use Rattle.std.specs.Prelude.{Bool, true, false, List, map, ◌≡◌, ℕ, ◌+◌, ◌<◌, ◌≤◌, ltb, ℤ, pos, get_or, length}
+use Rattle.std.specs.Prelude.{Bool, true, false, List, map, ◌≡◌, ℕ, ◌+◌, ◌<◌, ◌≤◌, ltb, ℤ, pos, get_or, length, Ok, Err, Result as Held}
 use Rattle.std.proofs.Math.Option.{some}
 use Rattle.std.specs.Int.Signed.{lt_z}
 use Rattle.law.specs.Base.{pick}
@@ -22,8 +22,6 @@ use Rattle.mark_values.specs.Steps.{taken}
 use Rattle.mark_values.specs.Carrying.{Broken}
 use Rattle.table_scope.specs.declared.Scope.{Scope}
 use Rattle.table_scope.specs.declared.frames.Frame.{Frame}
-use Rattle.mark_acts.specs.declared.arguments.Gathered.{Gathered}
-use Rattle.mark_acts.specs.declared.arguments.Gathered.TheVariants as gathered
 
 -- the frame x is of parameters of the types us
 pub record Lists (l : List ℕ) (x : Frame) (us : List ℕ) : Type 0 where
@@ -43,19 +41,19 @@ pub record InWords (vs : List ℤ) (k : ℕ) (v : Result (List ℤ)) : Type 0 wh
   pub same : (j : ℕ) → j < k → get_or vs j (pos 0) ≡ get_or values j (pos 0)
   pub ranged : (j : ℕ) → j < length values → InRange (get_or values j (pos 0))
 
-abbrev pub GatheredBy : List ℤ → Result (List ℤ) → Gathered → Type 0
-GatheredBy vs v (gathered.All k) = InWords vs k v
-GatheredBy vs v (gathered.Halted w) = Broken w v × (lt_z greatest w ≡ true)
+abbrev pub GatheredBy : List ℤ → Result (List ℤ) → Held ℕ ℤ → Type 0
+GatheredBy vs v (Ok k) = InWords vs k v
+GatheredBy vs v (Err w) = Broken w v × (lt_z greatest w ≡ true)
 
--- the values v are in the cells from a on, and r is a value; or v is none, its word is r and nothing changes
+-- the values v are in the cells from a on; or v is none, its word is above every value's, and nothing changes
 pub record Given (m : Store) (left a : ℕ) (v : Result (List ℤ)) (ws' : List ℤ) : Type 0 where
   pub values : List ℤ
   pub gives : v ≡ is values
   pub stands : Stands ws' left (stored a values m)
 
-pub record Passed (m : Store) (left a : ℕ) (v : Result (List ℤ)) (ws ws' : List ℤ) (r : ℤ) : Type 0 where
-  pub given : lt_z greatest r ≡ false → Given m left a v ws'
-  pub halted : lt_z greatest r ≡ true → Broken r v × (ws' ≡ ws)
+abbrev pub Passed : Store → ℕ → ℕ → Result (List ℤ) → List ℤ → List ℤ → Held Unit ℤ → Type 0
+Passed m left a v ws ws' (Ok _) = Given m left a v ws'
+Passed m left a v ws ws' (Err w) = Broken w v × ((lt_z greatest w ≡ true) × (ws' ≡ ws))
 
 -- a body that ended by this word returns: neither is it spent nor does it stick
 unfoldable pub returns : ℕ → Bool
@@ -75,12 +73,12 @@ module _ (s l ts : List ℕ) where
         → (m : Store) → Holds ws m → MarkMeans r ((mark_expr σ.types σ.vars x m >>= wanted (host_of σ.types t)) >>= λ u. taken σ.types t u)
 
   -- the arguments from an offset on for the parameters of x, in a list of eight words that was vs₀
-  pub record Gathers (ws : List ℤ) (scope : Scope) (x : Frame) (at : ℕ) (vs₀ vs : List ℤ) (r : Gathered) : Type 0 where
+  pub record Gathers (ws : List ℤ) (scope : Scope) (x : Frame) (at : ℕ) (vs₀ vs : List ℤ) (r : Held ℕ ℤ) : Type 0 where
     pub long : length vs ≡ length vs₀
     pub says : length vs₀ ≡ 8 → (σ : Environment) → Known s l ts scope σ → (us : List ℕ) → Lists l x us → (xs : Syntax.Exprs) (es : Exprs) → exprs_in 33 (first (stack_at s at)) ≡ some xs → exprs_of σ xs ≡ some es
         → (m : Store) → Holds ws m → GatheredBy vs (arguments_of σ us es m) r
 
   -- and they are given to these
-  pub record Passes (scope : Scope) (x : Frame) (at : ℕ) (ws ws' : List ℤ) (r : ℤ) : Type 0 where
+  pub record Passes (scope : Scope) (x : Frame) (at : ℕ) (ws ws' : List ℤ) (r : Held Unit ℤ) : Type 0 where
     pub says : (σ : Environment) → Known s l ts scope σ → (us : List ℕ) → Lists l x us → (xs : Syntax.Exprs) (es : Exprs) → exprs_in 33 (first (stack_at s at)) ≡ some xs → exprs_of σ xs ≡ some es
         → (m : Store) (left : ℕ) → Stands ws left m → Passed m left x.base (arguments_of σ us es m) ws ws' r

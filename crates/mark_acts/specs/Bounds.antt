@@ -1,5 +1,5 @@
 -- The control variable and the bounds of a `for` in the marking machine (law, Marking).
-use Rattle.std.specs.Prelude.{◌≡◌, List, ℕ, ℤ}
+use Rattle.std.specs.Prelude.{◌≡◌, List, ℕ, ℤ, Ok, Err, Result as Held}
 use Rattle.std.proofs.Math.Option.{some}
 use Rattle.law.specs.Base.{Name}
 use Rattle.law.specs.Calculate.{Result, is, ◌>>=◌}
@@ -19,7 +19,6 @@ use Rattle.mark_values.specs.declared.places.Reached.{Reached}
 use Rattle.mark_values.specs.Values.{Carries, Reaches, Known}
 use Rattle.mark_values.specs.Carrying.{Broken}
 use Rattle.mark_acts.specs.declared.bounds.Span.{Span}
-use Rattle.mark_acts.specs.declared.bounds.Span.TheVariants as span
 use Rattle.table_scope.specs.declared.Scope.{Scope}
 
 -- a variable, and from where to where it counts
@@ -43,20 +42,20 @@ pub record Counts (Γ : Types) (v : Result Counted) (a : ℕ) (lo hi x y : ℤ) 
   pub from-ranged : InRange x
   pub to-ranged : InRange y
 
-abbrev pub SpanBy : Types → Result Counted → Span → Type 0
-SpanBy Γ v (span.Over a lo hi x y) = Counts Γ v a lo hi x y
-SpanBy Γ v (span.Halted w) = Broken w v
+abbrev pub SpanBy : Types → Result Counted → Held Span ℤ → Type 0
+SpanBy Γ v (Ok s) = Counts Γ v s.cell s.low s.high s.from s.to
+SpanBy Γ v (Err w) = Broken w v
 
-pub record SpanIs (Γ : Types) (v : Result Counted) (r : Span) : Type 0 where
+pub record SpanIs (Γ : Types) (v : Result Counted) (r : Held Span ℤ) : Type 0 where
   pub says : SpanBy Γ v r
 
 -- a control variable and two bounds that are values
-pub record Joins (l ts : List ℕ) (g : Reached) (x y : Carried) (r : Span) : Type 0 where
+pub record Joins (l ts : List ℕ) (g : Reached) (x y : Carried) (r : Held Span ℤ) : Type 0 where
   pub says : (s : List ℕ) (scope : Scope) (σ : Environment) → Known s l ts scope σ → (m : Store) (i : ℕ) (c : Var) → variable σ.vars i ≡ some c → Reaches (is (typed_place c.type c.base)) g
       → (u v : TypedValue) → Carries σ.types m (is u) x → Carries σ.types m (is v) y → SpanIs σ.types (joined σ.types σ.vars c (is u) (is v)) r
 
 -- the parts of a `for` at an offset
-pub record Bounding (s l ts : List ℕ) (ws : List ℤ) (scope : Scope) (at : ℕ) (r : Span) : Type 0 where
+pub record Bounding (s l ts : List ℕ) (ws : List ℤ) (scope : Scope) (at : ℕ) (r : Held Span ℤ) : Type 0 where
   pub says : (σ : Environment) → Known s l ts scope σ → (w : Name) (a b : Syntax.Expr) (i : ℕ) (x y : Expr)
       → name_in (first (stack_at s at)) ≡ some w → expr_in 33 (rest (first (stack_at s at))) ≡ some a → expr_in 33 (rest (rest (first (stack_at s at)))) ≡ some b
       → var_of σ w ≡ some i → expr_of σ a ≡ some x → expr_of σ b ≡ some y → (m : Store) → Holds ws m → SpanIs σ.types (counted σ.types σ.vars i x y m) r

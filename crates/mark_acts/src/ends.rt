@@ -21,7 +21,8 @@ pub fn halting(store: &mut Store, left: u64, w: i64, n: u32) -> u64
     ensures { Halts w n store.old left store.new result }
 {
     if w == STUCK {
-        return sticking(left);
+        sticking(left)
+    } else {
+        failing(store, left, w, n)
     }
-    failing(store, left, w, n)
 }

@@ -314,7 +314,7 @@ module _ (n : ℕ) (lo hi w x : ℤ) (ws : List ℤ) (s : ℕ) (r : ℕ) (fl : S
     plain = λ h. omega arith;
   })
 
-pub ruleset ordinal-laws = (ordinal-out, ordinal-in, sfits_of)
+pub ruleset ordinal_laws = (ordinal-out, ordinal-in, sfits_of)
 
 -- ---- `store_one`, `store_cells`
 module _ (n : ℕ) (w : ℤ) (ws : List ℤ) (s : ℕ) (b : ℕ) (ws' : List ℤ) (r : ℕ) (fw : SFits w64 w) (B : Addresses (wire w) b) where

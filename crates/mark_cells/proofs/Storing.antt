@@ -44,7 +44,7 @@ module _ (ws : List ℤ) (a : ℕ) (z : ℤ) where
   unfolding written pick
   put-past h = record { is = rw (le-ltb a store_cells h) }
 
-pub ruleset put-laws = (put-set, put-past, sfits_of)
+pub ruleset put_laws = (put-set, put-past, sfits_of)
 
 -- what a write leaves
 module _ {ws : List ℤ} {a : ℕ} {z : ℤ} {ws' : List ℤ} (P : Puts ws a z ws') where
@@ -210,7 +210,7 @@ module _ (ws : List ℤ) (s a k : ℕ) where
     leaves = λ l. subst (λ (vs : List ℤ). Copies ws s a 0 k vs) (sym e) (down-copies ws s a k l k ws (omega arith) h (none-copied ws s a k));
   }
 
-pub ruleset copy-laws = (copy-up, copy-down)
+pub ruleset copy_laws = (copy-up, copy-down)
 
 -- ---- `word_at`, `give`, `forget`
 pub word-past : (zs : List ℤ) (i : ℕ) → length zs ≤ i → pos 0 ≡ get_or zs i (pos 0)

@@ -12,36 +12,35 @@ use mark_steps::ends::raising;
 pub fn address(w: i64) -> u32
     ensures { Addresses w result }
 {
-    if w < 0 {
-        return 4294967295;
+    u32::try_from(w).unwrap_or(u32::MAX)
+}
+
+// z in cell i.
+#[tactic(auto, using(crate::proofs::Storing::put_laws))]
+fn put_in(store: &mut Store, i: usize, z: i64)
+    ensures { Puts store.old i z store.new }
+{
+    if i < CELLS {
+        store[i] = z;
     }
-    if w > 4294967295 {
-        return 4294967295;
-    }
-    w as u32
 }
 
 // z in cell a.
 pub fn put(store: &mut Store, a: u32, z: i64)
     ensures { Puts store.old a z store.new }
 {
-    let i = a as usize;
-    if i < CELLS {
-        store[i] = z;
-    }
+    put_in(store, a as usize, z);
 }
 
 // z in cell a + i.
 fn put_after(store: &mut Store, a: u32, i: u32, z: i64)
     ensures { Puts store.old (a + i) z store.new }
 {
-    let j = a as usize + i as usize;
-    if j < CELLS {
-        store[j] = z;
-    }
+    put_in(store, a as usize + i as usize, z);
 }
 
 // One cell copied: that at s + i into that at a + i.
+#[tactic(auto, using(crate::proofs::Storing::one_laws))]
 fn copy_one(store: &mut Store, s: u32, a: u32, i: u32)
     ensures { Puts store.old (a + i) (store_word store.old (s + i)) store.new }
 {
@@ -53,10 +52,8 @@ fn copy_one(store: &mut Store, s: u32, a: u32, i: u32)
 fn copy_up(store: &mut Store, s: u32, a: u32, k: u32)
     ensures { store.new ≡ made (upwards s a k) store.old }
 {
-    let mut i = 0;
-    while i < k {
+    for i in 0..k {
         copy_one(store, s, a, i);
-        i += 1;
     }
 }
 
@@ -64,9 +61,7 @@ fn copy_up(store: &mut Store, s: u32, a: u32, k: u32)
 fn copy_down(store: &mut Store, s: u32, a: u32, k: u32)
     ensures { store.new ≡ made (downwards s a k) store.old }
 {
-    let mut i = k;
-    while i > 0 {
-        i -= 1;
+    for i in (0..k).rev() {
         copy_one(store, s, a, i);
     }
 }
@@ -96,9 +91,10 @@ pub fn store_ordinal(
 {
     if in_range(x, low, high) {
         put(store, address(a), x);
-        return left;
+        left
+    } else {
+        raising(store, left, RANGE_ERROR, n)
     }
-    raising(store, left, RANGE_ERROR, n)
 }
 
 // One cell x stored with no range test in the cell of the word a, by statement n.
@@ -121,21 +117,15 @@ pub fn store_cells(store: &mut Store, left: u64, n: u32, from: u32, k: u32, a: i
 fn word_at(words: &[i64], i: u32) -> i64
     ensures { result ≡ get_or words.now i (pos 0) }
 {
-    let j = i as usize;
-    if j < words.len() {
-        return words[j];
-    }
-    0
+    words.get(i as usize).copied().unwrap_or(0)
 }
 
 // The first k words in the cells from a on.
 pub fn give(store: &mut Store, a: u32, k: u32, words: &[i64])
     ensures { Gives store.old a k words.now store.new }
 {
-    let mut i = 0;
-    while i < k {
+    for i in 0..k {
         put_after(store, a, i, word_at(words, i));
-        i += 1;
     }
 }
 
@@ -143,9 +133,7 @@ pub fn give(store: &mut Store, a: u32, k: u32, words: &[i64])
 pub fn forget(store: &mut Store, a: u32, k: u32)
     ensures { Forgets store.old a k store.new }
 {
-    let mut i = 0;
-    while i < k {
+    for i in 0..k {
         put_after(store, a, i, UNDEFINED);
-        i += 1;
     }
 }

@@ -88,6 +88,23 @@ module _ (s l ts : List ℕ) (ws : List ℤ) (scope : Scope) (d at : ℕ) where
     pub place-form : (p : ℕ) (r : Reached) → x ≡ part.Form p → MarksInnerPlace s l ts ws scope d at r
     place-form p r h = let f = rw h at c.says in record { says = λ σ S. no_target (rw f.here (target-headless (suc d) (first (stack_at s p)) (first (later (stack_at s p))) end)) }
 
+    -- what is no word
+    pub inner-rest : (r : Carried) → ((w : Word) (p q : ℕ) → x ≡ part.Leaf w p q → ⊥) → MarksInner s l ts ws scope d at r
+    inner-rest r f = go x refl
+      where
+        go : (y : Part) → x ≡ y → MarksInner s l ts ws scope d at r
+        go (part.Leaf w p q) e = absurd (f w p q e)
+        go (part.Form p) e = inner-form p r e
+        go (part.Shut q) e = inner-shut q r e
+
+    pub inner-place-rest : (r : Reached) → ((w : Word) (p q : ℕ) → x ≡ part.Leaf w p q → ⊥) → MarksInnerPlace s l ts ws scope d at r
+    inner-place-rest r f = go x refl
+      where
+        go : (y : Part) → x ≡ y → MarksInnerPlace s l ts ws scope d at r
+        go (part.Leaf w p q) e = absurd (f w p q e)
+        go (part.Form p) e = place-form p r e
+        go (part.Shut q) e = place-shut q r e
+
     module _ (w : Word) (p q : ℕ) (h : x ≡ part.Leaf w p q) (k : ExprHead) (i : k ≡ expr_head_of w) where
       pub inner-head : (r : Carried) → MarksForm s l ts ws scope k d q r → MarksInner s l ts ws scope d at r
       unfolding form_in
@@ -155,6 +172,20 @@ module _ (s l ts : List ℕ) (ws : List ℤ) (scope : Scope) (k : ExprHead) (d a
     pub place-nothing : k ≡ EH.Nothing → MarksPlace s l ts ws scope k d at r
     unfolding target_by
     place-nothing h = no_place (rw h refl)
+
+    pub place-rest : ((k ≡ EH.At) → ⊥) → ((k ≡ EH.Dot) → ⊥) → MarksPlace s l ts ws scope k d at r
+    place-rest f g = go k refl
+      where
+        go : (h : ExprHead) → k ≡ h → MarksPlace s l ts ws scope k d at r
+        go EH.At e = absurd (f e)
+        go EH.Dot e = absurd (g e)
+        go EH.Members e = place-members e
+        go EH.Minus e = place-minus e
+        go (EH.Bound b) e = place-bound b e
+        go (EH.Short b) e = place_short b e
+        go (EH.Two n) e = place-two n e
+        go (EH.One n) e = place-one n e
+        go EH.Nothing e = place-nothing e
 
 pub ruleset by-laws = (by_form, by-nothing)
 

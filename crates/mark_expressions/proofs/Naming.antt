@@ -146,6 +146,17 @@ module _ (l ts : List ℕ) (ws : List ℤ) (x : Meaning) (r : Carried) where
         rw (← p, ← ez, ← to_z-of_z fz) (C.says s scope σ S m));
   }
 
+  -- any other
+  pub name-rest : ((i k a : ℕ) → x ≡ meaning.Var i k a → ⊥) → ((k a : ℕ) → x ≡ meaning.Value k a → ⊥) → MarksName l ts ws x r
+  name-rest f g = go x refl
+    where
+      go : (y : Meaning) → x ≡ y → MarksName l ts ws x r
+      go meaning.Unknown e = name-unknown e
+      go (meaning.Type t) e = name-type t e
+      go (meaning.Var i k a) e = absurd (f i k a e)
+      go (meaning.Proc q) e = name-proc q e
+      go (meaning.Value k a) e = absurd (g k a e)
+
 pub ruleset name-laws = (name-unknown, name-type, name-proc, name-var, name-value, sfits_of)
 
 module _ (x : Meaning) (r : Reached) where
@@ -171,6 +182,17 @@ module _ (x : Meaning) (r : Reached) where
         let p : j ≡ q = some_inj (rw en at f) in
         rw (← p, e, to_z-of_z fz, ← et) (var-reaches σ j v m z ev (omega (arith, eb, fa.fits)) (ez ∙ ap pos (sym eb))));
   }
+
+  -- any other
+  pub place-rest : ((i k a : ℕ) → x ≡ meaning.Var i k a → ⊥) → MarksPlaceName x r
+  place-rest f = go x refl
+    where
+      go : (y : Meaning) → x ≡ y → MarksPlaceName x r
+      go meaning.Unknown e = place-unknown e
+      go (meaning.Type t) e = place-type t e
+      go (meaning.Var i k a) e = absurd (f i k a e)
+      go (meaning.Proc q) e = place-proc q e
+      go (meaning.Value k a) e = place-value k a e
 
 pub ruleset place-laws = (place-unknown, place-type, place-proc, place-value, place-var, sfits_of)
 
@@ -226,6 +248,18 @@ module _ (s l ts : List ℕ) (ws : List ℤ) (scope : Scope) (w : Word) (p : ℕ
     };
   }
 
+  -- any other
+  pub word-rest : ((z : ℤ) → a ≡ AT.Number z → ⊥) → ((a ≡ AT.Named) → ⊥) → ((b : Bool) → a ≡ AT.Truth b → ⊥) → ((a ≡ AT.ErrorNumber) → ⊥) → MarksWord s l ts ws scope w p r
+  word-rest f g h k = go a refl
+    where
+      go : (b : Atom) → a ≡ b → MarksWord s l ts ws scope w p r
+      go (AT.Number z) e = absurd (f z e)
+      go AT.Named e = absurd (g e)
+      go (AT.Truth b) e = absurd (h b e)
+      go AT.ErrorNumber e = absurd (k e)
+      go (AT.Base n) e = word-base n e
+      go AT.Nothing e = word-nothing e
+
 pub ruleset word_laws = (word_number, word-truth, word-error, word-base, word-nothing, word-named, sfits_of)
 
 module _ (s l : List ℕ) (scope : Scope) (w : Word) (p : ℕ) (a : Atom) (ea : a ≡ atom_of w) (r : Reached) where
@@ -254,6 +288,18 @@ module _ (s l : List ℕ) (scope : Scope) (w : Word) (p : ℕ) (a : Atom) (ea : 
           rw (← some_inj d) (N.says σ S.bodies (find σ.names (map small (word_at s p))) (rw ex (meant S.scene (map small (word_at s p)))) i hi m)));
     };
   }
+
+  -- any other
+  pub var-rest : ((a ≡ AT.Named) → ⊥) → MarksVar s l scope w p r
+  var-rest g = go a refl
+    where
+      go : (b : Atom) → a ≡ b → MarksVar s l scope w p r
+      go (AT.Number z) e = var-number z e
+      go AT.Named e = absurd (g e)
+      go (AT.Truth b) e = var-truth b e
+      go AT.ErrorNumber e = var-error e
+      go (AT.Base n) e = var-base n e
+      go AT.Nothing e = var-nothing e
 
 pub ruleset var-laws = (var-number, var-truth, var-error, var-base, var-nothing, var-named)
 

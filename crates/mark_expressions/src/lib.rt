@@ -2,5 +2,6 @@
 
 #![tactic(auto)]
 
+pub mod tables;
 pub mod walk;
 pub mod words;

@@ -10,7 +10,7 @@ use code_store::{begin, load_words, save_cells};
 use law_answers::{Ending, Marked};
 use mark_acts::ends::STICKS;
 use mark_cells::cells::address;
-use mark_statements::walk::mark_body;
+use mark_statements::walk::Setting;
 use mark_steps::ends::{RAISED, SPENT, left_in};
 
 // How a word, with the store's array, says that a run ended.
@@ -18,15 +18,14 @@ fn told(w: u64, store: &Store) -> Ending
     ensures { MarkTells w store.now result }
 {
     if w < SPENT {
-        return Ending::Normal;
+        Ending::Normal
+    } else if w < RAISED {
+        Ending::Spent
+    } else if w < STICKS {
+        Ending::Raised(store[LATEST], address(store[PLACE]))
+    } else {
+        Ending::Stuck
     }
-    if w < RAISED {
-        return Ending::Spent;
-    }
-    if w < STICKS {
-        return Ending::Raised(store[LATEST], address(store[PLACE]));
-    }
-    Ending::Stuck
 }
 
 // Runs body q of the table within the budget, by an array for the cells' words.
@@ -45,7 +44,7 @@ fn mark_with(
 {
     load_words(values, marks, store);
     begin(store);
-    let r = mark_body(text, work, types, bodies, q, store, budget as u64, q);
+    let r = Setting::mark_body(text, work, types, bodies, q, store, budget as u64, q);
     save_cells(store, values, marks);
     Marked {
         steps: budget - left_in(r) as u32,

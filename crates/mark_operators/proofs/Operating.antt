@@ -67,9 +67,9 @@ module _ (r : Ruling) (c : Carried) where
   unfolding ruled_word1
   ruled1-fits lo hi x z q h fx fz g e = e ∙ rw (h, to_z-of_z fz, g, to_z-of_z fx) refl
 
-pub ruleset ruled-laws = (ruled-misfit, ruled-fits, sfits_of)
+pub ruleset ruled_laws = (ruled-misfit, ruled-fits, sfits_of)
 
-pub ruleset ruled-one-laws = (ruled1-misfit, ruled1-fits, sfits_of)
+pub ruleset ruled_one_laws = (ruled1-misfit, ruled1-fits, sfits_of)
 
 module _ (n low high : ℕ) (x z : ℤ) (fx : SFits w64 x) (fz : SFits w64 z) where
   module _ (lo hi : ℤ) (el : lo ≡ signed low) (eh : hi ≡ signed high) (fl : SFits w64 lo) (fh : SFits w64 hi) where
@@ -121,7 +121,7 @@ module _ (l ts : List ℕ) (op : ℕ) (x y r : Carried) (fx : SFits w64 x.word) 
           (told-carries σ.types (kinded S.scene) m o p.kind p'.kind (sole p.cells) (sole p'.cells) i i')));
     })
 
-pub ruleset operate-laws = (operates-left, operates-right, operates-both, sfits_of)
+pub ruleset operate_laws = (operates-left, operates-right, operates-both, sfits_of)
 
 -- ---- one side
 
@@ -161,7 +161,7 @@ module _ (l ts : List ℕ) (f : ℕ) (x r : Carried) (fx : SFits w64 x.word) whe
         (told1-carries σ.types (kinded S.scene) m p.kind (S.small p.kind).low.ok (S.small p.kind).high.ok (sole p.cells) z o));
   })
 
-pub ruleset apply-laws = (applies-fault, applies-value, sfits_of)
+pub ruleset apply_laws = (applies-fault, applies-value, sfits_of)
 
 -- ---- `and_then`, `or_else`
 
@@ -212,4 +212,4 @@ module _ (q : Bool) (x y r : Carried) (a : ℤ) (fa : SFits w64 a) (A : Wants 1 
     pub or-open : (b : ℤ) → q ≡ false → lt_z (pos 0) (wire a) ≡ false → SFits w64 b → Wants 1 y b → r ≡ carried_of 1 (wire b) 0 → Shorts q x y r
     or-open b z g fb B e = by_left h false g (λ Γ o m w Y. rw (z, e, to_z-of_z fb) (right-carries Γ o m w y b Y (B.says Γ m w Y)))
 
-pub ruleset short-laws = (shorts-fault, and-open, and-shut, or_shut, or-open, sfits_of)
+pub ruleset short_laws = (shorts-fault, and-open, and-shut, or_shut, or-open, sfits_of)

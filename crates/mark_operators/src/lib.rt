@@ -8,11 +8,12 @@ ghost use Rattle.mark_operators.specs.Operations.{ruled_word, node_word, ruled_w
 
 use code_calc::operators::{combine, pred, succ, unary};
 use code_calc::words::{GREATEST, signed_of};
-use mark_values::values::{Carried, STUCK, value, wanted};
+use mark_values::values::{Carried, STUCK, value};
 use table_kinds::{Ruled, one_sided, two_sided};
 use table_scope::{describe, side_of};
 
 // A two-sided operator on two values, by what it comes to.
+#[tactic(auto, using(crate::proofs::Operating::ruled_laws))]
 fn ruled(r: Option<Ruled>, x: i64, y: i64) -> Carried
     ensures { result ≡ ruled_word r x y }
 {
@@ -23,6 +24,7 @@ fn ruled(r: Option<Ruled>, x: i64, y: i64) -> Carried
 }
 
 // A two-sided operator: both sides are worked out before their kinds are met.
+#[tactic(auto, using(crate::proofs::Operating::operate_laws))]
 pub fn operate(work: &[u32], types: &[u32], op: usize, x: Carried, y: Carried) -> Carried
     ensures { Operates work.now types.now op x y result }
 {
@@ -46,16 +48,15 @@ pub fn operate(work: &[u32], types: &[u32], op: usize, x: Carried, y: Carried) -
 fn at_node(n: u32, low: u32, high: u32, x: i64) -> i64
     ensures { result ≡ node_word n (signed low) (signed high) x }
 {
-    if n == code_ops::expr::PRED {
-        return pred(x, signed_of(low), signed_of(high));
+    match n {
+        code_ops::expr::PRED => pred(x, signed_of(low), signed_of(high)),
+        code_ops::expr::SUCC => succ(x, signed_of(low), signed_of(high)),
+        _ => unary(n, x),
     }
-    if n == code_ops::expr::SUCC {
-        return succ(x, signed_of(low), signed_of(high));
-    }
-    unary(n, x)
 }
 
 // A one-sided operator on a value, by what it comes to.
+#[tactic(auto, using(crate::proofs::Operating::ruled_one_laws))]
 fn ruled_one(r: Option<Ruled>, low: u32, high: u32, x: i64) -> Carried
     ensures { result ≡ ruled_word1 r (signed low) (signed high) x }
 {
@@ -66,6 +67,7 @@ fn ruled_one(r: Option<Ruled>, low: u32, high: u32, x: i64) -> Carried
 }
 
 // A one-sided operator or function.
+#[tactic(auto, using(crate::proofs::Operating::apply_laws))]
 pub fn apply(work: &[u32], types: &[u32], f: usize, x: Carried) -> Carried
     ensures { Applies work.now types.now f x result }
 {
@@ -79,21 +81,17 @@ pub fn apply(work: &[u32], types: &[u32], f: usize, x: Carried) -> Carried
 }
 
 // `and_then` (every) and `or_else`: the left side is met first, and the right only where the left leaves it open.
+#[tactic(auto, using(crate::proofs::Operating::short_laws))]
 pub fn short(every: bool, x: Carried, y: Carried) -> Carried
     ensures { Shorts every x y result }
 {
-    let a = wanted(1, x);
+    let a = x.wanted(1);
     if a > GREATEST {
         return value(0, a);
     }
-    if every {
-        if a > 0 {
-            return value(1, wanted(1, y));
-        }
-        return value(1, 0);
+    match (every, a > 0) {
+        (true, false) => value(1, 0),
+        (false, true) => value(1, 1),
+        _ => value(1, y.wanted(1)),
     }
-    if a > 0 {
-        return value(1, 1);
-    }
-    value(1, wanted(1, y))
 }

@@ -1,5 +1,6 @@
 -- The ways through calls.
 use mathlib.Core.Path.{◌≡◌, refl, sym, ap, subst, ◌∙◌}
+use Rattle.std.specs.Prelude.{Ok, Err, Result as Held}
 use mathlib.Core.Bool.{true, false}
 use mathlib.Core.List.{List}
 use mathlib.Core.Logic.{◌⊎◌, inl, inr}
@@ -47,6 +48,7 @@ use Rattle.mark_cells.proofs.Ending.{left-most}
 use Rattle.mark_cells.proofs.Stored.{forgotten-stands}
 use Rattle.mark_acts.specs.Arguments.{Lists, arguments_of, Given, Passed, Passes, returns, TakesBack}
 use Rattle.mark_acts.specs.Ends.{mark_told, MarkEnds, Halts}
+use Rattle.mark_values.specs.Carrying.{Broken}
 use Rattle.mark_acts.proofs.Arguing.{returns-normal, returns-spent, returns-raised}
 use Rattle.mark_acts.proofs.Ending.{halts-ends, goes_on}
 use Rattle.mark_statements.specs.declared.finding.Callee.{Callee}
@@ -171,7 +173,7 @@ module _ (s l us ts tb : List ℕ) (scope : Scope) (calls d n at : ℕ) (ws : Li
     fewer = left-most left;
   }
 
-  module _ (z : (calls ≡ 0) → ⊥) (c : Callee) (C : Calls s l scope at c) (vs : List ℤ) (v : ℤ) (P : Passes s l ts scope c.frame c.next ws vs v) (fv : SFits w64 v) (ws' : List ℤ) (r : ℕ) where
+  module _ (z : (calls ≡ 0) → ⊥) (c : Callee) (C : Calls s l scope at c) (vs : List ℤ) (v : Held Unit ℤ) (P : Passes s l ts scope c.frame c.next ws vs v) (ws' : List ℤ) (r : ℕ) where
     -- as its arguments do, and what comes after
     called-by : left_in r ≤ left
         → ((F : Setting s l us ts tb scope calls) (w : Name) (p : ℕ × List ℕ) (hp : Base.◌>>=◌ (Base.find F.env.names w) Names.as_proc ≡ some p) → CalleeIs s l at (get_or (take F.before F.places) p.0 0) c
@@ -190,18 +192,18 @@ module _ (s l us ts tb : List ℕ) (scope : Scope) (calls d n at : ℕ) (ws : Li
       fewer = f;
     }
 
-    pub call_halts : lt_z greatest (wire v) ≡ true → Halts (wire v) n vs left ws' r → MarksVerb s l us ts tb scope calls VB.Call d n at ws left ws' r
-    call_halts h H = called-by H.fewer (λ F w p hp K k S u Q.
-        let b = Q.halted (rw (to_z-of_z fv) at h) in
-        halts-ends ws left k n u v (λ zs. returned (its-frame F w p hp) (its-body F w p hp (state (stored (its-frame F w p hp).base zs k) left))) ws' r S b.0
-        (subst (λ (us : List ℤ). Halts v n us left ws' r) b.1 (subst (λ (y : ℤ). Halts y n vs left ws' r) (to_z-of_z fv) H)))
+    pub call_halts : (y : ℤ) → v ≡ Err y → SFits w64 y → Halts (wire y) n vs left ws' r → MarksVerb s l us ts tb scope calls VB.Call d n at ws left ws' r
+    call_halts y e fy H = called-by H.fewer (λ F w p hp K k S u Q.
+        let b : Broken y u × ((lt_z greatest y ≡ true) × (vs ≡ ws)) = rw e at Q in
+        halts-ends ws left k n u y (λ zs. returned (its-frame F w p hp) (its-body F w p hp (state (stored (its-frame F w p hp).base zs k) left))) ws' r S b.0
+        (subst (λ (us : List ℤ). Halts y n us left ws' r) b.1.1 (subst (λ (z : ℤ). Halts z n vs left ws' r) (to_z-of_z fy) H)))
 
-    pub call-runs : (xs : List ℤ) → lt_z greatest (wire v) ≡ false → MarksBody s l us tb (calls - 1) c.number vs left xs r → TakesBack c.frame r xs ws'
+    pub call-runs : (i : Unit) (xs : List ℤ) → v ≡ Ok i → MarksBody s l us tb (calls - 1) c.number vs left xs r → TakesBack c.frame r xs ws'
         → MarksVerb s l us ts tb scope calls VB.Call d n at ws left ws' r
-    call-runs xs h B T = called-by B.fewer (λ F w p hp K k S u Q.
+    call-runs i xs h B T = called-by B.fewer (λ F w p hp K k S u Q.
         let b = before-it F w p hp in
         let e : c.number ≡ p.0 = its-number F w p hp at c K in
-        let G : Given k left c.frame.base u vs = Q.given (rw (to_z-of_z fv) at h) in
+        let G : Given k left c.frame.base u vs = rw h at Q in
         let S' : Stands vs left (stored (its-frame F w p hp).base G.values k) = subst (λ (a : ℕ). Stands vs left (stored a G.values k)) (its-base F w p hp at c K) G.stands in
         let R = B.runs F.places F.bodies F.other F.all (omega (arith, e, b, F.few)) (omega (arith, e, b, F.deep)) in
         goes_on n (state k left) u G.values (λ zs. returned (its-frame F w p hp) (its-body F w p hp (state (stored (its-frame F w p hp).base zs k) left))) ws' r G.gives

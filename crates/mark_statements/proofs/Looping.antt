@@ -16,7 +16,7 @@ use Rattle.leaf_integers.proofs.Machine.{wire}
 use Rattle.leaf_integers.proofs.Order.{le_not, not-le}
 use Rattle.law.specs.Base.{Name, pick, ◌>>=◌}
 use Rattle.law.specs.Calculate.{Result, is_true, nat_of, range_error}
-use Rattle.law.specs.Machine.{Store, State, state, Answer, answer, normal, spent, and_then, branch, count_up, ended, for_rounds, forgotten, raising, stored, while_rounds, with_result, no_round, outside, planned, rounds}
+use Rattle.law.specs.Machine.{Store, State, state, Answer, answer, normal, spent, and_then, branch, count_up, ended, for_rounds, forgotten, opened, raising, stored, while_rounds, with_result}
 use Rattle.law.specs.Script as Script
 use Rattle.law.specs.Syntax.{Expr}
 use Rattle.law.specs.Trees.{end, first}
@@ -29,25 +29,24 @@ use Rattle.text_skips.specs.Skips.{Skips}
 use Rattle.code_calc.specs.Words.{greatest, InRange}
 use Rattle.mark_steps.specs.Ends.{left_in, step_word, Raises}
 use Rattle.mark_steps.specs.Stands.{Goes, Stands, after}
-use Rattle.mark_steps.specs.Turns.{Increments}
+use Rattle.mark_steps.specs.Turns.{Increments, Plans, plan_from}
 use Rattle.mark_cells.specs.Cells.{Forgets, Puts}
 use Rattle.mark_cells.proofs.Ending.{left-most, left-of, raised-fewer, step-spent, step-taken, step_fewer, step-stands}
 use Rattle.mark_cells.proofs.Stored.{forgotten-stands, put-stands}
 use Rattle.mark_values.specs.Carrying.{Broken}
 use Rattle.mark_acts.specs.declared.bounds.Span.{Span}
-use Rattle.mark_acts.specs.declared.bounds.Span.TheVariants as span
 use Rattle.mark_acts.specs.Acts.{Conditions}
 use Rattle.mark_acts.specs.Bounds.{Counted, counted, SpanIs, Bounding}
 use Rattle.mark_acts.specs.Ends.{MarkEnds, MarkRuns, Halts}
 use Rattle.mark_acts.proofs.Ending.{normal-marks, raising-marks, halts-ends}
 use Rattle.mark_acts.proofs.Shapes.{for-shape}
 use Rattle.table_bodies.specs.Procedures.{procs_of}
-use Rattle.mark_statements.specs.declared.finding.Plan.{Plan}
-use Rattle.mark_statements.specs.declared.finding.Plan.TheVariants as plan
-use Rattle.mark_statements.specs.Finding.{plan_as, plan_of, plan_by}
+use Rattle.std.specs.Prelude.{Ok, Err, Result as Held}
+use Rattle.mark_steps.specs.declared.turns.Plan.{Plan}
+use Rattle.mark_steps.specs.declared.turns.Plan.TheVariants as plan
 use Rattle.mark_statements.specs.Marks.{Found, FoundExpr, Setting, machine, testing, MarksStmt, MarksVerb, MarksWhile, MarksRounds}
 use Rattle.mark_statements.proofs.Machines.{goes-next, stops-there, goes-ends, spent-marks}
-use Rattle.mark_statements.proofs.Turning.{onward, rounds-by, onward-spent, onward-round, count-one, count-rest, count-last, next_up, next-ranged, for-spent, for-round, for-none as rounds-none, counts-none, counts-out, counts-in}
+use Rattle.mark_statements.proofs.Turning.{onward, rounds-by, onward-spent, onward-round, count-one, count-rest, count-last, next_up, next-ranged, for-spent, for-round, for-none as rounds-none, count-opened}
 use Rattle.mark_statements.proofs.Founding.{found_as, for-found, past}
 use Rattle.mark_statements.proofs.Branching.{known, test-halts, test-gives}
 use Rattle.table_scope.specs.declared.Scope.{Scope}
@@ -288,41 +287,37 @@ name-end : name_in end ≡ none
 unfolding name_in part_of ◌>>=◌
 name-end = refl
 
--- what a plan says of what v is, where w was worked out
-abbrev PlanFor : (n : ℕ) (body : State → Answer) (t : State) → Result Counted → Answer → Plan → Type 0
-PlanFor n body t w v (plan.Rounds a x y) = (le_z x y ≡ true) × (InRange x × (InRange y × (v ≡ for_rounds (nat_of (suc_ℤ (y -ℤ x))) a body x t)))
-PlanFor n body t w v (plan.NoRound a) = v ≡ ended a t
-PlanFor n body t w v plan.Outside = v ≡ raising range_error n t
-PlanFor n body t w v (plan.Halted u) = Broken u w
+-- what a plan says of what v is, where a `for` of cell a counts from x to y
+abbrev PlanFor : (n a : ℕ) (x y : ℤ) (body : State → Answer) (t : State) → Answer → Plan → Type 0
+PlanFor n a x y body t v plan.Rounds = (le_z x y ≡ true) × (v ≡ for_rounds (nat_of (suc_ℤ (y -ℤ x))) a body x t)
+PlanFor n a x y body t v plan.NoRound = v ≡ ended a t
+PlanFor n a x y body t v plan.Outside = v ≡ raising range_error n t
 
-plan-counts : (n a : ℕ) (lo hi x y : ℤ) (body : State → Answer) (t : State) (w : Result Counted) → InRange x → InRange y → PlanFor n body t w (count_up n a lo hi x y body t) (plan_of a lo hi x y)
-unfolding plan_of planned pick
-plan-counts n a lo hi x y body t w R Q = go (le_z x y) (inside lo hi x && inside lo hi y) refl refl
+plan-tells : (n a : ℕ) (lo hi x y : ℤ) (body : State → Answer) (t : State) (p : Plan) → Plans lo hi x y p → PlanFor n a x y body t (count_up n a lo hi x y body t) p
+unfolding opened
+plan-tells n a lo hi x y body t p P = go p (count-opened n a lo hi x y body t (plan_from x y p) P.says) P.up
   where
-    go : (q i : Bool) → le_z x y ≡ q → (inside lo hi x && inside lo hi y) ≡ i → PlanFor n body t w (count_up n a lo hi x y body t) (plan_as a x y (pick q (pick i (rounds (nat_of (suc_ℤ (y -ℤ x)))) outside) no_round))
-    go false i h g = counts-none n a lo hi x y body t h
-    go true false h g = counts-out n a lo hi x y body t h g
-    go true true h g = (h, (R, (Q, counts-in n a lo hi x y body t h g)))
+    go : (q : Plan) → count_up n a lo hi x y body t ≡ opened (plan_from x y q) n a x body t → (q ≡ plan.Rounds → le_z x y ≡ true) → PlanFor n a x y body t (count_up n a lo hi x y body t) q
+    go plan.Rounds e u = (u refl, e)
+    go plan.NoRound e u = e
+    go plan.Outside e u = e
 
 module _ (Γ : Types) (n : ℕ) (body : State → Answer) (t : State) (w : Result Counted) where
   abbrev over : Counted → Answer
   over q = count_up n q.0.base (info_at Γ q.0.type).low (info_at Γ q.0.type).high q.1.0 q.1.1 body t
 
   -- by the bounds
-  span-tells : (c : Span) → SpanIs Γ w c → PlanFor n body t w (with_result n t w over) (plan_by c)
-  span-tells (span.Halted u) S = S.says
-  span-tells (span.Over a lo hi x y) S =
+  span-over : (c : Span) → SpanIs Γ w (Ok c) → count_up n c.cell c.low c.high c.from c.to body t ≡ with_result n t w over
+  span-over c S =
       let C = S.says in
-      let e : count_up n a lo hi x y body t ≡ with_result n t w over
-      = ap (λ (c : ℕ). count_up n c lo hi x y body t) C.cell ∙ ap (λ (c : ℤ). count_up n C.control.base c hi x y body t) C.least-is
-      ∙ ap (λ (c : ℤ). count_up n C.control.base (info_at Γ C.control.type).low c x y body t) C.most-is ∙ ap (λ (v : Result Counted). with_result n t v over) (sym C.gives) in
-      subst (λ (v : Answer). PlanFor n body t w v (plan_of a lo hi x y)) e (plan-counts n a lo hi x y body t w C.from-ranged C.to-ranged)
+      ap (λ (a : ℕ). count_up n a c.low c.high c.from c.to body t) C.cell ∙ ap (λ (z : ℤ). count_up n C.control.base z c.high c.from c.to body t) C.least-is
+      ∙ ap (λ (z : ℤ). count_up n C.control.base (info_at Γ C.control.type).low z c.from c.to body t) C.most-is ∙ ap (λ (v : Result Counted). with_result n t v over) (sym C.gives)
 
-module _ (s l us ts tb : List ℕ) (scope : Scope) (calls d n at : ℕ) (ws : List ℤ) (left : ℕ) (b : Span) (B : Bounding s l ts ws scope at b) (p : Plan) (P : p ≡ plan_by b) where
+module _ (s l us ts tb : List ℕ) (scope : Scope) (calls d n at : ℕ) (ws : List ℤ) (left : ℕ) (b : Held Span ℤ) (B : Bounding s l ts ws scope at b) where
   for-from : (ws' : List ℤ) (r : ℕ) → left_in r ≤ left
       → ((F : Setting s l us ts tb scope calls) (C : Found F.env (stmt_in d n (rest (rest (rest (first (stack_at s at))))))) (w : Name) (x y : Expr) → name_in (first (stack_at s at)) ≡ some w
       → expr_in 33 (rest (first (stack_at s at))) ≡ some x → expr_in 33 (rest (rest (first (stack_at s at)))) ≡ some y → (k : Store) → Stands ws left k → (v : Result Counted)
-      → PlanFor n (machine F C.stmt) (state k left) v (with_result n (state k left) v (over F.env.types n (machine F C.stmt) (state k left) v)) p
+      → SpanIs F.env.types v b
       → MarkEnds (with_result n (state k left) v (over F.env.types n (machine F C.stmt) (state k left) v)) ws' r)
       → MarksVerb s l us ts tb scope calls VB.For d n at ws left ws' r
   for-from ws' r h f = record {
@@ -333,41 +328,54 @@ module _ (s l us ts tb : List ℕ) (scope : Scope) (calls d n at : ℕ) (ws : Li
               let T = B.says F.env (known F) w A.form D.form i A.expr D.expr hw A.reads D.reads hi A.names D.names k S.holds in
               subst (λ (a : Answer). MarkEnds a ws' r)
               (sym (for-shape F.env.types F.env.vars (procs_of F.other F.bodies F.before) k left n i A.expr D.expr C.stmt))
-              (f F C w A.form D.form hw A.reads D.reads k S v
-              (subst (λ (c : Plan). PlanFor n (machine F C.stmt) (state k left) v (with_result n (state k left) v (over F.env.types n (machine F C.stmt) (state k left) v)) c) (sym P)
-              (span-tells F.env.types n (machine F C.stmt) (state k left) v b T)));
+              (f F C w A.form D.form hw A.reads D.reads k S v T);
         }));
     fewer = h;
   }
 
-  pub for-halts : (u : ℤ) (ws' : List ℤ) (r : ℕ) → p ≡ plan.Halted u → SFits w64 u → Halts (wire u) n ws left ws' r → MarksVerb s l us ts tb scope calls VB.For d n at ws left ws' r
+  pub for-halts : (u : ℤ) (ws' : List ℤ) (r : ℕ) → b ≡ Err u → SFits w64 u → Halts (wire u) n ws left ws' r → MarksVerb s l us ts tb scope calls VB.For d n at ws left ws' r
   for-halts u ws' r e g H = for-from ws' r H.fewer (λ F C w x y hw hx hy k S v T.
-      halts-ends ws left k n v u (over F.env.types n (machine F C.stmt) (state k left) v) ws' r S (rw e at T) (rw (to_z-of_z g) at H))
+      halts-ends ws left k n v u (over F.env.types n (machine F C.stmt) (state k left) v) ws' r S (rw e at T).says (rw (to_z-of_z g) at H))
 
-  pub for-none : (a : ℕ) (es : List ℤ) → p ≡ plan.NoRound a → Forgets ws a 1 es → MarksVerb s l us ts tb scope calls VB.For d n at ws left es left
-  for-none a es e G = for-from es left (left-most left) (λ F C w x y hw hx hy k S v T. subst (λ (r : Answer). MarkEnds r es left) (sym (rw e at T)) (ended-marks ws left k a es S G))
+  module _ (c : Span) (e : b ≡ Ok c) (fl : SFits w64 c.low) (fh : SFits w64 c.high) (fx : SFits w64 c.from) (fy : SFits w64 c.to) (p : Plan) (P : Plans (wire c.low) (wire c.high) (wire c.from) (wire c.to) p) where
+    plans : Plans c.low c.high c.from c.to p
+    plans = rw (to_z-of_z fl, to_z-of_z fh, to_z-of_z fx, to_z-of_z fy) at P
 
-  pub for-outside : (ws' : List ℤ) (r : ℕ) → p ≡ plan.Outside → Raises (negsuc 102) n ws left ws' r → MarksVerb s l us ts tb scope calls VB.For d n at ws left ws' r
-  unfolding InRange inside
-  for-outside ws' r e R = for-from ws' r (raised-fewer (negsuc 102) n ws left ws' r R) (λ F C w x y hw hx hy k S v T.
-      subst (λ (a : Answer). MarkEnds a ws' r) (sym (rw e at T)) (raising-marks ws left k S range_error n ws' r refl R))
+    -- by the plan
+    for-planned : (ws' : List ℤ) (r : ℕ) → left_in r ≤ left
+        → ((F : Setting s l us ts tb scope calls) (C : Found F.env (stmt_in d n (rest (rest (rest (first (stack_at s at))))))) (w : Name) (x y : Expr) → name_in (first (stack_at s at)) ≡ some w
+        → expr_in 33 (rest (first (stack_at s at))) ≡ some x → expr_in 33 (rest (rest (first (stack_at s at)))) ≡ some y → (k : Store) → Stands ws left k → InRange c.from → InRange c.to → (a : Answer)
+        → PlanFor n c.cell c.from c.to (machine F C.stmt) (state k left) a p → MarkEnds a ws' r)
+        → MarksVerb s l us ts tb scope calls VB.For d n at ws left ws' r
+    for-planned ws' r h f = for-from ws' r h (λ F C w x y hw hx hy k S v T.
+        let Q : SpanIs F.env.types v (Ok c) = rw e at T in
+        subst (λ (a : Answer). MarkEnds a ws' r) (span-over F.env.types n (machine F C.stmt) (state k left) v c Q)
+        (f F C w x y hw hx hy k S Q.says.from-ranged Q.says.to-ranged (count_up n c.cell c.low c.high c.from c.to (machine F C.stmt) (state k left))
+        (plan-tells n c.cell c.low c.high c.from c.to (machine F C.stmt) (state k left) p plans)))
 
-  pub for-rounds : (a : ℕ) (x y : ℤ) (q₁ q₂ q₃ : ℕ) (ws' : List ℤ) (r : ℕ) → p ≡ plan.Rounds a x y → SFits w64 x → SFits w64 y → Skips s at q₁ → Skips s q₁ q₂ → Skips s q₂ q₃
-      → MarksRounds s l us ts tb scope calls d n a (wire x) (wire y) q₃ ws left ws' r → MarksVerb s l us ts tb scope calls VB.For d n at ws left ws' r
-  for-rounds a x y q₁ q₂ q₃ ws' r e fx fy A₁ A₂ A₃ R = for-from ws' r R.fewer (λ F C w g h hw hg hh k S v T. go F C w g h hw hg hh k S v (rw e at T))
-    where
-      go : (F : Setting s l us ts tb scope calls) (C : Found F.env (stmt_in d n (rest (rest (rest (first (stack_at s at))))))) (w : Name) (g h : Expr) → name_in (first (stack_at s at)) ≡ some w
-          → expr_in 33 (rest (first (stack_at s at))) ≡ some g → expr_in 33 (rest (rest (first (stack_at s at)))) ≡ some h → (k : Store) → Stands ws left k → (v : Result Counted)
-          → PlanFor n (machine F C.stmt) (state k left) v (with_result n (state k left) v (over F.env.types n (machine F C.stmt) (state k left) v)) (plan.Rounds a x y)
-          → MarkEnds (with_result n (state k left) v (over F.env.types n (machine F C.stmt) (state k left) v)) ws' r
-      go F C w g h hw hg hh k S v T =
-          let e₁ : rest (first (stack_at s at)) ≡ first (stack_at s q₁) = past A₁ name_in w name-end hw in
-          let e₂ : rest (first (stack_at s q₁)) ≡ first (stack_at s q₂) = past A₂ (expr_in 33) g (expr-end 33) (ap (expr_in 33) (sym e₁) ∙ hg) in
-          let e₃ : rest (first (stack_at s q₂)) ≡ first (stack_at s q₃) = past A₃ (expr_in 33) h (expr-end 33) (ap (expr_in 33) (sym (ap rest e₁ ∙ e₂)) ∙ hh) in
-          let Q : MarksRounds s l us ts tb scope calls d n a x y q₃ ws left ws' r
-          = subst (λ (c : ℤ). MarksRounds s l us ts tb scope calls d n a c y q₃ ws left ws' r) (to_z-of_z fx)
-          (subst (λ (c : ℤ). MarksRounds s l us ts tb scope calls d n a (wire x) c q₃ ws left ws' r) (to_z-of_z fy) R) in
-          subst (λ (z : Answer). MarkEnds z ws' r) (sym T.1.1.1)
-          ((Q.runs F (found_as C (stmt_in d n (first (stack_at s q₃))) (ap (stmt_in d n) (ap rest (ap rest e₁ ∙ e₂) ∙ e₃))) T.0 T.1.0 T.1.1.0).says k S)
+    pub for-none : (es : List ℤ) → p ≡ plan.NoRound → Forgets ws c.cell 1 es → MarksVerb s l us ts tb scope calls VB.For d n at ws left es left
+    for-none es g G = for-planned es left (left-most left) (λ F C w x y hw hx hy k S R Q a T. subst (λ (r : Answer). MarkEnds r es left) (sym (rw g at T)) (ended-marks ws left k c.cell es S G))
+
+    pub for-outside : (ws' : List ℤ) (r : ℕ) → p ≡ plan.Outside → Raises (negsuc 102) n ws left ws' r → MarksVerb s l us ts tb scope calls VB.For d n at ws left ws' r
+    unfolding InRange inside
+    for-outside ws' r g A = for-planned ws' r (raised-fewer (negsuc 102) n ws left ws' r A) (λ F C w x y hw hx hy k S R Q a T.
+        subst (λ (a : Answer). MarkEnds a ws' r) (sym (rw g at T)) (raising-marks ws left k S range_error n ws' r refl A))
+
+    pub for-rounds : (q₁ q₂ q₃ : ℕ) (ws' : List ℤ) (r : ℕ) → p ≡ plan.Rounds → Skips s at q₁ → Skips s q₁ q₂ → Skips s q₂ q₃
+        → MarksRounds s l us ts tb scope calls d n c.cell (wire c.from) (wire c.to) q₃ ws left ws' r → MarksVerb s l us ts tb scope calls VB.For d n at ws left ws' r
+    for-rounds q₁ q₂ q₃ ws' r g A₁ A₂ A₃ M = for-planned ws' r M.fewer (λ F C w x y hw hx hy k S R Q a T. go F C w x y hw hx hy k S R Q a (rw g at T))
+      where
+        go : (F : Setting s l us ts tb scope calls) (C : Found F.env (stmt_in d n (rest (rest (rest (first (stack_at s at))))))) (w : Name) (g h : Expr) → name_in (first (stack_at s at)) ≡ some w
+            → expr_in 33 (rest (first (stack_at s at))) ≡ some g → expr_in 33 (rest (rest (first (stack_at s at)))) ≡ some h → (k : Store) → Stands ws left k → InRange c.from → InRange c.to → (a : Answer)
+            → PlanFor n c.cell c.from c.to (machine F C.stmt) (state k left) a plan.Rounds → MarkEnds a ws' r
+        go F C w g h hw hg hh k S R Q a T =
+            let e₁ : rest (first (stack_at s at)) ≡ first (stack_at s q₁) = past A₁ name_in w name-end hw in
+            let e₂ : rest (first (stack_at s q₁)) ≡ first (stack_at s q₂) = past A₂ (expr_in 33) g (expr-end 33) (ap (expr_in 33) (sym e₁) ∙ hg) in
+            let e₃ : rest (first (stack_at s q₂)) ≡ first (stack_at s q₃) = past A₃ (expr_in 33) h (expr-end 33) (ap (expr_in 33) (sym (ap rest e₁ ∙ e₂)) ∙ hh) in
+            let N : MarksRounds s l us ts tb scope calls d n c.cell c.from c.to q₃ ws left ws' r
+            = subst (λ (z : ℤ). MarksRounds s l us ts tb scope calls d n c.cell z c.to q₃ ws left ws' r) (to_z-of_z fx)
+            (subst (λ (z : ℤ). MarksRounds s l us ts tb scope calls d n c.cell (wire c.from) z q₃ ws left ws' r) (to_z-of_z fy) M) in
+            subst (λ (z : Answer). MarkEnds z ws' r) (sym T.1)
+            ((N.runs F (found_as C (stmt_in d n (first (stack_at s q₃))) (ap (stmt_in d n) (ap rest (ap rest e₁ ∙ e₂) ∙ e₃))) T.0 R Q).says k S)
 
 pub ruleset for-laws = (for-halts, for-none, for-outside, for-rounds, sfits_of)

@@ -1,23 +1,16 @@
 -- The ways through what a walk over statements looks up.
 use mathlib.Core.Path.{◌≡◌, refl, sym, ap, subst, ◌∙◌}
+use Rattle.std.specs.Prelude.{Some, None}
 use mathlib.Core.Bool.{false}
 use mathlib.Core.List.{List, map}
 use mathlib.Core.Option.{Option, none, some}
 use Prim.Native.Nat.{ℕ, ◌+◌, ◌*◌, ◌<◌, ◌≤◌}
 use native.Mathlib.Omega.{arith}
-use borrow.Author.Rules.{sfits_of}
-use lib.IntN.{ℤ}
 use lib.ListN.{get_or}
-use mir.Syntax.{w64}
-use mir.Val.{SFits}
-use mir.Facts.{to_z-of_z}
-use Rattle.leaf_integers.proofs.Machine.{wire}
 use Rattle.leaf_bytes.specs.Bytes.{small}
 use Rattle.law.specs.Base.{Name, ◌>>=◌, find, given}
 use Rattle.law.specs.Environment.{Environment, NameSort}
 use Rattle.law.specs.Forms.{free}
-use Rattle.law.specs.Machine as Machine
-use Rattle.law.specs.Machine.{planned}
 use Rattle.law.specs.Names.{as_proc}
 use Rattle.law.specs.Syntax.{Body, Stmts}
 use Rattle.law.specs.Trees.{word, form, Trees, end, ◌then◌, Run, first, later, word_at}
@@ -49,16 +42,8 @@ use Rattle.mark_counts.specs.Statements.{CountsStatements, verbs_in}
 use Rattle.mark_counts.proofs.Numbers.{body-handler, body-number}
 use Rattle.mark_counts.proofs.Passing.{body-on}
 use Rattle.rule_expressions.specs.Members.{many}
-use Rattle.mark_acts.specs.declared.bounds.Span.{Span}
-use Rattle.mark_acts.specs.declared.bounds.Span.TheVariants as span
 use Rattle.mark_statements.specs.declared.finding.Callee.{Callee}
-use Rattle.mark_statements.specs.declared.finding.Handler.TheVariants as handler
-use Rattle.mark_steps.specs.declared.turns.Plan as Steps
-use Rattle.mark_steps.specs.declared.turns.Plan.TheVariants as steps
-use Rattle.mark_steps.specs.Turns.{Plans, plan_from}
-use Rattle.mark_statements.specs.declared.finding.Plan.{Plan}
-use Rattle.mark_statements.specs.declared.finding.Plan.TheVariants as plan
-use Rattle.mark_statements.specs.Finding.{line_of, proc_in, callee_at, Calls, HandlesBy, Handles, plan_as, plan_of, plan_by}
+use Rattle.mark_statements.specs.Finding.{line_of, proc_in, callee_at, Calls, HandlesBy, Handles}
 
 -- ---- `line_of`
 pub line-is : (tb : List ℕ) (q a b c d e f g h : ℕ) → a ≡ get_or tb (8 * q) 0 → b ≡ get_or tb (8 * q + 1) 0 → c ≡ get_or tb (8 * q + 2) 0 → d ≡ get_or tb (8 * q + 3) 0 → e ≡ get_or tb (8 * q + 4) 0
@@ -135,17 +120,17 @@ module _ (s : List ℕ) (n at m p : ℕ) (B : Behind s n at m p) (x : Next) (C :
   unfolding body_in
   body-shut c e h = ap (λ (y : Body × ℕ). y.0.handles) (sym (some_inj (rw e at h)))
 
-  pub handler-past : (q : ℕ) → x ≡ following.Past q → Handles s n at handler.Nothing
+  pub handler-past : (q : ℕ) → x ≡ following.Past q → Handles s n at None
   handler-past q e = record { says = λ b h l. let y = B.left b h l in y.1.1.0 ∙ body-shut y.0 (rw e at C.says).here y.1.0 }
 
-  pub handler-here : (q : ℕ) → x ≡ following.Handler q → Handles s n at (handler.From q m)
+  pub handler-here : (q : ℕ) → x ≡ following.Handler q → Handles s n at (Some (q, m))
   unfolding handler_in given
   handler-here q e = record { says = λ b h l. let y = B.left b h l in go b y.0 y.1.0 y.1.1.0 y.1.1.1.0 y.1.1.1.1 }
     where
       H : HandlerAt s p q
       H = rw e at C.says
 
-      go : (b c : Body × ℕ) → body_in m (first (stack_at s p)) ≡ some c → b.0.handles ≡ c.0.handles → b.0.handler ≡ c.0.handler → b.1 ≡ c.1 → HandlesBy s b (handler.From q m)
+      go : (b c : Body × ℕ) → body_in m (first (stack_at s p)) ≡ some c → b.0.handles ≡ c.0.handles → b.0.handler ≡ c.0.handler → b.1 ≡ c.1 → HandlesBy s b (Some (q, m))
       go b c h i j k = body-handler m (form (word H.head then first (stack_at s q))) (first (stack_at s q)) (first (later (stack_at s q))) c
           (rw H.exception refl) (ap (body_in m) (sym H.here) ∙ h) λ u z hu g.
           (i ∙ ap (λ (v : Body × ℕ). v.0.handles) (sym g), hu ∙ ap (λ (v : Stmts × ℕ). some v) (rw (j, k, ← g) refl))
@@ -182,32 +167,3 @@ handler-falls s p q x C e Q = go (first (stack_at s p)) refl
     go (u then us) i = let b : us ≡ first (stack_at s q) = ap rest (sym i ∙ (Q.says u us i).here) in rw b (omega arith)
 
 pub ruleset handler-laws = (handler-past, handler-here)
-
--- ---- `plan_for`
-module _ (a : ℕ) (lo hi x y : ℤ) (fl : SFits w64 lo) (fh : SFits w64 hi) (fx : SFits w64 x) (fy : SFits w64 y) (p : Steps.Plan) (P : Plans (wire lo) (wire hi) (wire x) (wire y) p) where
-  planned-is : planned lo hi x y ≡ plan_from (wire x) (wire y) p
-  planned-is = subst (λ (q : Machine.Plan). q ≡ plan_from (wire x) (wire y) p) (rw (to_z-of_z fl, to_z-of_z fh, to_z-of_z fx, to_z-of_z fy)) P.says
-
-  pub plan-none : p ≡ steps.NoRound → plan.NoRound a ≡ plan_of a lo hi x y
-  unfolding plan_of
-  plan-none e = sym (ap (plan_as a x y) (planned-is ∙ ap (plan_from (wire x) (wire y)) e))
-
-  pub plan-out : p ≡ steps.Outside → plan.Outside ≡ plan_of a lo hi x y
-  unfolding plan_of
-  plan-out e = sym (ap (plan_as a x y) (planned-is ∙ ap (plan_from (wire x) (wire y)) e))
-
-  pub plan-rounds : p ≡ steps.Rounds → plan.Rounds a (wire x) (wire y) ≡ plan_of a lo hi x y
-  unfolding plan_of
-  plan-rounds e = rw (to_z-of_z fx, to_z-of_z fy) (sym (ap (plan_as a x y) (planned-is ∙ ap (plan_from (wire x) (wire y)) e)))
-
-pub ruleset within-laws = (plan-none, plan-out, plan-rounds, sfits_of)
-
-module _ (s : Span) where
-  pub plan-over : (a : ℕ) (lo hi x y : ℤ) (r : Plan) → s ≡ span.Over a lo hi x y → SFits w64 lo → SFits w64 hi → SFits w64 x → SFits w64 y
-      → r ≡ plan_of a (wire lo) (wire hi) (wire x) (wire y) → r ≡ plan_by s
-  plan-over a lo hi x y r e fl fh fx fy h = h ∙ rw (e, to_z-of_z fl, to_z-of_z fh, to_z-of_z fx, to_z-of_z fy) refl
-
-  pub plan-halted : (w : ℤ) → s ≡ span.Halted w → SFits w64 w → plan.Halted (wire w) ≡ plan_by s
-  plan-halted w e f = rw (e, to_z-of_z f) refl
-
-pub ruleset plan-laws = (plan-over, plan-halted, sfits_of)

@@ -28,8 +28,7 @@ use Rattle.table_bodies.specs.Procedures.{procs_of}
 use Rattle.table_bodies.specs.Table.{most_types, clip, Clips, offset_of, scope_of, stmts_before, types_of, BodyStands, AllStand}
 use Rattle.table_bodies.proofs.Calling.{all-is}
 use Rattle.table_bodies.proofs.Scenes.{scene-types}
-use Rattle.mark_statements.specs.declared.finding.Handler.{Handler}
-use Rattle.mark_statements.specs.declared.finding.Handler.TheVariants as handler
+use Rattle.std.specs.Prelude.{Some, None, Option as Held}
 use Rattle.mark_statements.specs.declared.finding.Line.{Line}
 use Rattle.mark_statements.specs.Finding.{line_of, Handles}
 use Rattle.mark_statements.specs.Marks.{FoundAll, FoundBody, Setting, front_in, machines, serving, MarksStmts, MarksFront, MarksWithin, MarksBody}
@@ -71,8 +70,8 @@ module _ (s l us ts tb : List ℕ) (scope : Scope) (calls n at : ℕ) (ws : List
     fewer = W.fewer;
   }
 
-  module _ (g : Handler) (H : Handles s n at g) where
-    pub within-plain : g ≡ handler.Nothing → MarksWithin s l us ts tb scope calls n at ws left vs o
+  module _ (g : Held (ℕ × ℕ)) (H : Handles s n at g) where
+    pub within-plain : g ≡ None → MarksWithin s l us ts tb scope calls n at ws left vs o
     within-plain e = record {
       runs = λ F X. record {
         says = λ k S. not-handled X.body.handles (machines F X.body.stmts (state k left)) (machines F X.body.handler) vs o (front_ends F X k S)
@@ -81,7 +80,7 @@ module _ (s l us ts tb : List ℕ) (scope : Scope) (calls n at : ℕ) (ws : List
       fewer = W.fewer;
     }
 
-    pub within-handled : (q m t : ℕ) (ws' : List ℤ) (r : ℕ) → 8589934592 ≤ o → o < 12884901888 → g ≡ handler.From q m → t ≡ left_in o → MarksStmts s l us ts tb scope calls 33 m q vs t ws' r
+    pub within-handled : (q m t : ℕ) (ws' : List ℤ) (r : ℕ) → 8589934592 ≤ o → o < 12884901888 → g ≡ Some (q, m) → t ≡ left_in o → MarksStmts s l us ts tb scope calls 33 m q vs t ws' r
         → MarksWithin s l us ts tb scope calls n at ws left ws' r
     within-handled q m t ws' r h i e T R = record {
       runs = λ F X. record { says = λ k S. go F X k S (rw e at (H.says X.form X.reads X.few)) };

@@ -1,6 +1,6 @@
 -- The rounds of `while` and `for`, for any test and any statement in them.
 use mathlib.Core.Path.{◌≡◌, refl, sym, ap, subst, ◌∙◌}
-use mathlib.Core.Bool.{Bool, true, false, ◌&&◌}
+use mathlib.Core.Bool.{Bool, true, false}
 use mathlib.Core.List.{[], ◌∷◌}
 use Prim.Native.Nat.{ℕ, zero, suc, ◌-◌, ◌<◌}
 use native.Mathlib.Omega.{arith}
@@ -14,7 +14,7 @@ use Rattle.leaf_integers.proofs.Order.{le_z-diff, le_z-trans, up_le, add-high}
 use Rattle.leaf_integers.proofs.Ranges.{inside_is, inside_both}
 use Rattle.law.specs.Base.{pick}
 use Rattle.law.specs.Calculate.{nat_of, range_error}
-use Rattle.law.specs.Machine.{Store, State, state, Answer, answer, normal, spent, and_then, branch, count_up, ended, for_rounds, raising, step, stored, while_rounds, no_round, opened, outside, planned, rounds}
+use Rattle.law.specs.Machine.{Store, State, state, Answer, Plan, answer, normal, spent, and_then, branch, count_up, ended, for_rounds, step, stored, while_rounds, opened, planned}
 use Rattle.code_calc.specs.Words.{lowest, greatest, InRange}
 
 -- ---- `while`
@@ -88,24 +88,7 @@ module _ (a : ℕ) (body : State → Answer) (z : ℤ) where
   unfolding for_rounds
   for-none t = refl
 
--- what a `for` does by the order of its bounds, and whether both lie in the range
-module _ (n a : ℕ) (lo hi x y : ℤ) (body : State → Answer) (t : State) where
-  count_by : Bool → Bool → Answer
-  count_by q i = opened (pick q (pick i (rounds (nat_of (suc_ℤ (y -ℤ x)))) outside) no_round) n a x body t
-
-  count-by : count_up n a lo hi x y body t ≡ count_by (le_z x y) (inside lo hi x && inside lo hi y)
-  unfolding count_up planned count_by
-  count-by = refl
-
-  pub counts-none : le_z x y ≡ false → count_up n a lo hi x y body t ≡ ended a t
-  unfolding count_by opened pick
-  counts-none h = count-by ∙ ap (λ (b : Bool). count_by b (inside lo hi x && inside lo hi y)) h
-
-  module _ (h : le_z x y ≡ true) where
-    pub counts-out : (inside lo hi x && inside lo hi y) ≡ false → count_up n a lo hi x y body t ≡ raising range_error n t
-    unfolding count_by opened pick
-    counts-out g = count-by ∙ ap (λ (b : Bool). count_by b (inside lo hi x && inside lo hi y)) h ∙ ap (λ (b : Bool). count_by true b) g
-
-    pub counts-in : (inside lo hi x && inside lo hi y) ≡ true → count_up n a lo hi x y body t ≡ for_rounds (nat_of (suc_ℤ (y -ℤ x))) a body x t
-    unfolding count_by opened pick
-    counts-in g = count-by ∙ ap (λ (b : Bool). count_by b (inside lo hi x && inside lo hi y)) h ∙ ap (λ (b : Bool). count_by true b) g
+-- what a `for` does by its plan
+pub count-opened : (n a : ℕ) (lo hi x y : ℤ) (body : State → Answer) (t : State) (q : Plan) → planned lo hi x y ≡ q → count_up n a lo hi x y body t ≡ opened q n a x body t
+unfolding count_up
+count-opened n a lo hi x y body t q e = ap (λ (p : Plan). opened p n a x body t) e

@@ -1,10 +1,8 @@
 -- What a walk over statements looks up.
-use Rattle.std.specs.Prelude.{true, false, List, ◌≡◌, ℕ, ◌≤◌, ℤ, get_or}
+use Rattle.std.specs.Prelude.{true, false, List, ◌≡◌, ℕ, ◌≤◌, get_or, Some, None, Option as Held}
 use Rattle.std.proofs.Math.Option.{some}
 use Rattle.law.specs.Base.{Name, ◌>>=◌, find}
 use Rattle.law.specs.Environment.{Environment}
-use Rattle.law.specs.Machine as Machine
-use Rattle.law.specs.Machine.{planned}
 use Rattle.law.specs.Names.{as_proc}
 use Rattle.law.specs.Syntax.{Body}
 use Rattle.law.specs.Trees.{first}
@@ -16,14 +14,8 @@ use Rattle.table_scope.specs.declared.Meaning.TheVariants as meaning
 use Rattle.table_scope.specs.Frames.{frame_in}
 use Rattle.table_scope.specs.Scene.{Scene}
 use Rattle.table_bodies.specs.Table.{offset_of, scope_of, stmts_before, types_of}
-use Rattle.mark_acts.specs.declared.bounds.Span.{Span}
-use Rattle.mark_acts.specs.declared.bounds.Span.TheVariants as span
 use Rattle.mark_statements.specs.declared.finding.Callee.{Callee}
 use Rattle.mark_statements.specs.declared.finding.Line.{Line}
-use Rattle.mark_statements.specs.declared.finding.Handler.{Handler}
-use Rattle.mark_statements.specs.declared.finding.Handler.TheVariants as handler
-use Rattle.mark_statements.specs.declared.finding.Plan.{Plan}
-use Rattle.mark_statements.specs.declared.finding.Plan.TheVariants as plan
 
 -- body q's line in the table
 abbrev pub line_of : List ℕ → ℕ → Line
@@ -53,24 +45,10 @@ pub record Calls (s l : List ℕ) (scope : Scope) (at : ℕ) (r : Callee) : Type
 -- ---- a body's handler
 
 -- the statements of its handler begin at q, after statement m
-abbrev pub HandlesBy : List ℕ → Body × ℕ → Handler → Type 0
-HandlesBy s b (handler.From q m) = (b.0.handles ≡ true) × (stmts_in 33 m (first (stack_at s q)) ≡ some (b.0.handler, b.1))
-HandlesBy s b handler.Nothing = b.0.handles ≡ false
+abbrev pub HandlesBy : List ℕ → Body × ℕ → Held (ℕ × ℕ) → Type 0
+HandlesBy s b (Some p) = (b.0.handles ≡ true) × (stmts_in 33 p.1 (first (stack_at s p.0)) ≡ some (b.0.handler, b.1))
+HandlesBy s b None = b.0.handles ≡ false
 
 -- for the body at an offset, where n is the number of the last statement before
-pub record Handles (s : List ℕ) (n at : ℕ) (r : Handler) : Type 0 where
+pub record Handles (s : List ℕ) (n at : ℕ) (r : Held (ℕ × ℕ)) : Type 0 where
   pub says : (b : Body × ℕ) → body_in n (first (stack_at s at)) ≡ some b → b.1 ≤ 4294967295 → HandlesBy s b r
-
--- ---- a `for` after its bounds: its rounds from x to y in cell a, if both lie from lo to hi
-
-abbrev pub plan_as : ℕ → ℤ → ℤ → Machine.Plan → Plan
-plan_as a x y Machine.no_round = plan.NoRound a
-plan_as a x y Machine.outside = plan.Outside
-plan_as a x y (Machine.rounds k) = plan.Rounds a x y
-
-unfoldable pub plan_of : ℕ → ℤ → ℤ → ℤ → ℤ → Plan
-plan_of a lo hi x y = plan_as a x y (planned lo hi x y)
-
-abbrev pub plan_by : Span → Plan
-plan_by (span.Over a lo hi x y) = plan_of a lo hi x y
-plan_by (span.Halted w) = plan.Halted w

@@ -3,7 +3,7 @@
 ghost use Rattle.text_heads.specs.declared.Verb.TheVariants.{If, While, For, Case, Call};
 ghost use Rattle.mark_statements.specs.Marks.{MarksStmt, MarksInner, MarksVerb, MarksElse, MarksWhile, MarksRounds, MarksStmts, MarksFront, MarksWithin, MarksBody};
 
-use crate::finding::{Handler, Plan, callee_named, handler_of, line_of, plan_for};
+use crate::finding::{callee_named, handler_of, line_of};
 use code_calc::words::{CASE_ERROR, GREATEST, RANGE_ERROR, Store};
 use mark_acts::acts::{assign, condition, raise, selector};
 use mark_acts::arguments::{pass, take_back};
@@ -12,568 +12,357 @@ use mark_acts::ends::{STICKS, halting, sticking};
 use mark_arms::{Arm, choose_arm, later};
 use mark_cells::cells::{forget, put};
 use mark_counts::count_statements;
+use mark_expressions::tables::Tables;
 use mark_steps::ends::{RAISED, left_in, raising, stepped, stopped};
-use mark_steps::turns::{at_last, next_of};
+use mark_steps::turns::{Plan, at_last, next_of, planned};
 use rule_stmt_nodes::last::{Next, next_at};
 use table_bodies::clip_types;
-use table_scope::{MOST_TYPES, Scope};
+use table_scope::MOST_TYPES;
 use text_heads::{DEPTH, Verb, verb_of};
 use text_parts::{Part, end_at, part_at};
 use text_skips::skip;
 
-// A statement, at most `depth` deep.
-#[cycle(walk)]
-fn mark_stmt(
-    text: &[u8],
-    work: &[u32],
-    all: &[u32],
-    types: &[u32],
-    bodies: &[u32],
-    scope: Scope,
-    calls: u32,
-    depth: usize,
-    store: &mut Store,
-    left: u64,
-    n: u32,
-    at: usize,
-) -> u64
-    ensures { MarksStmt text.now work.now all.now types.now bodies.now scope calls depth n at store.old left store.new result }
-{
-    if depth == 0 {
-        return left;
-    }
-    let part = part_at(text, at);
-    match part {
-        Part::Leaf(_, _, _) => left,
-        Part::Form(p) => inner(
-            text,
-            work,
-            all,
-            types,
-            bodies,
-            scope,
-            calls,
-            depth - 1,
-            store,
-            left,
-            n,
-            p,
-        ),
-        Part::Shut(_) => left,
-    }
+// Where a statement is run: the text and the tables as its body sees them, the types of the whole script, the table of bodies, and how deep calls
+// may nest from here.
+#[derive(Clone, Copy)]
+pub struct Setting<'a> {
+    pub tables: Tables<'a>,
+    pub all: &'a [u32],
+    pub bodies: &'a [u32],
+    pub calls: u32,
 }
 
-// All parts of its form: the step, and what comes after it.
-#[cycle(walk)]
-fn inner(
-    text: &[u8],
-    work: &[u32],
-    all: &[u32],
-    types: &[u32],
-    bodies: &[u32],
-    scope: Scope,
-    calls: u32,
-    depth: usize,
-    store: &mut Store,
-    left: u64,
-    n: u32,
-    at: usize,
-) -> u64
-    ensures { MarksInner text.now work.now all.now types.now bodies.now scope calls depth n at store.old left store.new result }
-{
-    let part = part_at(text, at);
-    match part {
-        Part::Leaf(w, _, q) => {
-            let t = stepped(left);
-            if t > 4294967295 {
-                return t;
-            }
-            headed(
-                text,
-                work,
-                all,
-                types,
-                bodies,
-                scope,
-                calls,
-                depth,
-                store,
-                t,
-                later(n, 1),
-                verb_of(w),
-                q,
-            )
+impl Setting<'_> {
+    // A statement, at most `depth` deep.
+    #[cycle(walk)]
+    fn mark_stmt(&self, depth: usize, store: &mut Store, left: u64, n: u32, at: usize) -> u64
+        ensures { MarksStmt self.now.tables.text.now self.now.tables.work.now self.now.all.now self.now.tables.types.now self.now.bodies.now self.now.tables.scope self.now.calls depth n at store.old left store.new result }
+    {
+        if depth == 0 {
+            return left;
         }
-        Part::Form(_) => left,
-        Part::Shut(_) => left,
+        match part_at(self.tables.text, at) {
+            Part::Leaf(_, _, _) => left,
+            Part::Form(p) => self.inner(depth - 1, store, left, n, p),
+            Part::Shut(_) => left,
+        }
     }
-}
 
-// The parts after the head word, after the step.
-#[cycle(walk)]
-fn headed(
-    text: &[u8],
-    work: &[u32],
-    all: &[u32],
-    types: &[u32],
-    bodies: &[u32],
-    scope: Scope,
-    calls: u32,
-    depth: usize,
-    store: &mut Store,
-    left: u64,
-    n: u32,
-    verb: Verb,
-    at: usize,
-) -> u64
-    ensures { MarksVerb text.now work.now all.now types.now bodies.now scope calls verb depth n at store.old left store.new result }
-{
-    match verb {
-        Verb::Assign => assign(text, work, types, scope, store, left, n, at),
-        Verb::Begin => stmts(
-            text, work, all, types, bodies, scope, calls, depth, store, left, n, at,
-        ),
-        Verb::If => if_else(
-            text, work, all, types, bodies, scope, calls, depth, store, left, n, at,
-        ),
-        Verb::While => repeat(
-            text,
-            work,
-            all,
-            types,
-            bodies,
-            scope,
-            calls,
-            depth,
-            store,
-            left,
-            n,
-            at,
-            skip(text, at),
-        ),
-        Verb::For => count_up(
-            text, work, all, types, bodies, scope, calls, depth, store, left, n, at,
-        ),
-        Verb::Case => choose(
-            text, work, all, types, bodies, scope, calls, depth, store, left, n, at,
-        ),
-        Verb::Call => call(
-            text, work, all, types, bodies, scope, calls, depth, store, left, n, at,
-        ),
-        Verb::Raise => raise(text, work, types, scope, store, left, n, at),
-        Verb::Nothing => left,
-    }
-}
-
-// The statements from an offset to the end of a form.
-#[cycle(walk)]
-fn stmts(
-    text: &[u8],
-    work: &[u32],
-    all: &[u32],
-    types: &[u32],
-    bodies: &[u32],
-    scope: Scope,
-    calls: u32,
-    depth: usize,
-    store: &mut Store,
-    left: u64,
-    n: u32,
-    at: usize,
-) -> u64
-    ensures { MarksStmts text.now work.now all.now types.now bodies.now scope calls depth n at store.old left store.new result }
-{
-    let mut t = left;
-    let mut m = n;
-    let mut p = at;
-    loop {
-        let e = end_at(text, p);
-        match e {
-            Some(_) => {
-                return t;
-            }
-            None => {
-                let o = mark_stmt(
-                    text, work, all, types, bodies, scope, calls, depth, store, t, m, p,
-                );
-                if stopped(o) {
-                    return o;
+    // All parts of its form: the step, and what comes after it.
+    #[cycle(walk)]
+    fn inner(&self, depth: usize, store: &mut Store, left: u64, n: u32, at: usize) -> u64
+        ensures { MarksInner self.now.tables.text.now self.now.tables.work.now self.now.all.now self.now.tables.types.now self.now.bodies.now self.now.tables.scope self.now.calls depth n at store.old left store.new result }
+    {
+        match part_at(self.tables.text, at) {
+            Part::Leaf(w, _, q) => {
+                let t = stepped(left);
+                if t > 4294967295 {
+                    return t;
                 }
-                t = o;
-                m = later(m, count_statements(text, p));
-                p = skip(text, p);
+                self.headed(depth, store, t, later(n, 1), verb_of(w), q)
+            }
+            Part::Form(_) => left,
+            Part::Shut(_) => left,
+        }
+    }
+
+    // The parts after the head word, after the step.
+    #[cycle(walk)]
+    fn headed(
+        &self,
+        depth: usize,
+        store: &mut Store,
+        left: u64,
+        n: u32,
+        verb: Verb,
+        at: usize,
+    ) -> u64
+        ensures { MarksVerb self.now.tables.text.now self.now.tables.work.now self.now.all.now self.now.tables.types.now self.now.bodies.now self.now.tables.scope self.now.calls verb depth n at store.old left store.new result }
+    {
+        match verb {
+            Verb::Assign => assign(&self.tables, store, left, n, at),
+            Verb::Begin => self.stmts(depth, store, left, n, at),
+            Verb::If => self.if_else(depth, store, left, n, at),
+            Verb::While => self.repeat(depth, store, left, n, at, skip(self.tables.text, at)),
+            Verb::For => self.count_up(depth, store, left, n, at),
+            Verb::Case => self.choose(depth, store, left, n, at),
+            Verb::Call => self.call(depth, store, left, n, at),
+            Verb::Raise => raise(&self.tables, store, left, n, at),
+            Verb::Nothing => left,
+        }
+    }
+
+    // The statements from an offset to the end of a form.
+    #[cycle(walk)]
+    fn stmts(&self, depth: usize, store: &mut Store, left: u64, n: u32, at: usize) -> u64
+        ensures { MarksStmts self.now.tables.text.now self.now.tables.work.now self.now.all.now self.now.tables.types.now self.now.bodies.now self.now.tables.scope self.now.calls depth n at store.old left store.new result }
+    {
+        let mut t = left;
+        let mut m = n;
+        let mut p = at;
+        loop {
+            match end_at(self.tables.text, p) {
+                Some(_) => {
+                    return t;
+                }
+                None => {
+                    let o = self.mark_stmt(depth, store, t, m, p);
+                    if stopped(o) {
+                        return o;
+                    }
+                    t = o;
+                    m = later(m, count_statements(self.tables.text, p));
+                    p = skip(self.tables.text, p);
+                }
             }
         }
     }
-}
 
-// `if`.
-#[cycle(walk)]
-fn if_else(
-    text: &[u8],
-    work: &[u32],
-    all: &[u32],
-    types: &[u32],
-    bodies: &[u32],
-    scope: Scope,
-    calls: u32,
-    depth: usize,
-    store: &mut Store,
-    left: u64,
-    n: u32,
-    at: usize,
-) -> u64
-    ensures { MarksVerb text.now work.now all.now types.now bodies.now scope calls If depth n at store.old left store.new result }
-{
-    let x = condition(text, work, types, scope, store, at);
-    if x > GREATEST {
-        return halting(store, left, x, n);
-    }
-    let q = skip(text, at);
-    if x > 0 {
-        return mark_stmt(
-            text, work, all, types, bodies, scope, calls, depth, store, left, n, q,
-        );
-    }
-    let m = later(n, count_statements(text, q));
-    else_part(
-        text,
-        work,
-        all,
-        types,
-        bodies,
-        scope,
-        calls,
-        depth,
-        store,
-        left,
-        m,
-        skip(text, q),
-    )
-}
-
-// The third part of an `if`, which may be missing.
-#[cycle(walk)]
-fn else_part(
-    text: &[u8],
-    work: &[u32],
-    all: &[u32],
-    types: &[u32],
-    bodies: &[u32],
-    scope: Scope,
-    calls: u32,
-    depth: usize,
-    store: &mut Store,
-    left: u64,
-    n: u32,
-    at: usize,
-) -> u64
-    ensures { MarksElse text.now work.now all.now types.now bodies.now scope calls depth n at store.old left store.new result }
-{
-    let e = end_at(text, at);
-    match e {
-        Some(_) => left,
-        None => mark_stmt(
-            text, work, all, types, bodies, scope, calls, depth, store, left, n, at,
-        ),
-    }
-}
-
-// The rounds of a `while` whose test stands at c and whose statement at b.
-#[cycle(walk)]
-fn repeat(
-    text: &[u8],
-    work: &[u32],
-    all: &[u32],
-    types: &[u32],
-    bodies: &[u32],
-    scope: Scope,
-    calls: u32,
-    depth: usize,
-    store: &mut Store,
-    left: u64,
-    n: u32,
-    c: usize,
-    b: usize,
-) -> u64
-    ensures { MarksWhile text.now work.now all.now types.now bodies.now scope calls depth n c b store.old left store.new result }
-{
-    let mut t = left;
-    loop {
-        let x = condition(text, work, types, scope, store, c);
+    // `if`.
+    #[cycle(walk)]
+    fn if_else(&self, depth: usize, store: &mut Store, left: u64, n: u32, at: usize) -> u64
+        ensures { MarksVerb self.now.tables.text.now self.now.tables.work.now self.now.all.now self.now.tables.types.now self.now.bodies.now self.now.tables.scope self.now.calls If depth n at store.old left store.new result }
+    {
+        let x = condition(&self.tables, store, at);
         if x > GREATEST {
-            return halting(store, t, x, n);
+            return halting(store, left, x, n);
         }
-        if x <= 0 {
-            return t;
+        let q = skip(self.tables.text, at);
+        if x > 0 {
+            return self.mark_stmt(depth, store, left, n, q);
         }
-        let u = stepped(t);
-        if u > 4294967295 {
-            return u;
-        }
-        let o = mark_stmt(
-            text, work, all, types, bodies, scope, calls, depth, store, u, n, b,
-        );
-        if o > 4294967295 {
-            return o;
-        }
-        t = o;
+        let m = later(n, count_statements(self.tables.text, q));
+        self.else_part(depth, store, left, m, skip(self.tables.text, q))
     }
-}
 
-// `for`.
-#[cycle(walk)]
-fn count_up(
-    text: &[u8],
-    work: &[u32],
-    all: &[u32],
-    types: &[u32],
-    bodies: &[u32],
-    scope: Scope,
-    calls: u32,
-    depth: usize,
-    store: &mut Store,
-    left: u64,
-    n: u32,
-    at: usize,
-) -> u64
-    ensures { MarksVerb text.now work.now all.now types.now bodies.now scope calls For depth n at store.old left store.new result }
-{
-    let s = bounds(text, work, types, scope, store, at);
-    let p = plan_for(s);
-    match p {
-        Plan::Rounds(a, x, y) => {
-            let q = skip(text, skip(text, skip(text, at)));
-            rounds(
-                text, work, all, types, bodies, scope, calls, depth, store, left, n, a, x, y, q,
-            )
+    // The third part of an `if`, which may be missing.
+    #[cycle(walk)]
+    fn else_part(&self, depth: usize, store: &mut Store, left: u64, n: u32, at: usize) -> u64
+        ensures { MarksElse self.now.tables.text.now self.now.tables.work.now self.now.all.now self.now.tables.types.now self.now.bodies.now self.now.tables.scope self.now.calls depth n at store.old left store.new result }
+    {
+        match end_at(self.tables.text, at) {
+            Some(_) => left,
+            None => self.mark_stmt(depth, store, left, n, at),
         }
-        Plan::NoRound(a) => {
-            forget(store, a, 1);
-            left
-        }
-        Plan::Outside => raising(store, left, RANGE_ERROR, n),
-        Plan::Halted(w) => halting(store, left, w, n),
     }
-}
 
-// The rounds of a `for` whose cell is a, from x to y, and its end; its statement stands at b.
-#[cycle(walk)]
-fn rounds(
-    text: &[u8],
-    work: &[u32],
-    all: &[u32],
-    types: &[u32],
-    bodies: &[u32],
-    scope: Scope,
-    calls: u32,
-    depth: usize,
-    store: &mut Store,
-    left: u64,
-    n: u32,
-    a: u32,
-    x: i64,
-    y: i64,
-    b: usize,
-) -> u64
-    ensures { MarksRounds text.now work.now all.now types.now bodies.now scope calls depth n a x y b store.old left store.new result }
-{
-    let mut z = x;
-    let mut t = left;
-    loop {
-        let u = stepped(t);
-        if u > 4294967295 {
-            return u;
-        }
-        put(store, a, z);
-        let o = mark_stmt(
-            text, work, all, types, bodies, scope, calls, depth, store, u, n, b,
-        );
-        if o > 4294967295 {
-            return o;
-        }
-        if at_last(z, y) {
-            forget(store, a, 1);
-            return o;
-        }
-        z = next_of(z, y);
-        t = o;
-    }
-}
-
-// `case`.
-#[cycle(walk)]
-fn choose(
-    text: &[u8],
-    work: &[u32],
-    all: &[u32],
-    types: &[u32],
-    bodies: &[u32],
-    scope: Scope,
-    calls: u32,
-    depth: usize,
-    store: &mut Store,
-    left: u64,
-    n: u32,
-    at: usize,
-) -> u64
-    ensures { MarksVerb text.now work.now all.now types.now bodies.now scope calls Case depth n at store.old left store.new result }
-{
-    let x = selector(text, work, types, scope, store, at);
-    let w = x.word;
-    if w > GREATEST {
-        return halting(store, left, w, n);
-    }
-    let a = choose_arm(text, work, scope, x.kind, w, n, skip(text, at));
-    match a {
-        Arm::Taken(q, m) => mark_stmt(
-            text, work, all, types, bodies, scope, calls, depth, store, left, m, q,
-        ),
-        Arm::Absent => raising(store, left, CASE_ERROR, n),
-        Arm::Stuck => sticking(left),
-    }
-}
-
-// `call`.
-#[cycle(walk)]
-fn call(
-    text: &[u8],
-    work: &[u32],
-    all: &[u32],
-    types: &[u32],
-    bodies: &[u32],
-    scope: Scope,
-    calls: u32,
-    depth: usize,
-    store: &mut Store,
-    left: u64,
-    n: u32,
-    at: usize,
-) -> u64
-    ensures { MarksVerb text.now work.now all.now types.now bodies.now scope calls Call depth n at store.old left store.new result }
-{
-    if calls == 0 {
-        return left;
-    }
-    let c = callee_named(text, work, scope, at);
-    let x = c.frame;
-    let w = pass(text, work, types, scope, store, x, c.next);
-    if w > GREATEST {
-        return halting(store, left, w, n);
-    }
-    let o = mark_body(text, work, all, bodies, calls - 1, store, left, c.number);
-    take_back(store, x, o);
-    o
-}
-
-// The statements of a body before its handler.
-#[cycle(walk)]
-fn front(
-    text: &[u8],
-    work: &[u32],
-    all: &[u32],
-    types: &[u32],
-    bodies: &[u32],
-    scope: Scope,
-    calls: u32,
-    store: &mut Store,
-    left: u64,
-    n: u32,
-    at: usize,
-) -> u64
-    ensures { MarksFront text.now work.now all.now types.now bodies.now scope calls n at store.old left store.new result }
-{
-    let mut t = left;
-    let mut m = n;
-    let mut p = at;
-    loop {
-        let x = next_at(text, p);
-        match x {
-            Next::Past(_) => {
+    // The rounds of a `while` whose test stands at c and whose statement at b.
+    #[cycle(walk)]
+    fn repeat(&self, depth: usize, store: &mut Store, left: u64, n: u32, c: usize, b: usize) -> u64
+        ensures { MarksWhile self.now.tables.text.now self.now.tables.work.now self.now.all.now self.now.tables.types.now self.now.bodies.now self.now.tables.scope self.now.calls depth n c b store.old left store.new result }
+    {
+        let mut t = left;
+        loop {
+            let x = condition(&self.tables, store, c);
+            if x > GREATEST {
+                return halting(store, t, x, n);
+            }
+            if x <= 0 {
                 return t;
             }
-            Next::Handler(_) => {
-                return t;
+            let u = stepped(t);
+            if u > 4294967295 {
+                return u;
             }
-            Next::Stmt => {
-                let o = mark_stmt(
-                    text, work, all, types, bodies, scope, calls, DEPTH, store, t, m, p,
-                );
-                if stopped(o) {
-                    return o;
+            let o = self.mark_stmt(depth, store, u, n, b);
+            if o > 4294967295 {
+                return o;
+            }
+            t = o;
+        }
+    }
+
+    // `for`.
+    #[cycle(walk)]
+    fn count_up(&self, depth: usize, store: &mut Store, left: u64, n: u32, at: usize) -> u64
+        ensures { MarksVerb self.now.tables.text.now self.now.tables.work.now self.now.all.now self.now.tables.types.now self.now.bodies.now self.now.tables.scope self.now.calls For depth n at store.old left store.new result }
+    {
+        match bounds(&self.tables, store, at) {
+            Err(w) => halting(store, left, w, n),
+            Ok(s) => match planned(s.low, s.high, s.from, s.to) {
+                Plan::Rounds => {
+                    let text = self.tables.text;
+                    let q = skip(text, skip(text, skip(text, at)));
+                    self.rounds(depth, store, left, n, s.cell, s.from, s.to, q)
                 }
-                t = o;
-                m = later(m, count_statements(text, p));
-                p = skip(text, p);
+                Plan::NoRound => {
+                    forget(store, s.cell, 1);
+                    left
+                }
+                Plan::Outside => raising(store, left, RANGE_ERROR, n),
+            },
+        }
+    }
+
+    // The rounds of a `for` whose cell is a, from x to y, and its end; its statement stands at b.
+    #[cycle(walk)]
+    fn rounds(
+        &self,
+        depth: usize,
+        store: &mut Store,
+        left: u64,
+        n: u32,
+        a: u32,
+        x: i64,
+        y: i64,
+        b: usize,
+    ) -> u64
+        ensures { MarksRounds self.now.tables.text.now self.now.tables.work.now self.now.all.now self.now.tables.types.now self.now.bodies.now self.now.tables.scope self.now.calls depth n a x y b store.old left store.new result }
+    {
+        let mut z = x;
+        let mut t = left;
+        loop {
+            let u = stepped(t);
+            if u > 4294967295 {
+                return u;
+            }
+            put(store, a, z);
+            let o = self.mark_stmt(depth, store, u, n, b);
+            if o > 4294967295 {
+                return o;
+            }
+            if at_last(z, y) {
+                forget(store, a, 1);
+                return o;
+            }
+            z = next_of(z, y);
+            t = o;
+        }
+    }
+
+    // `case`.
+    #[cycle(walk)]
+    fn choose(&self, depth: usize, store: &mut Store, left: u64, n: u32, at: usize) -> u64
+        ensures { MarksVerb self.now.tables.text.now self.now.tables.work.now self.now.all.now self.now.tables.types.now self.now.bodies.now self.now.tables.scope self.now.calls Case depth n at store.old left store.new result }
+    {
+        let x = selector(&self.tables, store, at);
+        let w = x.word;
+        if w > GREATEST {
+            return halting(store, left, w, n);
+        }
+        let a = choose_arm(
+            self.tables.text,
+            self.tables.work,
+            self.tables.scope,
+            x.kind,
+            w,
+            n,
+            skip(self.tables.text, at),
+        );
+        match a {
+            Arm::Taken(q, m) => self.mark_stmt(depth, store, left, m, q),
+            Arm::Absent => raising(store, left, CASE_ERROR, n),
+            Arm::Stuck => sticking(left),
+        }
+    }
+
+    // `call`.
+    #[cycle(walk)]
+    fn call(&self, depth: usize, store: &mut Store, left: u64, n: u32, at: usize) -> u64
+        ensures { MarksVerb self.now.tables.text.now self.now.tables.work.now self.now.all.now self.now.tables.types.now self.now.bodies.now self.now.tables.scope self.now.calls Call depth n at store.old left store.new result }
+    {
+        if self.calls == 0 {
+            return left;
+        }
+        let c = callee_named(self.tables.text, self.tables.work, self.tables.scope, at);
+        let x = c.frame;
+        match pass(&self.tables, store, x, c.next) {
+            Err(w) => halting(store, left, w, n),
+            Ok(()) => {
+                let t = &self.tables;
+                let calls = self.calls - 1;
+                let o = Setting::mark_body(
+                    t.text,
+                    t.work,
+                    self.all,
+                    self.bodies,
+                    calls,
+                    store,
+                    left,
+                    c.number,
+                );
+                take_back(store, x, o);
+                o
             }
         }
     }
-}
 
-// A body whose parts begin at an offset: after an exception its handler; stuck and spent are not handled.
-#[cycle(walk)]
-fn body_from(
-    text: &[u8],
-    work: &[u32],
-    all: &[u32],
-    types: &[u32],
-    bodies: &[u32],
-    scope: Scope,
-    calls: u32,
-    store: &mut Store,
-    left: u64,
-    n: u32,
-    at: usize,
-) -> u64
-    ensures { MarksWithin text.now work.now all.now types.now bodies.now scope calls n at store.old left store.new result }
-{
-    let o = front(
-        text, work, all, types, bodies, scope, calls, store, left, n, at,
-    );
-    if o < RAISED {
-        return o;
+    // The statements of a body before its handler.
+    #[cycle(walk)]
+    fn front(&self, store: &mut Store, left: u64, n: u32, at: usize) -> u64
+        ensures { MarksFront self.now.tables.text.now self.now.tables.work.now self.now.all.now self.now.tables.types.now self.now.bodies.now self.now.tables.scope self.now.calls n at store.old left store.new result }
+    {
+        let mut t = left;
+        let mut m = n;
+        let mut p = at;
+        loop {
+            match next_at(self.tables.text, p) {
+                Next::Past(_) => {
+                    return t;
+                }
+                Next::Handler(_) => {
+                    return t;
+                }
+                Next::Stmt => {
+                    let o = self.mark_stmt(DEPTH, store, t, m, p);
+                    if stopped(o) {
+                        return o;
+                    }
+                    t = o;
+                    m = later(m, count_statements(self.tables.text, p));
+                    p = skip(self.tables.text, p);
+                }
+            }
+        }
     }
-    if o >= STICKS {
-        return o;
+
+    // A body whose parts begin at an offset: after an exception its handler; stuck and spent are not handled.
+    #[cycle(walk)]
+    fn body_from(&self, store: &mut Store, left: u64, n: u32, at: usize) -> u64
+        ensures { MarksWithin self.now.tables.text.now self.now.tables.work.now self.now.all.now self.now.tables.types.now self.now.bodies.now self.now.tables.scope self.now.calls n at store.old left store.new result }
+    {
+        let o = self.front(store, left, n, at);
+        if o < RAISED {
+            return o;
+        }
+        if o >= STICKS {
+            return o;
+        }
+        match handler_of(self.tables.text, n, at) {
+            Some((q, m)) => self.stmts(DEPTH, store, left_in(o), m, q),
+            None => o,
+        }
     }
-    let h = handler_of(text, n, at);
-    match h {
-        Handler::From(q, m) => stmts(
+
+    // Body q, with the names and types of its own line. `types` are those of the whole script.
+    #[cycle(walk)]
+    pub fn mark_body<'x>(
+        text: &'x [u8],
+        work: &'x [u32],
+        types: &'x [u32],
+        bodies: &'x [u32],
+        calls: u32,
+        store: &mut Store,
+        left: u64,
+        q: u32,
+    ) -> u64
+        ensures { MarksBody text.now work.now types.now bodies.now calls q store.old left store.new result }
+    {
+        let e = line_of(bodies, q);
+        let mut seen = [0u32; MOST_TYPES];
+        clip_types(types, e.kinds, &mut seen);
+        let tables = Tables {
             text,
             work,
-            all,
-            types,
+            types: &seen,
+            scope: e.scope,
+        };
+        let body = Setting {
+            tables,
+            all: types,
             bodies,
-            scope,
             calls,
-            DEPTH,
-            store,
-            left_in(o),
-            m,
-            q,
-        ),
-        Handler::Nothing => o,
+        };
+        body.body_from(store, left, e.number, e.start)
     }
-}
-
-// Body q, with the names and types of its own line. `types` are those of the whole script.
-#[cycle(walk)]
-pub fn mark_body(
-    text: &[u8],
-    work: &[u32],
-    types: &[u32],
-    bodies: &[u32],
-    calls: u32,
-    store: &mut Store,
-    left: u64,
-    q: u32,
-) -> u64
-    ensures { MarksBody text.now work.now types.now bodies.now calls q store.old left store.new result }
-{
-    let e = line_of(bodies, q);
-    let mut seen = [0u32; MOST_TYPES];
-    clip_types(types, e.kinds, &mut seen);
-    body_from(
-        text, work, types, &seen, bodies, e.scope, calls, store, left, e.number, e.start,
-    )
 }

@@ -9,6 +9,7 @@ use lib.Signed.{le_z, lt_z}
 use mir.Syntax.{w64}
 use mir.Val.{SFits}
 use mir.Facts.{to_z-of_z}
+use borrow.Author.Rules.{sfits_of}
 use borrow.Author.Tests.{ltb-true}
 use Rattle.leaf_integers.proofs.Machine.{wire, fits-mag}
 use Rattle.leaf_integers.specs.Integers.{inside}
@@ -44,7 +45,7 @@ module _ (z y : ℤ) (f : SFits w64 z) (g : SFits w64 y) where
   pub next-same : lt_z (wire z) (wire y) ≡ false → Increments z y (wire z)
   next-same h = record { says = λ k. absurd (subst T (sym k ∙ (rw (to_z-of_z f, to_z-of_z g) at h)) tt) }
 
-pub ruleset next-laws = (next-room, next_more, next-same)
+pub ruleset next_laws = (next-room, next_more, next-same)
 
 -- ---- `planned`
 
@@ -82,4 +83,4 @@ module _ (lo hi x y : ℤ) (fl : SFits w64 lo) (fh : SFits w64 hi) (fx : SFits w
       unfolding pick
       plan-rounds k = record { says = plan-by lo hi x y true true true upward (first ∙ e) (second ∙ k); up = λ e. upward }
 
-pub ruleset plan-laws = (plan-none, plan-left, plan-right, plan-rounds)
+pub ruleset plan_laws = (plan-none, plan-left, plan-right, plan-rounds, sfits_of)

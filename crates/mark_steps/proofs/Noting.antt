@@ -33,7 +33,7 @@ pub step-one : (left : ℕ) → ((left ≡ 0) → ⊥) → left - 1 ≡ step_wor
 unfolding step_word pick
 step-one left h = sym (ap (λ (b : Bool). pick b 4294967296 (left - 1)) (ne_eqb left 0 h))
 
-pub ruleset step-laws = (step-none, step-one)
+pub ruleset step_laws = (step-none, step-one)
 
 -- ---- `raising`
 pub raising-is : (z : ℤ) (n : ℕ) (ws : List ℤ) (left : ℕ) → SFits w64 z → Fits w32 n
@@ -76,7 +76,7 @@ module _ (w : ℤ) (n : ℕ) (ws : List ℤ) (left : ℕ) (ws' : List ℤ) (r : 
       let g : lt_z greatest w ≡ false = rw (to_z-of_z f) at h in
       subst (λ (z : ℤ). Raises z n ws left ws' r) (to_z-of_z f ∙ rw g) R
 
-pub ruleset failing-laws = (failing-room, failing-above, failing-below)
+pub ruleset failing_laws = (failing-room, failing-above, failing-below)
 
 -- ---- `raise_number`
 zero_is : (z : ℤ) → SFits w64 z → of_z w64 z ≡ 0 → is_zero z ≡ true
@@ -115,4 +115,4 @@ raise-again z n ws left f g h k = record {
   small = omega (arith, g.fits);
 }
 
-pub ruleset raise-laws = (raise-new, raise-none, raise-again)
+pub ruleset raise_laws = (raise-new, raise-none, raise-again)

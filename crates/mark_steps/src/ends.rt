@@ -18,6 +18,7 @@ pub fn stopped(w: u64) -> bool
 }
 
 // The steps left by a word.
+#[tactic(auto, using(crate::proofs::Noting::left_is))]
 pub fn left_in(w: u64) -> u64
     ensures { result ≡ left_in w }
 {
@@ -25,13 +26,11 @@ pub fn left_in(w: u64) -> u64
 }
 
 // One step taken, as a word.
+#[tactic(auto, using(crate::proofs::Noting::step_laws))]
 pub fn stepped(left: u64) -> u64
     ensures { result ≡ step_word left }
 {
-    if left == 0 {
-        return SPENT;
-    }
-    left - 1
+    if left == 0 { SPENT } else { left - 1 }
 }
 
 // Exception z at statement n.
@@ -48,9 +47,10 @@ pub fn failing(store: &mut Store, left: u64, w: i64, n: u32) -> u64
     ensures { Raises (fault_in w) n store.old left store.new result }
 {
     if w > GREATEST {
-        return raising(store, left, w - FAULT, n);
+        raising(store, left, w - FAULT, n)
+    } else {
+        raising(store, left, w, n)
     }
-    raising(store, left, w, n)
 }
 
 // `raise` with number z at statement n.
@@ -58,10 +58,10 @@ pub fn raise_number(store: &mut Store, left: u64, z: i64, n: u32) -> u64
     ensures { RaisesNumber z n store.old left store.new result }
 {
     if z != 0 {
-        return raising(store, left, z, n);
+        raising(store, left, z, n)
+    } else if store[LATEST] == 0 {
+        raising(store, left, SYSTEM_ERROR, n)
+    } else {
+        RAISED + left % SPENT
     }
-    if store[LATEST] == 0 {
-        return raising(store, left, SYSTEM_ERROR, n);
-    }
-    RAISED + left % SPENT
 }

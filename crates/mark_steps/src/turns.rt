@@ -14,19 +14,17 @@ pub enum Plan {
 }
 
 // The plan of a `for` from x to y, whose control variable takes low to high.
+#[tactic(auto, using(crate::proofs::Counted::plan_laws))]
 pub fn planned(low: i64, high: i64, x: i64, y: i64) -> Plan
     ensures { Plans low high x y result }
 {
     if x > y {
-        return Plan::NoRound;
+        Plan::NoRound
+    } else if in_range(x, low, high) && in_range(y, low, high) {
+        Plan::Rounds
+    } else {
+        Plan::Outside
     }
-    if in_range(x, low, high) {
-        if in_range(y, low, high) {
-            return Plan::Rounds;
-        }
-        return Plan::Outside;
-    }
-    Plan::Outside
 }
 
 // Whether a control variable has come to y.
@@ -37,11 +35,9 @@ pub fn at_last(z: i64, y: i64) -> bool
 }
 
 // The next value of a control variable that has not come to y.
+#[tactic(auto, using(crate::proofs::Counted::next_laws))]
 pub fn next_of(z: i64, y: i64) -> i64
     ensures { Increments z y result }
 {
-    if z < y {
-        return z + 1;
-    }
-    z
+    if z < y { z + 1 } else { z }
 }

@@ -137,4 +137,4 @@ module _ (k : ℕ) (x : Carried) (f : SFits w64 x.word) where
   pub wants-other : lt_z greatest (wire x.word) ≡ false → ((k ≡ x.kind) → ⊥) → Wants k x no_result
   wants-other h e = record { says = λ Γ m v c. carried-value c (rw (to_z-of_z f) at h) (λ a q w i n. rw (q, ne_eqb k a.kind (λ j. e (j ∙ sym n))) means-stuck) }
 
-pub ruleset wanted-laws = (wants-fault, wants-value, wants-other, sfits_of)
+pub ruleset wanted_laws = (wants-fault, wants-value, wants-other, sfits_of)

@@ -70,7 +70,7 @@ module _ (w : ℤ) (f : SFits w64 w) where
     unfolding first_cell pick
     first-is = rw (rw (to_z-of_z f) at h) (e ∙ ap (λ (z : ℤ). min (nat_of z) 4294967295) (to_z-of_z f))
 
-pub ruleset first-laws = (first-none, first_fits, first-is, sfits_of)
+pub ruleset first_laws = (first-none, first_fits, first-is, sfits_of)
 
 -- ---- `load`
 
@@ -150,7 +150,7 @@ loads-is l ts ws g i k a z fg fz ei ek ez ea = rw (to_z-of_z fz, ez, ea, ek, ei,
     go σ S m H v R true h = rw (at-broken ws g.word (info_of l ts g.typed).size h) (carries-broken σ.types m (host_in l ts g.typed) (first_cell g.word) (broken-bind (λ w. loaded σ.types m w) (reached-broken R h)))
     go σ S m H v R false h = reached-value R h (λ w e f t. rw (e, t, host-in S.scene w.type, size-told S.scene w.type, f, first-at w.addr) (load-place σ.types S.scene.table ws m H w))
 
-pub ruleset load-laws = (loads-is, sfits_of)
+pub ruleset load_laws = (loads-is, sfits_of)
 
 -- ---- `index`
 
@@ -186,7 +186,7 @@ pub element-is : (l ts : List ℕ) (i e : Info) (a b d z : ℤ) (r : Reached) �
 unfolding element_place
 element-is l ts i e a b d z r fa fb fd fz ee ed ez h = h ∙ rw (to_z-of_z fz, ez, to_z-of_z fa, to_z-of_z fd, ed, to_z-of_z fb, ee) refl
 
-pub ruleset element-laws = (element-is, sfits_of)
+pub ruleset element_laws = (element-is, sfits_of)
 
 module _ (l ts : List ℕ) (g : Reached) (x : Carried) (r : Reached) (fg : SFits w64 g.word) where
   pub indexes-left : lt_z greatest (wire g.word) ≡ true → r ≡ reached_of 0 (wire g.word) → Indexes l ts g x r
@@ -226,7 +226,7 @@ module _ (l ts : List ℕ) (g : Reached) (x : Carried) (r : Reached) (fg : SFits
             rw (e, to_z-of_z fx, to_z-of_z fg, ei, f, f', low_signed S g.typed, high-signed S g.typed, element-told S.scene g.typed, size-told S.scene (info_at σ.types g.typed).element, ← t, ← array-is S, eq-eqb i.shape 2 a, ← index-kind S, eq-eqb k y.kind (n ∙ q))
             (element-reaches (info_at σ.types g.typed).low (info_at σ.types g.typed).high (sole y.cells) (low_small S g.typed) (high_small S g.typed) p w.addr (size_of σ.types (info_at σ.types g.typed).element) (info_at σ.types g.typed).element))
 
-pub ruleset index-laws = (indexes-left, indexes-right, indexes-shape, indexes-kind, indexes-is, sfits_of)
+pub ruleset index_laws = (indexes-left, indexes-right, indexes-shape, indexes-kind, indexes-is, sfits_of)
 
 -- ---- `select`
 
@@ -264,4 +264,4 @@ module _ (s l ts : List ℕ) (g : Reached) (p : ℕ) (r : Reached) (fg : SFits w
         go fs w (no_field n _) = absurd (nz n)
         go fs w (a-field x o n tx ox) = rw (n, ← tx, ← ox) (reaches-place (typed_place x.type (w.addr + x.offset)) _ refl)
 
-pub ruleset select-laws = (selects-fault, selects-none, selects-is, sfits_of)
+pub ruleset select_laws = (selects-fault, selects-none, selects-is, sfits_of)

@@ -101,7 +101,7 @@ module _ (l ts : List ℕ) (k : ℕ) (z : ℤ) (r : Carried) (i : Info) (ei : i 
     pub constant-out : b ≡ false → r ≡ carried_of 0 no_result 0 → Constants l ts k z r
     constant-out q e = rw e (record { says = λ s scope σ S m. rw (ordinal S, tested-as S, q) (carries-stuck σ.types m) })
 
-pub ruleset constant-laws = (constant-shape, constant-in, constant-out, sfits_of)
+pub ruleset constant_laws = (constant-shape, constant-in, constant-out, sfits_of)
 
 module _ (l ts : List ℕ) (z : ℤ) (fz : SFits w64 z) (r : Carried) (n : Num) (e : n ≡ exact (neg_ℤ (wire z))) where
   pub negative-value : (v : ℤ) → n ≡ Ok v → SFits w64 v → Constants l ts 0 (wire v) r → Constants l ts 0 (neg_ℤ z) r
@@ -113,7 +113,7 @@ module _ (l ts : List ℕ) (z : ℤ) (fz : SFits w64 z) (r : Carried) (n : Num) 
       let q : inside least most (neg_ℤ z) ≡ false = rw (to_z-of_z fz) at (ranged-fault _ f least most (neg_ℤ (wire z)) (sym e ∙ h)).0 in
       rw g (record { says = λ s scope σ S m. rw (S.scene.table.integers.0, S.scene.table.integers.1, S.scene.table.integers.2, q) (carries-stuck σ.types m) })
 
-pub ruleset negative-laws = (negative-value, negative-past, sfits_of)
+pub ruleset negative_laws = (negative-value, negative-past, sfits_of)
 
 -- ---- `first` and `last`
 
@@ -126,7 +126,7 @@ module _ (last : Bool) (i : Info) (w : ℤ) (fw : SFits w64 w) where
   unfolding end_word
   end-first h e = to_z-of_z fw ∙ e ∙ rw h refl
 
-pub ruleset end-word-laws = (end-last, end-first, sfits_of)
+pub ruleset end_word_laws = (end-last, end-first, sfits_of)
 
 module _ {s l ts : List ℕ} {scope : Scope} {σ : Environment} (S : Known s l ts scope σ) (t : ℕ) where
   end-signed : (last : Bool) → end_word last (info_of l ts t) ≡ pick last (info_at σ.types t).high (info_at σ.types t).low
@@ -152,14 +152,14 @@ module _ (l ts : List ℕ) (last : Bool) (t : ℕ) (r : Carried) (i : Info) (ei 
         (simple-ordinal σ.types (kinded S.scene) (host_of σ.types t) (host-ordinal σ.types S.scene.table t o)) (end-small S t last));
   })
 
-pub ruleset end-of-laws = (end-shape, end_is, sfits_of)
+pub ruleset end_of_laws = (end-shape, end_is, sfits_of)
 
 -- ---- `error_number`
 
 pub latest-is : (ws : List ℤ) (w : ℤ) (r : Carried) → w ≡ latest_in ws → SFits w64 w → r ≡ carried_of 0 (wire w) 0 → Latest ws r
 latest-is ws w r h f e = rw (e, to_z-of_z f, h) (record { says = λ Γ o m H. subst (λ (z : ℤ). Carries Γ m (is (typed_value 0 (z ∷ []))) (carried_of 0 (latest_in ws) 0)) (sym H.last) (carries-cell Γ m 0 (latest_in ws) 0 (rw o refl) H.last-ranged) })
 
-pub ruleset latest-laws = (latest-is, sfits_of)
+pub ruleset latest_laws = (latest-is, sfits_of)
 
 -- ---- a member
 
@@ -194,7 +194,7 @@ member_is l ts t x i h w lo hi z ei eh W el er ez fw fl fh fz = rw (to_z-of_z fz
       (rw (eh, ei, element-told S.scene t, host-in S.scene (info_at σ.types t).element) at (W.says σ.types m v X)));
 })
 
-pub ruleset member-laws = (member_is, sfits_of)
+pub ruleset member_laws = (member_is, sfits_of)
 
 -- ---- an argument
 
@@ -218,4 +218,4 @@ module _ (l ts : List ℕ) (t : ℕ) (x : Carried) (i : Info) (h : ℕ) (w : ℤ
     says = λ s scope σ S m v X. rw (ordinal-no S t (λ q. o (ap (λ (j : Info). j.shape) ei ∙ q))) (met s scope σ S m v X);
   })
 
-pub ruleset argument-laws = (argument-ordinal, argument-set, sfits_of)
+pub ruleset argument_laws = (argument-ordinal, argument-set, sfits_of)

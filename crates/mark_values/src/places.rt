@@ -25,27 +25,19 @@ pub fn place(typed: u32, word: i64) -> Reached
 }
 
 // A place's first cell, 0 of a fault.
+#[tactic(auto, using(crate::proofs::Reaching::first_laws))]
 fn first_cell(word: i64) -> u32
     ensures { result ≡ first_cell word }
 {
     if word > GREATEST {
-        return 0;
+        0
+    } else {
+        reach(word) as u32
     }
-    reach(word) as u32
-}
-
-// The cells at a place.
-pub fn load(work: &[u32], types: &[u32], store: &Store, g: Reached) -> Carried
-    ensures { Loads work.now types.now store.now g result }
-{
-    let i = describe(work, types, g.typed);
-    let kind = host_of(work, types, g.typed);
-    let word = cells_at(store, g.word, i.size);
-    let from = first_cell(g.word);
-    Carried { kind, word, from }
 }
 
 // The element at an index's word, of an array that i describes and whose place has the word a.
+#[tactic(auto, using(crate::proofs::Reaching::element_laws))]
 fn element_place(work: &[u32], types: &[u32], i: Info, a: i64, b: i64) -> Reached
     ensures { result ≡ element_place work.now types.now i a b }
 {
@@ -53,41 +45,54 @@ fn element_place(work: &[u32], types: &[u32], i: Info, a: i64, b: i64) -> Reache
     place(i.element, element(a, distance(b, i.low, i.high), e.size))
 }
 
-// The element of an array at an index: both are worked out before their kinds are met.
-pub fn index(work: &[u32], types: &[u32], g: Reached, x: Carried) -> Reached
-    ensures { Indexes work.now types.now g x result }
-{
-    let a = g.word;
-    let b = x.word;
-    if a > GREATEST {
-        return place(0, a);
+impl Reached {
+    // The cells at a place.
+    #[tactic(auto, using(crate::proofs::Reaching::load_laws))]
+    pub fn load(self, work: &[u32], types: &[u32], store: &Store) -> Carried
+        ensures { Loads work.now types.now store.now self result }
+    {
+        let i = describe(work, types, self.typed);
+        let kind = host_of(work, types, self.typed);
+        let word = cells_at(store, self.word, i.size);
+        let from = first_cell(self.word);
+        Carried { kind, word, from }
     }
-    if b > GREATEST {
-        return place(0, b);
-    }
-    let i = describe(work, types, g.typed);
-    if i.shape != 2 {
-        return place(0, STUCK);
-    }
-    if host_of(work, types, i.index) != x.kind {
-        return place(0, STUCK);
-    }
-    element_place(work, types, i, a, b)
-}
 
-// The field that the word at an offset names.
-pub fn select(text: &[u8], work: &[u32], types: &[u32], g: Reached, offset: usize) -> Reached
-    ensures { Selects text.now work.now types.now g offset result }
-{
-    let a = g.word;
-    if a > GREATEST {
-        return place(0, a);
+    // The element of an array at an index: both are worked out before their kinds are met.
+    #[tactic(auto, using(crate::proofs::Reaching::index_laws))]
+    pub fn index(self, work: &[u32], types: &[u32], x: Carried) -> Reached
+        ensures { Indexes work.now types.now self x result }
+    {
+        let a = self.word;
+        let b = x.word;
+        if a > GREATEST {
+            return place(0, a);
+        }
+        if b > GREATEST {
+            return place(0, b);
+        }
+        let i = describe(work, types, self.typed);
+        if i.shape == 2 && host_of(work, types, i.index) == x.kind {
+            element_place(work, types, i, a, b)
+        } else {
+            place(0, STUCK)
+        }
     }
-    let i = describe(work, types, g.typed);
-    let f = find_field(text, work, i.place, i.fields, offset);
-    if f == 0 {
-        return place(0, STUCK);
+
+    // The field that the word at an offset names.
+    pub fn select(self, text: &[u8], work: &[u32], types: &[u32], offset: usize) -> Reached
+        ensures { Selects text.now work.now types.now self offset result }
+    {
+        let a = self.word;
+        if a > GREATEST {
+            return place(0, a);
+        }
+        let i = describe(work, types, self.typed);
+        let f = find_field(text, work, i.place, i.fields, offset);
+        if f == 0 {
+            return place(0, STUCK);
+        }
+        let p = f as usize;
+        place(at(work, p + 1), shifted(a, at(work, p + 2)))
     }
-    let p = f as usize;
-    place(at(work, p + 1), shifted(a, at(work, p + 2)))
 }

@@ -27,16 +27,17 @@ pub fn value(kind: u32, word: i64) -> Carried
     }
 }
 
-// The word of a value that must be of a kind.
-pub fn wanted(kind: u32, x: Carried) -> i64
-    ensures { Wants kind x result }
-{
-    let w = x.word;
-    if w > GREATEST {
-        return w;
+impl Carried {
+    // The word of a value that must be of a kind.
+    #[tactic(auto, using(crate::proofs::Carrying::wanted_laws))]
+    pub fn wanted(self, kind: u32) -> i64
+        ensures { Wants kind self result }
+    {
+        let w = self.word;
+        if w > GREATEST || kind == self.kind {
+            w
+        } else {
+            STUCK
+        }
     }
-    if kind == x.kind {
-        return w;
-    }
-    STUCK
 }

@@ -10,5 +10,5 @@ returns-then-w-lt-RAISED c = search tells-laws
 pub returns-then-w-lt-STICKS : goal.returns-then-w-lt-STICKS
 returns-then-w-lt-STICKS c = search tells-laws
 
-pub returns : goal.returns
-returns c = search tells-laws
+pub returns-else-w-lt-STICKS : goal.returns-else-w-lt-STICKS
+returns-else-w-lt-STICKS c = search tells-laws

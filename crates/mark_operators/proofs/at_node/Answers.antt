@@ -1,11 +1,11 @@
 use Rattle.mark_operators.proofs.Operating.{node_laws}
 use Rattle.mark_operators.proofs.at_node.Goals as goal
 
-pub returns-then-n-eq-PRED : goal.returns-then-n-eq-PRED
-returns-then-n-eq-PRED c = search node_laws
+pub returns-in-38 : goal.returns-in-38
+returns-in-38 c = search node_laws
 
-pub returns-then-n-eq-SUCC : goal.returns-then-n-eq-SUCC
-returns-then-n-eq-SUCC c = search node_laws
+pub returns-in-39 : goal.returns-in-39
+returns-in-39 c = search node_laws
 
-pub returns : goal.returns
-returns c = search node_laws
+pub returns-in_default : goal.returns-in_default
+returns-in_default c = search node_laws

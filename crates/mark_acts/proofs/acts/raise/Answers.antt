@@ -1,8 +1,8 @@
-use Rattle.mark_acts.proofs.Acting.{raise-laws}
+use Rattle.mark_acts.proofs.Acting.{raise_laws}
 use Rattle.mark_acts.proofs.acts.raise.Goals as goal
 
 pub returns-then-z-gt-GREATEST : goal.returns-then-z-gt-GREATEST
-returns-then-z-gt-GREATEST c = search raise-laws
+returns-then-z-gt-GREATEST c = search raise_laws
 
-pub returns : goal.returns
-returns c = search raise-laws
+pub returns-else-z-gt-GREATEST : goal.returns-else-z-gt-GREATEST
+returns-else-z-gt-GREATEST c = search raise_laws

@@ -1,8 +1,8 @@
-use Rattle.mark_acts.proofs.Ending.{halting-laws}
+use Rattle.mark_acts.proofs.Ending.{halting_laws}
 use Rattle.mark_acts.proofs.ends.halting.Goals as goal
 
 pub returns-then-w-eq-STUCK : goal.returns-then-w-eq-STUCK
-returns-then-w-eq-STUCK c = search halting-laws
+returns-then-w-eq-STUCK c = search halting_laws
 
-pub returns : goal.returns
-returns c = search halting-laws
+pub returns-else-w-eq-STUCK : goal.returns-else-w-eq-STUCK
+returns-else-w-eq-STUCK c = search halting_laws

@@ -3,10 +3,10 @@ use Rattle.mark_cells.proofs.Storing.{fill_end, fill_start, give-next}
 use Rattle.mark_cells.proofs.cells.give.Goals as goal
 
 pub loop-i-init : goal.loop-i-init
-loop-i-init c = (search rules, search fill_start)
+loop-i-init c = search fill_start
 
 pub loop-i-preserved : goal.loop-i-preserved
-loop-i-preserved c = (search rules, search (give-next, rules))
+loop-i-preserved c = search (give-next, rules)
 
 pub returns : goal.returns
 returns c = search fill_end

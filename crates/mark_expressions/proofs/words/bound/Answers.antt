@@ -1,5 +1,0 @@
-use Rattle.mark_expressions.proofs.Naming.{bound-is}
-use Rattle.mark_expressions.proofs.words.bound.Goals as goal
-
-pub returns : goal.returns
-returns c = search bound-is
