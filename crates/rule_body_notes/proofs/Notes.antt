@@ -23,14 +23,6 @@ unfolding stack_at rest_at
 stack-by s p q e = ap (λ (r : List ℕ). ended (read_bytes r).begun (read_bytes r).stack) e
 
 module _ (s : List ℕ) (at : ℕ) where
-  pub offset-low : at < length s → at % 65536 ≡ offset_in s at
-  unfolding offset_in
-  offset-low h = let e : min at (length s) ≡ at = min-eq_left (omega arith) in rw e refl
-
-  pub offset-past : length s ≤ at → length s % 65536 ≡ offset_in s at
-  unfolding offset_in
-  offset-past h = let e : min at (length s) ≡ length s = min-eq_right h in rw e refl
-
   pub offset-exact : at ≤ length s → length s ≤ 32768 → offset_in s at ≡ at
   unfolding offset_in
   offset-exact h g = let e : min at (length s) ≡ at = min-eq_left h in rw e (mod-eq_of_lt (omega arith))
@@ -49,8 +41,6 @@ module _ (s : List ℕ) (at : ℕ) where
           let e : min at (length s) ≡ at = min-eq_left (omega arith) in
           let m : min at (length s) % 65536 ≡ at = ap (λ (n : ℕ). n % 65536) e ∙ mod-eq_of_lt (omega arith) in
           ap (stack_at s) m
-
-pub ruleset offset-laws = (offset-low, offset-past)
 
 module _ (s : List ℕ) (kn : Known) (tb : List ℕ) where
   pub start-noted : (at p n : ℕ) (t u v : List ℕ) → p ≡ line_place kn → n ≡ offset_in s at → t ≡ set tb p n → u ≡ set t (p + 1) kn.stmts → v ≡ set u (p + 2) kn.state.types

@@ -18,21 +18,18 @@ const OFFSETS: usize = 65536;
 const BODIES: u32 = 64;
 
 // An offset as a number of the table.
+#[tactic(auto, unfolding(crate::specs::Noting::offset_in))]
 fn offset_in(text: &[u8], at: usize) -> u32
     ensures { result ≡ offset_in text.now at }
 {
-    if at < text.len() {
-        return (at % OFFSETS) as u32;
-    }
-    (text.len() % OFFSETS) as u32
+    (at.min(text.len()) % OFFSETS) as u32
 }
 
 // The place of the next body's line.
 fn line_place(kn: Known) -> usize
     ensures { result ≡ line_place kn }
 {
-    let st = kn.state;
-    LINE_LENGTH * (st.procs % BODIES) as usize
+    LINE_LENGTH * (kn.state.procs % BODIES) as usize
 }
 
 // Writes where the next body's parts begin, the number of the last statement before them, and how many types it sees.
