@@ -4,7 +4,7 @@ ghost use Rattle.rule_statements.specs.Walks.{GivesAssign, GivesStore, GivesRais
 
 use rule_expr_nodes::bracket::closing;
 use rule_expr_nodes::links::link_to;
-use rule_expressions::walk::{expr, target};
+use rule_expressions::walk::Walk;
 use rule_faults::{Fault, Got, failed, is_form};
 use rule_stmt_nodes::base::steer;
 use rule_stmt_nodes::calls::{call_node, callee_of, with_argument};
@@ -30,10 +30,10 @@ fn store_at(
     match part_at(text, at) {
         Part::Leaf(_, p, _) => {
             let m = meaning_of(text, work, scope, p);
-            let g = target(text, work, types, scope, DEPTH, at, top);
+            let g = Walk { text, types, scope }.target(work, DEPTH, at, top);
             steer(loops, m, g)
         }
-        Part::Form(_) => target(text, work, types, scope, DEPTH, at, top),
+        Part::Form(_) => Walk { text, types, scope }.target(work, DEPTH, at, top),
         Part::Shut(q) => failed(Fault::Form, 0, q, top),
     }
 }
@@ -55,7 +55,7 @@ pub fn assign(
     if is_form(g.fault) {
         return g;
     }
-    let a = expr(text, work, types, scope, DEPTH, g.next, g.top);
+    let a = Walk { text, types, scope }.expr(work, DEPTH, g.next, g.top);
     let e = closing(text, a);
     assign_node(work, types, number, g, e)
 }
@@ -72,7 +72,7 @@ pub fn wanted_expr(
 ) -> Got
     ensures { GivesWanted text.now work.old types.now scope k at top result work.new }
 {
-    let a = expr(text, work, types, scope, DEPTH, at, top);
+    let a = Walk { text, types, scope }.expr(work, DEPTH, at, top);
     wanted(k, a)
 }
 
@@ -88,7 +88,7 @@ pub fn raise(
 ) -> Got
     ensures { GivesRaise text.now work.old types.now scope number at top result work.new }
 {
-    let a = expr(text, work, types, scope, DEPTH, at, top);
+    let a = Walk { text, types, scope }.expr(work, DEPTH, at, top);
     let c = closing(text, a);
     let w = wanted(0, c);
     raise_node(work, number, w)
@@ -116,7 +116,7 @@ fn arguments(
                 return finished(g, q);
             }
             End::More => {
-                let x = expr(text, work, types, scope, DEPTH, g.next, g.top);
+                let x = Walk { text, types, scope }.expr(work, DEPTH, g.next, g.top);
                 if is_form(x.fault) {
                     return x;
                 }

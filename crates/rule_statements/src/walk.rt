@@ -9,7 +9,7 @@ use crate::arms::{NextArm, arm_at, case_end, link_arm, selector_kind};
 use crate::simple::{assign, call, raise, wanted_expr};
 use rule_expr_nodes::bracket::closing;
 use rule_expr_nodes::links::link_to;
-use rule_expressions::walk::expr;
+use rule_expressions::walk::Walk;
 use rule_faults::{Fault, Got, failed, is_form};
 use rule_stmt_nodes::nodes::{
     Control, begin_node, finished, for_node, if_node, is_named, joined, next_number, no_act,
@@ -373,7 +373,7 @@ fn case_of(
 ) -> Got
     ensures { GivesVerb text.now work.old types.now scope loops Case depth number at top result work.new }
 {
-    let x = expr(text, work, types, scope, DEPTH, at, top);
+    let x = Walk { text, types, scope }.expr(work, DEPTH, at, top);
     if is_form(x.fault) {
         return x;
     }
