@@ -77,6 +77,8 @@ impl<'a> Walk<'a> {
     }
 
     // Two sides of the operator that has row `op` in the table of kinds.
+    // Kept: `if is_form(..) { return .. }` is no `?` here and below, which is no plainer: faults of rows 7 and 8 go on, and what ends a walk
+    // is a `Got` like any other, so a Result would be made and undone around each answer.
     #[cycle(walk)]
     fn two(self, work: &mut [u32], op: usize, depth: usize, at: usize, top: u32) -> Got
         ensures { GivesTwo self.entry.text.now work.old self.entry.types.now self.entry.scope op depth at top result work.new }
