@@ -5,7 +5,6 @@ ghost use Rattle.rule_expressions.specs.Members.{GivesMembers};
 ghost use Rattle.rule_expressions.specs.MinusForm.{GivesMinus};
 ghost use Rattle.rule_expressions.specs.Sides.{GivesSecond, GivesTwo};
 
-use crate::words::{bound, variable, word};
 use rule_atoms::type_name;
 use rule_expr_compounds::operators::{apply, pair};
 use rule_expr_compounds::targets::{index, load, select};
@@ -22,378 +21,263 @@ use table_scope::Scope;
 use text_heads::{ExprHead, expr_head};
 use text_parts::{Part, end_at, part_at};
 
-// An expression.
-#[cycle(walk)]
-pub fn expr(
-    text: &[u8],
-    work: &mut [u32],
-    types: &[u32],
-    scope: Scope,
-    depth: usize,
-    at: usize,
-    top: u32,
-) -> Got
-    ensures { GivesExpr text.now work.old types.now scope depth at top result work.new }
-{
-    if depth == 0 {
-        return failed(Fault::Form, 0, at, top);
-    }
-    match part_at(text, at) {
-        Part::Leaf(w, p, q) => word(text, work, types, scope, w, p, q, top),
-        Part::Form(p) => inner(text, work, types, scope, depth - 1, p, top),
-        Part::Shut(q) => failed(Fault::Form, 0, q, top),
-    }
+// What a walk reads and keeps: the text, the types' table and the names in scope.
+#[derive(Clone, Copy)]
+pub struct Walk<'a> {
+    pub text: &'a [u8],
+    pub types: &'a [u32],
+    pub scope: Scope,
 }
 
-// All parts of a form that is an expression.
-#[cycle(walk)]
-fn inner(
-    text: &[u8],
-    work: &mut [u32],
-    types: &[u32],
-    scope: Scope,
-    depth: usize,
-    at: usize,
-    top: u32,
-) -> Got
-    ensures { GivesInner text.now work.old types.now scope depth at top result work.new }
-{
-    match part_at(text, at) {
-        Part::Leaf(w, _, q) => headed(text, work, types, scope, expr_head(w), depth, q, top),
-        Part::Form(p) => failed(Fault::Form, 0, p, top),
-        Part::Shut(q) => failed(Fault::Form, 0, q, top),
+impl<'a> Walk<'a> {
+    // An expression.
+    #[cycle(walk)]
+    pub fn expr(self, work: &mut [u32], depth: usize, at: usize, top: u32) -> Got
+        ensures { GivesExpr self.entry.text.now work.old self.entry.types.now self.entry.scope depth at top result work.new }
+    {
+        if depth == 0 {
+            return failed(Fault::Form, 0, at, top);
+        }
+        match part_at(self.text, at) {
+            Part::Leaf(w, p, q) => self.word(work, w, p, q, top),
+            Part::Form(p) => self.inner(work, depth - 1, p, top),
+            Part::Shut(q) => failed(Fault::Form, 0, q, top),
+        }
     }
-}
 
-// The parts after the head word.
-#[cycle(walk)]
-fn headed(
-    text: &[u8],
-    work: &mut [u32],
-    types: &[u32],
-    scope: Scope,
-    head: ExprHead,
-    depth: usize,
-    at: usize,
-    top: u32,
-) -> Got
-    ensures { GivesForm text.now work.old types.now scope head depth at top result work.new }
-{
-    match head {
-        ExprHead::At => load_at(text, work, types, scope, depth, at, top),
-        ExprHead::Dot => load_dot(text, work, types, scope, depth, at, top),
-        ExprHead::Members => set_form(text, work, types, scope, depth, at, top),
-        ExprHead::Minus => minus(text, work, types, scope, depth, at, top),
-        ExprHead::Bound(last) => bound(text, work, types, scope, last, depth, at, top),
-        ExprHead::Short(every) => two(text, work, types, scope, short_row(every), depth, at, top),
-        ExprHead::Two(op) if op < 15 => two(text, work, types, scope, op, depth, at, top),
-        ExprHead::One(f) => one(text, work, types, scope, f, depth, at, top),
-        ExprHead::Two(_) => failed(Fault::Form, 0, at, top),
-        ExprHead::Nothing => failed(Fault::Form, 0, at, top),
+    // All parts of a form that is an expression.
+    #[cycle(walk)]
+    fn inner(self, work: &mut [u32], depth: usize, at: usize, top: u32) -> Got
+        ensures { GivesInner self.entry.text.now work.old self.entry.types.now self.entry.scope depth at top result work.new }
+    {
+        match part_at(self.text, at) {
+            Part::Leaf(w, _, q) => self.headed(work, expr_head(w), depth, q, top),
+            Part::Form(p) => failed(Fault::Form, 0, p, top),
+            Part::Shut(q) => failed(Fault::Form, 0, q, top),
+        }
     }
-}
 
-// Two sides of the operator that has row `op` in the table of kinds.
-#[cycle(walk)]
-fn two(
-    text: &[u8],
-    work: &mut [u32],
-    types: &[u32],
-    scope: Scope,
-    op: usize,
-    depth: usize,
-    at: usize,
-    top: u32,
-) -> Got
-    ensures { GivesTwo text.now work.old types.now scope op depth at top result work.new }
-{
-    let a = expr(text, work, types, scope, depth, at, top);
-    if is_form(a.fault) {
-        return a;
+    // The parts after the head word.
+    #[cycle(walk)]
+    fn headed(self, work: &mut [u32], head: ExprHead, depth: usize, at: usize, top: u32) -> Got
+        ensures { GivesForm self.entry.text.now work.old self.entry.types.now self.entry.scope head depth at top result work.new }
+    {
+        match head {
+            ExprHead::At => self.load_at(work, depth, at, top),
+            ExprHead::Dot => self.load_dot(work, depth, at, top),
+            ExprHead::Members => self.set_form(work, depth, at, top),
+            ExprHead::Minus => self.minus(work, depth, at, top),
+            ExprHead::Bound(last) => self.bound(work, last, depth, at, top),
+            ExprHead::Short(every) => self.two(work, short_row(every), depth, at, top),
+            ExprHead::Two(op) if op < 15 => self.two(work, op, depth, at, top),
+            ExprHead::One(f) => self.one(work, f, depth, at, top),
+            ExprHead::Two(_) => failed(Fault::Form, 0, at, top),
+            ExprHead::Nothing => failed(Fault::Form, 0, at, top),
+        }
     }
-    second(text, work, types, scope, op, depth, a)
-}
 
-// The second of two sides, and the node.
-#[cycle(walk)]
-fn second(
-    text: &[u8],
-    work: &mut [u32],
-    types: &[u32],
-    scope: Scope,
-    op: usize,
-    depth: usize,
-    a: Got,
-) -> Got
-    ensures { GivesSecond text.now work.old types.now scope op depth a result work.new }
-{
-    let b = expr(text, work, types, scope, depth, a.next, a.top);
-    pair(work, types, op, a, closing(text, b))
-}
-
-// One side.
-#[cycle(walk)]
-fn one(
-    text: &[u8],
-    work: &mut [u32],
-    types: &[u32],
-    scope: Scope,
-    f: usize,
-    depth: usize,
-    at: usize,
-    top: u32,
-) -> Got
-    ensures { GivesForm text.now work.old types.now scope (One f) depth at top result work.new }
-{
-    if f >= 11 {
-        return failed(Fault::Form, 0, at, top);
+    // Two sides of the operator that has row `op` in the table of kinds.
+    // Kept: `if is_form(..) { return .. }` is no `?` here and below, which is no plainer: faults of rows 7 and 8 go on, and what ends a walk
+    // is a `Got` like any other, so a Result would be made and undone around each answer.
+    #[cycle(walk)]
+    fn two(self, work: &mut [u32], op: usize, depth: usize, at: usize, top: u32) -> Got
+        ensures { GivesTwo self.entry.text.now work.old self.entry.types.now self.entry.scope op depth at top result work.new }
+    {
+        let a = self.expr(work, depth, at, top);
+        if is_form(a.fault) {
+            return a;
+        }
+        self.second(work, op, depth, a)
     }
-    let a = expr(text, work, types, scope, depth, at, top);
-    apply(work, types, f, closing(text, a))
-}
 
-// A negative number, one side, or two.
-#[cycle(walk)]
-fn minus(
-    text: &[u8],
-    work: &mut [u32],
-    types: &[u32],
-    scope: Scope,
-    depth: usize,
-    at: usize,
-    top: u32,
-) -> Got
-    ensures { GivesForm text.now work.old types.now scope Minus depth at top result work.new }
-{
-    match number_alone(text, at) {
-        Some((z, q)) => negative(work, z, q, top),
-        None => minus_parts(text, work, types, scope, depth, at, top),
+    // The second of two sides, and the node.
+    #[cycle(walk)]
+    fn second(self, work: &mut [u32], op: usize, depth: usize, a: Got) -> Got
+        ensures { GivesSecond self.entry.text.now work.old self.entry.types.now self.entry.scope op depth a result work.new }
+    {
+        let b = self.expr(work, depth, a.next, a.top);
+        pair(work, self.types, op, a, closing(self.text, b))
     }
-}
 
-// One side, or two, where there is no number alone.
-#[cycle(walk)]
-fn minus_parts(
-    text: &[u8],
-    work: &mut [u32],
-    types: &[u32],
-    scope: Scope,
-    depth: usize,
-    at: usize,
-    top: u32,
-) -> Got
-    ensures { GivesMinus text.now work.old types.now scope depth at top result work.new }
-{
-    let a = expr(text, work, types, scope, depth, at, top);
-    if is_form(a.fault) {
-        return a;
+    // One side.
+    #[cycle(walk)]
+    fn one(self, work: &mut [u32], f: usize, depth: usize, at: usize, top: u32) -> Got
+        ensures { GivesForm self.entry.text.now work.old self.entry.types.now self.entry.scope (One f) depth at top result work.new }
+    {
+        if f >= 11 {
+            return failed(Fault::Form, 0, at, top);
+        }
+        let a = self.expr(work, depth, at, top);
+        apply(work, self.types, f, closing(self.text, a))
     }
-    let e = end_at(text, a.next);
-    match e {
-        Some(_) => apply(work, types, 0, closing(text, a)),
-        None => second(text, work, types, scope, 1, depth, a),
-    }
-}
 
-// A set's type and its members.
-#[cycle(walk)]
-fn set_form(
-    text: &[u8],
-    work: &mut [u32],
-    types: &[u32],
-    scope: Scope,
-    depth: usize,
-    at: usize,
-    top: u32,
-) -> Got
-    ensures { GivesForm text.now work.old types.now scope Members depth at top result work.new }
-{
-    let t = type_name(text, work, scope, at);
-    if is_form(t.fault) {
-        return failed(Fault::Form, 0, t.next, top);
+    // A negative number, one side, or two.
+    #[cycle(walk)]
+    fn minus(self, work: &mut [u32], depth: usize, at: usize, top: u32) -> Got
+        ensures { GivesForm self.entry.text.now work.old self.entry.types.now self.entry.scope Minus depth at top result work.new }
+    {
+        match number_alone(self.text, at) {
+            Some((z, q)) => negative(work, z, q, top),
+            None => self.minus_parts(work, depth, at, top),
+        }
     }
-    let base = base_of(work, types, t.kind);
-    let first = slot(work, top);
-    let m = member_list(text, work, types, scope, base, depth, t.next, top, first);
-    set_of(work, types, t.fault, t.kind, top, m)
-}
 
-// The members up to the closing bracket, in a chain from a slot on.
-#[cycle(walk)]
-fn member_list(
-    text: &[u8],
-    work: &mut [u32],
-    types: &[u32],
-    scope: Scope,
-    base: u32,
-    depth: usize,
-    at: usize,
-    chain: u32,
-    top: u32,
-) -> Got
-    ensures { GivesMembers text.now work.old types.now scope base depth at chain top result work.new }
-{
-    let mut next = at;
-    let mut link = chain as usize;
-    let mut free = top;
-    let mut fault = Fault::Clear;
-    loop {
-        let e = end_at(text, next);
+    // One side, or two, where there is no number alone.
+    #[cycle(walk)]
+    fn minus_parts(self, work: &mut [u32], depth: usize, at: usize, top: u32) -> Got
+        ensures { GivesMinus self.entry.text.now work.old self.entry.types.now self.entry.scope depth at top result work.new }
+    {
+        let a = self.expr(work, depth, at, top);
+        if is_form(a.fault) {
+            return a;
+        }
+        let e = end_at(self.text, a.next);
         match e {
-            Some(q) => {
-                return failed(fault, 0, q, free);
+            Some(_) => apply(work, self.types, 0, closing(self.text, a)),
+            None => self.second(work, 1, depth, a),
+        }
+    }
+
+    // A set's type and its members.
+    #[cycle(walk)]
+    fn set_form(self, work: &mut [u32], depth: usize, at: usize, top: u32) -> Got
+        ensures { GivesForm self.entry.text.now work.old self.entry.types.now self.entry.scope Members depth at top result work.new }
+    {
+        let t = type_name(self.text, work, self.scope, at);
+        if is_form(t.fault) {
+            return failed(Fault::Form, 0, t.next, top);
+        }
+        let base = base_of(work, self.types, t.kind);
+        let first = slot(work, top);
+        let m = self.member_list(work, base, depth, t.next, top, first);
+        set_of(work, self.types, t.fault, t.kind, top, m)
+    }
+
+    // The members up to the closing bracket, in a chain from a slot on.
+    #[cycle(walk)]
+    fn member_list(
+        self,
+        work: &mut [u32],
+        base: u32,
+        depth: usize,
+        at: usize,
+        chain: u32,
+        top: u32,
+    ) -> Got
+        ensures { GivesMembers self.entry.text.now work.old self.entry.types.now self.entry.scope base depth at chain top result work.new }
+    {
+        let mut next = at;
+        let mut link = chain as usize;
+        let mut free = top;
+        let mut fault = Fault::Clear;
+        loop {
+            let e = end_at(self.text, next);
+            match e {
+                Some(q) => {
+                    return failed(fault, 0, q, free);
+                }
+                None => {}
             }
-            None => {}
+            let x = self.expr(work, depth, next, free);
+            if is_form(x.fault) {
+                return x;
+            }
+            fault = lowest(fault, member_fault(x.fault, x.kind, base));
+            free = link_to(work, link, x.place, x.top);
+            link = x.top as usize + 1;
+            next = x.next;
         }
-        let x = expr(text, work, types, scope, depth, next, free);
-        if is_form(x.fault) {
-            return x;
+    }
+
+    // The cells of an element.
+    #[cycle(walk)]
+    fn load_at(self, work: &mut [u32], depth: usize, at: usize, top: u32) -> Got
+        ensures { GivesForm self.entry.text.now work.old self.entry.types.now self.entry.scope At depth at top result work.new }
+    {
+        let g = self.element(work, depth, at, top);
+        load(work, self.types, g)
+    }
+
+    // The cells of a field.
+    #[cycle(walk)]
+    fn load_dot(self, work: &mut [u32], depth: usize, at: usize, top: u32) -> Got
+        ensures { GivesForm self.entry.text.now work.old self.entry.types.now self.entry.scope Dot depth at top result work.new }
+    {
+        let g = self.field(work, depth, at, top);
+        load(work, self.types, g)
+    }
+
+    // A target.
+    #[cycle(walk)]
+    pub fn target(self, work: &mut [u32], depth: usize, at: usize, top: u32) -> Got
+        ensures { GivesTarget self.entry.text.now work.old self.entry.types.now self.entry.scope depth at top result work.new }
+    {
+        if depth == 0 {
+            return failed(Fault::Form, 0, at, top);
         }
-        fault = lowest(fault, member_fault(x.fault, x.kind, base));
-        free = link_to(work, link, x.place, x.top);
-        link = x.top as usize + 1;
-        next = x.next;
+        match part_at(self.text, at) {
+            Part::Leaf(w, p, q) => self.variable(work, w, p, q, top),
+            Part::Form(p) => self.place(work, depth - 1, p, top),
+            Part::Shut(q) => failed(Fault::Form, 0, q, top),
+        }
     }
-}
 
-// The cells of an element.
-#[cycle(walk)]
-fn load_at(
-    text: &[u8],
-    work: &mut [u32],
-    types: &[u32],
-    scope: Scope,
-    depth: usize,
-    at: usize,
-    top: u32,
-) -> Got
-    ensures { GivesForm text.now work.old types.now scope At depth at top result work.new }
-{
-    let g = element(text, work, types, scope, depth, at, top);
-    load(work, types, g)
-}
-
-// The cells of a field.
-#[cycle(walk)]
-fn load_dot(
-    text: &[u8],
-    work: &mut [u32],
-    types: &[u32],
-    scope: Scope,
-    depth: usize,
-    at: usize,
-    top: u32,
-) -> Got
-    ensures { GivesForm text.now work.old types.now scope Dot depth at top result work.new }
-{
-    let g = field(text, work, types, scope, depth, at, top);
-    load(work, types, g)
-}
-
-// A target.
-#[cycle(walk)]
-pub fn target(
-    text: &[u8],
-    work: &mut [u32],
-    types: &[u32],
-    scope: Scope,
-    depth: usize,
-    at: usize,
-    top: u32,
-) -> Got
-    ensures { GivesTarget text.now work.old types.now scope depth at top result work.new }
-{
-    if depth == 0 {
-        return failed(Fault::Form, 0, at, top);
+    // All parts of a form that is a target.
+    #[cycle(walk)]
+    fn place(self, work: &mut [u32], depth: usize, at: usize, top: u32) -> Got
+        ensures { GivesInnerPlace self.entry.text.now work.old self.entry.types.now self.entry.scope depth at top result work.new }
+    {
+        match part_at(self.text, at) {
+            Part::Leaf(w, _, q) => self.place_headed(work, expr_head(w), depth, q, top),
+            Part::Form(p) => failed(Fault::Form, 0, p, top),
+            Part::Shut(q) => failed(Fault::Form, 0, q, top),
+        }
     }
-    match part_at(text, at) {
-        Part::Leaf(w, p, q) => variable(text, work, types, scope, w, p, q, top),
-        Part::Form(p) => place(text, work, types, scope, depth - 1, p, top),
-        Part::Shut(q) => failed(Fault::Form, 0, q, top),
-    }
-}
 
-// All parts of a form that is a target.
-#[cycle(walk)]
-fn place(
-    text: &[u8],
-    work: &mut [u32],
-    types: &[u32],
-    scope: Scope,
-    depth: usize,
-    at: usize,
-    top: u32,
-) -> Got
-    ensures { GivesInnerPlace text.now work.old types.now scope depth at top result work.new }
-{
-    match part_at(text, at) {
-        Part::Leaf(w, _, q) => place_headed(text, work, types, scope, expr_head(w), depth, q, top),
-        Part::Form(p) => failed(Fault::Form, 0, p, top),
-        Part::Shut(q) => failed(Fault::Form, 0, q, top),
+    // The parts after the head word.
+    #[cycle(walk)]
+    fn place_headed(
+        self,
+        work: &mut [u32],
+        head: ExprHead,
+        depth: usize,
+        at: usize,
+        top: u32,
+    ) -> Got
+        ensures { GivesPlace self.entry.text.now work.old self.entry.types.now self.entry.scope head depth at top result work.new }
+    {
+        match head {
+            ExprHead::At => self.element(work, depth, at, top),
+            ExprHead::Dot => self.field(work, depth, at, top),
+            _ => failed(Fault::Form, 0, at, top),
+        }
     }
-}
 
-// The parts after the head word.
-#[cycle(walk)]
-fn place_headed(
-    text: &[u8],
-    work: &mut [u32],
-    types: &[u32],
-    scope: Scope,
-    head: ExprHead,
-    depth: usize,
-    at: usize,
-    top: u32,
-) -> Got
-    ensures { GivesPlace text.now work.old types.now scope head depth at top result work.new }
-{
-    match head {
-        ExprHead::At => element(text, work, types, scope, depth, at, top),
-        ExprHead::Dot => field(text, work, types, scope, depth, at, top),
-        _ => failed(Fault::Form, 0, at, top),
+    // An element of an array.
+    #[cycle(walk)]
+    fn element(self, work: &mut [u32], depth: usize, at: usize, top: u32) -> Got
+        ensures { GivesPlace self.entry.text.now work.old self.entry.types.now self.entry.scope At depth at top result work.new }
+    {
+        let g = self.target(work, depth, at, top);
+        if is_form(g.fault) {
+            return g;
+        }
+        let e = self.expr(work, depth, g.next, g.top);
+        index(work, self.types, g, closing(self.text, e))
     }
-}
 
-// An element of an array.
-#[cycle(walk)]
-fn element(
-    text: &[u8],
-    work: &mut [u32],
-    types: &[u32],
-    scope: Scope,
-    depth: usize,
-    at: usize,
-    top: u32,
-) -> Got
-    ensures { GivesPlace text.now work.old types.now scope At depth at top result work.new }
-{
-    let g = target(text, work, types, scope, depth, at, top);
-    if is_form(g.fault) {
-        return g;
-    }
-    let e = expr(text, work, types, scope, depth, g.next, g.top);
-    index(work, types, g, closing(text, e))
-}
-
-// A field of a record.
-#[cycle(walk)]
-fn field(
-    text: &[u8],
-    work: &mut [u32],
-    types: &[u32],
-    scope: Scope,
-    depth: usize,
-    at: usize,
-    top: u32,
-) -> Got
-    ensures { GivesPlace text.now work.old types.now scope Dot depth at top result work.new }
-{
-    let g = target(text, work, types, scope, depth, at, top);
-    if is_form(g.fault) {
-        return g;
-    }
-    match sole_name(text, g.next) {
-        Some((p, q)) => select(text, work, types, g, p, q),
-        None => failed(Fault::Form, 0, g.next, g.top),
+    // A field of a record.
+    #[cycle(walk)]
+    fn field(self, work: &mut [u32], depth: usize, at: usize, top: u32) -> Got
+        ensures { GivesPlace self.entry.text.now work.old self.entry.types.now self.entry.scope Dot depth at top result work.new }
+    {
+        let g = self.target(work, depth, at, top);
+        if is_form(g.fault) {
+            return g;
+        }
+        match sole_name(self.text, g.next) {
+            Some((p, q)) => select(self.text, work, self.types, g, p, q),
+            None => failed(Fault::Form, 0, g.next, g.top),
+        }
     }
 }

@@ -5,10 +5,11 @@ ghost use Rattle.rule_expr_nodes.specs.Nodes.{Makes};
 ghost use Rattle.rule_statements.specs.Cases.{ArmComes, ArmInside, arm_made, selected_kind, FirstArm, case_made, CaseEnds};
 
 use rule_expr_nodes::links::link;
+use rule_expressions::walk::Walk;
 use rule_faults::{Fault, Got, is_clear, lowest};
 use rule_labels::repeat_fault;
 use rule_stmt_nodes::base::node_if;
-use table_scope::{Info, Scope, describe};
+use table_scope::{Info, describe};
 use text_heads::{ArmHead, arm_head};
 use text_parts::{Part, part_at};
 
@@ -99,19 +100,11 @@ fn case_node(work: &mut [u32], i: Info, n: u32, x: Got, m: Got, f: Fault, w: Fau
 }
 
 // The end of a case whose selector has the answer x and whose arms have m.
-pub fn case_end(
-    text: &[u8],
-    work: &mut [u32],
-    types: &[u32],
-    scope: Scope,
-    n: u32,
-    x: Got,
-    m: Got,
-) -> Got
-    ensures { CaseEnds text.now work.old types.now scope n x m result work.new }
+pub fn case_end(walk: Walk, work: &mut [u32], n: u32, x: Got, m: Got) -> Got
+    ensures { CaseEnds walk.entry.text.now work.old walk.entry.types.now walk.entry.scope n x m result work.new }
 {
-    let f = first_fault(text, x.next);
-    let w = repeat_fault(text, work, scope, m.fault, x.next);
-    let i = describe(work, types, x.kind);
+    let f = first_fault(walk.text, x.next);
+    let w = repeat_fault(walk.text, work, walk.scope, m.fault, x.next);
+    let i = describe(work, walk.types, x.kind);
     case_node(work, i, n, x, m, f, w)
 }

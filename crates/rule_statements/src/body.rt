@@ -5,6 +5,7 @@ ghost use Rattle.rule_statements.specs.Fronts.{HandledBy, GivesRest};
 use crate::walk::{acts, stmt};
 use rule_expr_nodes::bracket::closing;
 use rule_expr_nodes::links::link_to;
+use rule_expressions::walk::Walk;
 use rule_faults::{Got, is_form};
 use rule_stmt_nodes::last::{Head, Next, handled_node, next_at, plain_node};
 use rule_stmt_nodes::nodes::{joined, no_act};
@@ -25,37 +26,36 @@ pub fn body(
 ) -> Got
     ensures { GivesBody text.now work.old types.now scope head number at top result work.new }
 {
+    let walk = Walk { text, types, scope };
     let t = slot(work, top);
-    body_from(text, work, types, scope, head, number, top, at, t)
+    body_from(walk, work, head, number, top, at, t)
 }
 
 // The same from past its first slot, `start`, on.
 fn body_from(
-    text: &[u8],
+    walk: Walk,
     work: &mut [u32],
-    types: &[u32],
-    scope: Scope,
     head: Head,
     number: u32,
     start: u32,
     at: usize,
     top: u32,
 ) -> Got
-    ensures { GivesRest text.now work.old types.now scope head number start at top result work.new }
+    ensures { GivesRest walk.entry.text.now work.old walk.entry.types.now walk.entry.scope head number start at top result work.new }
 {
     let mut g = no_act(number, at, top);
     let mut p = start as usize;
     loop {
-        match next_at(text, g.next) {
+        match next_at(walk.text, g.next) {
             Next::Past(q) => {
                 return plain_node(work, head, start, g, q);
             }
             Next::Handler(q) => {
-                return handled(text, work, types, scope, head, start, g, q);
+                return handled(walk, work, head, start, g, q);
             }
             Next::Stmt => {
                 let w = no_loops();
-                let a = stmt(text, work, types, scope, w, DEPTH, g.kind, g.next, g.top);
+                let a = stmt(walk, work, w, DEPTH, g.kind, g.next, g.top);
                 if is_form(a.fault) {
                     return a;
                 }
@@ -68,22 +68,13 @@ fn body_from(
 }
 
 // The same from the statements of its handler on, which begin at q; g is the answer for the statements before.
-fn handled(
-    text: &[u8],
-    work: &mut [u32],
-    types: &[u32],
-    scope: Scope,
-    head: Head,
-    start: u32,
-    g: Got,
-    q: usize,
-) -> Got
-    ensures { HandledBy text.now work.old types.now scope head start g q result work.new }
+fn handled(walk: Walk, work: &mut [u32], head: Head, start: u32, g: Got, q: usize) -> Got
+    ensures { HandledBy walk.entry.text.now work.old walk.entry.types.now walk.entry.scope head start g q result work.new }
 {
     let t = slot(work, g.top);
     let p = g.top as usize;
     let w = no_loops();
-    let a = acts(text, work, types, scope, w, DEPTH, g.kind, p, q, t);
-    let b = closing(text, a);
+    let a = acts(walk, work, w, DEPTH, g.kind, p, q, t);
+    let b = closing(walk.text, a);
     handled_node(work, head, start, g, b)
 }

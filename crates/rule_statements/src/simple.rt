@@ -4,167 +4,108 @@ ghost use Rattle.rule_statements.specs.Walks.{GivesAssign, GivesStore, GivesRais
 
 use rule_expr_nodes::bracket::closing;
 use rule_expr_nodes::links::link_to;
-use rule_expressions::walk::{expr, target};
+use rule_expressions::walk::Walk;
 use rule_faults::{Fault, Got, failed, is_form};
 use rule_stmt_nodes::base::steer;
 use rule_stmt_nodes::calls::{call_node, callee_of, with_argument};
 use rule_stmt_nodes::nodes::{assign_node, finished, is_named, no_act, raise_node, wanted};
 use table_list::slot;
 use table_scope::frames::Frame;
-use table_scope::{Loops, Scope, meaning_of};
+use table_scope::{Loops, meaning_of};
 use text_heads::DEPTH;
 use text_parts::{Part, end_at, part_at};
 
 // A target that is assigned.
-fn store_at(
-    text: &[u8],
-    work: &mut [u32],
-    types: &[u32],
-    scope: Scope,
-    loops: Loops,
-    at: usize,
-    top: u32,
-) -> Got
-    ensures { GivesStore text.now work.old types.now scope loops at top result work.new }
+fn store_at(walk: Walk, work: &mut [u32], loops: Loops, at: usize, top: u32) -> Got
+    ensures { GivesStore walk.entry.text.now work.old walk.entry.types.now walk.entry.scope loops at top result work.new }
 {
-    match part_at(text, at) {
+    match part_at(walk.text, at) {
         Part::Leaf(_, p, _) => {
-            let m = meaning_of(text, work, scope, p);
-            let g = target(text, work, types, scope, DEPTH, at, top);
+            let m = meaning_of(walk.text, work, walk.scope, p);
+            let g = walk.target(work, DEPTH, at, top);
             steer(loops, m, g)
         }
-        Part::Form(_) => target(text, work, types, scope, DEPTH, at, top),
+        Part::Form(_) => walk.target(work, DEPTH, at, top),
         Part::Shut(q) => failed(Fault::Form, 0, q, top),
     }
 }
 
 // An assignment.
-pub fn assign(
-    text: &[u8],
-    work: &mut [u32],
-    types: &[u32],
-    scope: Scope,
-    loops: Loops,
-    number: u32,
-    at: usize,
-    top: u32,
-) -> Got
-    ensures { GivesAssign text.now work.old types.now scope loops number at top result work.new }
+pub fn assign(walk: Walk, work: &mut [u32], loops: Loops, number: u32, at: usize, top: u32) -> Got
+    ensures { GivesAssign walk.entry.text.now work.old walk.entry.types.now walk.entry.scope loops number at top result work.new }
 {
-    let g = store_at(text, work, types, scope, loops, at, top);
+    let g = store_at(walk, work, loops, at, top);
     if is_form(g.fault) {
         return g;
     }
-    let a = expr(text, work, types, scope, DEPTH, g.next, g.top);
-    let e = closing(text, a);
-    assign_node(work, types, number, g, e)
+    let a = walk.expr(work, DEPTH, g.next, g.top);
+    let e = closing(walk.text, a);
+    assign_node(work, walk.types, number, g, e)
 }
 
 // An expression of kind k.
-pub fn wanted_expr(
-    text: &[u8],
-    work: &mut [u32],
-    types: &[u32],
-    scope: Scope,
-    k: u32,
-    at: usize,
-    top: u32,
-) -> Got
-    ensures { GivesWanted text.now work.old types.now scope k at top result work.new }
+pub fn wanted_expr(walk: Walk, work: &mut [u32], k: u32, at: usize, top: u32) -> Got
+    ensures { GivesWanted walk.entry.text.now work.old walk.entry.types.now walk.entry.scope k at top result work.new }
 {
-    let a = expr(text, work, types, scope, DEPTH, at, top);
+    let a = walk.expr(work, DEPTH, at, top);
     wanted(k, a)
 }
 
 // A `raise`.
-pub fn raise(
-    text: &[u8],
-    work: &mut [u32],
-    types: &[u32],
-    scope: Scope,
-    number: u32,
-    at: usize,
-    top: u32,
-) -> Got
-    ensures { GivesRaise text.now work.old types.now scope number at top result work.new }
+pub fn raise(walk: Walk, work: &mut [u32], number: u32, at: usize, top: u32) -> Got
+    ensures { GivesRaise walk.entry.text.now work.old walk.entry.types.now walk.entry.scope number at top result work.new }
 {
-    let a = expr(text, work, types, scope, DEPTH, at, top);
-    let c = closing(text, a);
+    let a = walk.expr(work, DEPTH, at, top);
+    let c = closing(walk.text, a);
     let w = wanted(0, c);
     raise_node(work, number, w)
 }
 
 // The arguments of a call up to the closing bracket, for the parameters of a frame, chained from a slot on; the answer's kind is their count.
-fn arguments(
-    text: &[u8],
-    work: &mut [u32],
-    types: &[u32],
-    scope: Scope,
-    frame: Frame,
-    first: usize,
-    at: usize,
-    top: u32,
-) -> Got
-    ensures { GivesArguments text.now work.old types.now scope frame first at top result work.new }
+fn arguments(walk: Walk, work: &mut [u32], frame: Frame, first: usize, at: usize, top: u32) -> Got
+    ensures { GivesArguments walk.entry.text.now work.old walk.entry.types.now walk.entry.scope frame first at top result work.new }
 {
     let mut g = no_act(0, at, top);
     let mut p = first;
     loop {
-        let e = end_at(text, g.next);
+        let e = end_at(walk.text, g.next);
         match e {
             Some(q) => {
                 return finished(g, q);
             }
             None => {
-                let x = expr(text, work, types, scope, DEPTH, g.next, g.top);
+                let x = walk.expr(work, DEPTH, g.next, g.top);
                 if is_form(x.fault) {
                     return x;
                 }
                 let t = link_to(work, p, x.place, x.top);
                 p = x.top as usize + 1;
-                g = with_argument(work, types, frame, g, x, t);
+                g = with_argument(work, walk.types, frame, g, x, t);
             }
         }
     }
 }
 
 // A `call` after its name, which stands at p.
-fn call_named(
-    text: &[u8],
-    work: &mut [u32],
-    types: &[u32],
-    scope: Scope,
-    number: u32,
-    p: usize,
-    at: usize,
-    top: u32,
-) -> Got
-    ensures { GivesCallNamed text.now work.old types.now scope number p at top result work.new }
+fn call_named(walk: Walk, work: &mut [u32], number: u32, p: usize, at: usize, top: u32) -> Got
+    ensures { GivesCallNamed walk.entry.text.now work.old walk.entry.types.now walk.entry.scope number p at top result work.new }
 {
-    let m = meaning_of(text, work, scope, p);
+    let m = meaning_of(walk.text, work, walk.scope, p);
     let c = callee_of(work, m);
     let t = slot(work, top);
     let h = top as usize;
-    let a = arguments(text, work, types, scope, c.frame, h, at, t);
+    let a = arguments(walk, work, c.frame, h, at, t);
     call_node(work, number, c, top, a)
 }
 
 // A `call`.
-pub fn call(
-    text: &[u8],
-    work: &mut [u32],
-    types: &[u32],
-    scope: Scope,
-    number: u32,
-    at: usize,
-    top: u32,
-) -> Got
-    ensures { GivesCall text.now work.old types.now scope number at top result work.new }
+pub fn call(walk: Walk, work: &mut [u32], number: u32, at: usize, top: u32) -> Got
+    ensures { GivesCall walk.entry.text.now work.old walk.entry.types.now walk.entry.scope number at top result work.new }
 {
-    match part_at(text, at) {
+    match part_at(walk.text, at) {
         Part::Leaf(w, p, q) => {
             if is_named(w) {
-                call_named(text, work, types, scope, number, p, q, top)
+                call_named(walk, work, number, p, q, top)
             } else {
                 failed(Fault::Form, 0, q, top)
             }

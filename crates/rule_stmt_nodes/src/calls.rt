@@ -11,6 +11,7 @@ use table_scope::frames::{Frame, frame_of, parameter_type};
 use table_scope::{Meaning, host_of};
 
 // The procedure that a call names: a fault of row 7 where there is none; the place of its body, and its parameters.
+// Kept: no Option, which is no plainer: the arguments are read behind a fault of row 7 too, against a frame of no parameters.
 #[derive(Clone, Copy)]
 pub struct Callee {
     pub fault: Fault,

@@ -13,6 +13,7 @@ use table_scope::{Info, Loops, Meaning, describe, host_of, loops_over};
 use text_heads::{Atom, atom_of};
 
 // The control variable of a `for`: its fault; with no fault its number, type and first cell.
+// Kept: no Option, which is no plainer: the walk goes on behind a fault of row 7 and uses kind 0, so each use would ask for a default.
 #[derive(Clone, Copy)]
 pub struct Control {
     pub fault: Fault,

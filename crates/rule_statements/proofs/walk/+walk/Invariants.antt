@@ -65,13 +65,13 @@ abbrev pub decreases-acts : goal.decreases-acts
 decreases-acts l = 8 * l.depth + 2
 
 abbrev pub invariant-acts-loop-q : goal.invariant-acts-loop-q
-invariant-acts-loop-q l = (length l.work ≡ length l.initial.work) × Doing l.text l.initial.work l.types l.scope l.loops l.depth l.number l.first l.at l.top l.g l.p l.work
+invariant-acts-loop-q l = (length l.work ≡ length l.initial.work) × Doing l.walk.text.now l.initial.work l.walk.types.now l.walk.scope l.loops l.depth l.number l.first l.at l.top l.g l.p l.work
 
 abbrev pub decreases-acts-loop-q : goal.decreases-acts-loop-q
-decreases-acts-loop-q l = many (head (stack_at l.text l.g.next))
+decreases-acts-loop-q l = many (head (stack_at l.walk.text.now l.g.next))
 
 abbrev pub invariant-all_arms-loop-q : goal.invariant-all_arms-loop-q
-invariant-all_arms-loop-q l = (length l.work ≡ length l.initial.work) × Arming l.text l.initial.work l.types l.scope l.loops l.k l.depth l.number l.first l.at l.top l.g l.p l.work
+invariant-all_arms-loop-q l = (length l.work ≡ length l.initial.work) × Arming l.walk.text.now l.initial.work l.walk.types.now l.walk.scope l.loops l.k l.depth l.number l.first l.at l.top l.g l.p l.work
 
 abbrev pub decreases-all_arms-loop-q : goal.decreases-all_arms-loop-q
-decreases-all_arms-loop-q l = many (head (stack_at l.text l.g.next))
+decreases-all_arms-loop-q l = many (head (stack_at l.walk.text.now l.g.next))

@@ -6,7 +6,7 @@ use Rattle.rule_expressions.proofs.Membership.{members-again, members-falls, mem
 use Rattle.rule_expressions.proofs.Minus.{minus-laws, minus-parts-laws}
 use Rattle.rule_expressions.proofs.Operators.{one_laws, second_is, two-laws}
 use Rattle.rule_expressions.proofs.Targets.{at-laws, dot-laws, loads-at, loads-dot}
-use Rattle.rule_expressions.proofs.walk.+walk.Goals as goal
+use Rattle.rule_expressions.proofs.walk.Walk.+walk.Goals as goal
 
 pub element-returns-then-is_form : goal.element-returns-then-is_form
 element-returns-then-is_form t c = search at-laws

@@ -1,5 +1,5 @@
 use Rattle.rule_expressions.proofs.WordsTelling.{var-laws}
-use Rattle.rule_expressions.proofs.words.variable.Goals as goal
+use Rattle.rule_expressions.proofs.walk.Walk.variable.Goals as goal
 
 pub returns-in-Named : goal.returns-in-Named
 returns-in-Named c = search var-laws

@@ -1,6 +1,6 @@
 use borrow.Author.Rules.{sfits_of}
 use Rattle.rule_expressions.proofs.WordsTelling.{word_laws}
-use Rattle.rule_expressions.proofs.words.word.Goals as goal
+use Rattle.rule_expressions.proofs.walk.Walk.word.Goals as goal
 
 pub returns-in-Number : goal.returns-in-Number
 returns-in-Number c = search (word_laws, sfits_of)

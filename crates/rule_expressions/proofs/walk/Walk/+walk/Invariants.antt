@@ -5,7 +5,7 @@ use Rattle.rule_expressions.proofs.Membership.{Sofar}
 use lib.ListN.{length}
 use mathlib.Core.Path.{◌≡◌}
 use Prim.Native.Nat.{◌+◌, ◌*◌}
-use Rattle.rule_expressions.proofs.walk.+walk.Given as goal
+use Rattle.rule_expressions.proofs.walk.Walk.+walk.Given as goal
 
 abbrev pub decreases-two : goal.decreases-two
 decreases-two l = 8 * l.depth + 2
@@ -59,7 +59,7 @@ abbrev pub decreases-element : goal.decreases-element
 decreases-element l = 8 * l.depth + 2
 
 abbrev pub invariant-member_list-loop-q : goal.invariant-member_list-loop-q
-invariant-member_list-loop-q l = (length l.work ≡ length l.initial.work) × Sofar l.text l.initial.work l.types l.scope l.base l.depth l.at l.chain l.top l.fault l.next l.link l.free l.work
+invariant-member_list-loop-q l = (length l.work ≡ length l.initial.work) × Sofar l.self.text.now l.initial.work l.self.types.now l.self.scope l.base l.depth l.at l.chain l.top l.fault l.next l.link l.free l.work
 
 abbrev pub decreases-member_list-loop-q : goal.decreases-member_list-loop-q
-decreases-member_list-loop-q l = many (first (stack_at l.text l.next))
+decreases-member_list-loop-q l = many (first (stack_at l.self.text.now l.next))
