@@ -50,6 +50,7 @@ fn element_cell(kind: u32, cell: u32, size: u32) -> Cell
 }
 
 // A cell of an array or a record that x describes, as one of its element's or a field's.
+#[tactic(auto, using(crate::proofs::Ways::inner_laws))]
 fn inner_cell(work: &[u32], types: &[u32], x: Info, cell: u32) -> Cell
     ensures { result ≡ inner_cell work.now types.now x cell }
 {
@@ -130,6 +131,7 @@ fn cell_type(work: &[u32], types: &[u32], st: State, cell: usize) -> u32
 }
 
 // A bound of a type from its 32 bits.
+#[tactic(auto, using(crate::proofs::Ways::bound_laws))]
 fn bound_of(n: u32) -> i64
     ensures { result ≡ signed n }
 {

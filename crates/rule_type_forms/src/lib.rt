@@ -19,6 +19,7 @@ use text_heads::{Maker, maker_of};
 use text_parts::{Part, part_at};
 
 // A line whose type is a form, past its head word, which m stands for; the line's name is at p.
+#[tactic(auto, using(crate::proofs::TypeShapes::made_laws))]
 fn made_line(
     text: &[u8],
     work: &mut [u32],
@@ -41,6 +42,7 @@ fn made_line(
 }
 
 // A line whose type is a form, past its bracket; the line's name is at p.
+#[tactic(auto, using(crate::proofs::TypeShapes::form_laws))]
 fn form_line(
     text: &[u8],
     work: &mut [u32],
@@ -76,6 +78,7 @@ fn type_after(
 }
 
 // A `type` line, past its head word.
+#[tactic(auto, using(crate::proofs::TypeShapes::type_line_laws))]
 pub fn type_line(text: &[u8], work: &mut [u32], types: &mut [u32], st: State, at: usize) -> Lined
     ensures { GivesLine text.now work.old types.old st (line_of is_type 0 (first (stack_at text.now at))) result work.new types.new }
 {

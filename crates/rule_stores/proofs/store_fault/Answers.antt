@@ -21,8 +21,8 @@ returns c = search (store_laws, sfits_of)
 
 pub returns-then-values-cells : goal.returns-then-values-cells
 returns-then-values-cells c = elim c.then-values-cells.branch [
-  then-values-cells-via-then-values-cells w ↦ search (store_laws, sfits_of) |
-  then-values-cells-via-else-values-cells+then-marks-cells w ↦ search (store_laws, sfits_of)
+  | then-values-cells-via-then-values-cells w ↦ search (store_laws, sfits_of)
+  | then-values-cells-via-else-values-cells+then-marks-cells w ↦ search (store_laws, sfits_of)
 ]
 
 pub returns-then-not-cell_passes : goal.returns-then-not-cell_passes
