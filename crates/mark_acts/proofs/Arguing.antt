@@ -270,15 +270,7 @@ module _ (s l ts : List ℕ) (scope : Scope) (x : Frame) (at : ℕ) (ws vs₀ vs
 
 pub ruleset pass_laws = (pass_all, pass-halted, sfits_of)
 
--- ---- `listed`, `returning`, `take_back`
-
-pub listed-few : (n : ℕ) → n < 8 → n ≡ min n 8
-listed-few n h = omega (arith, h)
-
-pub listed-all : (n : ℕ) → 8 ≤ n → 8 ≡ min n 8
-listed-all n h = omega (arith, h)
-
-pub ruleset listed_laws = (listed-few, listed-all)
+-- ---- `returning`, `take_back`
 
 module _ (o : ℕ) where
   pub returns-normal : o < 4294967296 → true ≡ returns o

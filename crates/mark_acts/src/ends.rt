@@ -6,6 +6,7 @@ use code_calc::words::Store;
 use mark_steps::ends::{SPENT, failing};
 use mark_values::values::STUCK;
 
+// Kept: what may not change: mark_told and stuck_word (specs/Ends.antt) speak of this word.
 // Added to the steps left where a statement sticks.
 pub const STICKS: u64 = 12884901888;
 

@@ -4,23 +4,22 @@ use mathlib.Core.Bool.{Bool, true, false}
 use mathlib.Core.List.{List}
 use Prim.Native.Nat.{ℕ, zero, suc, ◌+◌, ◌-◌, ◌<◌, ◌≤◌}
 use native.Mathlib.Omega.{arith}
-use lib.IntN.{ℤ, pos, negsuc, nat_abs}
-use lib.Signed.{lt_z, non_neg}
-use lib.ListN.{length, get_or, set, length-set, get_or-eq_default}
+use lib.IntN.{ℤ, pos}
+use lib.ListN.{length, get_or, set, length-set}
 use lib.Seq.{get_or-set_same, get_or-set_other}
-use lib.Dec.{ltb, T}
-use mir.Syntax.{w32, w64}
-use mir.Val.{Fits, SFits}
+use lib.Dec.{ltb}
+use mir.Syntax.{w64}
+use mir.Val.{SFits}
 use mir.Facts.{to_z-of_z}
 use borrow.Author.Rules.{sfits_of}
-use borrow.Author.Tests.{lt-ltb, le-ltb, ltb-true, ltb-false, le-leb, lt-leb}
+use borrow.Author.Tests.{lt-ltb, le-ltb, ltb-true, le-leb, lt-leb}
 use mathlib.Core.Logic.{◌⊎◌, inl, inr}
 use Rattle.leaf_integers.proofs.Order.{le-or-lt}
 use Rattle.leaf_integers.proofs.Machine.{wire}
 use Rattle.law.specs.Base.{pick}
 use Rattle.law.specs.Machine.{store_cells}
 use Rattle.code_calc.specs.Words.{undefined_word, store_word, store_words}
-use Rattle.mark_cells.specs.Cells.{Addresses, Puts, written, upwards, downwards, moves, made, Copies, Copying, Fills, Filling, Gives, Forgets}
+use Rattle.mark_cells.specs.Cells.{Puts, written, upwards, downwards, moves, made, Copies, Copying, Fills, Filling, Gives, Forgets}
 
 -- ---- the word of a cell after a store
 word_same : (ws : List ℤ) (a : ℕ) (z : ℤ) → length ws ≡ store_words → a < store_cells → store_word (set ws a z) a ≡ z
@@ -212,10 +211,7 @@ module _ (ws : List ℤ) (s a k : ℕ) where
 
 pub ruleset copy_laws = (copy-up, copy-down)
 
--- ---- `word_at`, `give`, `forget`
-pub word-past : (zs : List ℤ) (i : ℕ) → length zs ≤ i → pos 0 ≡ get_or zs i (pos 0)
-word-past zs i h = sym (get_or-eq_default zs (pos 0) h)
-
+-- ---- `give`, `forget`
 module _ (ws : List ℤ) (a : ℕ) (f : ℕ → ℤ) where
   pub fill_start : Filling ws a f 0 ws
   fill_start = record { says = λ l. record { here = λ j h g. absurd (omega arith); below = λ i h. refl; above = λ i h. refl; long = refl; beside = λ i h. refl } }
@@ -246,27 +242,3 @@ give-next ws a zs i us vs z C e f P = fill-next ws a (λ j. get_or zs j (pos 0))
 
 pub forget-next : (ws : List ℤ) (a i : ℕ) (us vs : List ℤ) → Forgets ws a i us → Puts us (a + i) undefined_word vs → Forgets ws a (i + 1) vs
 forget-next ws a i us vs C P = fill-next ws a (λ j. undefined_word) i us vs undefined_word C P refl
-
--- ---- `address`
-module _ (w : ℤ) (f : SFits w64 w) where
-  pub address_below : lt_z (wire w) (pos 0) ≡ true → Addresses w 4294967295
-  address_below h = record { says = λ a g e. absurd (go a e (rw (to_z-of_z f) at h)) }
-    where
-      go : (a : ℕ) → w ≡ pos a → lt_z w (pos 0) ≡ true → ⊥
-      go a e h = omega (arith, ltb-true a 0 (rw e at h))
-
-  pub address_above : lt_z (pos 4294967295) (wire w) ≡ true → Addresses w 4294967295
-  address_above h = record { says = λ a g e. absurd (go a g e (rw (to_z-of_z f) at h)) }
-    where
-      go : (a : ℕ) → a ≤ 4294967295 → w ≡ pos a → lt_z (pos 4294967295) w ≡ true → ⊥
-      go a g e h = omega (arith, ltb-true 4294967295 a (rw e at h), g)
-
-  address-cast : (z : ℤ) → SFits w64 z → lt_z z (pos 0) ≡ false → lt_z (pos 4294967295) z ≡ false → T (non_neg z) × Fits w32 (nat_abs z)
-  address-cast (pos n) g h k = (tt, record { fits = omega (arith, ltb-false 4294967295 n k) })
-  address-cast (negsuc n) g h k = absurd (subst T h tt)
-
-  pub address-fits : lt_z (wire w) (pos 0) ≡ false → lt_z (pos 4294967295) (wire w) ≡ false → T (non_neg (wire w)) × Fits w32 (nat_abs (wire w))
-  address-fits h k = rw (to_z-of_z f) (address-cast w f (rw (to_z-of_z f) at h) (rw (to_z-of_z f) at k))
-
-  pub address_is : lt_z (wire w) (pos 0) ≡ false → Addresses w (nat_abs (wire w))
-  address_is h = record { says = λ a g e. ap nat_abs (to_z-of_z f ∙ e) }

@@ -66,6 +66,7 @@ fn copy_down(store: &mut Store, s: u32, a: u32, k: u32)
     }
 }
 
+// Kept: the new form is no plainer: `copy_within` takes no range past the end, where cells read as undefined and are not written.
 // k cells from s on to a on, each written once, after it was read: no types are known here that would keep the two apart.
 pub fn copy(store: &mut Store, s: u32, a: u32, k: u32)
     ensures { Copying store.old s a k store.new }

@@ -1,5 +1,4 @@
 // Words as expressions and targets, and `first` and `last` of a type.
-ghost use Rattle.std.specs.Prelude.{◌≡◌, pos};
 ghost use Rattle.text_heads.specs.declared.ExprHead.TheVariants.{Bound};
 ghost use Rattle.mark_expressions.specs.Marks.{MarksName, MarksPlaceName, MarksWord, MarksVar, MarksForm};
 
@@ -13,20 +12,13 @@ use rule_atoms::type_name;
 use table_scope::{Meaning, meaning_of};
 use text_heads::{Atom, atom_of};
 
-// A number of 32 bits as an integer.
-fn wide(n: u32) -> i64
-    ensures { result ≡ pos n }
-{
-    n as i64
-}
-
 // A name as an expression, by its meaning.
 fn named(work: &[u32], types: &[u32], store: &Store, m: Meaning) -> Carried
     ensures { MarksName work.now types.now store.now m result }
 {
     match m {
-        Meaning::Var(_, k, base) => place(k, wide(base)).load(work, types, store),
-        Meaning::Value(k, n) => constant(work, types, k, wide(n)),
+        Meaning::Var(_, k, base) => place(k, i64::from(base)).load(work, types, store),
+        Meaning::Value(k, n) => constant(work, types, k, i64::from(n)),
         _ => value(0, STUCK),
     }
 }
@@ -36,7 +28,7 @@ fn named_place(m: Meaning) -> Reached
     ensures { MarksPlaceName m result }
 {
     match m {
-        Meaning::Var(_, k, base) => place(k, wide(base)),
+        Meaning::Var(_, k, base) => place(k, i64::from(base)),
         _ => place(0, STUCK),
     }
 }

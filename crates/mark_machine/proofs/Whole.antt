@@ -68,7 +68,7 @@ module _ (w : ℕ) (ws : List ℤ) where
   unfolding mark_outcome
   tells-stuck h = record { says = λ k i e. sym (past h) }
 
-pub ruleset tells-laws = (tells-normal, tells-spent, tells-raised, tells-stuck, sfits_of)
+pub ruleset tells_laws = (tells-normal, tells-spent, tells-raised, tells-stuck, sfits_of)
 
 -- ---- `mark_with`: the array at the start, and what it leaves
 module _ (vs : List ℤ) (ms : List ℕ) (ws₀ ws us : List ℤ) (H : Lent vs ms) (L : Loads vs ms ws₀ store_cells ws) (N : Begins ws us) (e : length ws₀ ≡ store_words) where

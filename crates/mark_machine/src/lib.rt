@@ -14,6 +14,7 @@ use mark_statements::walk::Setting;
 use mark_steps::ends::{RAISED, SPENT, left_in};
 
 // How a word, with the store's array, says that a run ended.
+#[tactic(auto, using(crate::proofs::Whole::tells_laws))]
 fn told(w: u64, store: &Store) -> Ending
     ensures { MarkTells w store.now result }
 {

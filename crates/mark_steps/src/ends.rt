@@ -5,6 +5,7 @@ ghost use Rattle.mark_steps.specs.Ends.{left_in, step_word, fault_in, Raises, Ra
 
 use code_calc::words::{FAULT, GREATEST, LATEST, PLACE, SYSTEM_ERROR, Store};
 
+// Kept: what may not change: left_in, told_by, step_word and raised_word (specs/Ends.antt) and Ends (specs/Stands.antt) speak of this word.
 // No number of steps left is so large.
 pub const SPENT: u64 = 4294967296;
 

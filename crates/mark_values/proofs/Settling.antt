@@ -5,7 +5,6 @@ use mathlib.Core.List.{List, [], ◌∷◌}
 use Prim.Native.Nat.{ℕ, ◌<◌}
 use borrow.Author.Tests.{eq-eqb, ne_eqb}
 use borrow.Author.Rules.{sfits_of}
-use lib.Dec.{eqb}
 use lib.ListN.{length}
 use lib.IntN.{ℤ, neg_ℤ, -ℤ-+ℤ_cancel}
 use lib.Signed.{lt_z}
@@ -162,13 +161,6 @@ latest-is ws w r h f e = rw (e, to_z-of_z f, h) (record { says = λ Γ o m H. su
 pub ruleset latest_laws = (latest-is, sfits_of)
 
 -- ---- a member
-
-module _ (l ts : List ℕ) (t : ℕ) (i : Info) (e : i ≡ info_of l ts t) where
-  pub set-yes : i.shape ≡ 1 → true ≡ eqb (info_of l ts t).shape 1
-  set-yes h = sym (eq-eqb (info_of l ts t).shape 1 (sym (ap (λ (j : Info). j.shape) e) ∙ h))
-
-  pub set-not : ((i.shape ≡ 1) → ⊥) → false ≡ eqb (info_of l ts t).shape 1
-  set-not h = sym (ne_eqb (info_of l ts t).shape 1 (λ q. h (ap (λ (j : Info). j.shape) e ∙ q)))
 
 tested-marks : (lo hi w : ℤ) (q : Result (List ℤ)) → MarkMeans w (q >>= λ u. is (sole u)) → MarkMeans (tested_word lo hi w) (q >>= λ u. tested range_error lo hi (sole u))
 unfolding tested_word word_of tested pick MarkRanged Exceptional inside

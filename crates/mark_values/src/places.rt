@@ -10,6 +10,7 @@ use code_calc::words::{GREATEST, Store, reach};
 use table_list::at;
 use table_scope::{Info, describe, find_field, host_of};
 
+// Kept: the new form is no plainer, as for Carried: element, shifted and cells_at take a fault's word and give it on.
 // A place, a fault or no result: its type and the word of its first cell.
 #[derive(Clone, Copy)]
 pub struct Reached {

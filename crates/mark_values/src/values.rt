@@ -8,6 +8,7 @@ use code_calc::words::{FAULT, GREATEST};
 // The word of no result: what was met has a kind that does not fit.
 pub const STUCK: i64 = FAULT;
 
+// Kept: the new form is no plainer: code_calc's operators take and give this word, a fault too, and MarkMeans (specs/Values.antt) speaks of it.
 // A value, a fault or no result: its kind and its word. The cells of an array's or record's value stand from cell `from` on.
 #[derive(Clone, Copy)]
 pub struct Carried {
