@@ -15,7 +15,6 @@ use borrow.Author.Rules.{sfits_of}
 use mir.Syntax.{w64}
 use Rattle.leaf_integers.proofs.Machine.{wire}
 use Rattle.law.specs.Base.{each}
-use Rattle.law.specs.Calculate.{equal_z}
 use Rattle.law.specs.Code.{Cases}
 use Rattle.law.specs.Elaborate.{elab_arms}
 use Rattle.law.specs.Environment.{Environment}
@@ -35,7 +34,6 @@ use Rattle.rule_faults.specs.declared.Fault.{Fault}
 use Rattle.rule_faults.specs.declared.Fault.TheVariants.{Clear, Kind}
 use Rattle.rule_faults.specs.Got.{is_clear, lowest}
 use Rattle.rule_atoms.proofs.Telling.{unnamed-fits, unfit-fits}
-use Rattle.rule_labels.specs.Marks.{marks_of}
 use Rattle.rule_labels.specs.Repeating.{labels_differ, Repeating}
 use Rattle.rule_labels.specs.declared.Mark.{Mark}
 use Rattle.rule_labels.specs.declared.Filled.{Filled}
