@@ -36,7 +36,7 @@ module _ (l : List ℕ) (m : Meaning) (r : Callee) where
   pub callee-proc : (p : ℕ) (x : Frame) → m ≡ meaning.Proc p → x ≡ frame_in l p → r ≡ callee_is Clear p x → r ≡ callee_by l m
   callee-proc p x h i e = rw h (e ∙ ap (callee_is Clear p) i)
 
-pub ruleset callee-laws = (callee-unknown, callee-type, callee-var, callee-value, callee-proc)
+pub ruleset callee_laws = (callee-unknown, callee-type, callee-var, callee-value, callee-proc)
 
 module _ (l ts : List ℕ) (x : Frame) (j : ℕ) (a : Got) (f : Fault) where
   pub argument-of : (t k : ℕ) → j < x.count → t ≡ get_or l (x.types + j) 0 → k ≡ host_in l ts t → f ≡ member_fault a.fault a.kind k → f ≡ argument_fault l ts x j a
@@ -47,7 +47,7 @@ module _ (l ts : List ℕ) (x : Frame) (j : ℕ) (a : Got) (f : Fault) where
   unfolding argument_fault
   argument-past h g = rw (le-ltb j x.count h) g
 
-pub ruleset argument-laws = (argument-of, argument-past)
+pub ruleset argument_laws = (argument-of, argument-past)
 
 pub with-argument-is : (l ts : List ℕ) (x : Frame) (g a : Got) (t : ℕ) (f h : Fault) (n : ℕ) → f ≡ argument_fault l ts x g.kind a → h ≡ lowest g.fault f → n ≡ next_number g.kind
     → record { fault = h; kind = n; place = 0; next = a.next; top = t } ≡ argument_got l ts x g a t
@@ -62,7 +62,7 @@ module _ (x : Frame) (n : ℕ) where
   unfolding few_fault
   few-not h = rw (le-ltb n x.count h) refl
 
-pub ruleset few-laws = (few-is, few-not)
+pub ruleset few_laws = (few-is, few-not)
 
 pub call-is : (l : List ℕ) (n : ℕ) (c : Callee) (slot : ℕ) (a r : Got) (d e f : Fault) (l' : List ℕ) → d ≡ few_fault c.frame a.kind → e ≡ lowest a.fault d → f ≡ lowest c.fault e
     → Makes (node_if f n a.next (50 ∷ n ∷ c.place ∷ slot ∷ []) a.top l) r l' → Makes (called l n c slot a) r l'

@@ -99,9 +99,9 @@ module _ (s : List ℕ) (at : ℕ) (x : Part) (S : Stands s at x) where
           }
       go following.Stmt F G = record { says = record { more = λ z. no_end (sym F.here ∙ z); plain = λ t ts e. rw (← then-inj (sym F.here ∙ e)) G.says } }
 
-pub ruleset in-laws = (in_leaf, in-other, in-none)
+pub ruleset in_laws = (in_leaf, in-other, in-none)
 
-pub ruleset next-laws = (next-leaf, next-shut, next-form)
+pub ruleset next_laws = (next-leaf, next-shut, next-form)
 
 -- ---- the node
 

@@ -42,7 +42,7 @@ module _ (k : ℕ) (g : Got) where
   unfolding wanted_got
   wanted-other f r h e m = rw (ne_eqb k g.kind h) (m ∙ ap (with_fault g) e)
 
-pub ruleset wanted-laws = (wanted-is, wanted-other)
+pub ruleset wanted_laws = (wanted-is, wanted-other)
 
 module _ (l : List ℕ) (n : ℕ) (r : Got) (l' : List ℕ) where
   pub raise-is : (c : Got) → Makes (node_if c.fault n c.next (51 ∷ n ∷ c.place ∷ []) c.top l) r l' → Makes (raised l n c) r l'
@@ -126,7 +126,7 @@ module _ (l ts : List ℕ) (n : ℕ) (g e : Got) (f : Fault) (b : Bool) (h : f �
   unfolding assigned
   assign-fault y m = rw (← h) (if-fault f n e.next e.top l _ b z y r m)
 
-pub ruleset assign-laws = (assign-clear, assign-fault)
+pub ruleset assign_laws = (assign-clear, assign-fault)
 
 pub joined_is : (g a : Got) (t : ℕ) (f : Fault) → f ≡ lowest g.fault a.fault → record { fault = f; kind = a.kind; place = 0; next = a.next; top = t } ≡ joined_got g a t
 joined_is g a t f e = rw e refl

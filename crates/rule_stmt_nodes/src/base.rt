@@ -15,6 +15,7 @@ pub fn with_fault(g: Got, f: Fault) -> Got
 }
 
 // A node where no fault has come; `kind` is the number of the last statement read.
+#[tactic(auto, using(crate::proofs::BaseMaking::node_laws))]
 pub fn node_if(work: &mut [u32], fault: Fault, kind: u32, next: usize, top: u32, ns: &[u32]) -> Got
     ensures { Makes (node_if fault kind next ns.now top work.old) result work.new }
 {
@@ -26,6 +27,7 @@ pub fn node_if(work: &mut [u32], fault: Fault, kind: u32, next: usize, top: u32,
 }
 
 // A whole variable that is assigned, by its meaning: a fault of row 8 if a loop around steps it.
+#[tactic(auto, using(crate::proofs::BaseMaking::steer_laws))]
 pub fn steer(loops: Loops, m: Meaning, g: Got) -> Got
     ensures { result ≡ steered loops m g }
 {

@@ -20,6 +20,7 @@ pub struct Callee {
 }
 
 // The procedure that a name means.
+#[tactic(auto, using(crate::proofs::Calling::callee_laws))]
 pub fn callee_of(work: &[u32], m: Meaning) -> Callee
     ensures { result ≡ callee_by work.now m }
 {
@@ -42,6 +43,7 @@ pub fn callee_of(work: &[u32], m: Meaning) -> Callee
 }
 
 // The fault of argument j, whose answer is a: where there is no parameter for it, one of row 8 at least.
+#[tactic(auto, using(crate::proofs::Calling::argument_laws))]
 fn argument_fault(work: &[u32], types: &[u32], x: Frame, j: u32, a: Got) -> Fault
     ensures { result ≡ argument_fault work.now types.now x j a }
 {
@@ -67,6 +69,7 @@ pub fn with_argument(work: &[u32], types: &[u32], x: Frame, g: Got, a: Got, t: u
 }
 
 // The fault of fewer arguments than parameters; one past the last parameter has its own.
+#[tactic(auto, using(crate::proofs::Calling::few_laws))]
 fn few_fault(x: Frame, n: u32) -> Fault
     ensures { result ≡ few_fault x n }
 {

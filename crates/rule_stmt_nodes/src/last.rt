@@ -18,6 +18,7 @@ pub enum Next {
 }
 
 // Whether the parts of a form are a handler's.
+#[tactic(auto, using(crate::proofs::Following::in_laws))]
 fn handler_in(text: &[u8], at: usize) -> Next
     ensures { HandlerIn text.now at result }
 {
@@ -34,6 +35,7 @@ fn handler_in(text: &[u8], at: usize) -> Next
 }
 
 // The next part of a body.
+#[tactic(auto, using(crate::proofs::Following::next_laws))]
 pub fn next_at(text: &[u8], at: usize) -> Next
     ensures { Comes text.now at result }
 {

@@ -30,6 +30,7 @@ pub fn next_number(n: u32) -> u32
 }
 
 // An expression's answer where kind k is wanted.
+#[tactic(auto, using(crate::proofs::Making::wanted_laws))]
 pub fn wanted(k: u32, g: Got) -> Got
     ensures { result ≡ wanted_got k g }
 {
@@ -99,6 +100,7 @@ fn store_node(work: &mut [u32], i: Info, k: u32, n: u32, g: Got, e: Got) -> Got
 }
 
 // An assignment.
+#[tactic(auto, using(crate::proofs::Making::assign_laws))]
 pub fn assign_node(work: &mut [u32], types: &[u32], n: u32, g: Got, e: Got) -> Got
     ensures { Makes (assigned work.old types.now n g e) result work.new }
 {
@@ -189,6 +191,7 @@ pub fn begin_node(work: &mut [u32], n: u32, slot: u32, m: Got) -> Got
 }
 
 // The answer for a chain with one statement more, laid up to t.
+#[tactic(auto, using(crate::proofs::Making::joined_is))]
 pub fn joined(g: Got, a: Got, t: u32) -> Got
     ensures { result ≡ joined_got g a t }
 {

@@ -3,6 +3,3 @@ use Rattle.rule_stmt_nodes.proofs.base.node_if.Goals as goal
 
 pub returns-then-is_clear : goal.returns-then-is_clear
 returns-then-is_clear c = search node_laws
-
-pub returns-else-is_clear : goal.returns-else-is_clear
-returns-else-is_clear c = search node_laws
