@@ -65,6 +65,7 @@ pub fn lay_info(work: &mut [u32], top: u32, x: Info) -> u32
 }
 
 // A line that names a type anew, with no fault of rows 6 to 8, by its name's number.
+#[tactic(auto, using(crate::proofs::Aliases::add_alias_laws))]
 fn add_alias(work: &mut [u32], st: State, name: u32, kind: u32) -> Lined
     ensures { AddsAlias work.old st name kind result work.new }
 {
@@ -115,6 +116,7 @@ fn add_type(work: &mut [u32], types: &mut [u32], st: State, name: u32, x: Info) 
 }
 
 // A fault, or row 6 where a form does not end at an offset.
+#[tactic(auto, using(crate::proofs::SimpleLines::end_laws))]
 pub fn end_fault(text: &[u8], f: Fault, at: usize) -> Fault
     ensures { EndFault text.now f at result }
 {

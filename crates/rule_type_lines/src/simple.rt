@@ -35,6 +35,7 @@ fn base_fits(low: u32, high: u32) -> bool
 }
 
 // The form of a set, past its head word.
+#[tactic(auto, using(crate::proofs::SetTypes::set_is))]
 pub fn set_of(text: &[u8], work: &[u32], types: &[u32], st: State, at: usize) -> Shaped
     ensures { GivesShape text.now work.now types.now st at (set_in (first (stack_at text.now at))) result }
 {
@@ -74,6 +75,7 @@ fn span_of(low: u32, high: u32) -> u32
 }
 
 // The cells of an array with so many indices after its first, fewer than 256, and elements of so many cells, fewer than 4,096.
+#[tactic(auto, using(crate::proofs::ArrayTypes::cells_fit))]
 fn cells_in(span: u32, size: u32) -> u32
     ensures { result ≡ (span % 256 + 1) * (size % 4096) }
 {
@@ -130,6 +132,7 @@ fn array_shape(f: Fault, g: Fault, x: Info, y: Info, i: u32, e: u32, next: usize
 }
 
 // The form of an array, past its head word.
+#[tactic(auto, using(crate::proofs::ArrayTypes::array_laws))]
 pub fn array_of(text: &[u8], work: &[u32], types: &[u32], st: State, at: usize) -> Shaped
     ensures { GivesShape text.now work.now types.now st at (array_in (first (stack_at text.now at))) result }
 {

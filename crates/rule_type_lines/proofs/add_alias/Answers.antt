@@ -3,6 +3,3 @@ use Rattle.rule_type_lines.proofs.add_alias.Goals as goal
 
 pub returns-then-lines_fit : goal.returns-then-lines_fit
 returns-then-lines_fit c = search add_alias_laws
-
-pub returns-else-lines_fit : goal.returns-else-lines_fit
-returns-else-lines_fit c = search add_alias_laws

@@ -8,6 +8,6 @@ returns-then-y-z c = search (fault_laws, sfits_of)
 
 pub returns-else-a-b : goal.returns-else-a-b
 returns-else-a-b c = elim c.else-a-b.branch [
-  else-a-b-via-then-a-b+else-y-z w ↦ search (fault_laws, sfits_of) |
-  else-a-b-via-else-a-b w ↦ search (fault_laws, sfits_of)
+  | else-a-b-via-then-a-b+else-y-z w ↦ search (fault_laws, sfits_of)
+  | else-a-b-via-else-a-b w ↦ search (fault_laws, sfits_of)
 ]
