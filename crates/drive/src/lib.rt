@@ -2,7 +2,7 @@
 
 #![tactic(auto)]
 
-pub use law_answers::{Counted, MarkReport, Report, Verdict};
+pub use law_answers::{Counted, MarkReport, Refusal, Report, Verdict};
 pub use mark_texts::mark;
 pub use mark_texts::owning::mark_owners;
 pub use rule_cells::{cells, owners};

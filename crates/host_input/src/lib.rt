@@ -1,30 +1,33 @@
-// The bytes of a reader, as standard input is one, read to their end into lent bytes.
+// The bytes of a reader, as standard input is one, read to their end into lent bytes; and the lines in them.
 
 #![tactic(auto)]
 
-ghost use Rattle.std.specs.Prelude.{length};
-ghost use Rattle.host_input.specs.Coming.{Within};
+ghost use Rattle.std.specs.Prelude.{◌≤◌, length, IfOk};
 
+use std::io;
 use std::io::Read;
 
-// What came from a reader: so many bytes, or a read failed.
-#[derive(Clone, Copy)]
-pub enum Input {
-    Failed,
-    Came(usize),
-}
-
-// Reads to the end of a reader, or until text is full. A read that fails, for whatever reason, is not tried again.
-pub fn read_text<R: Read>(from: &mut R, text: &mut [u8]) -> Input
-    ensures { Within result (length text.new) }
+// Reads to the end of a reader, or until text is full; how many bytes came. A read that fails, for whatever reason, is not tried again.
+pub fn read_text<R: Read>(from: &mut R, text: &mut [u8]) -> io::Result<usize>
+    ensures { IfOk result (λ n. n ≤ length text.new) }
 {
     let mut n = 0;
     while n < text.len() {
-        match from.read(&mut text[n..]) {
-            Ok(0) => return Input::Came(n),
-            Ok(k) => n += k,
-            Err(_) => return Input::Failed,
+        match from.read(&mut text[n..])? {
+            0 => return Ok(n),
+            k => n += k,
         }
     }
-    Input::Came(n)
+    Ok(n)
+}
+
+// The end of the line at p, its line feed left out.
+pub fn line_end(text: &[u8], p: usize) -> usize
+    requires { p ≤ length text.now }
+    ensures { (p ≤ result) × (result ≤ length text.now) }
+{
+    match text[p..].iter().position(|b| *b == b'\n') {
+        Some(n) => p + n,
+        None => text.len(),
+    }
 }

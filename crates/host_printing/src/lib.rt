@@ -2,5 +2,8 @@
 
 #![tactic(auto)]
 
+pub mod answering;
+pub mod machines;
 pub mod markings;
 pub mod reports;
+pub mod serving;

@@ -1,12 +1,9 @@
 -- The numbers that a host is told (include/drive.h): for each case of an answer, document 01's number and values.
-use Rattle.std.specs.Prelude.{List, ◌≡◌, ℕ, ℤ, pos}
+use Rattle.std.specs.Prelude.{List, ◌≡◌, ℕ, ℤ, pos, Result, Ok, Err}
 use Rattle.law.specs.Machine as Machine
 use Rattle.law.specs.Machine.{normal, spent, sticks, raised}
 use Rattle.law.specs.Whole.{Ending, Report, refusal, ran}
-use Rattle.law_answers.specs.declared.Verdict.{Verdict}
-use Rattle.law_answers.specs.declared.Verdict.TheVariants as verdict
-use Rattle.law_answers.specs.declared.Counted.{Counted}
-use Rattle.law_answers.specs.declared.Counted.TheVariants as counted
+use Rattle.law_answers.specs.declared.Refusal.{Refusal}
 use Rattle.host_replies.specs.declared.Reply.{Reply}
 
 -- a refusal's number and line
@@ -22,14 +19,14 @@ abbrev pub ended_reply : ℕ → ℤ → ℕ → ℕ → Reply
 ended_reply o z p s = record { refusal = 0; outcome = o; line = 0; cells = 0; exception = z; statement = p; steps = s }
 
 -- the verdict
-unfoldable pub verdict_reply : Verdict → Reply
-verdict_reply verdict.Accepted = cells_reply 0
-verdict_reply (verdict.Refused n l) = refused_reply n l
+unfoldable pub verdict_reply : Result (Unit {0}) Refusal → Reply
+verdict_reply (Ok _) = cells_reply 0
+verdict_reply (Err e) = refused_reply e.number e.line
 
 -- the count of cells
-unfoldable pub count_reply : Counted → Reply
-count_reply (counted.Refused n l) = refused_reply n l
-count_reply (counted.Cells n) = cells_reply n
+unfoldable pub count_reply : Result ℕ Refusal → Reply
+count_reply (Err e) = refused_reply e.number e.line
+count_reply (Ok n) = cells_reply n
 
 -- the outcomes: normal 0, an exception 1, spent 2, stuck 3
 unfoldable pub outcome_reply : Machine.Outcome → ℕ → Reply

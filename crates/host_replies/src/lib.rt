@@ -3,13 +3,14 @@
 #![tactic(auto)]
 
 ghost use Rattle.std.specs.Prelude.{◌≡◌};
-ghost use Rattle.law_answers.specs.RunReports.{outcome_of, ending_of};
+ghost use Rattle.law_answers.specs.RunReports.{ending_of};
 ghost use Rattle.law_answers.specs.MarkingReports.{mark_outcome, mark_ending};
 ghost use Rattle.host_replies.specs.Replies.{refused_reply, cells_reply, ended_reply, outcome_reply, verdict_reply, count_reply, ending_reply};
 
-use law_answers::{Answer, Counted, Ending, MarkReport, Marked, Outcome, Report, Verdict};
+use law_answers::{Counted, Ending, MarkReport, Marked, Refusal, Report, Verdict};
 
 // `drive_reply` of the header: a refusal's number, or 0 and the rest; what a call has nothing to say of is 0.
+// Kept: numbers for kinds, and 0 where nothing is said, for the C interface (include/drive.h).
 #[repr(C)]
 #[derive(Clone, Copy)]
 pub struct Reply {
@@ -23,13 +24,13 @@ pub struct Reply {
 }
 
 // A refusal.
-fn refused(number: u32, line: usize) -> Reply
-    ensures { result ≡ refused_reply number line }
+fn refused(e: Refusal) -> Reply
+    ensures { result ≡ refused_reply e.number e.line }
 {
     Reply {
-        refusal: number,
+        refusal: e.number,
         outcome: 0,
-        line: line,
+        line: e.line,
         cells: 0,
         exception: 0,
         statement: 0,
@@ -45,7 +46,7 @@ fn accepted(cells: usize) -> Reply
         refusal: 0,
         outcome: 0,
         line: 0,
-        cells: cells,
+        cells,
         exception: 0,
         statement: 0,
         steps: 0,
@@ -58,12 +59,12 @@ fn ended(outcome: u32, exception: i64, statement: u32, steps: u32) -> Reply
 {
     Reply {
         refusal: 0,
-        outcome: outcome,
+        outcome,
         line: 0,
         cells: 0,
-        exception: exception,
-        statement: statement,
-        steps: steps,
+        exception,
+        statement,
+        steps,
     }
 }
 
@@ -72,8 +73,8 @@ pub fn told(v: Verdict) -> Reply
     ensures { result ≡ verdict_reply v }
 {
     match v {
-        Verdict::Accepted => accepted(0),
-        Verdict::Refused(number, line) => refused(number, line),
+        Ok(_) => accepted(0),
+        Err(e) => refused(e),
     }
 }
 
@@ -82,21 +83,21 @@ pub fn counted(c: Counted) -> Reply
     ensures { result ≡ count_reply c }
 {
     match c {
-        Counted::Refused(number, line) => refused(number, line),
-        Counted::Cells(cells) => accepted(cells),
+        Ok(cells) => accepted(cells),
+        Err(e) => refused(e),
     }
 }
 
-// The answer of a run.
-fn answered(answer: Answer) -> Reply
-    ensures { result ≡ outcome_reply (outcome_of answer.outcome) answer.steps }
+// The answer of a run: by the marking machine, whose outcomes are those of both machines.
+fn answered(answer: Marked) -> Reply
+    ensures { result ≡ outcome_reply (mark_outcome answer.ending) answer.steps }
 {
     let steps = answer.steps;
-    let outcome = answer.outcome;
-    match outcome {
-        Outcome::Normal => ended(0, 0, 0, steps),
-        Outcome::Raised(number, place) => ended(1, number, place, steps),
-        Outcome::Spent => ended(2, 0, 0, steps),
+    match answer.ending {
+        Ending::Normal => ended(0, 0, 0, steps),
+        Ending::Raised(number, place) => ended(1, number, place, steps),
+        Ending::Spent => ended(2, 0, 0, steps),
+        Ending::Stuck => ended(3, 0, 0, steps),
     }
 }
 
@@ -105,22 +106,8 @@ pub fn reported(report: Report) -> Reply
     ensures { result ≡ ending_reply (ending_of report) }
 {
     match report {
-        Report::Refused(number, line) => refused(number, line),
-        Report::Ran(answer) => answered(answer),
-    }
-}
-
-// The answer of a run by the marking machine.
-fn mark_answered(answer: Marked) -> Reply
-    ensures { result ≡ outcome_reply (mark_outcome answer.ending) answer.steps }
-{
-    let steps = answer.steps;
-    let ending = answer.ending;
-    match ending {
-        Ending::Normal => ended(0, 0, 0, steps),
-        Ending::Raised(number, place) => ended(1, number, place, steps),
-        Ending::Spent => ended(2, 0, 0, steps),
-        Ending::Stuck => ended(3, 0, 0, steps),
+        Ok(answer) => answered(answer.into()),
+        Err(e) => refused(e),
     }
 }
 
@@ -129,7 +116,7 @@ pub fn mark_reported(report: MarkReport) -> Reply
     ensures { result ≡ ending_reply (mark_ending report) }
 {
     match report {
-        MarkReport::Refused(number, line) => refused(number, line),
-        MarkReport::Ran(answer) => mark_answered(answer),
+        Ok(answer) => answered(answer),
+        Err(e) => refused(e),
     }
 }

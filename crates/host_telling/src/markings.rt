@@ -10,8 +10,7 @@ pub fn marked_by(out: &mut [u8], at: usize, answer: Marked) -> usize
     ensures { Puts (marked_row answer) out.old at result out.new }
 {
     let steps = answer.steps;
-    let ending = answer.ending;
-    match ending {
+    match answer.ending {
         Ending::Normal => normal(out, at, steps),
         Ending::Raised(number, place) => exception(out, at, number, place, steps),
         Ending::Spent => spent(out, at, steps),
@@ -31,10 +30,10 @@ pub fn mark_shown(
     ensures { Puts (mark_rows text.now names.now values.now marks.now report) out.old 0 result out.new }
 {
     match report {
-        MarkReport::Refused(number, line) => refused(out, 0, number, line),
-        MarkReport::Ran(answer) => {
+        Ok(answer) => {
             let p = marked_by(out, 0, answer);
             cell_rows(out, p, text, names, values, marks)
         }
+        Err(e) => refused(out, 0, e.number, e.line),
     }
 }

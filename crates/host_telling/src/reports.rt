@@ -2,20 +2,15 @@
 ghost use Rattle.law_answers.specs.Written.{Puts};
 ghost use Rattle.host_telling.specs.Told.{answer_row, report_rows};
 
-use host_writing::rows::{cell_rows, exception, normal, refused, spent};
-use law_answers::{Answer, Outcome, Report};
+use crate::markings::marked_by;
+use host_writing::rows::{cell_rows, refused};
+use law_answers::{Answer, Report};
 
 // The row of an outcome.
 pub fn ended_by(out: &mut [u8], at: usize, answer: Answer) -> usize
     ensures { Puts (answer_row answer) out.old at result out.new }
 {
-    let steps = answer.steps;
-    let outcome = answer.outcome;
-    match outcome {
-        Outcome::Normal => normal(out, at, steps),
-        Outcome::Raised(number, place) => exception(out, at, number, place, steps),
-        Outcome::Spent => spent(out, at, steps),
-    }
+    marked_by(out, at, answer.into())
 }
 
 // A report from the list's start on.
@@ -30,10 +25,10 @@ pub fn shown(
     ensures { Puts (report_rows text.now names.now values.now marks.now report) out.old 0 result out.new }
 {
     match report {
-        Report::Refused(number, line) => refused(out, 0, number, line),
-        Report::Ran(answer) => {
+        Ok(answer) => {
             let p = ended_by(out, 0, answer);
             cell_rows(out, p, text, names, values, marks)
         }
+        Err(e) => refused(out, 0, e.number, e.line),
     }
 }

@@ -2,11 +2,11 @@
 use mathlib.Core.Path.{◌≡◌, refl, sym, ap, ◌∙◌, subst}
 use mathlib.Core.Bool.{Bool, true, false, cond, true≢false}
 use mathlib.Core.List.{List, [], ◌∷◌, ◌++◌, map, append_assoc}
-use Prim.Native.Nat.{ℕ, zero, suc, ◌+◌, ◌-◌, ◌<◌, ◌≤◌, ◌/◌, ◌%◌}
+use Prim.Native.Nat.{ℕ, zero, suc, ◌+◌, ◌-◌, ◌<◌, ◌≤◌, ◌/◌, ◌%◌, min}
 use native.Mathlib.Numerals.{add-one}
 use native.Mathlib.Omega.{arith}
-use borrow.Author.Tests.{lt-ltb, le-ltb, eq-eqb, ne_eqb}
-use lib.Dec.{ltb, eqb}
+use borrow.Author.Tests.{lt-ltb, le-ltb, eq-eqb, ne_eqb, leb-true, leb-false}
+use lib.Dec.{ltb, leb, eqb}
 use lib.IntN.{ℤ, pos, negsuc}
 use lib.ListN.{length, get_or, set, take, drop, length-set, drop_of_length-le}
 use lib.Seq.{drop-cons}
@@ -323,16 +323,16 @@ module _ (s ns : List ℕ) (vs : List ℤ) (ms : List ℕ) (i : ℕ) where
     rows-stop : cells_from i s ns vs ms ≡ [] → Puts bs l₀ p₀ p l
     rows-stop e = still-end bs l₀ p₀ l p (subst (λ (cs : List ℕ). Still bs l₀ p₀ cs l p) e g)
 
-    pub rows-names : length ns ≤ i → Puts bs l₀ p₀ p l
+    rows-names : length ns ≤ i → Puts bs l₀ p₀ p l
     unfolding names_at
     rows-names h =
         rows-stop (ap (λ (x : List ℕ). cells (i + 1) (names_at s x) (drop i vs) (drop i ms)) (drop_of_length-le ns h) ∙ no_names (i + 1) (drop i vs) (drop i ms))
 
-    pub rows-values : length vs ≤ i → Puts bs l₀ p₀ p l
+    rows-values : length vs ≤ i → Puts bs l₀ p₀ p l
     rows-values h =
         rows-stop (ap (λ (x : List ℤ). cells (i + 1) (names_at s (drop i ns)) x (drop i ms)) (drop_of_length-le vs h) ∙ no-values (i + 1) (names_at s (drop i ns)) (drop i ms))
 
-    pub rows-marks : length ms ≤ i → Puts bs l₀ p₀ p l
+    rows-marks : length ms ≤ i → Puts bs l₀ p₀ p l
     rows-marks h =
         rows-stop (ap (λ (x : List ℕ). cells (i + 1) (names_at s (drop i ns)) (drop i vs) x) (drop_of_length-le ms h) ∙ no-marks (i + 1) (names_at s (drop i ns)) (drop i vs))
 
@@ -342,7 +342,18 @@ module _ (s ns : List ℕ) (vs : List ℤ) (ms : List ℕ) (i : ℕ) where
         still-step bs l₀ p₀ (row (decimal_of (i + 1) ∷ name_at s (get_or ns i 0) ∷ cell_value (get_or vs i (pos 0)) (get_or ms i 0) ∷ [])) (cells_from (i + 1) s ns vs ms) l p q m
         (subst (λ (cs : List ℕ). Still bs l₀ p₀ cs l p) (from_step h j k) g) x
 
-pub ruleset rows-laws = (rows-names, rows-values, rows-marks, rows_step)
+    pub rows-done : i ≡ min (min (length vs) (length ns)) (length ms) → Puts bs l₀ p₀ p l
+    rows-done e = go (leb (length vs) i) refl (leb (length ns) i) refl (leb (length ms) i) refl
+      where
+        go : (a : Bool) → leb (length vs) i ≡ a → (b : Bool) → leb (length ns) i ≡ b → (c : Bool) → leb (length ms) i ≡ c → Puts bs l₀ p₀ p l
+        go true x b y c z = rows-values (leb-true (length vs) i x)
+        go false x true y c z = rows-names (leb-true (length ns) i y)
+        go false x false y true z = rows-marks (leb-true (length ms) i z)
+        go false x false y false z =
+            let a = leb-false (length vs) i x in let b = leb-false (length ns) i y in let c = leb-false (length ms) i z in
+            absurd (omega arith)
+
+pub ruleset rows-laws = (rows-done, rows_step)
 
 -- ---- `cell_at`
 

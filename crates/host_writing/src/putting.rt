@@ -24,10 +24,8 @@ pub fn put_all(out: &mut [u8], at: usize, bytes: &[u8]) -> usize
     ensures { Puts bytes.now out.old at result out.new }
 {
     let mut p = at;
-    let mut i = 0;
-    while i < bytes.len() {
-        p = put(out, p, bytes[i]);
-        i += 1;
+    for b in bytes {
+        p = put(out, p, *b);
     }
     p
 }
@@ -37,10 +35,8 @@ pub fn put_small(out: &mut [u8], at: usize, bytes: &[u8]) -> usize
     ensures { Puts (map small bytes.now) out.old at result out.new }
 {
     let mut p = at;
-    let mut i = 0;
-    while i < bytes.len() {
-        p = put(out, p, small_of(bytes[i]));
-        i += 1;
+    for b in bytes {
+        p = put(out, p, small_of(*b));
     }
     p
 }

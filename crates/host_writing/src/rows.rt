@@ -157,16 +157,8 @@ pub fn cell_rows(
     ensures { Puts (cells 1 (names_at text.now names.now) values.now marks.now) out.old at result out.new }
 {
     let mut p = at;
-    let mut i = 0;
-    while i < values.len() {
-        if i >= names.len() {
-            return p;
-        }
-        if i >= marks.len() {
-            return p;
-        }
+    for i in 0..values.len().min(names.len()).min(marks.len()) {
         p = cell_at(out, p, text, names, values, marks, i);
-        i += 1;
     }
     p
 }

@@ -21,8 +21,7 @@ use run_texts::run;
 pub extern "C" fn drive_verdict(text: &[u8], work: &mut [u32]) -> Reply
     ensures { (result ≡ verdict_reply (told_verdict (verdict_of text.now (length work.old)))) × (work.new ≡ work_after work.old) }
 {
-    let v = verdict_of(text, work);
-    told(v)
+    told(verdict_of(text, work))
 }
 
 // How many cells a text has.
@@ -30,8 +29,7 @@ pub extern "C" fn drive_verdict(text: &[u8], work: &mut [u32]) -> Reply
 pub extern "C" fn drive_cells(text: &[u8], work: &mut [u32]) -> Reply
     ensures { (result ≡ count_reply (cells_told (verdict_of text.now (length work.old)))) × (work.new ≡ work_after work.old) }
 {
-    let c = cells(text, work);
-    counted(c)
+    counted(cells(text, work))
 }
 
 // The same; names[i] becomes the offset of the name of cell i's variable, for each cell that there is room for. The rest of `names`, and all of
@@ -40,11 +38,11 @@ pub extern "C" fn drive_cells(text: &[u8], work: &mut [u32]) -> Reply
 pub extern "C" fn drive_owners(text: &[u8], work: &mut [u32], names: &mut [usize]) -> Reply
     ensures { (result ≡ count_reply (cells_told (verdict_of text.now (length work.old)))) × (work.new ≡ work_after work.old) × Owners text.now (verdict_of text.now (length work.old)) names.old names.new }
 {
-    let c = owners(text, work, names);
-    counted(c)
+    counted(owners(text, work, names))
 }
 
 // The run of a text on a lent store within a budget.
+// Kept: values and marks in two lists, for the C interface (include/drive.h).
 #[unsafe(no_mangle)]
 pub extern "C" fn drive_run(
     text: &[u8],
@@ -55,8 +53,7 @@ pub extern "C" fn drive_run(
 ) -> Reply
     ensures { Replies (run_of text.now (length work.old) values.old marks.old budget) result values.new marks.new × (work.new ≡ work_after work.old) }
 {
-    let report = run(text, work, values, marks, budget);
-    reported(report)
+    reported(run(text, work, values, marks, budget))
 }
 
 // As `drive_owners`, of a text that the marking machine takes.
@@ -64,8 +61,7 @@ pub extern "C" fn drive_run(
 pub extern "C" fn drive_mark_owners(text: &[u8], work: &mut [u32], names: &mut [usize]) -> Reply
     ensures { (result ≡ count_reply (cells_told (judge loosely text.now (length work.old)))) × (work.new ≡ work_after work.old) × Owners text.now (judge loosely text.now (length work.old)) names.old names.new }
 {
-    let c = mark_owners(text, work, names);
-    counted(c)
+    counted(mark_owners(text, work, names))
 }
 
 // The run of a text on a lent store within a budget, by the marking machine.
@@ -79,6 +75,5 @@ pub extern "C" fn drive_mark(
 ) -> Reply
     ensures { Replies (mark_of text.now (length work.old) values.old marks.old budget) result values.new marks.new × (work.new ≡ work_after work.old) }
 {
-    let report = mark(text, work, values, marks, budget);
-    mark_reported(report)
+    mark_reported(mark(text, work, values, marks, budget))
 }

@@ -1,4 +1,5 @@
 -- Runs of the marking machine: rows 10 and 11 by the tables, the run by the bodies' table, and the whole by the judgement.
+use Rattle.std.proofs.Common.{Result, Ok, Err}
 use mathlib.Core.Path.{◌≡◌, refl, sym, ap, subst, ◌∙◌}
 use mathlib.Core.Bool.{false}
 use mathlib.Core.List.{List, [], ◌++◌}
@@ -18,13 +19,12 @@ use Rattle.law.specs.Verdict.{Verdict, Read, accepted, refused, judge, loosely}
 use Rattle.law.specs.Whole.{report, fresh, lent, on_store, unless, mark_all, mark_of, work_after}
 use Rattle.law_theorems.proofs.LinesCover.{judged-covered}
 use Rattle.law_answers.specs.declared.Marked.{Marked}
-use Rattle.law_answers.specs.declared.MarkReport.{MarkReport}
-use Rattle.law_answers.specs.declared.MarkReport.TheVariants.{Refused, Ran}
+use Rattle.law_answers.specs.declared.Refusal.{Refusal}
+use Rattle.law_answers.specs.Verdicts.{refusal_of}
 use Rattle.law_answers.specs.MarkingReports.{mark_ending, MarkReports}
 use Rattle.rule_stores.specs.Stores.{StoreFault, row_number}
 use Rattle.rule_known.specs.declared.Known.{Known}
 use Rattle.table_bodies.proofs.Calling.{all-is}
-use Rattle.rule_texts.specs.declared.Checked.{Checked}
 use Rattle.rule_judge_loose.specs.Texts.{AdmittedBy, Admits}
 use Rattle.rule_judge_loose.proofs.Keeping.{all-stand}
 use Rattle.mark_machine.specs.Answers.{MarkAnswers, MarksLent}
@@ -33,16 +33,12 @@ use Rattle.rule_stores.proofs.Rows.{no_row}
 use Rattle.rule_texts.proofs.Texts.{after_same, judged-same, part-long, zeros}
 use Rattle.mark_texts.specs.Reports.{MarksLoaded, MarksChecked}
 
--- ---- `last_of`
-pub last_none : (n : ℕ) → n ≡ 0 → 0 ≡ n - 1
-last_none n e = omega arith
-
 -- a body for the numbers that have none
 nothing : PlacedBody
 nothing = record { types = []; vars = []; frame = no_frame; body = record { stmts = done; handles = false; handler = done } }
 
 module _ (s l ts tb : List ℕ) (kn : Known) (vs : List ℤ) (ms : List ℕ) (budget f : ℕ) (F : StoreFault l ts kn.state vs ms f) where
-  pub loaded-refused : (r : MarkReport) → ((f ≡ 0) → ⊥) → r ≡ Refused f 0 → MarksLoaded s l ts tb kn vs ms budget r vs ms
+  pub loaded-refused : (r : Result Marked Refusal) → ((f ≡ 0) → ⊥) → r ≡ Err (record { number = f; line = 0 }) → MarksLoaded s l ts tb kn vs ms budget r vs ms
   unfolding on_store lent row_number mark_ending
   loaded-refused r ne e = record {
     says = λ work q acc S _.
@@ -53,7 +49,7 @@ module _ (s l ts tb : List ℕ) (kn : Known) (vs : List ℤ) (ms : List ℕ) (bu
       go q none h z = absurd (ne z)
       go q (some n) h z = rw (h, e) (record { ending = rw z refl; values = refl; marks = refl })
 
-  pub loaded-run : (a : Marked) (r : MarkReport) (n : ℕ) (vs' : List ℤ) (ms' : List ℕ) → f ≡ 0 → n ≡ kn.state.procs - 1 → MarksLent s l ts tb n vs ms budget a vs' ms' → r ≡ Ran a
+  pub loaded-run : (a : Marked) (r : Result Marked Refusal) (n : ℕ) (vs' : List ℤ) (ms' : List ℕ) → f ≡ 0 → n ≡ kn.state.procs - 1 → MarksLent s l ts tb n vs ms budget a vs' ms' → r ≡ Ok a
       → MarksLoaded s l ts tb kn vs ms budget r vs' ms'
   unfolding on_store lent row_number mark_ending report store_fault
   loaded-run a r n vs' ms' zero_row p R e = record {
@@ -75,36 +71,36 @@ module _ (s l ts tb : List ℕ) (kn : Known) (vs : List ℤ) (ms : List ℕ) (bu
 
 pub ruleset loaded-laws = (loaded-refused, loaded-run)
 
-module _ (s l ts tb : List ℕ) (c : Checked) (vs : List ℤ) (ms : List ℕ) (budget : ℕ) where
-  pub checked_refused : (r : MarkReport) → ((c.refusal ≡ 0) → ⊥) → r ≡ Refused c.refusal c.line → MarksChecked s l ts tb c vs ms budget r vs ms
+module _ (s l ts tb : List ℕ) (c : Result Known Refusal) (vs : List ℤ) (ms : List ℕ) (budget : ℕ) where
+  pub checked_refused : (e : Refusal) (r : Result Marked Refusal) → c ≡ Err e → r ≡ Err e → MarksChecked s l ts tb c vs ms budget r vs ms
   unfolding unless mark_ending
-  checked_refused r ne e = record { says = λ work C. go (judge loosely s work) C }
+  checked_refused x r h e = record { says = λ work C. go (judge loosely s work) C }
     where
       go : (v : Verdict Read) → AdmittedBy s l ts tb v c → MarkReports (unless v vs ms λ q. on_store q.known (mark_all q.known.bodies []) vs ms budget) r vs ms
-      go (accepted q) C = absurd (ne C.0)
-      go (refused m n) C = rw e (record { ending = rw (C.0, C.1) refl; values = refl; marks = refl })
+      go (accepted q) C = absurd (cc (h, C.1))
+      go (refused m n) C = let d : x ≡ refusal_of m n = cc (h, C.0) in rw (e, d) (record { ending = refl; values = refl; marks = refl })
 
-  pub checked-run : (r : MarkReport) (vs' : List ℤ) (ms' : List ℕ) → c.refusal ≡ 0 → MarksLoaded s l ts tb c.known vs ms budget r vs' ms' → MarksChecked s l ts tb c vs ms budget r vs' ms'
+  pub checked-run : (kn : Known) (r : Result Marked Refusal) (vs' : List ℤ) (ms' : List ℕ) → c ≡ Ok kn → MarksLoaded s l ts tb kn vs ms budget r vs' ms' → MarksChecked s l ts tb c vs ms budget r vs' ms'
   unfolding unless
-  checked-run r vs' ms' h R = record { says = λ work C. go work (judge loosely s work) refl C }
+  checked-run kn r vs' ms' h R = record { says = λ work C. go work (judge loosely s work) refl C }
     where
       go : (work : ℕ) (v : Verdict Read) → judge loosely s work ≡ v → AdmittedBy s l ts tb v c
           → MarkReports (unless v vs ms λ q. on_store q.known (mark_all q.known.bodies []) vs ms budget) r vs' ms'
-      go work (accepted q) e C = R.says work q e C.1 C.2
-      go work (refused m n) e C = absurd (omega (arith, C.0, C.2))
+      go work (accepted q) e C = let i : kn ≡ C.0 = cc (h, C.1) in R.says work q e (rw i C.2) C.3
+      go work (refused m n) e C = absurd (cc (h, C.0))
 
 pub ruleset checked-laws = (checked_refused, checked-run)
 
 -- ---- the whole
 
-module _ (s l : List ℕ) (n : ℕ) (i : n ≡ min 16384 (length l)) (c : Checked) (l' ts' tb' : List ℕ) where
+module _ (s l : List ℕ) (n : ℕ) (i : n ≡ min 16384 (length l)) (c : Result Known Refusal) (l' ts' tb' : List ℕ) where
   pub judged-here : Admits s (take n l) (replicate notes 0) (replicate 264 0) c l' ts' tb' → AdmittedBy s l' ts' tb' (judge loosely s (length l)) c
   judged-here C =
       let k : n ≡ length (take n l) = part-long l n i in
       let v : judge loosely s (length (take n l)) ≡ judge loosely s (length l) = ap (λ m. judge loosely s m) (sym k ∙ i) ∙ judged-same loosely s (length l) in
       subst (λ (x : Verdict Read). AdmittedBy s l' ts' tb' x c) v (C.says (omega arith) (zeros notes) (omega arith))
 
-  pub mark-told : (vs : List ℤ) (ms : List ℕ) (budget : ℕ) (r : MarkReport) (vs' : List ℤ) (ms' : List ℕ) → Admits s (take n l) (replicate notes 0) (replicate 264 0) c l' ts' tb' → length l' ≡ length (take n l)
+  pub mark-told : (vs : List ℤ) (ms : List ℕ) (budget : ℕ) (r : Result Marked Refusal) (vs' : List ℤ) (ms' : List ℕ) → Admits s (take n l) (replicate notes 0) (replicate 264 0) c l' ts' tb' → length l' ≡ length (take n l)
       → MarksChecked s (take n (l' ++ drop n l)) ts' tb' c vs ms budget r vs' ms' → MarkReports (mark_of s (length l) vs ms budget) r vs' ms'
   unfolding mark_of
   mark-told vs ms budget r vs' ms' C e R =

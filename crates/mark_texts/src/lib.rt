@@ -9,7 +9,7 @@ ghost use Rattle.law.specs.Whole.{mark_of, work_after};
 ghost use Rattle.law_answers.specs.MarkingReports.{MarkReports};
 ghost use Rattle.mark_texts.specs.Reports.{MarksLoaded, MarksChecked};
 
-use law_answers::MarkReport;
+use law_answers::{MarkReport, Refusal};
 use mark_machine::mark_lent;
 use rule_declarations::NOTES;
 use rule_judge_loose::checking::check_loosely;
@@ -23,10 +23,7 @@ use table_list::clear;
 fn last_of(n: u32) -> u32
     ensures { result ≡ n - 1 }
 {
-    if n == 0 {
-        return 0;
-    }
-    n - 1
+    n.saturating_sub(1)
 }
 
 // Rows 10 and 11, and then the run of a text whose bodies the tables hold.
@@ -42,14 +39,12 @@ fn mark_loaded(
 ) -> MarkReport
     ensures { MarksLoaded text.now work.now types.now bodies.now known values.old marks.old budget result values.new marks.new }
 {
-    let state = known.state;
-    let f = store_fault(work, types, state, values, marks);
+    let f = store_fault(work, types, known.state, values, marks);
     if f != 0 {
-        return MarkReport::Refused(f, 0);
+        return Err(Refusal { number: f, line: 0 });
     }
-    let q = last_of(state.procs);
-    let a = mark_lent(text, work, types, bodies, q, values, marks, budget);
-    MarkReport::Ran(a)
+    let q = last_of(known.state.procs);
+    Ok(mark_lent(text, work, types, bodies, q, values, marks, budget))
 }
 
 // The run of a text by the answer for it.
@@ -65,11 +60,10 @@ fn mark_checked(
 ) -> MarkReport
     ensures { MarksChecked text.now work.now types.now bodies.now c values.old marks.old budget result values.new marks.new }
 {
-    if c.refusal != 0 {
-        return MarkReport::Refused(c.refusal, c.line);
+    match c {
+        Ok(known) => mark_loaded(text, work, types, bodies, known, values, marks, budget),
+        Err(e) => Err(e),
     }
-    let known = c.known;
-    mark_loaded(text, work, types, bodies, known, values, marks, budget)
 }
 
 // Runs a text on a lent store within a budget as the marking machine does, and leaves the working list as document 01 says.

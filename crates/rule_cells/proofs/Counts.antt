@@ -1,4 +1,5 @@
 -- How many cells a text has, and whose they are.
+use Rattle.std.proofs.Common.{Result, Ok, Err}
 use mathlib.Core.Path.{◌≡◌, refl, sym, ap, subst, ◌∙◌}
 use mathlib.Core.List.{List, ◌++◌}
 use Prim.Native.Nat.{ℕ, ◌+◌, ◌-◌, ◌<◌, ◌≤◌, min}
@@ -12,26 +13,15 @@ use Rattle.law.specs.Verdict as Meaning
 use Rattle.law.specs.Verdict.{Read, accepted, refused}
 use Rattle.law.specs.Whole.{verdict_of}
 use Rattle.law_theorems.proofs.LinesCover.{text-covered}
-use Rattle.law_answers.specs.declared.Counted.{Counted}
-use Rattle.law_answers.specs.declared.Counted.TheVariants as told
+use Rattle.law_answers.specs.declared.Refusal.{Refusal}
 use Rattle.law_answers.specs.Verdicts.{cells_told}
 use Rattle.rule_declarations.specs.declared.State.{State}
 use Rattle.rule_stores.specs.Stores.{Owner}
-use Rattle.rule_texts.specs.declared.Checked.{Checked}
+use Rattle.rule_known.specs.declared.Known.{Known}
 use Rattle.rule_texts.specs.Answers.{CheckedBy, Checks}
 use Rattle.rule_cells.specs.Cells.{counted_by, Named, Names, NamesBy}
 use Rattle.law_answers.specs.Owners.{Owners, OwnedBy}
 use Rattle.rule_texts.proofs.Texts.{verdict-same, part-long, zeros}
-
-pub counted-no : (c : Checked) (r : Counted) → c.refusal ≡ 0 → r ≡ told.Cells c.known.state.cells → r ≡ counted_by c
-unfolding counted_by
-counted-no c r h e = rw (eq-eqb c.refusal 0 h) e
-
-pub counted-yes : (c : Checked) (r : Counted) → ((c.refusal ≡ 0) → ⊥) → r ≡ told.Refused c.refusal c.line → r ≡ counted_by c
-unfolding counted_by
-counted-yes c r h e = rw (ne_eqb c.refusal 0 h) e
-
-pub ruleset counted-laws = (counted-no, counted-yes)
 
 -- ---- the names, one by one
 
@@ -47,41 +37,33 @@ module _ (l ts : List ℕ) (st : State) where
         go j (yes e) a b c = rw (e, get_or-set_same names i r 0 h) O
         go j (no e) a b c = rw (get_or-set_other names i j r 0 e) (N.each j (omega arith) b c)
 
-    pub names-all : length names ≤ i → length names ≡ length old → Names l ts st old names
-    names-all h e = record { long = e; each = λ j b c. N.each j (omega arith) b c; rest = N.rest }
+    pub names-done : i ≡ min (length old) st.cells → length names ≡ length old → Names l ts st old names
+    names-done h e = record { long = e; each = λ j b c. N.each j (omega arith) b c; rest = N.rest }
 
-    pub names-enough : st.cells ≤ i → length names ≡ length old → Names l ts st old names
-    names-enough h e = record { long = e; each = λ j b c. N.each j (omega arith) b c; rest = N.rest }
+module _ (l ts : List ℕ) (old : List ℕ) where
+  pub names-refused : (c : Result Known Refusal) (e : Refusal) → c ≡ Err e → NamesBy l ts c old old
+  names-refused c e h = record { kept = λ _ _. refl; named = λ kn g. absurd (cc (h, g)) }
 
-pub names-less : (names : List ℕ) (i r : ℕ) → i < length names → length (set names i r) - (i + 1) < length names - i
-names-less names i r h = rw (length-set names i r) (omega arith)
-
-pub ruleset names-laws = (names-all, names-enough)
-
-module _ (l ts : List ℕ) (c : Checked) (old : List ℕ) where
-  pub names-refused : ((c.refusal ≡ 0) → ⊥) → NamesBy l ts c old old
-  names-refused h = record { kept = λ _. refl; named = λ e. absurd (h e) }
-
-  pub names-accepted : (names : List ℕ) → c.refusal ≡ 0 → Names l ts c.known.state old names → NamesBy l ts c old names
-  names-accepted names e N = record { kept = λ h. absurd (h e); named = λ _. N }
+  pub names-accepted : (c : Result Known Refusal) (kn : Known) (names : List ℕ) → c ≡ Ok kn → Names l ts kn.state old names → NamesBy l ts c old names
+  names-accepted c kn names h N = record { kept = λ e g. absurd (cc (h, g)); named = λ k g. let i : kn ≡ k = cc in rw (← i) N }
 
 pub ruleset checked-laws = (names-refused, names-accepted)
 
 -- ---- the whole
 
-counted_is : (s l ts : List ℕ) (v : Meaning.Verdict Read) (c : Checked) → CheckedBy s l ts v c → counted_by c ≡ cells_told v
+counted_is : (s l ts : List ℕ) (v : Meaning.Verdict Read) (c : Result Known Refusal) → CheckedBy s l ts v c → counted_by c ≡ cells_told v
 unfolding counted_by cells_told
-counted_is s l ts (accepted q) c h = rw (eq-eqb c.refusal 0 h.0, h.2.holds.cells_are) refl
-counted_is s l ts (refused m n) c h = rw (ne_eqb c.refusal 0 (λ e. omega (arith, h.0, h.2)), h.0, h.1) refl
+counted_is s l ts (accepted q) c h = rw (h.1, h.3.holds.cells_are) refl
+counted_is s l ts (refused m n) c h = rw h.0 refl
 
-module _ (s l : List ℕ) (n : ℕ) (i : n ≡ min 16384 (length l)) (c : Checked) (l' ts' : List ℕ) (C : Checks s (take n l) (replicate notes 0) c l' ts') where
+module _ (s l : List ℕ) (n : ℕ) (i : n ≡ min 16384 (length l)) (c : Result Known Refusal) (l' ts' : List ℕ) (C : Checks s (take n l) (replicate notes 0) c l' ts') where
   same-verdict : verdict_of s (length (take n l)) ≡ verdict_of s (length l)
   same-verdict = ap (λ m. verdict_of s m) (sym (part-long l n i) ∙ i) ∙ verdict-same s (length l)
 
   checked : CheckedBy s l' ts' (verdict_of s (length l)) c
   checked = subst (λ (x : Meaning.Verdict Read). CheckedBy s l' ts' x c) same-verdict (C.says (omega arith) (zeros notes))
 
-  pub cells-told : (r : Counted) → r ≡ counted_by c → r ≡ cells_told (verdict_of s (length l))
+  pub cells-told : (r : Result ℕ Refusal) → r ≡ counted_by c → r ≡ cells_told (verdict_of s (length l))
   cells-told r e = e ∙ counted_is s l' ts' (verdict_of s (length l)) c checked
 
   pub owners-told : (old names : List ℕ) → length l' ≡ length (take n l) → NamesBy (take n (l' ++ drop n l)) ts' c old names → Owners s (verdict_of s (length l)) old names
@@ -94,12 +76,12 @@ module _ (s l : List ℕ) (n : ℕ) (i : n ≡ min 16384 (length l)) (c : Checke
       here = subst (λ (x : List ℕ). NamesBy x ts' c old names) front N
 
       go : (v : Meaning.Verdict Read) → verdict_of s (length l) ≡ v → CheckedBy s l' ts' v c → OwnedBy s v old names
-      go (refused m k) h D = here.kept λ z. omega (arith, D.0, D.2)
+      go (refused m k) h D = here.kept _ D.0
       go (accepted q) h D =
-          let M = here.named D.0 in
-          let K = D.2.holds in (
+          let M = here.named D.0 D.1 in
+          let K = D.3.holds in (
             M.long,
             subst (λ (x : ℕ). drop x names ≡ drop x old) K.cells_are M.rest,
             λ j a b.
-                (M.each j a (omega (arith, K.cells_are))).says s q.known D.1 K (text-covered s (length l) q h) b,
+                (M.each j a (omega (arith, K.cells_are))).says s q.known D.2 K (text-covered s (length l) q h) b,
           )

@@ -1,14 +1,14 @@
 -- How many cells an accepted text has, and the variable of each (law, Environment: `cells`, `owners`).
-use Rattle.std.specs.Prelude.{cond, List, ◌≡◌, ℕ, ◌<◌, eqb, length, drop, get_or}
-use Rattle.law_answers.specs.declared.Counted.{Counted}
-use Rattle.law_answers.specs.declared.Counted.TheVariants.{Refused, Cells}
+use Rattle.std.specs.Prelude.{List, ◌≡◌, ℕ, ◌<◌, length, drop, get_or, Result, Ok, Err}
+use Rattle.law_answers.specs.declared.Refusal.{Refusal}
 use Rattle.rule_declarations.specs.declared.State.{State}
 use Rattle.rule_stores.specs.Stores.{Owner}
-use Rattle.rule_texts.specs.declared.Checked.{Checked}
+use Rattle.rule_known.specs.declared.Known.{Known}
 
 -- the answer that a check of the text gives
-unfoldable pub counted_by : Checked → Counted
-counted_by c = cond (eqb c.refusal 0) (Cells c.known.state.cells) (Refused c.refusal c.line)
+unfoldable pub counted_by : Result Known Refusal → Result ℕ Refusal
+counted_by (Ok kn) = Ok kn.state.cells
+counted_by (Err e) = Err e
 
 -- names holds the offsets of the names of the first cells' variables, and is as before past the cells
 pub record Named (l ts : List ℕ) (st : State) (i : ℕ) (old names : List ℕ) : Type 0 where
@@ -22,6 +22,6 @@ pub record Names (l ts : List ℕ) (st : State) (old names : List ℕ) : Type 0 
   pub rest : drop st.cells names ≡ drop st.cells old
 
 -- the same by the answer for a text: a refusal leaves names as lent
-pub record NamesBy (l ts : List ℕ) (c : Checked) (old names : List ℕ) : Type 0 where
-  pub kept : ((c.refusal ≡ 0) → ⊥) → names ≡ old
-  pub named : c.refusal ≡ 0 → Names l ts c.known.state old names
+pub record NamesBy (l ts : List ℕ) (c : Result Known Refusal) (old names : List ℕ) : Type 0 where
+  pub kept : (e : Refusal) → c ≡ Err e → names ≡ old
+  pub named : (kn : Known) → c ≡ Ok kn → Names l ts kn.state old names

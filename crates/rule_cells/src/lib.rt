@@ -15,28 +15,19 @@ use rule_texts::{Checked, check, working};
 use table_list::clear;
 
 // How many cells by the answer for a text.
+#[tactic(auto, unfolding(crate::specs::Cells::counted_by))]
 pub fn count_of(c: Checked) -> Counted
     ensures { result ≡ counted_by c }
 {
-    if c.refusal == 0 {
-        let known = c.known;
-        let state = known.state;
-        return Counted::Cells(state.cells as usize);
-    }
-    Counted::Refused(c.refusal, c.line)
+    Ok(c?.state.cells as usize)
 }
 
 // The names of the cells' variables, as far as there is room; what is past the cells stays.
 fn name_cells(work: &[u32], types: &[u32], st: State, names: &mut [usize])
     ensures { Names work.now types.now st names.old names.new }
 {
-    let mut i = 0;
-    while i < names.len() {
-        if i >= st.cells as usize {
-            return;
-        }
+    for i in 0..names.len().min(st.cells as usize) {
         names[i] = owner(work, types, st, i);
-        i += 1;
     }
 }
 
@@ -44,12 +35,10 @@ fn name_cells(work: &[u32], types: &[u32], st: State, names: &mut [usize])
 pub fn name_checked(work: &[u32], types: &[u32], c: Checked, names: &mut [usize])
     ensures { NamesBy work.now types.now c names.old names.new }
 {
-    if c.refusal != 0 {
-        return;
+    match c {
+        Ok(known) => name_cells(work, types, known.state, names),
+        Err(_) => {}
     }
-    let known = c.known;
-    let state = known.state;
-    name_cells(work, types, state, names);
 }
 
 // How many cells a text has.

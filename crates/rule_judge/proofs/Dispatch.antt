@@ -1,4 +1,5 @@
 -- From a line's head word to its judgement.
+use Rattle.std.proofs.Common.{Result, Err}
 use mathlib.Core.Path.{◌≡◌, refl, sym, ap, ◌∙◌, subst}
 use mathlib.Core.Bool.{Bool, true, false, true≢false, false≢true}
 use mathlib.Core.List.{List, [], ◌∷◌}
@@ -36,9 +37,8 @@ use Rattle.rule_declarations.specs.declared.FreeName.{FreeName}
 use Rattle.std.specs.Prelude.{Option as Maybe, Some, None}
 use Rattle.rule_declarations.specs.Names.{GivesName, new_fault}
 use Rattle.rule_known.specs.declared.Known.{Known}
-use Rattle.rule_known.specs.declared.Judgement.{Judgement}
 use Rattle.rule_known.specs.declared.Entered.{Entered}
-use Rattle.rule_known.specs.Answers.{refused_judgement, judgement, declared_entry}
+use Rattle.rule_known.specs.Answers.{judgement, declared_entry}
 use Rattle.rule_judge.specs.Answers.{main_entry, proc_numbers, proc_entry, failed_entry}
 use Rattle.rule_parameters.specs.Framing.{Opens, opened_main, proc_fits, proc_state}
 use Rattle.rule_parameters.specs.Listing.{GivesList}
@@ -109,19 +109,19 @@ module _ (s l ts : List ℕ) (kn : Known) (k : LineHead) (at : ℕ) (g : Entered
 
 -- ---- the line's form
 
-module _ (s l ts : List ℕ) (kn : Known) (at n : ℕ) (x : Part) (c : Stands s at x) (j : Judgement) where
+module _ (s l ts : List ℕ) (kn : Known) (at n : ℕ) (x : Part) (c : Stands s at x) (j : Result Known ℕ) where
   -- no head word: row 6
   no-head : (r : Read) (bs : List ℕ) → Standing s l ts kn r bs → (ln : Line) → LineIs s ln at n r.known → line_in r.known.stmts (form (first (stack_at s at))) ≡ none → judge_line strictly r.known ln ≡ bad 6
   unfolding judged_by whole_staged staged ◌>>=◌
   no-head r bs S ln L h = line-judged r.known (form (first (stack_at s at))) ln L.form-is L.read L.worded-is L.going ∙ rw h refl
 
-  pub form-shut : (q : ℕ) → x ≡ part.Shut q → j ≡ refused_judgement 6 kn → JudgesForm s l ts kn at n j l ts
+  pub form-shut : (q : ℕ) → x ≡ part.Shut q → j ≡ Err 6 → JudgesForm s l ts kn at n j l ts
   form-shut q h e = rw e (record {
     says = λ r bs S ln L.
         rw (no-head r bs S ln L (rw (rw h at c.says).here (line-empty r.known.stmts))) (refl, omega arith);
   })
 
-  pub form-form : (p : ℕ) → x ≡ part.Form p → j ≡ refused_judgement 6 kn → JudgesForm s l ts kn at n j l ts
+  pub form-form : (p : ℕ) → x ≡ part.Form p → j ≡ Err 6 → JudgesForm s l ts kn at n j l ts
   form-form p h e = rw e (record {
     says = λ r bs S ln L.
         rw (no-head r bs S ln L (rw (rw h at c.says).here (line-headless r.known.stmts (first (stack_at s p)) (first (later (stack_at s p)))))) (refl, omega arith);

@@ -1,4 +1,5 @@
 -- Rows 4 and 5, and the line after `main`.
+use Rattle.std.proofs.Common.{Result, Err}
 use mathlib.Core.Path.{◌≡◌, refl, sym, ap, ◌∙◌}
 use mathlib.Core.Bool.{Bool, true, false, not}
 use mathlib.Core.List.{List}
@@ -22,8 +23,6 @@ use Rattle.text_parts.specs.declared.Part.{Part}
 use Rattle.text_parts.specs.declared.Part.TheVariants as part
 use Rattle.text_parts.specs.Parts.{Stands}
 use Rattle.rule_known.specs.declared.Known.{Known}
-use Rattle.rule_known.specs.declared.Judgement.{Judgement}
-use Rattle.rule_known.specs.Answers.{refused_judgement}
 use Rattle.rule_judge.specs.Forms.{JudgesForm, KnownLine, JudgesKnown}
 use Rattle.rule_judge.specs.Judging.{JudgesLine}
 use Rattle.text_skips.proofs.Counts.{nodes-short}
@@ -46,12 +45,12 @@ pub sixth : (fitting : Fitting) (k : Declared) (l : Line) (t : Tree Run) (v : Tr
 unfolding judge_line
 sixth fitting k l t v h i e = rw (h, stage-on, i, stage-on) (must-shut k.ended e _)
 
-module _ (s l ts : List ℕ) (kn : Known) (at : ℕ) (j : Judgement) (b : Bool) (e : b ≡ balanced_from (drop at s) before) where
-  pub line-unbalanced : b ≡ false → j ≡ refused_judgement 4 kn → JudgesLine s l ts kn at j l ts
+module _ (s l ts : List ℕ) (kn : Known) (at : ℕ) (j : Result Known ℕ) (b : Bool) (e : b ≡ balanced_from (drop at s) before) where
+  pub line-unbalanced : b ≡ false → j ≡ Err 4 → JudgesLine s l ts kn at j l ts
   line-unbalanced h m = rw m (record { says = λ r bs S. rw (fourth strictly r.known (line_at (drop at s)) (unformed s at (sym e ∙ h))) (refl, omega arith) })
 
   module _ (h : b ≡ true) (c : Bool) (k : c ≡ known_all (stack_at s at)) where
-    pub line-unknown : c ≡ false → j ≡ refused_judgement 5 kn → JudgesLine s l ts kn at j l ts
+    pub line-unknown : c ≡ false → j ≡ Err 5 → JudgesLine s l ts kn at j l ts
     line-unknown i m = rw m (record {
       says = λ r bs S.
           let F = formed s at (sym e ∙ h) in
@@ -65,8 +64,8 @@ pub ruleset line-laws = (line-unbalanced, line-unknown, line-known-so)
 
 -- ---- a line with known words
 
-module _ (s l ts : List ℕ) (kn : Known) (at : ℕ) (j : Judgement) where
-  pub known-ended : kn.ended ≡ true → j ≡ refused_judgement 6 kn → JudgesKnown s l ts kn at j l ts
+module _ (s l ts : List ℕ) (kn : Known) (at : ℕ) (j : Result Known ℕ) where
+  pub known-ended : kn.ended ≡ true → j ≡ Err 6 → JudgesKnown s l ts kn at j l ts
   known-ended h m = rw m (record {
     says = λ r bs S K.
         let F = formed s at K.balanced in

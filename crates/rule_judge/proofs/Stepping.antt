@@ -1,4 +1,5 @@
 -- From what stands before a line to what stands after it.
+use Rattle.std.proofs.Common.{Result, Ok, Err}
 use mathlib.Core.Path.{◌≡◌, refl, sym, ap, ◌∙◌, subst}
 use mathlib.Core.Bool.{Bool, true, false, cond, ◌&&◌}
 use mathlib.Core.List.{List, ◌++◌}
@@ -31,9 +32,8 @@ use Rattle.law_theorems.proofs.Weights.{line-weighs, worded-nodes}
 use Rattle.rule_faults.specs.Got.{fault_of}
 use Rattle.rule_expressions.proofs.Targets.{fits-inv}
 use Rattle.rule_known.specs.declared.Known.{Known}
-use Rattle.rule_known.specs.declared.Judgement.{Judgement}
 use Rattle.rule_known.specs.declared.Entered.{Entered}
-use Rattle.rule_known.specs.Answers.{refused_judgement, good_judgement, ninth_judgement, judgement}
+use Rattle.rule_known.specs.Answers.{known_after, ninth_judgement, judgement}
 use Rattle.rule_judge.specs.Entering.{last_of, EntryTold}
 use Rattle.rule_judge.specs.Judging.{Standing, JudgedBy}
 use Rattle.rule_judge.specs.Whole.{line_in, whole_staged}
@@ -89,7 +89,7 @@ module _ (s l ts : List ℕ) (kn : Known) (r : Read) (bs : List ℕ) (S : Standi
 
   stands_after : (e : Entry) (cs : List BodyCode) → whole_staged r.known (line_in r.known.stmts t) ≡ fits (e, cs) → line_bounded r.known e ≡ true → r.known.nodes + nodes t ≤ 4096
       → judge_line strictly r.known ln ≡ good (declare_line r.known e (last_of (line_in r.known.stmts t)) (r.known.nodes + nodes t), cs)
-      → (places : List ℕ) × Standing s l' ts' (good_judgement kn g (nodes t)).known (has (declare_line r.known e (last_of (line_in r.known.stmts t)) (r.known.nodes + nodes t)) (r.codes ++ cs)) places
+      → (places : List ℕ) × Standing s l' ts' (known_after kn g (nodes t)) (has (declare_line r.known e (last_of (line_in r.known.stmts t)) (r.known.nodes + nodes t)) (r.codes ++ cs)) places
   stands_after e cs q b n h =
       let X = taken r.known t v h5 e cs q in
       let R = S.room in
@@ -112,17 +112,17 @@ module _ (s l ts : List ℕ) (kn : Known) (r : Read) (bs : List ℕ) (S : Standi
         },
       )
 
-  pub line-answer : (j : Judgement) → j ≡ judgement kn g (nodes t) → JudgedBy s l' ts' r (judge_line strictly r.known ln) j
+  pub line-answer : (j : Result Known ℕ) → j ≡ judgement kn g (nodes t) → JudgedBy s l' ts' r (judge_line strictly r.known ln) j
   unfolding judgement ninth_judgement judged_by must ◌>>=◌
   line-answer j m = rw m (go (whole_staged r.known (line_in r.known.stmts t)) refl)
     where
-      failing : (n : ℕ) (f : ℕ) → judge_line strictly r.known ln ≡ bad n → f ≡ n → 1 ≤ n → JudgedBy s l' ts' r (judge_line strictly r.known ln) (refused_judgement f kn)
-      failing n f e h i = rw e (h, i)
+      failing : (n : ℕ) (f : ℕ) → judge_line strictly r.known ln ≡ bad n → f ≡ n → 1 ≤ n → JudgedBy s l' ts' r (judge_line strictly r.known ln) (Err f)
+      failing n f e h i = rw (e, h) (refl, i)
 
       row-9 : (e : Entry) (cs : List BodyCode) → whole_staged r.known (line_in r.known.stmts t) ≡ fits (e, cs) → (b c : Bool) → line_bounded r.known e ≡ b → leb (r.known.nodes + nodes t) 4096 ≡ c
           → judge_line strictly r.known ln ≡ (must 9 (b && c) >>= λ _. good (declare_line r.known e (last_of (line_in r.known.stmts t)) (r.known.nodes + nodes t), cs))
-          → JudgedBy s l' ts' r (judge_line strictly r.known ln) (cond b (cond c (good_judgement kn g (nodes t)) (refused_judgement 9 kn)) (refused_judgement 9 kn))
-      row-9 e cs q true true hb hc h = let z = stands_after e cs q hb (leb-true (r.known.nodes + nodes t) 4096 hc) h in rw h (refl, z.0, z.1)
+          → JudgedBy s l' ts' r (judge_line strictly r.known ln) (cond b (cond c (Ok (known_after kn g (nodes t))) (Err 9)) (Err 9))
+      row-9 e cs q true true hb hc h = let z = stands_after e cs q hb (leb-true (r.known.nodes + nodes t) 4096 hc) h in rw h (known_after kn g (nodes t), refl, z.0, z.1)
       row-9 e cs q true false hb hc h = failing 9 9 h refl (omega arith)
       row-9 e cs q false c hb hc h = failing 9 9 h refl (omega arith)
 

@@ -1,5 +1,5 @@
 -- A line by its one form: what its judgement rests on.
-use Rattle.std.specs.Prelude.{true, false, List, ◌≡◌, ℕ, ◌≤◌, drop}
+use Rattle.std.specs.Prelude.{true, false, List, ◌≡◌, ℕ, ◌≤◌, drop, Result}
 use Rattle.std.proofs.Math.Option.{some}
 use Rattle.law.specs.Environment.{Declared}
 use Rattle.law.specs.Lines.{Line}
@@ -10,7 +10,6 @@ use Rattle.law.specs.Words.{Word, worded}
 use Rattle.text_lines.specs.Passes.{line_at, balanced_from}
 use Rattle.text_words.specs.Passes.{known_all}
 use Rattle.rule_known.specs.declared.Known.{Known}
-use Rattle.rule_known.specs.declared.Judgement.{Judgement}
 use Rattle.rule_judge.specs.Judging.{Standing, JudgedBy}
 
 -- the line ln is the form whose parts begin at p; its words are known, it has n brackets and words, and `main` has not come
@@ -23,7 +22,7 @@ pub record LineIs (s : List ℕ) (ln : Line) (p n : ℕ) (k : Declared) : Type 0
   pub going : k.ended ≡ false
 
 -- such a line, judged
-pub record JudgesForm (s l ts : List ℕ) (kn : Known) (p n : ℕ) (j : Judgement) (l' ts' : List ℕ) : Type 0 where
+pub record JudgesForm (s l ts : List ℕ) (kn : Known) (p n : ℕ) (j : Result Known ℕ) (l' ts' : List ℕ) : Type 0 where
   pub says : (r : Read) (bs : List ℕ) → Standing s l ts kn r bs → (ln : Line) → LineIs s ln p n r.known → JudgedBy s l' ts' r (judge_line strictly r.known ln) j
 
 -- rows 4 and 5 find no fault in the line at an offset
@@ -32,5 +31,5 @@ pub record KnownLine (s : List ℕ) (at : ℕ) : Type 0 where
   pub known : known_all (stack_at s at) ≡ true
 
 -- such a line, judged
-pub record JudgesKnown (s l ts : List ℕ) (kn : Known) (at : ℕ) (j : Judgement) (l' ts' : List ℕ) : Type 0 where
+pub record JudgesKnown (s l ts : List ℕ) (kn : Known) (at : ℕ) (j : Result Known ℕ) (l' ts' : List ℕ) : Type 0 where
   pub says : (r : Read) (bs : List ℕ) → Standing s l ts kn r bs → KnownLine s at → JudgedBy s l' ts' r (judge_line strictly r.known (line_at (drop at s))) j

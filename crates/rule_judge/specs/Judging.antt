@@ -1,5 +1,5 @@
 -- What the checker knows after some lines, and what its answer for the next one says of `judge_line` (law, Verdict).
-use Rattle.std.specs.Prelude.{true, List, ◌++◌, ◌≡◌, ℕ, ◌+◌, ◌-◌, ◌≤◌, length, get_or, drop}
+use Rattle.std.specs.Prelude.{true, List, ◌++◌, ◌≡◌, ℕ, ◌+◌, ◌-◌, ◌≤◌, length, get_or, drop, Result, Ok, Err}
 use Rattle.law.specs.Code.{BodyCode}
 use Rattle.law.specs.Environment.{Declared}
 use Rattle.code.specs.LayoutSize.{size_symbols, size_bodies}
@@ -10,7 +10,6 @@ use Rattle.code.specs.TextRoom.{Room}
 use Rattle.text_lines.specs.Passes.{line_at}
 use Rattle.rule_declarations.specs.State.{Holds}
 use Rattle.rule_known.specs.declared.Known.{Known}
-use Rattle.rule_known.specs.declared.Judgement.{Judgement}
 
 -- the tables hold what the lines so far declared, and the code of their bodies stands at the places bs
 pub record Standing (s l ts : List ℕ) (kn : Known) (r : Read) (bs : List ℕ) : Type 0 where
@@ -26,10 +25,10 @@ pub record Standing (s l ts : List ℕ) (kn : Known) (r : Read) (bs : List ℕ) 
   pub main-is : r.known.ended ≡ true → kn.main ≡ get_or bs (length bs - 1) 0
 
 -- the answer for a line after r
-abbrev pub JudgedBy : List ℕ → List ℕ → List ℕ → Read → Judged (Declared × List BodyCode) → Judgement → Type 0
-JudgedBy s l' ts' r (bad n) j = (j.refusal ≡ n) × (1 ≤ n)
-JudgedBy s l' ts' r (good p) j = (j.refusal ≡ 0) × (bs : List ℕ) × Standing s l' ts' j.known (has p.0 (r.codes ++ p.1)) bs
+abbrev pub JudgedBy : List ℕ → List ℕ → List ℕ → Read → Judged (Declared × List BodyCode) → Result Known ℕ → Type 0
+JudgedBy s l' ts' r (bad n) j = (j ≡ Err n) × (1 ≤ n)
+JudgedBy s l' ts' r (good p) j = (kn : Known) × (j ≡ Ok kn) × (bs : List ℕ) × Standing s l' ts' kn (has p.0 (r.codes ++ p.1)) bs
 
 -- the line at an offset, judged
-pub record JudgesLine (s l ts : List ℕ) (kn : Known) (at : ℕ) (j : Judgement) (l' ts' : List ℕ) : Type 0 where
+pub record JudgesLine (s l ts : List ℕ) (kn : Known) (at : ℕ) (j : Result Known ℕ) (l' ts' : List ℕ) : Type 0 where
   pub says : (r : Read) (bs : List ℕ) → Standing s l ts kn r bs → JudgedBy s l' ts' r (judge_line strictly r.known (line_at (drop at s))) j

@@ -3,7 +3,7 @@ ghost use Rattle.rule_judge.specs.Forms.{JudgesForm, JudgesKnown};
 ghost use Rattle.rule_judge.specs.Judging.{JudgesLine};
 
 use crate::entering::enter;
-use rule_known::judging::{judge, refused};
+use rule_known::judging::judge;
 use rule_known::{Judgement, Known};
 use text_heads::line_head;
 use text_lines::lines::balance;
@@ -21,14 +21,13 @@ fn form_line(
 ) -> Judgement
     ensures { JudgesForm text.now work.old types.old kn at n result work.new types.new }
 {
-    let p = part_at(text, at);
-    match p {
+    match part_at(text, at) {
         Part::Leaf(w, _, q) => {
             let g = enter(text, work, types, kn, line_head(w), q);
             judge(kn, g, n)
         }
-        Part::Form(_) => refused(6, kn),
-        Part::Shut(_) => refused(6, kn),
+        Part::Form(_) => Err(6),
+        Part::Shut(_) => Err(6),
     }
 }
 
@@ -37,14 +36,13 @@ fn known_line(text: &[u8], work: &mut [u32], types: &mut [u32], kn: Known, at: u
     ensures { JudgesKnown text.now work.old types.old kn at result work.new types.new }
 {
     if kn.ended {
-        return refused(6, kn);
+        return Err(6);
     }
     let n = count_nodes(text, at);
-    let p = part_at(text, at);
-    match p {
+    match part_at(text, at) {
         Part::Form(q) => form_line(text, work, types, kn, q, n),
-        Part::Leaf(_, _, _) => refused(6, kn),
-        Part::Shut(_) => refused(6, kn),
+        Part::Leaf(_, _, _) => Err(6),
+        Part::Shut(_) => Err(6),
     }
 }
 
@@ -52,11 +50,11 @@ fn known_line(text: &[u8], work: &mut [u32], types: &mut [u32], kn: Known, at: u
 pub fn line(text: &[u8], work: &mut [u32], types: &mut [u32], kn: Known, at: usize) -> Judgement
     ensures { JudgesLine text.now work.old types.old kn at result work.new types.new }
 {
-    if balance(text, at) {
-        if words_known(text, at) {
-            return known_line(text, work, types, kn, at);
-        }
-        return refused(5, kn);
+    if !balance(text, at) {
+        return Err(4);
     }
-    refused(4, kn)
+    if !words_known(text, at) {
+        return Err(5);
+    }
+    known_line(text, work, types, kn, at)
 }

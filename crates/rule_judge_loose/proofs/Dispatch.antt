@@ -1,4 +1,5 @@
 -- From a line at an offset, by its form and head word, to its judgement.
+use Rattle.std.proofs.Common.{Result, Ok, Err}
 use mathlib.Core.Path.{◌≡◌, refl, sym, ap, ◌∙◌, subst}
 use mathlib.Core.Bool.{Bool, true, false, false≢true}
 use mathlib.Core.List.{List, [], ◌∷◌}
@@ -41,9 +42,8 @@ use Rattle.std.specs.Prelude.{Option as Maybe, Some, None}
 use Rattle.rule_declarations.specs.Lines.{line_of, entry_staged, GivesLine}
 use Rattle.rule_declarations.specs.Names.{GivesName, new_fault}
 use Rattle.rule_known.specs.declared.Known.{Known}
-use Rattle.rule_known.specs.declared.Judgement.{Judgement}
 use Rattle.rule_known.specs.declared.Entered.{Entered}
-use Rattle.rule_known.specs.Answers.{refused_judgement, judgement, declared_entry}
+use Rattle.rule_known.specs.Answers.{judgement, declared_entry}
 use Rattle.rule_judge.specs.Answers.{failed_entry, proc_numbers}
 use Rattle.rule_parameters.specs.Framing.{Opens, opened_main, proc_fits, proc_state}
 use Rattle.rule_parameters.specs.Listing.{GivesList}
@@ -148,23 +148,23 @@ pub ruleset enter-laws = (enters-type, enters-var, enters-by, enters-nothing)
 
 -- ---- the line's form
 
-pub headed-is : (s l ts tb : List ℕ) (kn : Known) (w : Kind.Word) (at n : ℕ) (h : LineHead) (g : Entered) (l' ts' tb' : List ℕ) (j : Judgement) → h ≡ line_head_of w → LooseEnters s l ts tb kn h at g l' ts' tb' → j ≡ judgement kn g n
+pub headed-is : (s l ts tb : List ℕ) (kn : Known) (w : Kind.Word) (at n : ℕ) (h : LineHead) (g : Entered) (l' ts' tb' : List ℕ) (j : Result Known ℕ) → h ≡ line_head_of w → LooseEnters s l ts tb kn h at g l' ts' tb' → j ≡ judgement kn g n
     → LooseHeaded s l ts tb kn w at n j l' ts' tb'
 headed-is s l ts tb kn w at n h g l' ts' tb' j i E e = record { entered = g; enters = rw (← i) E; judged = e }
 
-module _ (s l ts tb : List ℕ) (kn : Known) (at n : ℕ) (x : Part) (c : Stands s at x) (j : Judgement) where
+module _ (s l ts tb : List ℕ) (kn : Known) (at n : ℕ) (x : Part) (c : Stands s at x) (j : Result Known ℕ) where
   -- no head word: row 6
   no-head : (k : Declared) (ln : Line) → LineIs s ln at n k → line_in k.stmts (form (first (stack_at s at))) ≡ none → judge_line loosely k ln ≡ bad 6
   unfolding judged_by entry_staged staged ◌>>=◌
   no-head k ln L h = line-judged k (form (first (stack_at s at))) ln L.form-is L.read L.worded-is L.going ∙ rw h refl
 
-  pub form-shut : (q : ℕ) → x ≡ part.Shut q → j ≡ refused_judgement 6 kn → LooseForm s l ts tb kn at n j l ts tb
+  pub form-shut : (q : ℕ) → x ≡ part.Shut q → j ≡ Err 6 → LooseForm s l ts tb kn at n j l ts tb
   form-shut q h e = rw e (record {
     says = λ k S ln L.
         rw (no-head k ln L (rw (rw h at c.says).here (line-empty k.stmts))) (refl, omega arith);
   })
 
-  pub form-form : (p : ℕ) → x ≡ part.Form p → j ≡ refused_judgement 6 kn → LooseForm s l ts tb kn at n j l ts tb
+  pub form-form : (p : ℕ) → x ≡ part.Form p → j ≡ Err 6 → LooseForm s l ts tb kn at n j l ts tb
   form-form p h e = rw e (record {
     says = λ k S ln L.
         rw (no-head k ln L (rw (rw h at c.says).here (line-headless k.stmts (first (stack_at s p)) (first (later (stack_at s p)))))) (refl, omega arith);
@@ -185,8 +185,8 @@ pub ruleset form-laws = (form-shut, form-form, form-headed)
 
 -- ---- rows 4 and 5, and the line after `main`
 
-module _ (s l ts tb : List ℕ) (kn : Known) (at : ℕ) (j : Judgement) where
-  pub known-ended : kn.ended ≡ true → j ≡ refused_judgement 6 kn → LooseKnown s l ts tb kn at j l ts tb
+module _ (s l ts tb : List ℕ) (kn : Known) (at : ℕ) (j : Result Known ℕ) where
+  pub known-ended : kn.ended ≡ true → j ≡ Err 6 → LooseKnown s l ts tb kn at j l ts tb
   known-ended h m = rw m (record {
     says = λ k S K.
         let F = formed s at K.balanced in
@@ -220,11 +220,11 @@ module _ (s l ts tb : List ℕ) (kn : Known) (at : ℕ) (j : Judgement) where
     }
 
   module _ (b : Bool) (e : b ≡ balanced_from (drop at s) before) where
-    pub line-unbalanced : b ≡ false → j ≡ refused_judgement 4 kn → JudgesLoosely s l ts tb kn at j l ts tb
+    pub line-unbalanced : b ≡ false → j ≡ Err 4 → JudgesLoosely s l ts tb kn at j l ts tb
     line-unbalanced h m = rw m (record { says = λ k S. rw (fourth loosely k (line_at (drop at s)) (unformed s at (sym e ∙ h))) (refl, omega arith) })
 
     module _ (h : b ≡ true) (c : Bool) (i : c ≡ known_all (stack_at s at)) where
-      pub line-unknown : c ≡ false → j ≡ refused_judgement 5 kn → JudgesLoosely s l ts tb kn at j l ts tb
+      pub line-unknown : c ≡ false → j ≡ Err 5 → JudgesLoosely s l ts tb kn at j l ts tb
       line-unknown u m = rw m (record {
         says = λ k S.
             let F = formed s at (sym e ∙ h) in

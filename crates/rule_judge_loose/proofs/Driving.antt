@@ -1,4 +1,5 @@
 -- The lines of a text in their order, and rows 1 to 3 before them.
+use Rattle.std.proofs.Common.{Result, Ok, Err}
 use mathlib.Core.Path.{◌≡◌, refl, sym, ap, ◌∙◌}
 use mathlib.Core.Bool.{Bool, true, false}
 use mathlib.Core.List.{List, [], ◌++◌}
@@ -18,8 +19,7 @@ use Rattle.text_lines.proofs.Ties.{lines_at}
 use Rattle.rule_declarations.specs.State.{notes, start_state}
 use Rattle.rule_declarations.proofs.Starting.{holds-start}
 use Rattle.rule_known.specs.declared.Known.{Known}
-use Rattle.rule_known.specs.declared.Judgement.{Judgement}
-use Rattle.rule_texts.specs.declared.Checked.{Checked}
+use Rattle.law_answers.specs.declared.Refusal.{Refusal}
 use Rattle.rule_texts.specs.Answers.{start_known, refused_by, ends_by}
 use Rattle.rule_texts.proofs.Driving.{next-less, lines-here}
 use Rattle.rule_texts.proofs.Texts.{none-refused, some-refused}
@@ -29,11 +29,11 @@ use Rattle.rule_judge_loose.specs.Texts.{AdmittedBy, AdmitsLines, Admits}
 
 -- ---- one line's answer
 
-line_refused : (s l ts tb : List ℕ) (J : Judged (Declared × List BodyCode)) (j : Judgement) (n : ℕ) (f : Declared × List BodyCode → Verdict Read)
-    → LooselyBy s l ts tb J j → ((j.refusal ≡ 0) → ⊥) → AdmittedBy s l ts tb (onward J n f) (refused_by j.refusal n j.known)
+line_refused : (s l ts tb : List ℕ) (J : Judged (Declared × List BodyCode)) (m n : ℕ) (f : Declared × List BodyCode → Verdict Read)
+    → LooselyBy s l ts tb J (Err m) → AdmittedBy s l ts tb (onward J n f) (refused_by m n)
 unfolding onward
-line_refused s l ts tb (bad m) j n f h g = (h.0, refl, h.1)
-line_refused s l ts tb (good p) j n f h g = absurd (g h.0)
+line_refused s l ts tb (bad k) m n f h = let e : m ≡ k = cc in rw e (refl, h.1)
+line_refused s l ts tb (good p) m n f h = absurd (cc (h.1))
 
 -- what is left after a line
 record Next (s l ts tb : List ℕ) (kn : Known) (n : ℕ) (ls : List Line) (v : Verdict Read) : Type 0 where
@@ -41,11 +41,11 @@ record Next (s l ts tb : List ℕ) (kn : Known) (n : ℕ) (ls : List Line) (v : 
   standing : LooseStanding s l ts tb kn read.known
   same : v ≡ judge_lines loosely (suc n) ls read
 
-line-passed : (s l ts tb : List ℕ) (r : Read) (J : Judged (Declared × List BodyCode)) (j : Judgement) (n : ℕ) (ls : List Line)
-    → LooselyBy s l ts tb J j → j.refusal ≡ 0 → Next s l ts tb j.known n ls (onward J n λ p. judge_lines loosely (suc n) ls (has p.0 (r.codes ++ p.1)))
+line-passed : (s l ts tb : List ℕ) (r : Read) (J : Judged (Declared × List BodyCode)) (kn : Known) (n : ℕ) (ls : List Line)
+    → LooselyBy s l ts tb J (Ok kn) → Next s l ts tb kn n ls (onward J n λ p. judge_lines loosely (suc n) ls (has p.0 (r.codes ++ p.1)))
 unfolding onward
-line-passed s l ts tb r (bad m) j n ls h g = absurd (omega (arith, h.0, h.1))
-line-passed s l ts tb r (good p) j n ls h g = record { read = has p.0 (r.codes ++ p.1); standing = h.1; same = refl }
+line-passed s l ts tb r (bad m) kn n ls h = absurd (cc (h.0))
+line-passed s l ts tb r (good p) kn n ls h = let e : kn ≡ h.0 = cc in record { read = has p.0 (r.codes ++ p.1); standing = rw e h.2; same = refl }
 
 -- ---- the loop: n is the number of the line at p, kn is known, l, ts and tb are the lists
 
@@ -75,29 +75,29 @@ module _ (s l₀ ts₀ tb₀ : List ℕ) (kn₀ : Known) (n p : ℕ) (kn : Known
   pub going-room : p < length s → length s ≤ 32768 → n + 1 ≤ 65536
   going-room h g = omega (arith, G.few)
 
-  module _ (j : Judgement) (l' ts' tb' : List ℕ) (h : p < length s) (L : JudgesLoosely s l ts tb kn p j l' ts' tb') where
-    pub drive-refuses : ((j.refusal ≡ 0) → ⊥) → AdmitsLines s l₀ ts₀ tb₀ kn₀ (record { refusal = j.refusal; line = n; known = j.known }) l' ts' tb'
+  module _ (j : Result Known ℕ) (l' ts' tb' : List ℕ) (h : p < length s) (L : JudgesLoosely s l ts tb kn p j l' ts' tb') where
+    pub drive-refuses : (m : ℕ) → j ≡ Err m → AdmitsLines s l₀ ts₀ tb₀ kn₀ (refused_by m n) l' ts' tb'
     unfolding judge_lines
-    drive-refuses g = record {
+    drive-refuses m g = record {
       says = λ r S.
           let K : Left s n p kn l ts tb r = G.left r S in
           rw (K.same, lines-here s p h)
-          (line_refused s l' ts' tb' (judge_line loosely K.read.known (line_at (drop p s))) j n _ (L.says K.read.known K.standing) g);
+          (line_refused s l' ts' tb' (judge_line loosely K.read.known (line_at (drop p s))) m n _ (rw g at (L.says K.read.known K.standing)));
     }
 
-    pub drive-on : (q : ℕ) → j.refusal ≡ 0 → drop q s ≡ after_line (drop p s) → length l' ≡ length l → length ts' ≡ length ts → length tb' ≡ length tb
-        → Going s l₀ ts₀ tb₀ kn₀ (n + 1) q j.known l' ts' tb'
+    pub drive-on : (after : Known) (q : ℕ) → j ≡ Ok after → drop q s ≡ after_line (drop p s) → length l' ≡ length l → length ts' ≡ length ts → length tb' ≡ length tb
+        → Going s l₀ ts₀ tb₀ kn₀ (n + 1) q after l' ts' tb'
     unfolding judge_lines
-    drive-on q g e a b c = record {
+    drive-on after q g e a b c = record {
       few = let d = next-less s p q h e in omega (arith, G.few);
       as_long = a ∙ G.as_long;
       types-as-long = b ∙ G.types-as-long;
       table-as-long = c ∙ G.table-as-long;
       left = λ r S.
           let K : Left s n p kn l ts tb r = G.left r S in
-          let N : Next s l' ts' tb' j.known n (lines_of (drop q s))
+          let N : Next s l' ts' tb' after n (lines_of (drop q s))
           (onward (judge_line loosely K.read.known (line_at (drop p s))) n λ x. judge_lines loosely (suc n) (lines_of (drop q s)) (has x.0 (K.read.codes ++ x.1)))
-          = line-passed s l' ts' tb' K.read (judge_line loosely K.read.known (line_at (drop p s))) j n (lines_of (drop q s)) (L.says K.read.known K.standing) g in
+          = line-passed s l' ts' tb' K.read (judge_line loosely K.read.known (line_at (drop p s))) after n (lines_of (drop q s)) (rw g at (L.says K.read.known K.standing)) in
           record {
             read = N.read;
             standing = N.standing;
@@ -108,12 +108,12 @@ module _ (s l₀ ts₀ tb₀ : List ℕ) (kn₀ : Known) (n p : ℕ) (kn : Known
   -- after all lines
   ends : (a b : Bool) (q : Read) → LooseStanding s l ts tb kn q.known → a ≡ b → q.known.ended ≡ b → AdmittedBy s l ts tb (onward (must 6 b) n λ _. accepted q) (ends_by a n kn)
   unfolding onward must
-  ends true true q S e i = (refl, S, i)
+  ends true true q S e i = (kn, refl, S, i)
   ends true false q S e i = absurd (let z : ◌≡◌ {A = ℕ} 0 1 = cc in omega arith)
   ends false true q S e i = absurd (let z : ◌≡◌ {A = ℕ} 0 1 = cc in omega arith)
-  ends false false q S e i = (refl, refl, omega arith)
+  ends false false q S e i = (refl, omega arith)
 
-  pub drive-ends : (c : Checked) → length s ≤ p → c ≡ ends_by kn.ended n kn → AdmitsLines s l₀ ts₀ tb₀ kn₀ c l ts tb
+  pub drive-ends : (c : Result Known Refusal) → length s ≤ p → c ≡ ends_by kn.ended n kn → AdmitsLines s l₀ ts₀ tb₀ kn₀ c l ts tb
   unfolding judge_lines lines_of
   drive-ends c h e = record {
     says = λ r S.
@@ -148,22 +148,22 @@ standing-start s l ts tb a b c h d = record {
 
 -- ---- the rows in their order
 
-module _ (s l ts tb : List ℕ) (c : Checked) where
-  pub check-bench : length l < 16384 → c ≡ refused_by 1 0 start_known → Admits s l ts tb c l ts tb
+module _ (s l ts tb : List ℕ) (c : Result Known Refusal) where
+  pub check-bench : length l < 16384 → c ≡ refused_by 1 0 → Admits s l ts tb c l ts tb
   unfolding judge opening
-  check-bench h e = record { says = λ _ _ _. rw (e, lt-leb 16384 (length l) h) (refl, refl, omega arith) }
+  check-bench h e = record { says = λ _ _ _. rw (e, lt-leb 16384 (length l) h) (refl, omega arith) }
 
   module _ (g : 16384 ≤ length l) where
-    pub check-length : 32768 < length s → c ≡ refused_by 2 0 start_known → Admits s l ts tb c l ts tb
+    pub check-length : 32768 < length s → c ≡ refused_by 2 0 → Admits s l ts tb c l ts tb
     unfolding judge opening
-    check-length h e = record { says = λ _ _ _. rw (e, le-leb 16384 (length l) g, lt-leb (length s) 32768 h) (refl, refl, omega arith) }
+    check-length h e = record { says = λ _ _ _. rw (e, le-leb 16384 (length l) g, lt-leb (length s) 32768 h) (refl, omega arith) }
 
     module _ (h : length s ≤ 32768) (o : Maybe ℕ) (f : o ≡ line_of (refused_at 1 s)) where
-      pub check-byte : (n : ℕ) → o ≡ Some n → c ≡ refused_by 3 n start_known → Admits s l ts tb c l ts tb
+      pub check-byte : (n : ℕ) → o ≡ Some n → c ≡ refused_by 3 n → Admits s l ts tb c l ts tb
       unfolding judge opening
       check-byte n i e = record {
         says = λ _ _ _.
-            rw (e, le-leb 16384 (length l) g, le-leb (length s) 32768 h, some-refused s n (sym f ∙ i)) (refl, refl, omega arith);
+            rw (e, le-leb 16384 (length l) g, le-leb (length s) 32768 h, some-refused s n (sym f ∙ i)) (refl, omega arith);
       }
 
       pub check-rest : (kn : Known) (l' ts' tb' : List ℕ) → o ≡ None → kn ≡ start_known → AdmitsLines s l ts tb kn c l' ts' tb' → Admits s l ts tb c l' ts' tb'

@@ -1,4 +1,5 @@
 -- A line judged with the kinds of bodies left out: rows 6 to 9 from the answer for its parts.
+use Rattle.std.proofs.Common.{Result, Ok, Err}
 use mathlib.Core.Path.{◌≡◌, refl, sym, ap, ◌∙◌}
 use mathlib.Core.Bool.{Bool, true, false, cond, ◌&&◌}
 use mathlib.Core.List.{List, [], ◌∷◌, ◌++◌}
@@ -39,9 +40,8 @@ use Rattle.rule_expressions.proofs.Joining.{wrong-fits, unnamed-fits, unfit-fits
 use Rattle.rule_statements.specs.Walks.{bare}
 use Rattle.rule_declarations.specs.Lines.{entry_staged}
 use Rattle.rule_known.specs.declared.Known.{Known}
-use Rattle.rule_known.specs.declared.Judgement.{Judgement}
 use Rattle.rule_known.specs.declared.Entered.{Entered}
-use Rattle.rule_known.specs.Answers.{refused_judgement, good_judgement, ninth_judgement, judgement}
+use Rattle.rule_known.specs.Answers.{known_after, ninth_judgement, judgement}
 use Rattle.rule_judge.specs.Entering.{last_of}
 use Rattle.rule_judge.specs.Whole.{line_in}
 use Rattle.rule_judge.proofs.Declaring.{entry-there}
@@ -167,7 +167,7 @@ module _ (s l ts tb : List ℕ) (kn : Known) (k : Declared) (S : LooseStanding s
 
   stands_after : (e : Entry) → entry_staged k (bare (line_in k.stmts t)) ≡ fits e → line_bounded k e ≡ true → k.nodes + nodes t ≤ 4096
       → judge_line loosely k ln ≡ good (declare_line k e (last_of (line_in k.stmts t)) (k.nodes + nodes t), [])
-      → LooseStanding s l' ts' tb' (good_judgement kn g (nodes t)).known (declare_line k e (last_of (line_in k.stmts t)) (k.nodes + nodes t))
+      → LooseStanding s l' ts' tb' (known_after kn g (nodes t)) (declare_line k e (last_of (line_in k.stmts t)) (k.nodes + nodes t))
   stands_after e q b n h =
       let X = taken k t v h5 e q in
       let c : kn.state.top + loose_size e ≤ 16384 = omega (arith, S.room, X.size, n) in
@@ -193,17 +193,17 @@ module _ (s l ts tb : List ℕ) (kn : Known) (k : Declared) (S : LooseStanding s
         bodies = E.bodies;
       }
 
-  pub line-answer : (j : Judgement) → j ≡ judgement kn g (nodes t) → LooselyBy s l' ts' tb' (judge_line loosely k ln) j
+  pub line-answer : (j : Result Known ℕ) → j ≡ judgement kn g (nodes t) → LooselyBy s l' ts' tb' (judge_line loosely k ln) j
   unfolding judgement ninth_judgement judged_by must ◌>>=◌
   line-answer j m = rw m (go (entry_staged k (bare (line_in k.stmts t))) refl)
     where
-      failing : (n : ℕ) (f : ℕ) → judge_line loosely k ln ≡ bad n → f ≡ n → 1 ≤ n → LooselyBy s l' ts' tb' (judge_line loosely k ln) (refused_judgement f kn)
-      failing n f e h i = rw e (h, i)
+      failing : (n : ℕ) (f : ℕ) → judge_line loosely k ln ≡ bad n → f ≡ n → 1 ≤ n → LooselyBy s l' ts' tb' (judge_line loosely k ln) (Err f)
+      failing n f e h i = rw (e, h) (refl, i)
 
       row-9 : (e : Entry) → entry_staged k (bare (line_in k.stmts t)) ≡ fits e → (b c : Bool) → line_bounded k e ≡ b → leb (k.nodes + nodes t) 4096 ≡ c
           → judge_line loosely k ln ≡ (must 9 (b && c) >>= λ _. good (declare_line k e (last_of (line_in k.stmts t)) (k.nodes + nodes t), []))
-          → LooselyBy s l' ts' tb' (judge_line loosely k ln) (cond b (cond c (good_judgement kn g (nodes t)) (refused_judgement 9 kn)) (refused_judgement 9 kn))
-      row-9 e q true true hb hc h = let z = stands_after e q hb (leb-true (k.nodes + nodes t) 4096 hc) h in rw h (refl, z)
+          → LooselyBy s l' ts' tb' (judge_line loosely k ln) (cond b (cond c (Ok (known_after kn g (nodes t))) (Err 9)) (Err 9))
+      row-9 e q true true hb hc h = let z = stands_after e q hb (leb-true (k.nodes + nodes t) 4096 hc) h in rw h (known_after kn g (nodes t), refl, z)
       row-9 e q true false hb hc h = failing 9 9 h refl (omega arith)
       row-9 e q false c hb hc h = failing 9 9 h refl (omega arith)
 

@@ -3,8 +3,9 @@ ghost use Rattle.std.specs.Prelude.{◌≤◌, length};
 ghost use Rattle.rule_judge_loose.specs.Texts.{AdmitsLines, Admits};
 
 use crate::lined::loose_line;
+use law_answers::Refusal;
 use rule_known::Known;
-use rule_texts::{Checked, at_end, nothing_known, refusal};
+use rule_texts::{Checked, at_end, nothing_known};
 use table_list::{TEXT_LENGTH, WORK_LENGTH};
 use text_lines::lines::{next_line, refused_line};
 
@@ -23,14 +24,9 @@ fn check_lines(
     let mut n = 1;
     let mut known = kn;
     while p < text.len() {
-        let j = loose_line(text, work, types, bodies, known, p);
-        known = j.known;
-        if j.refusal != 0 {
-            return Checked {
-                refusal: j.refusal,
-                line: n,
-                known: known,
-            };
+        match loose_line(text, work, types, bodies, known, p) {
+            Ok(after) => known = after,
+            Err(number) => return Err(Refusal { number, line: n }),
         }
         p = next_line(text, p);
         n += 1;
@@ -49,13 +45,13 @@ pub fn check_loosely(
     ensures { Admits text.now work.old types.old bodies.old result work.new types.new bodies.new }
 {
     if work.len() < WORK_LENGTH {
-        return refusal(1, 0);
+        return Err(Refusal { number: 1, line: 0 });
     }
     if text.len() > TEXT_LENGTH {
-        return refusal(2, 0);
+        return Err(Refusal { number: 2, line: 0 });
     }
     match refused_line(text) {
-        Some(n) => refusal(3, n),
+        Some(n) => Err(Refusal { number: 3, line: n }),
         None => check_lines(text, work, types, bodies, nothing_known()),
     }
 }

@@ -7,7 +7,7 @@ use leaf_words::words::Word;
 use rule_declarations::var_line;
 use rule_faults::Fault;
 use rule_judge::entering::faulty;
-use rule_known::judging::{declared, judge, refused};
+use rule_known::judging::{declared, judge};
 use rule_known::{Entered, Judgement, Known};
 use rule_type_forms::type_line;
 use text_heads::{LineHead, line_head};
@@ -66,11 +66,10 @@ fn loose_form(
 ) -> Judgement
     ensures { LooseForm text.now work.old types.old bodies.old kn at n result work.new types.new bodies.new }
 {
-    let p = part_at(text, at);
-    match p {
+    match part_at(text, at) {
         Part::Leaf(w, _, q) => loose_headed(text, work, types, bodies, kn, w, q, n),
-        Part::Form(_) => refused(6, kn),
-        Part::Shut(_) => refused(6, kn),
+        Part::Form(_) => Err(6),
+        Part::Shut(_) => Err(6),
     }
 }
 
@@ -86,14 +85,13 @@ fn loose_known(
     ensures { LooseKnown text.now work.old types.old bodies.old kn at result work.new types.new bodies.new }
 {
     if kn.ended {
-        return refused(6, kn);
+        return Err(6);
     }
     let n = count_nodes(text, at);
-    let p = part_at(text, at);
-    match p {
+    match part_at(text, at) {
         Part::Form(q) => loose_form(text, work, types, bodies, kn, q, n),
-        Part::Leaf(_, _, _) => refused(6, kn),
-        Part::Shut(_) => refused(6, kn),
+        Part::Leaf(_, _, _) => Err(6),
+        Part::Shut(_) => Err(6),
     }
 }
 
@@ -108,11 +106,11 @@ pub fn loose_line(
 ) -> Judgement
     ensures { JudgesLoosely text.now work.old types.old bodies.old kn at result work.new types.new bodies.new }
 {
-    if balance(text, at) {
-        if words_known(text, at) {
-            return loose_known(text, work, types, bodies, kn, at);
-        }
-        return refused(5, kn);
+    if !balance(text, at) {
+        return Err(4);
     }
-    refused(4, kn)
+    if !words_known(text, at) {
+        return Err(5);
+    }
+    loose_known(text, work, types, bodies, kn, at)
 }

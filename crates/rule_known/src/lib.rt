@@ -18,12 +18,9 @@ pub struct Known {
     pub main: u32,
 }
 
-// The answer for a line: the number of its refusal, or 0 and what is known after it.
-#[derive(Clone, Copy)]
-pub struct Judgement {
-    pub refusal: u32,
-    pub known: Known,
-}
+// The answer for a line: what is known after it, or the number of its refusal.
+// Kept: a number and no enum of rows 4 to 9, by what may not change: it is that of `bad` in the law (`JudgedBy`), and goes into a `Refusal`.
+pub type Judgement = Result<Known, u32>;
 
 // The answer for a line's parts: their fault of rows 6 to 8; with no fault whether the line is within its ceilings, and then what is held
 // after it, the number of the last statement, whether this is `main`, and the place of its body.

@@ -1,4 +1,5 @@
 -- The loop over lines: what is to be judged is what is left.
+use Rattle.std.proofs.Common.{Result, Ok, Err}
 use mathlib.Core.Path.{◌≡◌, refl, sym, ap, ◌∙◌}
 use mathlib.Core.Bool.{Bool, true, false, cond}
 use mathlib.Core.List.{List, [], ◌∷◌, ◌++◌}
@@ -16,9 +17,8 @@ use Rattle.law.specs.Verdict.{Judged, good, bad, Read, has, accepted, refused, m
 use Rattle.text_lines.specs.Passes.{line_at, after_line}
 use Rattle.text_lines.proofs.Ties.{lines_cons, lines_at}
 use Rattle.rule_known.specs.declared.Known.{Known}
-use Rattle.rule_known.specs.declared.Judgement.{Judgement}
 use Rattle.rule_judge.specs.Judging.{Standing, JudgedBy, JudgesLine}
-use Rattle.rule_texts.specs.declared.Checked.{Checked}
+use Rattle.law_answers.specs.declared.Refusal.{Refusal}
 use Rattle.rule_texts.specs.Answers.{CheckedBy, ChecksLines, ends_by, refused_by}
 
 -- ---- the next line is further on
@@ -47,11 +47,11 @@ lines-here s p h = let f : drop p s ≡ get_or s p 0 ∷ drop (suc p) s = drop-c
 
 -- ---- one line's answer
 
-line_refused : (s l ts : List ℕ) (r : Read) (J : Judged (Declared × List BodyCode)) (j : Judgement) (n : ℕ) (f : Declared × List BodyCode → Meaning.Verdict Read)
-    → JudgedBy s l ts r J j → ((j.refusal ≡ 0) → ⊥) → CheckedBy s l ts (onward J n f) (refused_by j.refusal n j.known)
+line_refused : (s l ts : List ℕ) (r : Read) (J : Judged (Declared × List BodyCode)) (m n : ℕ) (f : Declared × List BodyCode → Meaning.Verdict Read)
+    → JudgedBy s l ts r J (Err m) → CheckedBy s l ts (onward J n f) (refused_by m n)
 unfolding onward
-line_refused s l ts r (bad m) j n f h g = (h.0, refl, h.1)
-line_refused s l ts r (good p) j n f h g = absurd (g h.0)
+line_refused s l ts r (bad k) m n f h = let e : m ≡ k = cc in rw e (refl, h.1)
+line_refused s l ts r (good p) m n f h = absurd (cc (h.1))
 
 -- what is left after a line, as a record so that its parts are named
 record Next (s l ts : List ℕ) (kn : Known) (n : ℕ) (ls : List Line) (v : Meaning.Verdict Read) : Type 0 where
@@ -60,11 +60,11 @@ record Next (s l ts : List ℕ) (kn : Known) (n : ℕ) (ls : List Line) (v : Mea
   standing : Standing s l ts kn read places
   same : v ≡ judge_lines strictly (suc n) ls read
 
-line-passed : (s l ts : List ℕ) (r : Read) (J : Judged (Declared × List BodyCode)) (j : Judgement) (n : ℕ) (ls : List Line)
-    → JudgedBy s l ts r J j → j.refusal ≡ 0 → Next s l ts j.known n ls (onward J n λ p. judge_lines strictly (suc n) ls (has p.0 (r.codes ++ p.1)))
+line-passed : (s l ts : List ℕ) (r : Read) (J : Judged (Declared × List BodyCode)) (kn : Known) (n : ℕ) (ls : List Line)
+    → JudgedBy s l ts r J (Ok kn) → Next s l ts kn n ls (onward J n λ p. judge_lines strictly (suc n) ls (has p.0 (r.codes ++ p.1)))
 unfolding onward
-line-passed s l ts r (bad m) j n ls h g = absurd (omega (arith, h.0, h.1))
-line-passed s l ts r (good p) j n ls h g = record { read = has p.0 (r.codes ++ p.1); places = h.1; standing = h.2; same = refl }
+line-passed s l ts r (bad m) kn n ls h = absurd (cc (h.0))
+line-passed s l ts r (good p) kn n ls h = let e : kn ≡ h.0 = cc in record { read = has p.0 (r.codes ++ p.1); places = h.2; standing = rw e h.3; same = refl }
 
 -- ---- the loop: n is the number of the line at p, kn is known, l and ts are the lists
 
@@ -93,27 +93,27 @@ module _ (s l₀ ts₀ : List ℕ) (kn₀ : Known) (n p : ℕ) (kn : Known) (l t
   pub going-room : p < length s → length s ≤ 32768 → n + 1 ≤ 65536
   going-room h g = omega (arith, G.few)
 
-  module _ (j : Judgement) (l' ts' : List ℕ) (h : p < length s) (L : JudgesLine s l ts kn p j l' ts') where
-    pub drive-refuses : ((j.refusal ≡ 0) → ⊥) → ChecksLines s l₀ ts₀ kn₀ (record { refusal = j.refusal; line = n; known = j.known }) l' ts'
+  module _ (j : Result Known ℕ) (l' ts' : List ℕ) (h : p < length s) (L : JudgesLine s l ts kn p j l' ts') where
+    pub drive-refuses : (m : ℕ) → j ≡ Err m → ChecksLines s l₀ ts₀ kn₀ (refused_by m n) l' ts'
     unfolding judge_lines
-    drive-refuses g = record {
+    drive-refuses m g = record {
       says = λ r bs S.
           let K : Left s n p kn l ts r = G.left r bs S in
           rw (K.same, lines-here s p h)
-          (line_refused s l' ts' K.read (judge_line strictly K.read.known (line_at (drop p s))) j n _ (L.says K.read K.places K.standing) g);
+          (line_refused s l' ts' K.read (judge_line strictly K.read.known (line_at (drop p s))) m n _ (rw g at (L.says K.read K.places K.standing)));
     }
 
-    pub drive-on : (q : ℕ) → j.refusal ≡ 0 → drop q s ≡ after_line (drop p s) → length l' ≡ length l → length ts' ≡ length ts → Going s l₀ ts₀ kn₀ (n + 1) q j.known l' ts'
+    pub drive-on : (after : Known) (q : ℕ) → j ≡ Ok after → drop q s ≡ after_line (drop p s) → length l' ≡ length l → length ts' ≡ length ts → Going s l₀ ts₀ kn₀ (n + 1) q after l' ts'
     unfolding judge_lines
-    drive-on q g e a b = record {
+    drive-on after q g e a b = record {
       few = let d = next-less s p q h e in omega (arith, G.few);
       as_long = a ∙ G.as_long;
       types-as-long = b ∙ G.types-as-long;
       left = λ r bs S.
           let K : Left s n p kn l ts r = G.left r bs S in
-          let N : Next s l' ts' j.known n (lines_of (drop q s))
+          let N : Next s l' ts' after n (lines_of (drop q s))
           (onward (judge_line strictly K.read.known (line_at (drop p s))) n λ x. judge_lines strictly (suc n) (lines_of (drop q s)) (has x.0 (K.read.codes ++ x.1)))
-          = line-passed s l' ts' K.read (judge_line strictly K.read.known (line_at (drop p s))) j n (lines_of (drop q s)) (L.says K.read K.places K.standing) g in
+          = line-passed s l' ts' K.read (judge_line strictly K.read.known (line_at (drop p s))) after n (lines_of (drop q s)) (rw g at (L.says K.read K.places K.standing)) in
           record {
             read = N.read;
             places = N.places;
@@ -125,12 +125,12 @@ module _ (s l₀ ts₀ : List ℕ) (kn₀ : Known) (n p : ℕ) (kn : Known) (l t
   -- after all lines
   ends : (a b : Bool) (q : Read) (places : List ℕ) → Standing s l ts kn q places → a ≡ b → CheckedBy s l ts (onward (must 6 b) n λ _. accepted q) (ends_by a n kn)
   unfolding onward must
-  ends true true q places S e = (refl, places, S)
+  ends true true q places S e = (kn, refl, places, S)
   ends true false q places S e = absurd (let z : ◌≡◌ {A = ℕ} 0 1 = cc in omega arith)
   ends false true q places S e = absurd (let z : ◌≡◌ {A = ℕ} 0 1 = cc in omega arith)
-  ends false false q places S e = (refl, refl, omega arith)
+  ends false false q places S e = (refl, omega arith)
 
-  pub drive-ends : (c : Checked) → length s ≤ p → c ≡ ends_by kn.ended n kn → ChecksLines s l₀ ts₀ kn₀ c l ts
+  pub drive-ends : (c : Result Known Refusal) → length s ≤ p → c ≡ ends_by kn.ended n kn → ChecksLines s l₀ ts₀ kn₀ c l ts
   unfolding judge_lines lines_of
   drive-ends c h e = record {
     says = λ r bs S.

@@ -1,4 +1,5 @@
 -- Whole texts: rows 1 to 3, then the lines with nothing declared; the verdict told, and the working list left.
+use Rattle.std.proofs.Common.{Result}
 use mathlib.Core.Path.{◌≡◌, refl, sym, ap, ◌∙◌}
 use mathlib.Core.Bool.{Bool, true, false}
 use mathlib.Core.List.{List, [], ◌∷◌, ◌++◌}
@@ -6,7 +7,7 @@ use mathlib.Core.Option.{Option, none, some}
 use Prim.Native.Nat.{ℕ, zero, suc, ◌<◌, ◌≤◌, min}
 use native.Mathlib.Omega.{arith}
 use native.Mathlib.Nat.{min-eq_left}
-use borrow.Author.Tests.{le-leb, lt-leb, leb-true, leb-false, eq-eqb, ne_eqb}
+use borrow.Author.Tests.{le-leb, lt-leb, leb-true, leb-false}
 use lib.Dec.{leb}
 use lib.ListN.{length, get_or, take, drop, replicate, drop_of_length-le}
 use lib.Seq.{drop_at, take_at, length_front, length-take-le}
@@ -20,14 +21,13 @@ use Rattle.law.specs.Whole.{verdict_of, work_after}
 use Rattle.code.proofs.LayoutBodies.{no-bodies}
 use Rattle.code.proofs.LinesMeasured.{measured-start}
 use Rattle.code.proofs.TextRoom.{room-start}
-use Rattle.law_answers.specs.declared.Verdict.{Verdict}
+use Rattle.law_answers.specs.declared.Refusal.{Refusal}
 use Rattle.law_answers.specs.Verdicts.{told_verdict}
 use Rattle.text_lines.specs.Passes.{line_of}
 use Rattle.rule_declarations.specs.State.{notes, start_state}
 use Rattle.rule_declarations.proofs.Starting.{holds-start}
 use Rattle.rule_known.specs.declared.Known.{Known}
 use Rattle.rule_judge.specs.Judging.{Standing}
-use Rattle.rule_texts.specs.declared.Checked.{Checked}
 use Rattle.rule_texts.specs.Answers.{CheckedBy, ChecksLines, Checks, refused_by, start_known, told_by}
 
 -- before any line
@@ -64,22 +64,22 @@ some-refused s n h = go (refused_at 1 s) h
 
 -- ---- the rows in their order
 
-module _ (s l ts : List ℕ) (c : Checked) where
-  pub check-bench : length l < 16384 → c ≡ refused_by 1 0 start_known → Checks s l ts c l ts
+module _ (s l ts : List ℕ) (c : Result Known Refusal) where
+  pub check-bench : length l < 16384 → c ≡ refused_by 1 0 → Checks s l ts c l ts
   unfolding verdict_of judge opening
-  check-bench h e = record { says = λ _ _. rw (e, lt-leb 16384 (length l) h) (refl, refl, omega arith) }
+  check-bench h e = record { says = λ _ _. rw (e, lt-leb 16384 (length l) h) (refl, omega arith) }
 
   module _ (g : 16384 ≤ length l) where
-    pub check-length : 32768 < length s → c ≡ refused_by 2 0 start_known → Checks s l ts c l ts
+    pub check-length : 32768 < length s → c ≡ refused_by 2 0 → Checks s l ts c l ts
     unfolding verdict_of judge opening
-    check-length h e = record { says = λ _ _. rw (e, le-leb 16384 (length l) g, lt-leb (length s) 32768 h) (refl, refl, omega arith) }
+    check-length h e = record { says = λ _ _. rw (e, le-leb 16384 (length l) g, lt-leb (length s) 32768 h) (refl, omega arith) }
 
     module _ (h : length s ≤ 32768) (o : Maybe ℕ) (f : o ≡ line_of (refused_at 1 s)) where
-      pub check-byte : (n : ℕ) → o ≡ Some n → c ≡ refused_by 3 n start_known → Checks s l ts c l ts
+      pub check-byte : (n : ℕ) → o ≡ Some n → c ≡ refused_by 3 n → Checks s l ts c l ts
       unfolding verdict_of judge opening
       check-byte n i e = record {
         says = λ _ _.
-            rw (e, le-leb 16384 (length l) g, le-leb (length s) 32768 h, some-refused s n (sym f ∙ i)) (refl, refl, omega arith);
+            rw (e, le-leb 16384 (length l) g, le-leb (length s) 32768 h, some-refused s n (sym f ∙ i)) (refl, omega arith);
       }
 
       pub check-rest : (kn : Known) (l' ts' : List ℕ) → o ≡ None → kn ≡ start_known → ChecksLines s l ts kn c l' ts' → Checks s l ts c l' ts'
@@ -99,10 +99,10 @@ zeros zero i = refl
 zeros (suc n) zero = refl
 zeros (suc n) (suc i) = zeros n i
 
-told_is : (s l ts : List ℕ) (v : Meaning.Verdict Read) (c : Checked) → CheckedBy s l ts v c → told_by c ≡ told_verdict v
+told_is : (s l ts : List ℕ) (v : Meaning.Verdict Read) (c : Result Known Refusal) → CheckedBy s l ts v c → told_by c ≡ told_verdict v
 unfolding told_verdict
-told_is s l ts (accepted q) c h = rw (eq-eqb c.refusal 0 h.0)
-told_is s l ts (refused m n) c h = rw (ne_eqb c.refusal 0 (λ e. omega (arith, h.0, h.2)), h.0, h.1)
+told_is s l ts (accepted q) c h = rw h.1 refl
+told_is s l ts (refused m n) c h = rw h.0 refl
 
 -- of a working list n numbers are used: the first 16,384, or all if there are fewer
 pub part-long : (l : List ℕ) (n : ℕ) → n ≡ min 16384 (length l) → n ≡ length (take n l)
@@ -144,8 +144,8 @@ after_same l l' n i e = go (leb 16384 (length l)) refl
         let h : length l < 16384 = leb-false 16384 (length l) b in
         rw (long, drop_of_length-le (l' ++ drop n l) {i = 16384} (omega (arith, long)), drop_of_length-le l {i = 16384} (omega arith)) refl
 
-module _ (s l : List ℕ) (n : ℕ) (i : n ≡ min 16384 (length l)) (c : Checked) (l' ts' : List ℕ) where
-  pub verdict-told : (r : Verdict) → Checks s (take n l) (replicate notes 0) c l' ts' → r ≡ told_by c → r ≡ told_verdict (verdict_of s (length l))
+module _ (s l : List ℕ) (n : ℕ) (i : n ≡ min 16384 (length l)) (c : Result Known Refusal) (l' ts' : List ℕ) where
+  pub verdict-told : (r : Result (Unit {0}) Refusal) → Checks s (take n l) (replicate notes 0) c l' ts' → r ≡ told_by c → r ≡ told_verdict (verdict_of s (length l))
   verdict-told r C e =
       let k : length (take n l) ≡ min 16384 (length l) = sym (part-long l n i) ∙ i in
       let v : verdict_of s (length (take n l)) ≡ verdict_of s (length l) = ap (λ m. verdict_of s m) k ∙ verdict-same s (length l) in

@@ -5,9 +5,9 @@
 ghost use Rattle.std.specs.Prelude.{◌≡◌, ◌≤◌, min, length};
 ghost use Rattle.law.specs.Whole.{verdict_of, work_after};
 ghost use Rattle.law_answers.specs.Verdicts.{told_verdict};
-ghost use Rattle.rule_texts.specs.Answers.{ChecksLines, Checks, ends_by, refused_by, start_known, told_by};
+ghost use Rattle.rule_texts.specs.Answers.{ChecksLines, Checks, ends_by, start_known, told_by};
 
-use law_answers::Verdict;
+use law_answers::{Refusal, Verdict};
 pub use rule_declarations::MOST_CELLS;
 use rule_declarations::{NOTES, State};
 use rule_judge::whole::line;
@@ -16,36 +16,19 @@ use table_list::clear;
 pub use table_list::{TEXT_LENGTH, WORK_LENGTH};
 use text_lines::lines::{next_line, refused_line};
 
-// The answer for a text: the number of its refusal and the line, or 0 and what is known of the text.
-#[derive(Clone, Copy)]
-pub struct Checked {
-    pub refusal: u32,
-    pub line: usize,
-    pub known: Known,
-}
+// The answer for a text: what is known of it, or its refusal.
+pub type Checked = Result<Known, Refusal>;
 
 // What is known before any line.
 pub fn nothing_known() -> Known
     ensures { result ≡ start_known }
 {
-    let state = State::start();
     Known {
-        state: state,
+        state: State::start(),
         stmts: 0,
         nodes: 0,
         ended: false,
         main: 0,
-    }
-}
-
-// A refusal of the text before its lines are judged.
-pub fn refusal(number: u32, line: usize) -> Checked
-    ensures { result ≡ refused_by number line start_known }
-{
-    Checked {
-        refusal: number,
-        line: line,
-        known: nothing_known(),
     }
 }
 
@@ -54,16 +37,9 @@ pub fn at_end(n: usize, known: Known) -> Checked
     ensures { result ≡ ends_by known.ended n known }
 {
     if known.ended {
-        return Checked {
-            refusal: 0,
-            line: 0,
-            known: known,
-        };
-    }
-    Checked {
-        refusal: 6,
-        line: n,
-        known: known,
+        Ok(known)
+    } else {
+        Err(Refusal { number: 6, line: n })
     }
 }
 
@@ -76,14 +52,9 @@ fn check_lines(text: &[u8], work: &mut [u32], types: &mut [u32], kn: Known) -> C
     let mut n = 1;
     let mut known = kn;
     while p < text.len() {
-        let j = line(text, work, types, known, p);
-        known = j.known;
-        if j.refusal != 0 {
-            return Checked {
-                refusal: j.refusal,
-                line: n,
-                known: known,
-            };
+        match line(text, work, types, known, p) {
+            Ok(after) => known = after,
+            Err(number) => return Err(Refusal { number, line: n }),
         }
         p = next_line(text, p);
         n += 1;
@@ -96,13 +67,13 @@ pub fn check(text: &[u8], work: &mut [u32], types: &mut [u32]) -> Checked
     ensures { Checks text.now work.old types.old result work.new types.new }
 {
     if work.len() < WORK_LENGTH {
-        return refusal(1, 0);
+        return Err(Refusal { number: 1, line: 0 });
     }
     if text.len() > TEXT_LENGTH {
-        return refusal(2, 0);
+        return Err(Refusal { number: 2, line: 0 });
     }
     match refused_line(text) {
-        Some(n) => refusal(3, n),
+        Some(n) => Err(Refusal { number: 3, line: n }),
         None => check_lines(text, work, types, nothing_known()),
     }
 }
@@ -111,20 +82,15 @@ pub fn check(text: &[u8], work: &mut [u32], types: &mut [u32]) -> Checked
 fn told(c: Checked) -> Verdict
     ensures { result ≡ told_by c }
 {
-    if c.refusal == 0 {
-        return Verdict::Accepted;
-    }
-    Verdict::Refused(c.refusal, c.line)
+    c?;
+    Ok(())
 }
 
 // How many numbers of a working list of n are used.
 pub fn working(n: usize) -> usize
     ensures { result ≡ min 16384 n }
 {
-    if n < WORK_LENGTH {
-        return n;
-    }
-    WORK_LENGTH
+    n.min(WORK_LENGTH)
 }
 
 // The verdict on a text, and the working list left as document 01 says.

@@ -1,4 +1,5 @@
 -- Runs: rows 10 and 11 by the tables, the run by the code that the list holds, and the whole by the verdict.
+use Rattle.std.proofs.Common.{Result, Ok, Err}
 use mathlib.Core.Path.{◌≡◌, refl, sym, ap, subst, ◌∙◌}
 use mathlib.Core.List.{List, [], ◌++◌}
 use mathlib.Core.Option.{Option, none, some}
@@ -19,15 +20,14 @@ use Rattle.law_theorems.specs.StatementsNoted.{Notes}
 use Rattle.law_theorems.proofs.LinesCover.{text-covered}
 use Rattle.code.proofs.LinesMeasured.{text-measured}
 use Rattle.law_answers.specs.declared.Answer.{Answer as Told}
-use Rattle.law_answers.specs.declared.Report.{Report}
-use Rattle.law_answers.specs.declared.Report.TheVariants.{Refused, Ran}
+use Rattle.law_answers.specs.declared.Refusal.{Refusal}
+use Rattle.law_answers.specs.Verdicts.{refusal_of}
 use Rattle.law_answers.specs.RunReports.{ending_of, Reports}
 use Rattle.rule_stores.specs.Stores.{StoreFault, row_number}
 use Rattle.rule_known.specs.declared.Known.{Known}
 use Rattle.code_store.specs.Answers.{Answers}
 use Rattle.run_fit.proofs.Texts.{text-fits}
 use Rattle.run_chair.specs.Answers.{Running}
-use Rattle.rule_texts.specs.declared.Checked.{Checked}
 use Rattle.rule_texts.specs.Answers.{CheckedBy, Checks}
 use Rattle.run_texts.specs.Running.{RunsLoaded, RunsChecked}
 use Rattle.code_store.proofs.Lending.{lent-store}
@@ -35,7 +35,7 @@ use Rattle.rule_stores.proofs.Rows.{no_row}
 use Rattle.rule_texts.proofs.Texts.{verdict-same, part-long, zeros}
 
 module _ (l ts : List ℕ) (kn : Known) (vs : List ℤ) (ms : List ℕ) (budget f : ℕ) (F : StoreFault l ts kn.state vs ms f) where
-  pub loaded-refused : (r : Report) → ((f ≡ 0) → ⊥) → r ≡ Refused f 0 → RunsLoaded l ts kn vs ms budget r vs ms
+  pub loaded-refused : (r : Result Told Refusal) → ((f ≡ 0) → ⊥) → r ≡ Err (record { number = f; line = 0 }) → RunsLoaded l ts kn vs ms budget r vs ms
   unfolding on_store lent row_number ending_of
   loaded-refused r ne e = record {
     says = λ s work q bs long acc S.
@@ -46,7 +46,7 @@ module _ (l ts : List ℕ) (kn : Known) (vs : List ℤ) (ms : List ℕ) (budget 
       go q none h z = absurd (ne z)
       go q (some n) h z = rw (h, e) (record { ending = rw z refl; values = refl; marks = refl })
 
-  pub loaded-run : (a : Told) (r : Report) (vs' : List ℤ) (ms' : List ℕ) → f ≡ 0 → Running l kn.main vs ms budget a vs' ms' → r ≡ Ran a → RunsLoaded l ts kn vs ms budget r vs' ms'
+  pub loaded-run : (a : Told) (r : Result Told Refusal) (vs' : List ℤ) (ms' : List ℕ) → f ≡ 0 → Running l kn.main vs ms budget a vs' ms' → r ≡ Ok a → RunsLoaded l ts kn vs ms budget r vs' ms'
   unfolding on_store lent row_number ending_of report store_fault
   loaded-run a r vs' ms' zero_row R e = record {
     says = λ s work q bs long acc S.
@@ -70,30 +70,30 @@ module _ (l ts : List ℕ) (kn : Known) (vs : List ℤ) (ms : List ℕ) (budget 
 
 pub ruleset loaded-laws = (loaded-refused, loaded-run)
 
-module _ (l ts : List ℕ) (c : Checked) (vs : List ℤ) (ms : List ℕ) (budget : ℕ) where
-  pub checked_refused : (r : Report) → ((c.refusal ≡ 0) → ⊥) → r ≡ Refused c.refusal c.line → RunsChecked l ts c vs ms budget r vs ms
+module _ (l ts : List ℕ) (c : Result Known Refusal) (vs : List ℤ) (ms : List ℕ) (budget : ℕ) where
+  pub checked_refused : (e : Refusal) (r : Result Told Refusal) → c ≡ Err e → r ≡ Err e → RunsChecked l ts c vs ms budget r vs ms
   unfolding unless ending_of
-  checked_refused r ne e = record { says = λ s work long C. go s (verdict_of s work) C }
+  checked_refused x r h e = record { says = λ s work long C. go s (verdict_of s work) C }
     where
       go : (s : List ℕ) (v : Meaning.Verdict Read) → CheckedBy s l ts v c → Reports (unless v vs ms λ q. on_store q.known (run_all q.codes []) vs ms budget) r vs ms
-      go s (accepted q) C = absurd (ne C.0)
-      go s (refused m n) C = rw e (record { ending = rw (C.0, C.1) refl; values = refl; marks = refl })
+      go s (accepted q) C = absurd (cc (h, C.1))
+      go s (refused m n) C = let d : x ≡ refusal_of m n = cc (h, C.0) in rw (e, d) (record { ending = refl; values = refl; marks = refl })
 
-  pub checked-run : (r : Report) (vs' : List ℤ) (ms' : List ℕ) → c.refusal ≡ 0 → RunsLoaded l ts c.known vs ms budget r vs' ms' → RunsChecked l ts c vs ms budget r vs' ms'
+  pub checked-run : (kn : Known) (r : Result Told Refusal) (vs' : List ℤ) (ms' : List ℕ) → c ≡ Ok kn → RunsLoaded l ts kn vs ms budget r vs' ms' → RunsChecked l ts c vs ms budget r vs' ms'
   unfolding unless
-  checked-run r vs' ms' h R = record { says = λ s work long C. go s work long (verdict_of s work) refl C }
+  checked-run kn r vs' ms' h R = record { says = λ s work long C. go s work long (verdict_of s work) refl C }
     where
       go : (s : List ℕ) (work : ℕ) → length l ≤ 16384 → (v : Meaning.Verdict Read) → verdict_of s work ≡ v → CheckedBy s l ts v c
           → Reports (unless v vs ms λ q. on_store q.known (run_all q.codes []) vs ms budget) r vs' ms'
-      go s work long (accepted q) e C = R.says s work q C.1 long e C.2
-      go s work long (refused m n) e C = absurd (omega (arith, C.0, C.2))
+      go s work long (accepted q) e C = let i : kn ≡ C.0 = cc (h, C.1) in R.says s work q C.2 long e (rw i C.3)
+      go s work long (refused m n) e C = absurd (cc (h, C.0))
 
 pub ruleset checked-laws = (checked_refused, checked-run)
 
 -- ---- the whole
 
-module _ (s l : List ℕ) (n : ℕ) (i : n ≡ min 16384 (length l)) (c : Checked) (l' ts' : List ℕ) (vs : List ℤ) (ms : List ℕ) (budget : ℕ) where
-  pub run-told : (r : Report) (vs' : List ℤ) (ms' : List ℕ) → Checks s (take n l) (replicate notes 0) c l' ts' → length l' ≡ length (take n l)
+module _ (s l : List ℕ) (n : ℕ) (i : n ≡ min 16384 (length l)) (c : Result Known Refusal) (l' ts' : List ℕ) (vs : List ℤ) (ms : List ℕ) (budget : ℕ) where
+  pub run-told : (r : Result Told Refusal) (vs' : List ℤ) (ms' : List ℕ) → Checks s (take n l) (replicate notes 0) c l' ts' → length l' ≡ length (take n l)
       → RunsChecked (take n (l' ++ drop n l)) ts' c vs ms budget r vs' ms' → Reports (run_of s (length l) vs ms budget) r vs' ms'
   unfolding run_of
   run-told r vs' ms' C e R =

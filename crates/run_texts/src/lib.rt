@@ -7,7 +7,7 @@ ghost use Rattle.law.specs.Whole.{run_of, work_after};
 ghost use Rattle.law_answers.specs.RunReports.{Reports};
 ghost use Rattle.run_texts.specs.Running.{RunsLoaded, RunsChecked};
 
-use law_answers::Report;
+use law_answers::{Refusal, Report};
 use rule_declarations::NOTES;
 use rule_known::Known;
 use rule_stores::store_fault;
@@ -26,13 +26,11 @@ fn run_loaded(
 ) -> Report
     ensures { RunsLoaded work.now types.now known values.old marks.old budget result values.new marks.new }
 {
-    let state = known.state;
-    let f = store_fault(work, types, state, values, marks);
+    let f = store_fault(work, types, known.state, values, marks);
     if f != 0 {
-        return Report::Refused(f, 0);
+        return Err(Refusal { number: f, line: 0 });
     }
-    let a = run_code(work, known.main, values, marks, budget);
-    Report::Ran(a)
+    Ok(run_code(work, known.main, values, marks, budget))
 }
 
 // The run of a text by the answer for it.
@@ -46,11 +44,10 @@ fn run_checked(
 ) -> Report
     ensures { RunsChecked work.now types.now c values.old marks.old budget result values.new marks.new }
 {
-    if c.refusal != 0 {
-        return Report::Refused(c.refusal, c.line);
+    match c {
+        Ok(known) => run_loaded(work, types, known, values, marks, budget),
+        Err(e) => Err(e),
     }
-    let known = c.known;
-    run_loaded(work, types, known, values, marks, budget)
 }
 
 // Runs a text on a lent store within a budget, and leaves the working list as document 01 says.

@@ -3,55 +3,36 @@
 
 #![tactic(auto)]
 
-ghost use Rattle.std.specs.Prelude.{◌≤◌, length};
-
-use host_input::{Input, read_text};
-use law_answers::Verdict;
+use host_input::{line_end, read_text};
+use law_answers::Refusal;
 use rule_texts::{TEXT_LENGTH, WORK_LENGTH, verdict_of};
 use std::io::{Read, Write};
 use text_lines::lines::next_line;
 
-// Prints the word of a refusal; whether it was written.
-fn print_word<W: Write>(to: &mut W, number: u32) -> bool {
+// The word of a refusal.
+fn word_of(number: u32) -> &'static [u8] {
     match number {
-        1 => to.write_all(b"bench").is_ok(),
-        2 => to.write_all(b"length").is_ok(),
-        3 => to.write_all(b"byte").is_ok(),
-        4 => to.write_all(b"bracket").is_ok(),
-        5 => to.write_all(b"word").is_ok(),
-        6 => to.write_all(b"form").is_ok(),
-        7 => to.write_all(b"name").is_ok(),
-        8 => to.write_all(b"type").is_ok(),
-        9 => to.write_all(b"limit").is_ok(),
-        10 => to.write_all(b"store").is_ok(),
-        _ => to.write_all(b"cell").is_ok(),
+        1 => b"bench",
+        2 => b"length",
+        3 => b"byte",
+        4 => b"bracket",
+        5 => b"word",
+        6 => b"form",
+        7 => b"name",
+        8 => b"type",
+        9 => b"limit",
+        10 => b"store",
+        _ => b"cell",
     }
 }
 
 // The offset of a line by its number, from 1.
 fn line_start(text: &[u8], line: usize) -> usize {
     let mut p = 0;
-    let mut n = 1;
-    while n < line {
+    for _ in 1..line {
         p = next_line(text, p);
-        n += 1;
     }
     p
-}
-
-// The end of the line at p, its line feed left out.
-fn line_end(text: &[u8], p: usize) -> usize
-    requires { p ≤ length text.now }
-    ensures { (p ≤ result) × (result ≤ length text.now) }
-{
-    let mut q = p;
-    while q < text.len() {
-        if text[q] == 10 {
-            return q;
-        }
-        q += 1;
-    }
-    q
 }
 
 // A line's text, if there is such a line.
@@ -61,41 +42,37 @@ fn print_line<W: Write>(to: &mut W, text: &[u8], line: usize) {
     }
     let p = line_start(text, line);
     if p < text.len() {
-        let q = line_end(text, p);
-        let _ = to.write_all(&text[p..q]);
+        let _ = to.write_all(&text[p..line_end(text, p)]);
         let _ = to.write_all(b"\n");
     }
 }
 
 // A refusal, and the line that it names. Where a write fails, the writes after it are still tried, and the program ends as ever.
-fn print_refusal<W: Write>(to: &mut W, text: &[u8], number: u32, line: usize) {
+fn print_refusal<W: Write>(to: &mut W, text: &[u8], e: Refusal) {
     let _ = to.write_all(b"refused ");
-    let _ = write!(to, "{number}");
+    let _ = write!(to, "{}", e.number);
     let _ = to.write_all(b" ");
-    let _ = write!(to, "{line}");
+    let _ = write!(to, "{}", e.line);
     let _ = to.write_all(b" ");
-    print_word(to, number);
+    let _ = to.write_all(word_of(e.number));
     let _ = to.write_all(b"\n");
-    print_line(to, text, line);
+    print_line(to, text, e.line);
 }
 
 // The verdict on a text.
 fn answer<W: Write>(to: &mut W, text: &[u8], work: &mut [u32]) {
-    let v = verdict_of(text, work);
-    match v {
-        Verdict::Accepted => {
+    match verdict_of(text, work) {
+        Ok(_) => {
             let _ = to.write_all(b"accepted\n");
         }
-        Verdict::Refused(number, line) => print_refusal(to, text, number, line),
+        Err(e) => print_refusal(to, text, e),
     }
 }
 
 // The verdict on what comes from a reader; text holds one byte more than a script may have.
 fn serve<R: Read, W: Write>(from: &mut R, to: &mut W, text: &mut [u8], work: &mut [u32]) {
-    let came = read_text(from, text);
-    match came {
-        Input::Failed => {}
-        Input::Came(n) => answer(to, &text[..n], work),
+    if let Ok(n) = read_text(from, text) {
+        answer(to, &text[..n], work);
     }
 }
 

@@ -1,12 +1,6 @@
-use borrow.Author.Rules.{sfits_of}
-use Rattle.host_telling.proofs.Telling.{answer-laws}
+use Rattle.host_telling.proofs.Telling.{answer-as}
+use borrow.Author.Rules.{rules}
 use Rattle.host_telling.proofs.reports.ended_by.Goals as goal
 
-pub returns-in-Normal : goal.returns-in-Normal
-returns-in-Normal c = search (answer-laws, sfits_of)
-
-pub returns-in-Raised : goal.returns-in-Raised
-returns-in-Raised c = search (answer-laws, sfits_of)
-
-pub returns-in-Spent : goal.returns-in-Spent
-returns-in-Spent c = search (answer-laws, sfits_of)
+pub returns : goal.returns
+returns c = search (answer-as, rules)

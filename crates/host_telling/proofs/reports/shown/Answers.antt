@@ -1,8 +1,8 @@
 use Rattle.host_telling.proofs.Telling.{report-laws}
 use Rattle.host_telling.proofs.reports.shown.Goals as goal
 
-pub returns-in-Refused : goal.returns-in-Refused
-returns-in-Refused c = search report-laws
+pub returns-in-Err : goal.returns-in-Err
+returns-in-Err c = search report-laws
 
-pub returns-in-Ran : goal.returns-in-Ran
-returns-in-Ran c = search report-laws
+pub returns-in-Ok : goal.returns-in-Ok
+returns-in-Ok c = search report-laws

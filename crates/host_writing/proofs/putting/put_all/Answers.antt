@@ -1,16 +1,12 @@
-use native.Mathlib.Omega.{arith}
 use borrow.Author.Rules.{rules}
 use Rattle.host_writing.proofs.Writing.{all_laws, still-long, still-start}
 use Rattle.host_writing.proofs.putting.put_all.Goals as goal
 
-pub loop-i-init : goal.loop-i-init
-loop-i-init c = still-start _ _ _
+pub loop-b-init : goal.loop-b-init
+loop-b-init c = still-start _ _ _
 
-pub loop-i-smaller : goal.loop-i-smaller
-loop-i-smaller c = omega arith
-
-pub loop-i-preserved : goal.loop-i-preserved
-loop-i-preserved c = search all_laws
+pub loop-b-preserved : goal.loop-b-preserved
+loop-b-preserved c = search all_laws
 
 pub shape_of-out : goal.shape_of-out
 shape_of-out c = search (still-long, rules)

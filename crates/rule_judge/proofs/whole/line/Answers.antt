@@ -1,11 +1,11 @@
 use Rattle.rule_judge.proofs.Opening.{line-laws}
 use Rattle.rule_judge.proofs.whole.line.Goals as goal
 
-pub returns-then-words_known : goal.returns-then-words_known
-returns-then-words_known c = search line-laws
+pub returns-then-not-words_known : goal.returns-then-not-words_known
+returns-then-not-words_known c = search line-laws
 
-pub returns-then-balance : goal.returns-then-balance
-returns-then-balance c = search line-laws
+pub returns-then-not-balance : goal.returns-then-not-balance
+returns-then-not-balance c = search line-laws
 
 pub returns : goal.returns
 returns c = search line-laws

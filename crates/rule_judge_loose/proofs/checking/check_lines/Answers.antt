@@ -6,8 +6,8 @@ use Rattle.rule_judge_loose.proofs.checking.check_lines.Goals as goal
 pub loop-p-init : goal.loop-p-init
 loop-p-init c = going_start _ _ _ _ _
 
-pub returns-then-j-ne0 : goal.returns-then-j-ne0
-returns-then-j-ne0 c = search drive-laws
+pub returns-in-Err : goal.returns-in-Err
+returns-in-Err c = search drive-laws
 
 pub overflow_add-n : goal.overflow_add-n
 overflow_add-n c = search (going-room, rules)
