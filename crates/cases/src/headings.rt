@@ -19,6 +19,7 @@ fn and_digit(n: u64, b: u8) -> u64
 }
 
 // The number that a digit is.
+// Kept: a byte of the file is no `str`, and `parse` would want one: no heap and no copy.
 fn digit_of(b: u8) -> u64
     ensures { result < 10 }
 {
@@ -26,6 +27,7 @@ fn digit_of(b: u8) -> u64
 }
 
 // The number whose digits stand from p on.
+// Kept: it stops where the digits end, which no range knows before.
 pub(crate) fn number_at(text: &[u8], p: usize) -> u64
     ensures { result < 1000000000000000000 }
 {
@@ -72,6 +74,7 @@ fn mark_at(text: &[u8], p: usize) -> u8 {
 }
 
 // The word after the one at p on its line; the line's end if there is none.
+// Kept: the offset is the answer, also where nothing is found; a `position` would be added to p again.
 pub(crate) fn word_after(text: &[u8], p: usize) -> usize {
     let mut q = p;
     while q < text.len() && text[q] != b'\n' {

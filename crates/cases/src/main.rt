@@ -133,6 +133,7 @@ fn try_case<W: Write>(
 }
 
 // Runs every case, and prints how many there are and how many differ. After a failed write nothing more is tried: nobody would read it.
+// Kept: cases are found one after another by `case_from`; n is their number for the print, not an index.
 fn try_all<W: Write>(to: &mut W, text: &[u8], work: &mut [u32], out: &mut [u8]) -> io::Result<()> {
     let mut p = 0;
     let mut n = 0;

@@ -4,6 +4,7 @@
 #![tactic(auto)]
 
 // What a node of an expression is, by its first number.
+// Kept: `Nothing` is a kind like the others, met in the same match; an Option around the rest is no plainer.
 #[derive(Clone, Copy)]
 pub enum CodeOp {
     Literal,
@@ -22,6 +23,7 @@ pub enum CodeOp {
 }
 
 // What a node of a place is.
+// Kept: `Nothing` is a kind like the others, met in the same match; an Option around the rest is no plainer.
 #[derive(Clone, Copy)]
 pub enum PlaceOp {
     Cell,
@@ -31,6 +33,7 @@ pub enum PlaceOp {
 }
 
 // What a node of a statement is.
+// Kept: `Nothing` is a kind like the others, met in the same match; an Option around the rest is no plainer.
 #[derive(Clone, Copy)]
 pub enum ActOp {
     AssignOrdinal,

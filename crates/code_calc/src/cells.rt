@@ -13,6 +13,7 @@ pub fn cell(store: &Store, a: usize) -> i64
 }
 
 // The last exception's number, 0 before any.
+// Kept: 0 is document 01's number before any exception.
 pub fn latest(store: &Store) -> i64
     ensures { result ≡ latest_in store.now }
 {
@@ -20,6 +21,7 @@ pub fn latest(store: &Store) -> i64
 }
 
 // The first of n cells from a on, all of which must be defined; 0 for no cell.
+// Kept: 0 cells have no first one, and the contract `cells_word` says 0 for it.
 #[tactic(auto, using(crate::proofs::Leaves::cells_laws))]
 pub fn cells(store: &Store, a: u32, n: u32) -> i64
     ensures { result ≡ cells_word store.now a n }

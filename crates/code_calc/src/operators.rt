@@ -120,6 +120,7 @@ fn either(x: i64, y: i64) -> i64
 }
 
 // A two-sided operator on values, by its node's number.
+// Kept: the numbers are those of nodes in laid code (`code_ops`), and each operator has its arm; closures would be that table again.
 pub fn combine(op: u32, x: i64, y: i64) -> i64
     ensures { result ≡ word_of (compute (operation_at (op - 9)) x y) }
 {
@@ -169,6 +170,7 @@ fn negated(x: i64) -> i64
 }
 
 // A one-sided operator on a value, by its node's number.
+// Kept: the numbers are those of nodes in laid code (`code_ops`), and each operator has its arm; closures would be that table again.
 pub fn change(op: u32, x: i64) -> i64
     ensures { result ≡ word_of (compute1 (operation1_at (op - 29)) x) }
 {

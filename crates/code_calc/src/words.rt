@@ -66,6 +66,7 @@ pub fn wide(n: u32) -> u64
 }
 
 // The natural number that a word is, 0 of a negative one.
+// Kept: the contract `nat_of` says 0 of a negative number.
 #[tactic(auto, using(crate::proofs::Leaves::natural_laws, leaf_powers::proofs::Powers::raise_cast))]
 pub fn natural(w: i64) -> u64
     ensures { result ≡ nat_of w }
@@ -74,6 +75,7 @@ pub fn natural(w: i64) -> u64
 }
 
 // The place that a word is: 0 of a negative one, and none past the greatest place.
+// Kept: the contract `nat_of` says 0 of a negative number.
 pub fn reach(z: i64) -> u64
     ensures { result ≡ min (nat_of z) 4294967295 }
 {

@@ -49,6 +49,7 @@ impl Machine for Runner {
         owners(text, work, names)
     }
 
+    // Kept: each machine forwards to its own functions; the trait is what the two share.
     fn scripted(
         out: &mut [u8],
         text: &[u8],
@@ -74,6 +75,7 @@ impl Machine for Marker {
         mark_owners(text, work, names)
     }
 
+    // Kept: each machine forwards to its own functions; the trait is what the two share.
     fn scripted(
         out: &mut [u8],
         text: &[u8],

@@ -89,6 +89,7 @@ pub fn counted(c: Counted) -> Reply
 }
 
 // The answer of a run: by the marking machine, whose outcomes are those of both machines.
+// Kept: the kinds are closed and each has its own arm; closures or a table of functions would say the same twice.
 fn answered(answer: Marked) -> Reply
     ensures { result ≡ outcome_reply (mark_outcome answer.ending) answer.steps }
 {
@@ -112,6 +113,7 @@ pub fn reported(report: Report) -> Reply
 }
 
 // The report of a run by the marking machine.
+// Kept: each machine's report has its own type and its own contract; a trait for two matches of two arms is no plainer.
 pub fn mark_reported(report: MarkReport) -> Reply
     ensures { result ≡ ending_reply (mark_ending report) }
 {

@@ -6,6 +6,7 @@ use host_writing::rows::{cell_rows, exception, normal, refused, spent, stuck};
 use law_answers::{Ending, MarkReport, Marked};
 
 // The row of an outcome.
+// Kept: the kinds are closed and each has its own arm; closures or a table of functions would say the same twice.
 pub fn marked_by(out: &mut [u8], at: usize, answer: Marked) -> usize
     ensures { Puts (marked_row answer) out.old at result out.new }
 {

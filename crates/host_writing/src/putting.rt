@@ -42,6 +42,7 @@ pub fn put_small(out: &mut [u8], at: usize, bytes: &[u8]) -> usize
 }
 
 // The last digit of a number.
+// Kept: the list is lent and there is no heap: a number is put there digit by digit, as the contract `Puts` says.
 fn digit(n: u64) -> u8
     ensures { result ≡ 48 + n % 10 }
 {
@@ -70,6 +71,7 @@ pub fn decimal(out: &mut [u8], at: usize, n: u64) -> usize
 }
 
 // The natural number that z is, 0 of a negative one.
+// Kept: the contract says 0 of a negative number.
 fn natural(z: i64) -> u64
     ensures { result ≡ natural_of z }
 {

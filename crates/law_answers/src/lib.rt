@@ -39,6 +39,7 @@ pub struct Answer {
 pub type Report = Result<Answer, Refusal>;
 
 // How a run by the marking machine ended; an exception has its number and its statement.
+// Kept: document 01 says how a run ends, each way with its values; `Stuck` is the fourth way and no error beside the others.
 #[derive(Clone, Copy, PartialEq, Eq, Debug)]
 pub enum Ending {
     Normal,

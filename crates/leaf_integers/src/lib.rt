@@ -46,6 +46,7 @@ pub fn add(x: i64, y: i64) -> Result<i64, Fault>
 }
 
 // x - y.
+// Kept: two statements around the operation that the contract names; a shared function of the Option is no plainer.
 #[tactic(auto, using(crate::proofs::Sums::past_out))]
 pub fn sub(x: i64, y: i64) -> Result<i64, Fault>
     ensures { result ≡ exact (x -ℤ y) }
@@ -57,6 +58,7 @@ pub fn sub(x: i64, y: i64) -> Result<i64, Fault>
 }
 
 // x * y. A product past i64 is past the integers too.
+// Kept: two statements around the operation that the contract names; a shared function of the Option is no plainer.
 #[tactic(auto, using(crate::proofs::Sums::past_out))]
 pub fn mul(x: i64, y: i64) -> Result<i64, Fault>
     ensures { result ≡ exact (x *ℤ y) }

@@ -12,6 +12,7 @@ fn wide(b: u8) -> usize
 }
 
 // The slot of w: the factors of the letters times 32 are 0 modulo 256, so case makes no difference. `place_of` passes no other lengths.
+// Kept: the digits in it are factors of the slot and no text.
 pub(crate) fn slot_of(w: &[u8]) -> usize
     requires { (0 < length w.now) × (length w.now ≤ 12) }
     ensures { result ≡ slot_of w.now }

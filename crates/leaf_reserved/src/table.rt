@@ -154,6 +154,7 @@ fn has_letters(row: &[u8; 12], n: usize) -> bool
 }
 
 // Whether w is the word k of the table, case ignored. `place_of` has a k below 57 and a word that a row has room for.
+// Kept: the guard says what rows are looked at, the loop what their letters are; a chain is no plainer.
 #[tactic(auto, using(crate::proofs::Places::fixed_laws))]
 fn is_fixed(w: &[u8], k: usize) -> bool
     requires { (k < 57) × (0 < length w.now) × (length w.now ≤ 12) }

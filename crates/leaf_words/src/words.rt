@@ -8,6 +8,7 @@ use leaf_bytes::names::is_name;
 use leaf_reserved::table::{RESERVED, place_of};
 
 // What a word is. A reserved word and an operator have their places in their list of document 01.
+// Kept: `Unknown` is one of the five kinds that the law has, and is counted like the others; an Option is no plainer.
 #[derive(Clone, Copy, PartialEq, Eq)]
 pub enum Word {
     Number(i64),

@@ -136,7 +136,7 @@ module _ (s l ts : List ℕ) (ws : List ℤ) (scope : Scope) (x : Frame) (at : �
           subst (λ (y : ℕ). InWords vs y (arguments_of σ us es m)) (omega (arith, h, g)) (words_are (F.left eight σ S us U xs es i k m H) (no-parameter σ (drop j us) _ m (drop_of_length-le us b)));
     }
 
-    module _ (e : Maybe ℕ) (E : Shuts s next e) where
+    module _ (e : Option ℕ) (E : Shuts s next e) where
       pub no_more : (q : ℕ) → e ≡ Some q → Gathers s l ts ws scope x at vs₀ vs (Ok j)
       unfolding exprs_of mark_arguments
       no_more q h = record {

@@ -25,6 +25,7 @@ pub struct Label {
 pub struct Stuck;
 
 // An arm or an `else` by the offset after its head, or none is left.
+// Kept: three ways on, none of them a failure: an Option of one of two offsets is no plainer.
 #[derive(Clone, Copy)]
 pub enum Entry {
     Labelled(usize),

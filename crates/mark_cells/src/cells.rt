@@ -115,6 +115,7 @@ pub fn store_cells(store: &mut Store, left: u64, n: u32, from: u32, k: u32, a: i
 }
 
 // Word i of a list; 0 past its end.
+// Kept: the contract names the number that is read where nothing stands: `get_or .. 0` of the law; an Option would be asked for it at each call.
 fn word_at(words: &[i64], i: u32) -> i64
     ensures { result ≡ get_or words.now i (pos 0) }
 {

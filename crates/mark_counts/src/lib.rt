@@ -11,6 +11,7 @@ use text_heads::{Verb, verb_of};
 use text_parts::{Part, part_at};
 
 // A statement's head is one.
+// Kept: a number of a kind in two arms; `usize::from(v != Verb::Nothing)` is no plainer.
 fn one_for(v: Verb) -> usize
     ensures { result ≡ one_for v }
 {
@@ -73,6 +74,7 @@ fn count_form(text: &[u8], at: usize) -> usize
 }
 
 // The statements in the part at an offset, itself among them; 0 where no part is left.
+// Kept: 0 is how many there are, and no sign of failure.
 pub fn count_statements(text: &[u8], at: usize) -> usize
     ensures { CountsStatements text.now at result }
 {

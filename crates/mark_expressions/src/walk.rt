@@ -189,6 +189,7 @@ impl Tables<'_> {
     }
 
     // All parts of a form that is a target.
+    // Kept: expressions and targets call each other, as document 01 says, each with its own contract; one function for both is no plainer.
     #[cycle(walk)]
     fn inner_place(&self, store: &Store, depth: usize, at: usize) -> Reached
         ensures { MarksInnerPlace self.now.text.now self.now.work.now self.now.types.now store.now self.now.scope depth at result }

@@ -35,6 +35,7 @@ fn named_place(m: Meaning) -> Reached
 
 impl Tables<'_> {
     // The word w at p as an expression.
+    // Kept: the kinds are closed and each has its own arm; closures or a table of functions would say the same twice.
     pub fn word(&self, store: &Store, w: Word, p: usize) -> Carried
         ensures { MarksWord self.now.text.now self.now.work.now self.now.types.now store.now self.now.scope w p result }
     {

@@ -1,4 +1,5 @@
 // The nodes of words, of `first` and `last` of a type, and of the constant `(- number)`.
+// Kept (6): nodes and entries are numbers at the free place of the lent working list: fixed memory and no heap, as document 01 has it.
 ghost use Rattle.std.specs.Prelude.{◌≡◌, neg_ℤ};
 ghost use Rattle.code.specs.Layout.{flag as flag_of};
 ghost use Rattle.rule_expr_nodes.specs.Nodes.{Makes, literal_made};

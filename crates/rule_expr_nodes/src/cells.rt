@@ -1,4 +1,5 @@
 // The cells of a variable, and an end of a type: nodes and numbers that need no table.
+// Kept (6): nodes and entries are numbers at the free place of the lent working list: fixed memory and no heap, as document 01 has it.
 ghost use Rattle.std.specs.Prelude.{◌≡◌};
 ghost use Rattle.rule_expr_nodes.specs.Nodes.{Makes};
 ghost use Rattle.rule_expr_nodes.specs.Cells.{span_of, cells_made, end_bits};

@@ -1,4 +1,5 @@
 // Links of a chain: numbers laid at the free place, and the slot before them set to it.
+// Kept (6): nodes and entries are numbers at the free place of the lent working list: fixed memory and no heap, as document 01 has it.
 ghost use Rattle.code.specs.Layout.{lay as laid, link as linking};
 ghost use Rattle.table_list.specs.Laid.{Laid};
 ghost use Rattle.rule_expr_nodes.specs.Links.{linked};

@@ -1,4 +1,5 @@
 // A node of the code from its numbers, and constants.
+// Kept (6): nodes and entries are numbers at the free place of the lent working list: fixed memory and no heap, as document 01 has it.
 ghost use Rattle.code.specs.Layout.{lay as laid};
 ghost use Rattle.rule_expr_nodes.specs.Nodes.{Makes, IsBits, node_made, literal_made};
 

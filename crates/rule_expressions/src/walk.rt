@@ -1,4 +1,5 @@
 // The walk over expressions and targets: a part at an offset, at most `depth` deep, laid from the free place `top` on.
+// Kept (6): nodes and entries are numbers at the free place of the lent working list: fixed memory and no heap, as document 01 has it.
 ghost use Rattle.text_heads.specs.declared.ExprHead.TheVariants.{At, Dot, Members, Minus, Bound, One};
 ghost use Rattle.rule_expressions.specs.Walks.{GivesExpr, GivesTarget, GivesForm, GivesPlace, GivesInner, GivesInnerPlace};
 ghost use Rattle.rule_expressions.specs.Members.{GivesMembers};
@@ -208,6 +209,7 @@ impl<'a> Walk<'a> {
     }
 
     // A target.
+    // Kept: expressions and targets call each other, as document 01 says, each with its own contract; one function for both is no plainer.
     #[cycle(walk)]
     pub fn target(self, work: &mut [u32], depth: usize, at: usize, top: u32) -> Got
         ensures { GivesTarget self.entry.text.now work.old self.entry.types.now self.entry.scope depth at top result work.new }
@@ -223,6 +225,7 @@ impl<'a> Walk<'a> {
     }
 
     // All parts of a form that is a target.
+    // Kept: expressions and targets call each other, as document 01 says, each with its own contract; one function for both is no plainer.
     #[cycle(walk)]
     fn place(self, work: &mut [u32], depth: usize, at: usize, top: u32) -> Got
         ensures { GivesInnerPlace self.entry.text.now work.old self.entry.types.now self.entry.scope depth at top result work.new }

@@ -1,4 +1,5 @@
 // Words as expressions and targets, and `first` and `last` of a type.
+// Kept (6): nodes and entries are numbers at the free place of the lent working list: fixed memory and no heap, as document 01 has it.
 ghost use Rattle.text_heads.specs.declared.ExprHead.TheVariants.{Bound};
 ghost use Rattle.rule_expressions.specs.Walks.{GivesWord, GivesVar, GivesForm};
 
@@ -14,6 +15,7 @@ use text_heads::{Atom, atom_of};
 
 impl<'a> Walk<'a> {
     // The word w at p, which ends at `next`, as an expression.
+    // Kept: the kinds are closed and each has its own arm; closures or a table of functions would say the same twice.
     pub fn word(self, work: &mut [u32], w: Word, p: usize, next: usize, top: u32) -> Got
         ensures { GivesWord self.entry.text.now work.old self.entry.types.now self.entry.scope w p next top result work.new }
     {

@@ -16,6 +16,7 @@ pub enum Fault {
 
 // The answer for a part: its fault; with no fault its kind (a target's type, also where that is known behind a fault of row 8) and the
 // place of its code; where the next part stands, and the free place.
+// Kept: behind a fault of row 7 or 8 the walk goes on at `next` and `top`, and a target's kind is known; a Result would have them on both sides.
 #[derive(Clone, Copy)]
 pub struct Got {
     pub fault: Fault,

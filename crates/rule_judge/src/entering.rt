@@ -157,6 +157,7 @@ fn proc_line(text: &[u8], work: &mut [u32], types: &[u32], kn: Known, at: usize)
 }
 
 // The parts after the head word.
+// Kept: the kinds are closed and each has its own arm; closures or a table of functions would say the same twice.
 pub fn enter(
     text: &[u8],
     work: &mut [u32],

@@ -10,6 +10,7 @@ use table_list::{TEXT_LENGTH, WORK_LENGTH};
 use text_lines::lines::{next_line, refused_line};
 
 // The lines in their order, up to the first refusal.
+// Kept: as of rule_texts: lines are found one after another, and n is their number for the refusal.
 fn check_lines(
     text: &[u8],
     work: &mut [u32],

@@ -16,6 +16,7 @@ use text_parts::{Part, part_at};
 use text_words::lines::{count_nodes, words_known};
 
 // The parts after the head word.
+// Kept: the kinds are closed and each has its own arm; closures or a table of functions would say the same twice.
 fn loose_enter(
     text: &[u8],
     work: &mut [u32],

@@ -9,6 +9,7 @@ use rule_faults::Fault;
 
 // What is known of the lines so far: what the tables hold; how many statements, and how many brackets and words there were; whether
 // `main` has come, and the place of its body.
+// Kept: `ended` says that `main` has come and guards none of the values beside it.
 #[derive(Clone, Copy)]
 pub struct Known {
     pub state: State,

@@ -37,6 +37,7 @@ pub enum Mark {
 }
 
 // From an offset inside an arm: a label is passed, something else is passed (the same labels are left at the offset), or no label is left.
+// Kept: three ways on, none of them a failure; an Option of an Option is no plainer.
 #[derive(Clone, Copy)]
 pub enum Hop {
     Label(Mark, usize),
@@ -59,6 +60,7 @@ pub struct Filled {
 }
 
 // A word at p that is not the last part, as a label; the next part stands at q.
+// Kept: the kinds are closed and each has its own arm; closures or a table of functions would say the same twice.
 fn word_mark(text: &[u8], w: Word, p: usize, q: usize) -> Hop
     ensures { Marked text.now (atom_constant (atom_of w) (map small (word_at text.now p))) q result }
 {

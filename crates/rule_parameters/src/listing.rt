@@ -35,6 +35,7 @@ fn list_in(text: &[u8], p: usize) -> Option<usize>
 }
 
 // Where the pairs begin of the list at an offset, if the part there is one.
+// Kept: a match of two arms on another function than `arm_hop`; shared, it would be no plainer.
 #[tactic(auto, using(crate::proofs::Lists::at_laws))]
 fn list_at(text: &[u8], at: usize) -> Option<usize>
     ensures { StartsList text.now at result }

@@ -1,4 +1,5 @@
 // `type` lines that make a record.
+// Kept (6): nodes and entries are numbers at the free place of the lent working list: fixed memory and no heap, as document 01 has it.
 ghost use Rattle.std.specs.Prelude.{◌≡◌};
 ghost use Rattle.code.specs.Layout.{lay as laid};
 ghost use Rattle.law.specs.Trees.{first};

@@ -21,6 +21,7 @@ fn parameters_of(work: &[u32], m: Meaning) -> u32
 }
 
 // Whether the parts from an offset on are n, with no constant past the integers.
+// Kept: the form's end stops it and not the count, which is compared there; a `for` is no plainer.
 fn plain_parts(text: &[u8], n: u32, at: usize) -> bool
     ensures { result ≡ plain_count n (first (stack_at text.now at)) }
 {

@@ -39,6 +39,7 @@ fn inner(text: &[u8], work: &[u32], scope: Scope, loops: Loops, depth: usize, at
 }
 
 // Its parts after the head word.
+// Kept: the kinds are closed and each has its own arm; closures or a table of functions would say the same twice.
 #[cycle(walk)]
 fn headed(
     text: &[u8],

@@ -1,4 +1,5 @@
 // The labels of an arm of a `case`.
+// Kept (6): nodes and entries are numbers at the free place of the lent working list: fixed memory and no heap, as document 01 has it.
 ghost use Rattle.std.specs.Prelude.{◌≡◌};
 ghost use Rattle.rule_statements.specs.Cases.{labelled_got, counted_got, LinksLabel, GivesLabels};
 

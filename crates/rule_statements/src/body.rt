@@ -1,4 +1,5 @@
 // The walk over a body.
+// Kept (6): nodes and entries are numbers at the free place of the lent working list: fixed memory and no heap, as document 01 has it.
 ghost use Rattle.rule_statements.specs.Walks.{GivesBody};
 ghost use Rattle.rule_statements.specs.Fronts.{HandledBy, GivesRest};
 

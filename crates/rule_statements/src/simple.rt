@@ -1,4 +1,5 @@
 // The statements that have no statements in them, from past the head word on.
+// Kept (6): nodes and entries are numbers at the free place of the lent working list: fixed memory and no heap, as document 01 has it.
 ghost use Rattle.rule_statements.specs.Arguments.{GivesArguments, GivesCallNamed};
 ghost use Rattle.rule_statements.specs.Walks.{GivesAssign, GivesStore, GivesRaise, GivesCall, GivesWanted};
 

@@ -1,5 +1,6 @@
 // The walk over statements: a statement at an offset, at most `depth` deep, laid from the free place `top` on; `number` is that of the last
 // statement before, and past the head word the statement's own.
+// Kept (6): nodes and entries are numbers at the free place of the lent working list: fixed memory and no heap, as document 01 has it.
 ghost use Rattle.text_heads.specs.declared.Verb.TheVariants.{Begin, If, While, For, Case};
 ghost use Rattle.rule_statements.specs.Cases.{ArmStmtBy, ArmBy, ElseBy, GivesArms, CaseBy};
 ghost use Rattle.rule_statements.specs.Walks.{GivesStmt, GivesInner, GivesVerb, GivesThen, GivesElse, GivesFor, GivesTo, GivesDo, GivesActs};
@@ -68,6 +69,7 @@ fn inner(
 }
 
 // The parts after the head word.
+// Kept: the kinds are closed and each has its own arm; closures or a table of functions would say the same twice.
 #[cycle(walk)]
 fn headed(
     walk: Walk,

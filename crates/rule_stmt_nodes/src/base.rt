@@ -1,4 +1,5 @@
 // What the leaves of the walk over statements are made of: an answer with another fault, and a node where no fault has come.
+// Kept (6): nodes and entries are numbers at the free place of the lent working list: fixed memory and no heap, as document 01 has it.
 ghost use Rattle.std.specs.Prelude.{◌≡◌};
 ghost use Rattle.rule_expr_nodes.specs.Nodes.{Makes};
 ghost use Rattle.rule_stmt_nodes.specs.BaseNodes.{with_fault, node_if, steered};

@@ -35,6 +35,7 @@ fn handler_in(text: &[u8], at: usize) -> Next
 }
 
 // The next part of a body.
+// Kept: a match of three arms that says what comes; `arm_at` says it of arms with other answers.
 #[tactic(auto, using(crate::proofs::Following::next_laws))]
 pub fn next_at(text: &[u8], at: usize) -> Next
     ensures { Comes text.now at result }

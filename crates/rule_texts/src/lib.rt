@@ -44,6 +44,7 @@ pub fn at_end(n: usize, known: Known) -> Checked
 }
 
 // The lines in their order, up to the first refusal.
+// Kept: lines are found one after another by `next_line`; n is their number for the refusal, not an index.
 fn check_lines(text: &[u8], work: &mut [u32], types: &mut [u32], kn: Known) -> Checked
     requires { length text.now ≤ 32768 }
     ensures { ChecksLines text.now work.old types.old kn result work.new types.new }
@@ -94,6 +95,7 @@ pub fn working(n: usize) -> usize
 }
 
 // The verdict on a text, and the working list left as document 01 says.
+// Kept: document 01's public entry; `rule_cells::cells` is another, with other contracts.
 pub fn verdict_of(text: &[u8], work: &mut [u32]) -> Verdict
     ensures { (result ≡ told_verdict (verdict_of text.now (length work.old))) × (work.new ≡ work_after work.old) }
 {

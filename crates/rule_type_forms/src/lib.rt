@@ -19,6 +19,7 @@ use text_heads::{Maker, maker_of};
 use text_parts::{Part, part_at};
 
 // A line whose type is a form, past its head word, which m stands for; the line's name is at p.
+// Kept: the kinds are closed and each has its own arm; closures or a table of functions would say the same twice.
 #[tactic(auto, using(crate::proofs::TypeShapes::made_laws))]
 fn made_line(
     text: &[u8],
@@ -78,6 +79,7 @@ fn type_after(
 }
 
 // A `type` line, past its head word.
+// Kept: as `var_line`: which lists each writes, and what follows, is all that they say; one function with a closure is no plainer.
 #[tactic(auto, using(crate::proofs::TypeShapes::type_line_laws))]
 pub fn type_line(text: &[u8], work: &mut [u32], types: &mut [u32], st: State, at: usize) -> Lined
     ensures { GivesLine text.now work.old types.old st (line_of is_type 0 (first (stack_at text.now at))) result work.new types.new }

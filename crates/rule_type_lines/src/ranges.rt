@@ -18,6 +18,7 @@ use table_scope::{Scope, ordinal_info};
 use text_parts::end_at;
 
 // The constant that is the last part of a form; the next part stands past the form.
+// Kept: as `last_type` for a constant: `Typed` and `Valued` have other fields, so a trait for the two would be longer than this.
 pub fn last_constant(text: &[u8], work: &[u32], scope: Scope, at: usize) -> Valued
     ensures { GivesLastConstant text.now work.now scope at result }
 {

@@ -17,6 +17,7 @@ const MOST_BODIES: usize = 33;
 pub const TABLE_LENGTH: usize = LINE_LENGTH * MOST_BODIES;
 
 // The place of type i as a body sees it that knows n types: 0 of a later one.
+// Kept: the contract names the number that is read where nothing stands: `get_or .. 0` of the law; an Option would be asked for it at each call.
 #[tactic(auto, using(crate::proofs::Clipping::read_laws))]
 fn clipped(types: &[u32], n: u32, i: usize) -> u32
     ensures { result ≡ get_or (clip n types.now) i 0 }

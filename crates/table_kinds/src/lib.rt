@@ -208,6 +208,7 @@ const ONE_SIDED: [[u32; 5]; 11] = [
 ];
 
 // The place of a class in the tables.
+// Kept: the rows of the table that document 01 names, said where the table stands; a cast of the variant would hide it.
 #[tactic(auto, using(crate::proofs::Laws::row_laws))]
 fn row_of(c: Class) -> usize
     ensures { result ≡ row_of c }
@@ -222,6 +223,7 @@ fn row_of(c: Class) -> usize
 }
 
 // The entry of the first table, or 0 where it has none.
+// Kept: 0 is the table's own entry for a misfit, and no node's number.
 #[tactic(auto, using(crate::proofs::Laws::node_laws))]
 fn node_at(op: usize, left: usize, right: usize) -> u32
     ensures { result ≡ node_at op left right }
@@ -281,6 +283,7 @@ pub fn two_sided(op: usize, left: Side, right: Side) -> Option<Ruled>
 }
 
 // The entry of the second table, or 0 where it has none.
+// Kept: 0 is the table's own entry for a misfit, and no node's number.
 #[tactic(auto, using(crate::proofs::Laws::node1_laws))]
 fn node_at_one(f: usize, c: usize) -> u32
     ensures { result ≡ node_at1 f c }
@@ -292,6 +295,7 @@ fn node_at_one(f: usize, c: usize) -> u32
 }
 
 // The kind of the result of node n: boolean of two, the members' of two, the side's own of two, else integer.
+// Kept: the numbers are those of nodes in laid code (`code_ops`), which the tables above hold.
 #[tactic(auto, using(crate::proofs::Laws::result1_laws))]
 fn result_of_one(n: u32, kind: u32, base: u32) -> u32
     ensures { result ≡ result_of1 n kind base }

@@ -1,4 +1,5 @@
 // The working list: numbers at places, numbers laid at the free place, and the list left as document 01 says.
+// Kept (6): nodes and entries are numbers at the free place of the lent working list: fixed memory and no heap, as document 01 has it.
 
 #![tactic(auto)]
 
@@ -17,6 +18,7 @@ const WORK_END: u32 = WORK_LENGTH as u32;
 pub const TEXT_LENGTH: usize = 32768;
 
 // The number at a place, 0 past the end.
+// Kept: the contract names the number that is read where nothing stands: `get_or .. 0` of the law; an Option would be asked for it at each call.
 #[tactic(auto, using(crate::proofs::Laying::at_past))]
 pub fn at(work: &[u32], p: usize) -> u32
     ensures { result ≡ get_or work.now p 0 }

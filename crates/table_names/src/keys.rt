@@ -26,6 +26,7 @@ fn key_with(k: u32, x: u8) -> u32
 }
 
 // The key of the word at an offset, case ignored.
+// Kept: the word ends where a letter is 0, which no range and no slice knows before; `for` over all offsets is no plainer.
 pub fn key_of(text: &[u8], offset: usize) -> u32
     ensures { result ≡ key_of (map small (word_at text.now offset)) }
 {

@@ -13,6 +13,7 @@ pub(crate) fn byte_at(text: &[u8], p: usize) -> u8
 }
 
 // The small letter that a byte is in a word; 0 of a byte that ends one.
+// Kept: 0 ends a word and is no letter, so that two words are compared by one test for each letter.
 #[tactic(auto, using(crate::proofs::Spelled::letter_laws))]
 pub(crate) fn letter_of(b: u8) -> u8
     ensures { result ≡ letter_of b }

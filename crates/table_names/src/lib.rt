@@ -1,4 +1,5 @@
 // The names that a script has declared, as entries in the working list that point into the text.
+// Kept (6): nodes and entries are numbers at the free place of the lent working list: fixed memory and no heap, as document 01 has it.
 
 #![tactic(auto)]
 
@@ -20,6 +21,7 @@ use crate::letters::{Meeting, meet};
 use table_list::{at, lay};
 
 // Whether the words at two offsets are the same, case ignored.
+// Kept: two offsets that go on together up to where the words end, which no range knows before; a `for` is no plainer.
 pub fn same_word(text: &[u8], a: usize, b: usize) -> bool
     ensures { result ≡ same (map small (word_at text.now a)) (map small (word_at text.now b)) }
 {

@@ -23,6 +23,7 @@ fn by_letters(text: &[u8], p: usize, q: usize) -> Ordering
 }
 
 // The order of the words at two offsets, case ignored.
+// Kept: as `same_word`: no range knows before where the words end.
 pub(crate) fn order_of(text: &[u8], a: usize, b: usize) -> Ordering
     ensures { result ≡ ordered (map small (word_at text.now a)) (map small (word_at text.now b)) }
 {

@@ -51,6 +51,7 @@ pub struct Scope {
 }
 
 // What a name means.
+// Kept: `Unknown` is met in one arm with the meanings that do not fit either; an Option around them is no plainer.
 #[derive(Clone, Copy)]
 pub enum Meaning {
     Unknown,
@@ -127,6 +128,7 @@ pub fn no_info() -> Info
 }
 
 // The description of type k; `types` holds the places.
+// Kept: types 0 and 1 are the built-in ones by the number that the working list holds for each type.
 #[tactic(auto, using(crate::proofs::Ways::describe_laws))]
 pub fn describe(work: &[u32], types: &[u32], k: u32) -> Info
     ensures { result ≡ info_of work.now types.now k }
@@ -148,6 +150,7 @@ pub const MOST_TYPES: usize = 66;
 pub const TYPE_NUMBERS: u32 = 128;
 
 // What an entry's second and third numbers mean.
+// Kept: an entry's second number says its sort in the working list (fixed memory); this is where it becomes an enum.
 #[tactic(auto, using(crate::proofs::Ways::by_laws))]
 fn meaning_by(sort: u32, more: u32) -> Meaning
     ensures { result ≡ meaning_by sort more }
@@ -249,6 +252,7 @@ pub fn host_of(work: &[u32], types: &[u32], k: u32) -> u32
 }
 
 // The class of kind k by the number of its shape.
+// Kept: a description's shape and a kind are numbers in the working list (fixed memory); this is where they become an enum.
 #[tactic(auto, using(crate::proofs::Ways::class_laws))]
 fn class_by(shape: u32, k: u32) -> Class
     ensures { result ≡ class_in shape k }
@@ -305,6 +309,7 @@ pub const MOST_LOOPS: usize = 33;
 const LOOPS_END: u32 = MOST_LOOPS as u32;
 
 // The control variables of the loops around, by number, the outermost first: so many of the list.
+// Kept: fixed memory and no heap: at most `MOST_LOOPS` loops, of which `count` are open.
 #[derive(Clone, Copy)]
 pub struct Loops {
     pub count: u32,

@@ -11,6 +11,7 @@ use leaf_words::words::Word;
 pub const DEPTH: usize = 33;
 
 // What a word is at the head of an expression.
+// Kept: `Nothing` is met in the same match as the heads; an Option around them is no plainer.
 #[derive(Clone, Copy)]
 pub enum ExprHead {
     At,
@@ -25,6 +26,7 @@ pub enum ExprHead {
 }
 
 // At the head of a statement.
+// Kept: `Nothing` is met in the same match as the heads; an Option around them is no plainer.
 #[derive(Clone, Copy)]
 pub enum Verb {
     Assign,
@@ -39,6 +41,7 @@ pub enum Verb {
 }
 
 // At the head of an arm of a case.
+// Kept: `Nothing` is met in the same match as the heads; an Option around them is no plainer.
 #[derive(Clone, Copy)]
 pub enum ArmHead {
     Arm,
@@ -47,6 +50,7 @@ pub enum ArmHead {
 }
 
 // At the head of the form of a type.
+// Kept: `Nothing` is met in the same match as the heads; an Option around them is no plainer.
 #[derive(Clone, Copy)]
 pub enum Maker {
     Enum,
@@ -58,6 +62,7 @@ pub enum Maker {
 }
 
 // At the head of a line.
+// Kept: `Nothing` is met in the same match as the heads; an Option around them is no plainer.
 #[derive(Clone, Copy)]
 pub enum LineHead {
     Type,
@@ -68,6 +73,7 @@ pub enum LineHead {
 }
 
 // A word alone: where a constant or an expression may stand, or a type's name.
+// Kept: `Nothing` is met in the same match as the heads; an Option around them is no plainer.
 #[derive(Clone, Copy)]
 pub enum Atom {
     Number(i64),
@@ -79,6 +85,7 @@ pub enum Atom {
 }
 
 // An expression's head by the number of a reserved word.
+// Kept: the numbers are the places of the words in the table of document 01, of which the contract speaks.
 fn reserved_expr(k: usize) -> ExprHead
     ensures { result ≡ reserved_expr k }
 {
@@ -110,6 +117,7 @@ fn reserved_expr(k: usize) -> ExprHead
 }
 
 // An expression's head by the number of an operator.
+// Kept: the numbers are the places of the words in the table of document 01, of which the contract speaks.
 fn operator_expr(k: usize) -> ExprHead
     ensures { result ≡ operator_expr k }
 {
@@ -129,6 +137,7 @@ fn operator_expr(k: usize) -> ExprHead
 }
 
 // A statement's head by the number of a reserved word.
+// Kept: the numbers are the places of the words in the table of document 01, of which the contract speaks.
 fn reserved_verb(k: usize) -> Verb
     ensures { result ≡ reserved_verb k }
 {
@@ -166,6 +175,7 @@ fn reserved_arm(k: usize) -> ArmHead
 }
 
 // The head of a type's form by the number of a reserved word.
+// Kept: the numbers are the places of the words in the table of document 01, of which the contract speaks.
 fn reserved_maker(k: usize) -> Maker
     ensures { result ≡ reserved_maker k }
 {
@@ -180,6 +190,7 @@ fn reserved_maker(k: usize) -> Maker
 }
 
 // A line's head by the number of a reserved word.
+// Kept: the numbers are the places of the words in the table of document 01, of which the contract speaks.
 fn reserved_line(k: usize) -> LineHead
     ensures { result ≡ reserved_line k }
 {
@@ -193,6 +204,7 @@ fn reserved_line(k: usize) -> LineHead
 }
 
 // A reserved word alone, by its number.
+// Kept: the numbers are the places of the words in the table of document 01, of which the contract speaks.
 fn reserved_atom(k: usize) -> Atom
     ensures { result ≡ reserved_atom k }
 {
@@ -218,6 +230,7 @@ pub fn expr_head(w: Word) -> ExprHead
 }
 
 // What a word is at the head of a statement.
+// Kept: the three arms name what each place takes; one function with the tables as closures is no plainer.
 pub fn verb_of(w: Word) -> Verb
     ensures { result ≡ verb_of w }
 {
@@ -239,6 +252,7 @@ pub fn arm_head(w: Word) -> ArmHead
 }
 
 // What a word is at the head of a type's form.
+// Kept: the three arms name what each place takes; one function with the tables as closures is no plainer.
 pub fn maker_of(w: Word) -> Maker
     ensures { result ≡ maker_of w }
 {
@@ -249,6 +263,7 @@ pub fn maker_of(w: Word) -> Maker
 }
 
 // What a word is at the head of a line.
+// Kept: the three arms name what each place takes; one function with the tables as closures is no plainer.
 pub fn line_head(w: Word) -> LineHead
     ensures { result ≡ line_head_of w }
 {

@@ -7,6 +7,7 @@ ghost use Rattle.text_lines.specs.Passes.{line_of, is_refused, feeds, place_of, 
 use leaf_bytes::bytes::{Class, class_of};
 
 // Where a byte of a line stands, for row 4.
+// Kept: the states of row 4's automaton, of which `Faulty` is one like the others; a Result is no plainer.
 #[derive(Clone, Copy)]
 pub enum Standing {
     Before,

@@ -16,6 +16,7 @@ pub struct Reader<'a> {
 }
 
 // The next part of a form: a word (with its offset and its end), a form (the offset past its bracket), or none (past the closing bracket).
+// Kept: `Shut` has an offset, from which the walk goes on like the others; a Result is no plainer.
 #[derive(Clone, Copy)]
 pub enum Part {
     Leaf(Word, usize, usize),

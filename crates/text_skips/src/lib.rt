@@ -10,6 +10,7 @@ ghost use Rattle.text_skips.specs.Skips.{out_from, Moves, Past, Skips};
 use text_words::sight::{Sight, look, word_end};
 
 // On inside a form: the offset reached and how many forms are open there, or the offset past the form's closing bracket.
+// Kept: both ways have what the walk goes on with, and neither is a failure; a Result is no plainer.
 #[derive(Clone, Copy)]
 pub enum Move {
     To(usize, usize),

@@ -8,6 +8,7 @@ use leaf_bytes::bytes::{Class, class_of};
 use leaf_words::words::Word;
 
 // The next thing on a line: a word and whether it is of some kind, an opening bracket, a gap, or the line's end.
+// Kept: the four things on a line; `Stop` is met with the others, so an Option is no plainer.
 #[derive(Clone, Copy)]
 pub enum Hop {
     Leaf(bool, usize),
@@ -55,6 +56,7 @@ fn stops(h: Hop) -> bool
 }
 
 // How many brackets and words this is: a pair is counted where it opens.
+// Kept: two arms for four variants; `usize::from(matches!(..))` is no plainer.
 fn weight(h: Hop) -> usize
     ensures { result ≡ weight_of h }
 {

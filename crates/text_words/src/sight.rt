@@ -10,6 +10,7 @@ use leaf_words::words::{Word, word_of};
 
 // What stands at an offset, spaces passed over: a form (the offset past its bracket), a word (its offset), or nothing more at this level
 // (the offset past the closing bracket, or of the line's end).
+// Kept: `Shut` has an offset, from which the walk goes on like the others; a Result is no plainer.
 #[derive(Clone, Copy)]
 pub enum Sight {
     Form(usize),
@@ -52,10 +53,10 @@ pub fn look(text: &[u8], at: usize) -> Sight
 }
 
 // The offset where the word that goes on at `at` ends.
+// Kept: p is the answer, also where `at` is past the text's end; a `for` is no plainer.
 pub fn word_end(text: &[u8], at: usize) -> usize
     ensures { Ends text.now at result }
 {
-    // Kept: p is the answer, also where `at` is past the text's end: no plainer with `for`.
     let mut p = at;
     while p < text.len() {
         match class_of(text[p]) {

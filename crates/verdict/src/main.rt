@@ -10,6 +10,7 @@ use std::io::{Read, Write};
 use text_lines::lines::next_line;
 
 // The word of a refusal.
+// Kept: document 01's refusals are numbers, and their words stand in the program alone.
 fn word_of(number: u32) -> &'static [u8] {
     match number {
         1 => b"bench",
