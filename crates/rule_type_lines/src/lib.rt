@@ -1,4 +1,5 @@
 // Lines that declare types: the name's entry, the description and its place, the counts then; and the lines of one description: aliases, ranges, arrays, sets.
+
 // Kept (6): nodes and entries are numbers at the free place of the lent working list: fixed memory and no heap, as document 01 has it.
 
 #![tactic(auto)]

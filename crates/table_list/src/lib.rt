@@ -1,4 +1,5 @@
 // The working list: numbers at places, numbers laid at the free place, and the list left as document 01 says.
+
 // Kept (6): nodes and entries are numbers at the free place of the lent working list: fixed memory and no heap, as document 01 has it.
 
 #![tactic(auto)]

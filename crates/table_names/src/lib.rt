@@ -1,4 +1,5 @@
 // The names that a script has declared, as entries in the working list that point into the text.
+
 // Kept (6): nodes and entries are numbers at the free place of the lent working list: fixed memory and no heap, as document 01 has it.
 
 #![tactic(auto)]
