@@ -27,7 +27,7 @@ fn digit_of(b: u8) -> u64
 }
 
 // The number whose digits stand from p on.
-// Kept: it stops where the digits end, which no range knows before.
+// Kept: it stops where the digits end; a `take_while` with a `fold` would want the sum's bound in its closure: no plainer.
 pub(crate) fn number_at(text: &[u8], p: usize) -> u64
     ensures { result < 1000000000000000000 }
 {
@@ -74,7 +74,7 @@ fn mark_at(text: &[u8], p: usize) -> u8 {
 }
 
 // The word after the one at p on its line; the line's end if there is none.
-// Kept: the offset is the answer, also where nothing is found; a `position` would be added to p again.
+// Kept: nothing says that p is within the text, so a `position` in `text[p..]` would want a test before it: no plainer.
 pub(crate) fn word_after(text: &[u8], p: usize) -> usize {
     let mut q = p;
     while q < text.len() && text[q] != b'\n' {

@@ -75,7 +75,7 @@ pub fn natural(w: i64) -> u64
 }
 
 // The place that a word is: 0 of a negative one, and none past the greatest place.
-// Kept: the contract `nat_of` says 0 of a negative number.
+// Kept: the contract says `min (nat_of z) 4294967295`, and these are its three cases; a `clamp` and a cast are no plainer.
 pub fn reach(z: i64) -> u64
     ensures { result ≡ min (nat_of z) 4294967295 }
 {

@@ -113,7 +113,6 @@ pub fn reported(report: Report) -> Reply
 }
 
 // The report of a run by the marking machine.
-// Kept: each machine's report has its own type and its own contract; a trait for two matches of two arms is no plainer.
 pub fn mark_reported(report: MarkReport) -> Reply
     ensures { result ≡ ending_reply (mark_ending report) }
 {

@@ -14,7 +14,6 @@ pub fn ended_by(out: &mut [u8], at: usize, answer: Answer) -> usize
 }
 
 // A report from the list's start on.
-// Kept: each machine's report has its own type and its own contract; a trait for two matches of two arms is no plainer.
 pub fn shown(
     out: &mut [u8],
     text: &[u8],

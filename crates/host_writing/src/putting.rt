@@ -71,7 +71,7 @@ pub fn decimal(out: &mut [u8], at: usize, n: u64) -> usize
 }
 
 // The natural number that z is, 0 of a negative one.
-// Kept: the contract says 0 of a negative number.
+// Kept: the definition `natural_of` of its contract says 0 of a negative number.
 fn natural(z: i64) -> u64
     ensures { result ≡ natural_of z }
 {

@@ -57,7 +57,6 @@ pub fn setmax(s: u32) -> Option<u32>
 }
 
 // Whether s has the ordinal i, which may be any: one outside 0 to 31 is in no set.
-// Kept: the guard is what lets the shift be; in one expression it would be no plainer.
 #[tactic(auto, using(crate::proofs::Operators::in_laws, crate::proofs::Signed::ordinal_laws))]
 pub fn contains(s: u32, i: i64) -> bool
     ensures { result ≡ holds i (members s) }
@@ -128,7 +127,6 @@ fn within_base(s: u32, lo: i64, hi: i64) -> bool
 }
 
 // Whether a cell's value v is a set of ordinals in lo to hi, the base of its type.
-// Kept: the guard is what lets the cast be; in one expression it would be no plainer.
 #[tactic(auto, using(crate::proofs::Base::lies_laws, crate::proofs::Signed::ordinal_laws))]
 pub fn lies_in(v: i64, lo: i64, hi: i64) -> bool
     ensures { result ≡ lies_in lo hi v }

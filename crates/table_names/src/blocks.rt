@@ -61,7 +61,7 @@ fn middle_of(low: u32, high: u32) -> u32
 }
 
 // The place of the value that the word at an offset names, among the n of the type whose entry is at a place; 0 if none does.
-// Kept: 0 for none, as in `lookup`, which answers it on (`value_in`): no plainer.
+// Kept: 0 for none, as in `lookup`, which answers it on (`value_in`): no plainer. The loop halves what is left, and `left` is its measure and not an index.
 pub fn find_value(text: &[u8], work: &[u32], place: u32, n: u32, key: u32, offset: usize) -> u32
     ensures { key ≡ key_of (map small (word_at text.now offset)) → result ≡ value_in text.now work.now place n (map small (word_at text.now offset)) }
 {

@@ -37,6 +37,7 @@ fn comes_after(text: &[u8], work: &[u32], base: u32, j: u32, key: u32, offset: u
 }
 
 // Puts value i among those before it, which are in order.
+// Kept: it counts down to where the value belongs, which the test of the loop finds; a `for` with a `break` is no plainer.
 fn insert(text: &[u8], work: &mut [u32], base: u32, i: u32)
     ensures { Ranks base work.old work.new }
 {

@@ -85,7 +85,7 @@ pub enum Atom {
 }
 
 // An expression's head by the number of a reserved word.
-// Kept: the numbers are the places of the words in the table of document 01, of which the contract speaks.
+// Kept: the numbers are the places of the words in the table of document 01 (`leaf_reserved`: `place_of`), and the definition that the contract names goes by them.
 fn reserved_expr(k: usize) -> ExprHead
     ensures { result ≡ reserved_expr k }
 {
@@ -117,7 +117,7 @@ fn reserved_expr(k: usize) -> ExprHead
 }
 
 // An expression's head by the number of an operator.
-// Kept: the numbers are the places of the words in the table of document 01, of which the contract speaks.
+// Kept: the numbers are the places of the words in the table of document 01 (`leaf_reserved`: `place_of`), and the definition that the contract names goes by them.
 fn operator_expr(k: usize) -> ExprHead
     ensures { result ≡ operator_expr k }
 {
@@ -137,7 +137,7 @@ fn operator_expr(k: usize) -> ExprHead
 }
 
 // A statement's head by the number of a reserved word.
-// Kept: the numbers are the places of the words in the table of document 01, of which the contract speaks.
+// Kept: the numbers are the places of the words in the table of document 01 (`leaf_reserved`: `place_of`), and the definition that the contract names goes by them.
 fn reserved_verb(k: usize) -> Verb
     ensures { result ≡ reserved_verb k }
 {
@@ -175,7 +175,7 @@ fn reserved_arm(k: usize) -> ArmHead
 }
 
 // The head of a type's form by the number of a reserved word.
-// Kept: the numbers are the places of the words in the table of document 01, of which the contract speaks.
+// Kept: the numbers are the places of the words in the table of document 01 (`leaf_reserved`: `place_of`), and the definition that the contract names goes by them.
 fn reserved_maker(k: usize) -> Maker
     ensures { result ≡ reserved_maker k }
 {
@@ -190,7 +190,7 @@ fn reserved_maker(k: usize) -> Maker
 }
 
 // A line's head by the number of a reserved word.
-// Kept: the numbers are the places of the words in the table of document 01, of which the contract speaks.
+// Kept: the numbers are the places of the words in the table of document 01 (`leaf_reserved`: `place_of`), and the definition that the contract names goes by them.
 fn reserved_line(k: usize) -> LineHead
     ensures { result ≡ reserved_line k }
 {
@@ -204,7 +204,7 @@ fn reserved_line(k: usize) -> LineHead
 }
 
 // A reserved word alone, by its number.
-// Kept: the numbers are the places of the words in the table of document 01, of which the contract speaks.
+// Kept: the numbers are the places of the words in the table of document 01 (`leaf_reserved`: `place_of`), and the definition that the contract names goes by them.
 fn reserved_atom(k: usize) -> Atom
     ensures { result ≡ reserved_atom k }
 {
@@ -252,7 +252,7 @@ pub fn arm_head(w: Word) -> ArmHead
 }
 
 // What a word is at the head of a type's form.
-// Kept: the three arms name what each place takes; one function with the tables as closures is no plainer.
+// Kept: the two arms name what each place takes; one function with the tables as closures is no plainer.
 pub fn maker_of(w: Word) -> Maker
     ensures { result ≡ maker_of w }
 {
@@ -263,7 +263,7 @@ pub fn maker_of(w: Word) -> Maker
 }
 
 // What a word is at the head of a line.
-// Kept: the three arms name what each place takes; one function with the tables as closures is no plainer.
+// Kept: the two arms name what each place takes; one function with the tables as closures is no plainer.
 pub fn line_head(w: Word) -> LineHead
     ensures { result ≡ line_head_of w }
 {
