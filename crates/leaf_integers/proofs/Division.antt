@@ -1,13 +1,14 @@
 -- Quotient, modulus and oddness: what their definitions say, and the laws of `div`, `modulo` and `odd`. Assumes nothing.
-use mathlib.Core.Path.{◌≡◌, refl, sym, ap, ◌∙◌}
-use mathlib.Core.Bool.{true, false, not, true≢false}
+use mathlib.Core.Path.{◌≡◌, refl, sym, ap, ◌∙◌, subst⁻¹}
+use mathlib.Core.Bool.{true, false, not, true≢false, false≢true}
+use mathlib.Core.Logic.{⊎_elim}
 use Prim.Native.Nat.{ℕ, zero, suc, ◌+◌, ◌*◌, ◌-◌, ◌/◌, ◌%◌, ◌≤◌, ◌<◌}
-use native.Mathlib.Nat.{le_of_suc-le-suc, le_trans, le-suc, zero-lt-suc, div-le_self, div-lt_self, div-one, div-add-mod', mod-lt, suc-mul}
+use native.Mathlib.Nat.{not-suc-le-zero, le_of_suc-le-suc, le_of_lt, le_trans, lt_trans, le-suc, zero-lt-suc, eq-or-lt_of_le, div-le_self, div-lt_self, div-one, div-add-mod', mod-lt, mod_self, mod-eq_of_lt, suc-mod, suc-mul}
 use native.Mathlib.Omega.{arith}
-use borrow.Author.Tests.{lt-ltb}
+use borrow.Author.Tests.{ltb-true, lt-ltb, le-ltb}
 use lib.Dec.{eqb, lit<, leb-zero}
 use lib.IntN.{ℤ, pos, negsuc, neg_ℤ, nat_abs, ◌+ℤ◌, ◌-ℤ◌, ◌*ℤ◌, pos-ne-negsuc, neg_ℤ-+ℤ, -ℤ-+ℤ_cancel}
-use lib.Signed.{mag, le_z, quot_z, rem_z}
+use lib.Signed.{mag, mag_rem, lt_z, le_z, quot_z, rem_z}
 use mir.Syntax.{w64}
 use mir.Val.{SFits, of_z}
 use mir.Facts.{to_z-of_z}
@@ -15,7 +16,6 @@ use Rattle.leaf_integers.specs.Integers.{least, most, inside, exact, is_zero, qu
 use Rattle.leaf_integers.specs.declared.Fault.TheVariants.{Divisor}
 use Rattle.leaf_integers.specs.Integers.{Num}
 use Rattle.std.specs.Prelude.{Ok, Err}
-use Rattle.std.specs.Int.{int_rem_euclid}
 use Rattle.leaf_integers.proofs.Order.{le_z-trans, le_down, add_low}
 use Rattle.leaf_integers.proofs.Ranges.{inside_both, inside_is, pick_yes, pick_no, pick-value, same-value, is-zero, not-zero, exact-value}
 use Rattle.leaf_integers.proofs.Machine.{wire, fits-mag, same_bits, zero_bits}
@@ -129,21 +129,77 @@ modulus-range i j v k h =
     inside_both least most v (le_z-trans least (pos 0) v refl w.0)
     (le_z-trans v (j -ℤ pos 1) most w.1 (le_z-trans (j -ℤ pos 1) j most (add_low j (negsuc 0) refl) (inside_is least most j k).1))
 
--- ---- the library's remainder
+-- ---- the machine's remainder, brought into 0 to n
 
-euclid : (x y : ℤ) → le_z y (pos 0) ≡ false → int_rem_euclid x y ≡ pos (modℕ x (nat_abs y))
+-- (a + 1) modulo n + 1 is 0 where a modulo n + 1 is n, and else one more
+suc-mod-top : (a n : ℕ) → suc (a % suc n) ≡ suc n → suc a % suc n ≡ 0
+suc-mod-top a n e = suc-mod a (suc n) ∙ ap (λ (k : ℕ). k % suc n) e ∙ mod_self (suc n)
+
+suc-mod-less : (a n : ℕ) → suc (a % suc n) < suc n → suc a % suc n ≡ suc (a % suc n)
+suc-mod-less a n l = suc-mod a (suc n) ∙ mod-eq_of_lt l
+
+-- a remainder that is not negative is the modulus
+rem_is : (x y : ℤ) → le_z y (pos 0) ≡ false → lt_z (rem_z x y) (pos 0) ≡ false → rem_z x y ≡ pos (modℕ x (nat_abs y))
 unfolding modℕ
-euclid (pos a) y s = refl
-euclid (negsuc a) y s = ap pos (omega arith)
+rem_is (pos a) y s e = refl
+rem_is (negsuc a) (pos zero) s e = absurd (true≢false s)
+rem_is (negsuc a) (pos (suc n)) s e =
+    ⊎_elim (λ t. ap (λ (k : ℕ). neg_ℤ (pos k)) (suc-mod-top a n t) ∙ ap pos (omega arith))
+    (λ l. absurd (true≢false (rw (suc-mod-less a n l) at e))) (eq-or-lt_of_le (mod-lt a (zero-lt-suc n)))
+rem_is (negsuc a) (negsuc n) s e = absurd (true≢false s)
+
+-- a negative one is y too small
+rem-up : (x y : ℤ) → le_z y (pos 0) ≡ false → lt_z (rem_z x y) (pos 0) ≡ true → rem_z x y +ℤ y ≡ pos (modℕ x (nat_abs y))
+unfolding modℕ
+rem-up (pos a) y s e = absurd (not-suc-le-zero (ltb-true (a % nat_abs y) 0 e))
+rem-up (negsuc a) (pos zero) s e = absurd (true≢false s)
+rem-up (negsuc a) (pos (suc n)) s e =
+    ⊎_elim (λ t. absurd (false≢true (rw (suc-mod-top a n t) at e)))
+    (λ l. ap (λ (k : ℕ). neg_ℤ (pos k) +ℤ pos (suc n)) (suc-mod-less a n l) ∙ rw (le-ltb (suc n) (suc (a % suc n)) (le_of_lt l)))
+    (eq-or-lt_of_le (mod-lt a (zero-lt-suc n)))
+rem-up (negsuc a) (negsuc n) s e = absurd (true≢false s)
+
+positive : (y : ℤ) → le_z y (pos 0) ≡ false → (0 < of_z w64 y) × (y ≡ negsuc 0 → ⊥)
+positive (pos zero) s = absurd (true≢false s)
+positive (pos (suc n)) s = (zero-lt-suc n, pos-ne-negsuc (suc n) 0)
+positive (negsuc n) s = absurd (true≢false s)
+
+mod-fits : (x y : ℤ) → SFits w64 y → le_z y (pos 0) ≡ false → SFits w64 (pos (modℕ x (nat_abs y)))
+mod-fits x (pos zero) q s = absurd (true≢false s)
+mod-fits x (pos (suc n)) q s = fits-mag (pos (modℕ x (suc n))) (lt_trans (mod_below x n) q.sfits)
+mod-fits x (negsuc n) q s = absurd (true≢false s)
 
 module _ (x y : ℤ) (p : SFits w64 x) (q : SFits w64 y) where
   pub mod-none : le_z (wire y) (pos 0) ≡ true → Err Divisor ≡ modulus x y
   mod-none h = sym (modulus-none x y (rw (to_z-of_z q) at h))
 
-  pub mod-is : (r : ℤ) → SFits w64 r → le_z (wire y) (pos 0) ≡ false → r ≡ int_rem_euclid (wire x) (wire y) → Ok (wire r) ≡ modulus x y
-  mod-is r f h e =
-      let s : le_z y (pos 0) ≡ false = rw (to_z-of_z q) at h in
-      ap Ok (to_z-of_z f ∙ rw (to_z-of_z p, to_z-of_z q) at e ∙ euclid x y s) ∙ sym (modulus-is x y s)
+  module _ (h : le_z (wire y) (pos 0) ≡ false) where
+    s : le_z y (pos 0) ≡ false
+    s = rw (to_z-of_z q) at h
+
+    rem-fits : SFits w64 (rem_z x y)
+    rem-fits = let k : mag x < 9223372036854775808 = p.sfits in fits-mag (rem_z x y) (omega (arith, mag_rem x y))
+
+    pub mod_safe : (0 < of_z w64 y) × SFits w64 (quot_z (wire x) (wire y))
+    mod_safe = let w = positive y s in (w.0, rw (to_z-of_z p, to_z-of_z q) (quot_fits x y p w.1))
+
+    pub mod-is : lt_z (wire (rem_z (wire x) (wire y))) (pos 0) ≡ false → Ok (wire (rem_z (wire x) (wire y))) ≡ modulus x y
+    mod-is e =
+        rw (to_z-of_z p, to_z-of_z q, to_z-of_z rem-fits)
+        (ap Ok (rem_is x y s (rw (to_z-of_z p, to_z-of_z q, to_z-of_z rem-fits) at e)) ∙ sym (modulus-is x y s))
+
+    module _ (e : lt_z (wire (rem_z (wire x) (wire y))) (pos 0) ≡ true) where
+      raised : rem_z x y +ℤ y ≡ pos (modℕ x (nat_abs y))
+      raised = rem-up x y s (rw (to_z-of_z p, to_z-of_z q, to_z-of_z rem-fits) at e)
+
+      raised-fits : SFits w64 (rem_z x y +ℤ y)
+      raised-fits = subst⁻¹ (SFits w64) raised (mod-fits x y q s)
+
+      pub mod-room : SFits w64 (wire (rem_z (wire x) (wire y)) +ℤ wire y)
+      mod-room = rw (to_z-of_z p, to_z-of_z q, to_z-of_z rem-fits) raised-fits
+
+      pub mod-up : Ok (wire (wire (rem_z (wire x) (wire y)) +ℤ wire y)) ≡ modulus x y
+      mod-up = rw (to_z-of_z p, to_z-of_z q, to_z-of_z rem-fits, to_z-of_z raised-fits) (ap Ok raised ∙ sym (modulus-is x y s))
 
 -- ---- oddness
 
@@ -166,6 +222,6 @@ module _ (x : ℤ) (p : SFits w64 x) where
 
 pub ruleset div_laws = (div-none, div-opposite, div_is)
 
-pub ruleset mod_laws = (mod-none, mod-is)
+pub ruleset mod_laws = (mod-none, mod-is, mod-room, mod-up)
 
 pub ruleset odd_laws = (odd-safe, odd_is)

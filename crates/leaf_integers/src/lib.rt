@@ -2,8 +2,9 @@
 
 #![tactic(auto)]
 
-ghost use Rattle.std.specs.Prelude.{◌≡◌, ℤ, pos, neg_ℤ, nat_abs, ◌+ℤ◌, ◌-ℤ◌, ◌*ℤ◌};
-ghost use Rattle.leaf_integers.specs.Integers.{inside, exact, quotient, modulus, is_odd, next, previous};
+ghost use Rattle.std.specs.Prelude.{◌≡◌, ℤ, pos, neg_ℤ, nat_abs, ◌+ℤ◌, ◌-ℤ◌, ◌*ℤ◌, Ok, Err};
+ghost use Rattle.leaf_integers.specs.Integers.{pick, is_zero, inside, exact, quotient, modulus, is_odd, next, previous};
+ghost use Rattle.leaf_integers.specs.declared.Fault.TheVariants.{Overflow};
 
 // Why an operation on integers gives no value. Which exception this becomes is for `law` to say.
 #[derive(Clone, Copy, PartialEq, Eq)]
@@ -57,16 +58,27 @@ pub fn sub(x: i64, y: i64) -> Result<i64, Fault>
     fit(z)
 }
 
-// x * y. A product past i64 is past the integers too.
-// Kept: two statements around the operation that the contract names; a shared function of the Option is no plainer.
-#[tactic(auto, using(crate::proofs::Sums::past_out))]
+// The product of k and a factor above 2147483648 in size: 0, or past the integers.
+#[tactic(auto, using(crate::proofs::Products::large_laws))]
+fn times_large(k: i64) -> Result<i64, Fault>
+    ensures { result ≡ pick (is_zero k) (Ok (pos 0)) (Err Overflow) }
+{
+    if k == 0 { Ok(0) } else { Err(Fault::Overflow) }
+}
+
+// x * y. Factors up to 2147483648 in size have a product that an i64 holds.
+// Kept: no `checked_mul`, which multiplies in 128 bits; `tools/cross` takes no module with these, since not every machine has them.
+#[tactic(auto, using(crate::proofs::Products::mul_laws))]
 pub fn mul(x: i64, y: i64) -> Result<i64, Fault>
     ensures { result ≡ exact (x *ℤ y) }
 {
-    let Some(z) = x.checked_mul(y) else {
-        return Err(Fault::Overflow);
-    };
-    fit(z)
+    if in_range(x, -2147483648, 2147483648) {
+        if in_range(y, -2147483648, 2147483648) {
+            return fit(x * y);
+        }
+        return times_large(x);
+    }
+    times_large(y)
 }
 
 // One-sided `-`.
@@ -108,14 +120,19 @@ pub fn div(x: i64, y: i64) -> Result<i64, Fault>
 }
 
 // `mod`: in 0 to y - 1, whatever the sign of x.
-#[tactic(auto, using(crate::proofs::Division::mod_laws))]
+// Kept: no `rem_euclid`, which divides unsigned numbers: on machines of 32 bits the archive would need one more function from outside.
+#[tactic(auto, using(crate::proofs::Division::mod_laws, crate::proofs::Division::mod_safe))]
 pub fn modulo(x: i64, y: i64) -> Result<i64, Fault>
     ensures { result ≡ modulus x y }
 {
     if y <= 0 {
         return Err(Fault::Divisor);
     }
-    Ok(x.rem_euclid(y))
+    let r = x % y;
+    if r < 0 {
+        return Ok(r + y);
+    }
+    Ok(r)
 }
 
 // Whether x is odd.

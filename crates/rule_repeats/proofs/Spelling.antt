@@ -69,12 +69,12 @@ module _ (s : List ℕ) (at p low high : ℕ) (S : Spelled s at p low high) wher
           go Refused c = refused-word s p k h e c
 
   -- past the text's end
-  pub key-none : (r : Keyed) → r ≡ keyed_by low high (length s) → length s ≤ p → KeyedAt s at r
+  pub key-none : (r : Keyed) (q : ℕ) → r ≡ keyed_by low high q → length s ≤ q → length s ≤ p → KeyedAt s at r
   unfolding key_from
-  key-none r m h = rw m (record {
+  key-none r q m l h = rw m (record {
     low-is = sym (S.low-is ∙ ap (λ (w : Run). key_from low_factor low (map small w)) (none-word s p h));
     high_is = sym (S.high_is ∙ ap (λ (w : Run). key_from high_factor high (map small w)) (none-word s p h));
-    rest = none-stack s (length s) (omega arith) ∙ sym (none-stack s p h) ∙ wordless s p (none-word s p h) ∙ sym S.rest;
+    rest = none-stack s q l ∙ sym (none-stack s p h) ∙ wordless s p (none-word s p h) ∙ sym S.rest;
   })
 
 pub ruleset key_laws = (key-on, key-none, key-other)

@@ -49,5 +49,5 @@ pub fn key_at(text: &[u8], at: usize) -> Keyed
         low = low_with(low, b);
         high = high_with(high, b);
     }
-    key_made(low, high, text.len())
+    key_made(low, high, at.max(text.len()))
 }

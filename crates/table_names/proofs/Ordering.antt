@@ -19,8 +19,6 @@ use Rattle.table_names.specs.Order.{lettered, ordered}
 use Rattle.table_names.specs.Chain.{name_at, key_at, first_value, order_at, ranked, middle, by_order, halved, value_in}
 use Rattle.table_names.specs.declared.letters.Meeting.{Meeting}
 use Rattle.table_names.specs.declared.letters.Meeting.TheVariants as meeting
-use Rattle.std.specs.Ordering.{MatchOrdering, nat_cmp}
-use Rattle.std.specs.Cmp.{ranks}
 use Rattle.std.specs.declared.cmp.Ordering.{Ordering}
 use Rattle.std.specs.declared.cmp.Ordering.TheVariants as order
 use Rattle.table_names.proofs.Spelled.{Letters, ended, going, letters}
@@ -109,30 +107,20 @@ pub ruleset order_laws = (order_differ, order_ended, order_on)
 -- ---- `order_at`
 
 module _ (s l : List ℕ) (p key : ℕ) (w : Name) (first : ℕ) (e : first ≡ get_or l p 0) where
-  at_before : first / 32768 < key → key ≡ key_of w → order.Less ≡ order_at s l p w
+  pub at_before : first / 32768 < key → key ≡ key_of w → order.Less ≡ order_at s l p w
   unfolding order_at key_at
   at_before h k = rw (lt-ltb (get_or l p 0 / 32768) (key_of w) (rw (← e, ← k) h)) refl
 
-  at_after : key < first / 32768 → key ≡ key_of w → order.Greater ≡ order_at s l p w
-  unfolding order_at key_at
-  at_after g k = rw (le-ltb (get_or l p 0 / 32768) (key_of w) (rw (← e, ← k) (omega arith)), lt-ltb (key_of w) (get_or l p 0 / 32768) (rw (← e, ← k) g)) refl
+  module _ (h : key ≤ first / 32768) where
+    pub at_after : key < first / 32768 → key ≡ key_of w → order.Greater ≡ order_at s l p w
+    unfolding order_at key_at
+    at_after g k = rw (le-ltb (get_or l p 0 / 32768) (key_of w) (rw (← e, ← k) h), lt-ltb (key_of w) (get_or l p 0 / 32768) (rw (← e, ← k) g)) refl
 
-  pub at_keys : (o : Ordering) → o ≡ nat_cmp (first / 32768) key → ((o ≡ order.Equal) → ⊥) → key ≡ key_of w → o ≡ order_at s l p w
-  at_keys o i n k = go o (rw i (ranks (first / 32768) key)) n
-    where
-      go : (x : Ordering) → MatchOrdering x (first / 32768 < key) (first / 32768 ≡ key) (key < first / 32768) → ((x ≡ order.Equal) → ⊥) → x ≡ order_at s l p w
-      go order.Less m _ = at_before m k
-      go order.Equal _ y = absurd (y refl)
-      go order.Greater m _ = at_after m k
+    pub at_same : first / 32768 ≤ key → (r : Ordering) → r ≡ ordered (map small (word_at s (first % 32768))) w → key ≡ key_of w → r ≡ order_at s l p w
+    unfolding order_at key_at name_at
+    at_same g r f k = f ∙ rw (le-ltb (get_or l p 0 / 32768) (key_of w) (rw (← e, ← k) h), le-ltb (key_of w) (get_or l p 0 / 32768) (rw (← e, ← k) g), e) refl
 
-  pub at_same : (o : Ordering) → o ≡ nat_cmp (first / 32768) key → o ≡ order.Equal → (r : Ordering) → r ≡ ordered (map small (word_at s (first % 32768))) w → key ≡ key_of w → r ≡ order_at s l p w
-  unfolding order_at key_at name_at
-  at_same o i j r f k =
-      let r' : MatchOrdering (nat_cmp (first / 32768) key) (first / 32768 < key) (first / 32768 ≡ key) (key < first / 32768) = ranks (first / 32768) key in
-      let h : first / 32768 ≡ key = rw (← i, j) at r' in
-      f ∙ rw (le-ltb (get_or l p 0 / 32768) (key_of w) (rw (← e, ← k) (omega (arith, h))), le-ltb (key_of w) (get_or l p 0 / 32768) (rw (← e, ← k) (omega (arith, h))), e) refl
-
-pub ruleset at_laws = (at_keys, at_same)
+pub ruleset at_laws = (at_before, at_after, at_same)
 
 -- ---- `first_value`, `rank_at`
 

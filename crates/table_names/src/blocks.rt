@@ -34,15 +34,20 @@ pub fn first_value(place: u32) -> u32
 }
 
 // Where the entry at e stands to the word at an offset, which has this key.
+// Kept: two tests and no `cmp`, with which a lookup among thousands of names takes up to 1.8 times as long (`docs/LOOK-BACK.md`).
 #[tactic(auto, using(crate::proofs::Ordering::at_laws))]
 pub fn order_at(text: &[u8], work: &[u32], e: usize, key: u32, offset: usize) -> Ordering
     ensures { key ≡ key_of (map small (word_at text.now offset)) → result ≡ order_at text.now work.now e (map small (word_at text.now offset)) }
 {
     let first = at(work, e);
-    match (first / OFFSETS).cmp(&key) {
-        Ordering::Equal => order_of(text, (first % OFFSETS) as usize, offset),
-        other => other,
+    let k = first / OFFSETS;
+    if k < key {
+        return Ordering::Less;
     }
+    if k > key {
+        return Ordering::Greater;
+    }
+    order_of(text, (first % OFFSETS) as usize, offset)
 }
 
 // The number of the value that comes j-th in order.

@@ -95,7 +95,10 @@ fn seek(work: &[u32], count: u32, newest: u32, key: u32) -> Spot
     // Kept: n counts down since it is answered, how many entries are left: no plainer with `for`.
     while n > 0 {
         let e = link_at(work, p);
-        if e.first / OFFSETS == key || e.values > 0 {
+        if e.first / OFFSETS == key {
+            return Spot { left: n, place: p };
+        }
+        if e.values > 0 {
             return Spot { left: n, place: p };
         }
         p = e.next;

@@ -8,6 +8,9 @@ loop-n-init c = seek-start _ _ _ _
 pub returns-then-e-key : goal.returns-then-e-key
 returns-then-e-key c = search seek-laws
 
+pub returns-then-e-gt0 : goal.returns-then-e-gt0
+returns-then-e-gt0 c = search seek-laws
+
 pub loop-n-smaller : goal.loop-n-smaller
 loop-n-smaller c = omega arith
 

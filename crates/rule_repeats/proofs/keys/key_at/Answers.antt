@@ -1,3 +1,6 @@
+use Prim.Native.Nat.{◌≤◌}
+use lib.ListN.{length}
+use native.Mathlib.Omega.{arith}
 use Rattle.rule_repeats.proofs.Spelling.{key_laws, spelled-start}
 use Rattle.rule_repeats.proofs.keys.key_at.Goals as goal
 
@@ -11,4 +14,4 @@ pub loop-p-preserved : goal.loop-p-preserved
 loop-p-preserved c = search key_laws
 
 pub returns : goal.returns
-returns c = search key_laws
+returns c = let h : length c.args.text.now ≤ c.max.result = omega arith in search key_laws
